@@ -1,10 +1,10 @@
 -- Document 01, 'Bytes' and the first lines of 'The tree of a set of grants': byte strings, keys, places, and the order of keys.
 -- Assumes nothing.
-use Prim.Native.Nat.{ℕ, zero, suc, _<_, _/_, _%_}
+use Prim.Native.Nat.{ℕ, zero, suc, _+_, _*_, _<_, _/_, _%_}
 use mathlib.Core.Path.{_≡_}
-use mathlib.Core.Bool.{Bool, true, false, cond, _&&_, _||_, Bool·beq}
+use mathlib.Core.Bool.{Bool, true, false, cond, not, _&&_, _||_, Bool·beq}
 use mathlib.Core.List.{List, [], _∷_, _++_}
-use lib.ListN.{length, getD}
+use lib.ListN.{length, getD, drop}
 use lib.Dec.{ltb, eqb}
 
 -- The entries that pass a test, in their order.
@@ -61,6 +61,26 @@ bits (x ∷ xs) = byteBits x ++ bits xs
 
 unfoldable pub bit : ℕ → Bytes → Side
 bit i k = getD (bits k) i left
+
+abbrev pub digit : Side → ℕ
+digit false = 0
+digit true = 1
+
+-- The byte of eight bits, the top bit first; missing ones are 0.
+unfoldable pub packed : List Side → ℕ
+packed b =
+    128 * digit (getD b 0 left) + 64 * digit (getD b 1 left) + 32 * digit (getD b 2 left) + 16 * digit (getD b 3 left)
+    + 8 * digit (getD b 4 left) + 4 * digit (getD b 5 left) + 2 * digit (getD b 6 left) + digit (getD b 7 left)
+
+-- A string of bits in n bytes, unused bits zero.
+unfoldable pub pack : ℕ → List Side → Bytes
+pack zero b = []
+pack (suc n) b = packed b ∷ pack n (drop 8 b)
+
+-- No bit is set.
+abbrev pub noneSet : List Side → Bool
+noneSet [] = true
+noneSet (b ∷ bs) = not b && noneSet bs
 
 -- A string of bits begins with a place.
 abbrev pub prefix : Place → List Side → Bool
