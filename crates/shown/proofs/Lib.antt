@@ -1,0 +1,4 @@
+pub mod Paths
+pub mod Views
+pub mod Walks
+pub mod Descent
