@@ -10,29 +10,14 @@ use Rattle.terms.specs.Records.{Grant, grant, Step, Presence}
 use Rattle.terms.proofs.Tests.{bytes-same}
 use Rattle.terms.proofs.Order.{before-asym, before-total}
 use Rattle.meaning.specs.Tree.{Tree, none, leaf, inner, grants, hash}
-use Rattle.meaning.specs.Reading.{Seen, Pass, walk, present, absent, answerOf}
-use Rattle.meaning.specs.Proving.{step, presenceOf, stepUp, raised, raisedBy, descend, Sought, nobody, somebody, sought, turnsAway, fromTrail, beyond, neighbour}
-use Rattle.meaning.specs.Checking.{outermost, parentHash}
+use Rattle.meaning.specs.Reading.{present, absent, answerOf}
+use Rattle.meaning.specs.Proving.{step, presenceOf, raised, descend, Sought, nobody, somebody, fromTrail, beyond}
+use Rattle.meaning.specs.Checking.{outermost}
 use Rattle.shown.proofs.Paths.{keeps-by-side, keeps-by-zeros, partFrom, part-below, part-at-top, topOf, raised-leads}
-use Rattle.shown.proofs.Views.{onSide, each-side, occupied, Seat, Seated, child-seated, other-child, viewed, viewed-inner, passing, gap-or-node, missing-is-zeros, inner-from, inner-from-other}
+use Rattle.shown.proofs.Views.{onSide, each-side, Compared, same, other, compared, not-not, occupied, Seat, Seated, child-seated, other-child, viewed, viewed-inner, passing, missing-is-zeros, inner-from, inner-from-other}
 use Rattle.shown.proofs.Walks.{Reached, next, parted-beyond, answer-on-walk}
 use Rattle.shown.proofs.Descent.{outermost-raised, Descent, descent}
-use Rattle.shown.proofs.Searches.{orElse, soughtBelow, neighbourBelow, neighbour-from-trail}
-
--- A side is the same as another, or the other.
-data Compared (b : Side) : Side → Type 0 where
-  same : Compared b b
-  other : Compared b (not b)
-
-compared : (b c : Side) → Compared b c
-compared false false = same
-compared false true = other
-compared true false = other
-compared true true = same
-
-not-not : (b : Side) → not (not b) ≡ b
-not-not false = refl
-not-not true = refl
+use Rattle.shown.proofs.Searches.{orElse, soughtBelow, neighbourBelow, neighbour-from-trail, no-turn, turn}
 
 -- another key is beyond a key on one side, and not on the other
 beyond-one-side : (k l : Bytes) → sameBytes k l ≡ false → (b : Side) × (beyond b l k ≡ true) × (beyond (not b) l k ≡ false)
@@ -68,20 +53,6 @@ module _ (leafHash innerHash : Bytes → Bytes → Bytes) where
       found b ≡ nobody → found (not b) ≡ somebody p → Flank (not b) h k p → outermost b (p .steps) ≡ true → Flanked h k there found
   only-other false h k there found p e f w o = only true p f e w o
   only-other true h k there found p e f w o = only false p f e w o
-
-  -- at an inner node the walk does not turn away from its own side
-  no-turn : (b : Side) (l r : Tree) → fromTrail b (passing leafHash innerHash b l r ∷ []) ≡ nobody
-  unfolding turnsAway
-  no-turn false l r = refl
-  no-turn true l r = refl
-
-  -- it turns away from the other, if there is a child
-  turn : (b : Side) (l r : Tree) (there : Bool) → occupied (onSide l r (not b)) ≡ there →
-      fromTrail (not b) (passing leafHash innerHash b l r ∷ [])
-      ≡ cond there (sought (raisedBy (step (not b) (hash leafHash innerHash (onSide l r b)) ∷ []) (descend b (viewed leafHash innerHash (onSide l r (not b)))))) nobody
-  unfolding turnsAway
-  turn false l r there e = rw (gap-or-node leafHash innerHash r, e, not-not there)
-  turn true l r there e = rw (gap-or-node leafHash innerHash l, e, not-not there)
 
   -- The neighbours of k that are found in a tree at p, if the tree does not have k.
   abbrev FlankedIn : Bytes → ℕ → Place → Tree → Type 0
@@ -123,16 +94,16 @@ module _ (leafHash innerHash : Bytes → Bytes → Bytes) where
         }
 
     crossed-found : (e : occupied u ≡ true) → found (not b) ≡ nobody → foundHere (not b) ≡ somebody (raised (across ∷ []) (crossed e .path))
-    crossed-found e f = rw (f, turn b l r true e, crossed e .found)
+    crossed-found e f = rw (f, turn leafHash innerHash b l r true e, crossed e .found)
 
     found-raised : (c : Side) (q : Presence) → found c ≡ somebody q → foundHere c ≡ somebody (raised (up ∷ []) q)
     found-raised c q f = rw f
 
     none-here : found b ≡ nobody → foundHere b ≡ nobody
-    none-here f = rw (f, no-turn b l r)
+    none-here f = rw (f, no-turn leafHash innerHash b l r)
 
     none-across : occupied u ≡ false → found (not b) ≡ nobody → foundHere (not b) ≡ nobody
-    none-across e f = rw (f, turn b l r false e)
+    none-across e f = rw (f, turn leafHash innerHash b l r false e)
 
     abbrev Here : Type 0
     Here = Flanked (hash leafHash innerHash (inner l r)) k true foundHere

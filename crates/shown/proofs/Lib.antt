@@ -6,3 +6,7 @@ pub mod Searches
 pub mod Flanks
 pub mod Trees
 pub mod Standing
+pub mod Lengths
+pub mod Verdicts
+pub mod Neighbours
+pub mod Theorems

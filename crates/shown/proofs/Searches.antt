@@ -7,8 +7,10 @@ use mathlib.Core.List.{List, [], _∷_, _++_, map, append-assoc}
 use mathlib.Core.Option.{Option, none, some}
 use Rattle.terms.specs.Bits.{Bytes, Side, bit}
 use Rattle.terms.specs.Records.{Step, Presence}
+use Rattle.meaning.specs.Tree.{Tree, hash}
 use Rattle.meaning.specs.Reading.{Seen, lost, gap, leafSeen, fork, Pass, walk}
 use Rattle.meaning.specs.Proving.{step, presenceOf, stepUp, raised, raisedBy, descend, Sought, lostWay, nobody, somebody, sought, turnsAway, fromTrail, beyond, neighbour}
+use Rattle.shown.proofs.Views.{onSide, not-not, occupied, viewed, passing, gap-or-node}
 
 -- Where the first search finds nobody, the second.
 abbrev pub orElse : Sought → Sought → Sought
@@ -54,3 +56,18 @@ neighbour-from-trail b k i trail (fork hashes kids) =
     ∙ at-node (stepUp p) (step b (hashes (not b))) (map stepUp trail) (neighbourBelow b k (suc i) (kids (bit i k)))
     (descend (not b) (kids b)) (fromTrail b trail) (turnsAway b p)
     ∙ ap (λ x. orElse (soughtBelow (map stepUp trail) x) (fromTrail b trail)) (sym (neighbour-from-trail b k (suc i) (p ∷ []) (kids (bit i k))))
+
+module _ (leafHash innerHash : Bytes → Bytes → Bytes) where
+  -- at an inner node the walk does not turn away from its own side
+  pub no-turn : (b : Side) (l r : Tree) → fromTrail b (passing leafHash innerHash b l r ∷ []) ≡ nobody
+  unfolding turnsAway
+  no-turn false l r = refl
+  no-turn true l r = refl
+
+  -- it turns away from the other, if there is a child
+  pub turn : (b : Side) (l r : Tree) (there : Bool) → occupied (onSide l r (not b)) ≡ there →
+      fromTrail (not b) (passing leafHash innerHash b l r ∷ [])
+      ≡ cond there (sought (raisedBy (step (not b) (hash leafHash innerHash (onSide l r b)) ∷ []) (descend b (viewed leafHash innerHash (onSide l r (not b)))))) nobody
+  unfolding turnsAway
+  turn false l r there e = rw (gap-or-node leafHash innerHash r, e, not-not there)
+  turn true l r there e = rw (gap-or-node leafHash innerHash l, e, not-not there)

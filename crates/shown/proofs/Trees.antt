@@ -16,10 +16,8 @@ use Rattle.meaning.specs.Proving.{presenceOf, absenceOf, stepUp, Sought, neighb
 use Rattle.meaning.specs.Checking.{leadsTo, neighbourHolds, checked}
 use Rattle.shown.proofs.Views.{occupied, Seated, viewed, missing-is-zeros}
 use Rattle.shown.proofs.Walks.{start, walk-answers, Climbs, walk-climbs}
+use Rattle.shown.proofs.Verdicts.{accepted-same}
 use Rattle.shown.proofs.Flanks.{Flank, Flanked, neither, only, both, flanked}
-
-accepted-same : {A : Type 0} (x y : A) → accepted x ≡ accepted y → x ≡ y
-accepted-same x y e = cc
 
 module _ (leafHash innerHash : Bytes → Bytes → Bytes) where
   -- What is given is a proof, and the checker's answer to it is the verdict.

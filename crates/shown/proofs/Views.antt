@@ -26,6 +26,21 @@ pub each-side : (P : Side → Type 0) → P left → P right → (b : Side) → 
 each-side P l r false = l
 each-side P l r true = r
 
+-- A side is the same as another, or the other.
+pub data Compared (b : Side) : Side → Type 0 where
+  same : Compared b b
+  other : Compared b (not b)
+
+pub compared : (b c : Side) → Compared b c
+compared false false = same
+compared false true = other
+compared true false = other
+compared true true = same
+
+pub not-not : (b : Side) → not (not b) ≡ b
+not-not false = refl
+not-not true = refl
+
 -- There is a node.
 abbrev pub occupied : Tree → Bool
 occupied none = false
