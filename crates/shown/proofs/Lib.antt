@@ -10,3 +10,6 @@ pub mod Lengths
 pub mod Verdicts
 pub mod Neighbours
 pub mod Theorems
+pub mod SeenAt
+pub mod Loops
+pub mod Grants

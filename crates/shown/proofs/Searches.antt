@@ -24,7 +24,7 @@ soughtBelow steps lostWay = lostWay
 soughtBelow steps nobody = nobody
 soughtBelow steps (somebody p) = somebody (raised steps p)
 
-raised-twice : (s : Step) (steps : List Step) (p : Presence) → raised (s ∷ steps) p ≡ raised steps (raised (s ∷ []) p)
+pub raised-twice : (s : Step) (steps : List Step) (p : Presence) → raised (s ∷ steps) p ≡ raised steps (raised (s ∷ []) p)
 raised-twice s steps p = ap (presenceOf (p .key) (p .value)) (sym (append-assoc (p .steps) (s ∷ []) steps))
 
 at-node : (s u : Step) (steps : List Step) (below : Sought) (turn : Option Presence) (above : Sought) (away : Bool) →
