@@ -4,10 +4,10 @@ use Prim.Native.Nat.{ℕ, _+_, _*_, _%_}
 use mathlib.Core.Path.{_≡_, refl}
 use mathlib.Core.Bool.{true, false}
 use mathlib.Core.List.{List, [], _∷_, _++_, map}
-use mathlib.Core.Option.{Option, none, some}
+use mathlib.Core.Option.{none, some}
 use lib.ListN.{take, drop, replicate}
 use Rattle.terms.specs.Bits.{Bytes, left, right}
-use Rattle.terms.specs.Records.{Store, free, Presence, Proof, presence, zeros}
+use Rattle.terms.specs.Records.{Store, Presence, Proof, presence, zeros}
 use Rattle.meaning.specs.Tree.{grantsIn}
 use Rattle.meaning.specs.Store.{treeAtVersion}
 use Rattle.meaning.specs.Calls.{Answer, refused, accepted}
@@ -15,7 +15,7 @@ use Rattle.meaning.specs.Reading.{Verdict, present, absent, readKey, rea
 use Rattle.meaning.specs.Store.{rootOf}
 use Rattle.meaning.specs.Proving.{step, presenceOf, absenceOf, proof, proofLength, prove}
 use Rattle.meaning.specs.Checking.{checked}
-use Rattle.meaning.specs.Desk.{keyOf, A, B, C, D, E, F, a, b, c, d, c′, p01, p011, lf, nd, store, hA, hB, hC, hD, hF, h01, h0, root₁, s₁, s₂, s₆, s₉}
+use Rattle.meaning.specs.Desk.{keyOf, A, B, C, D, E, F, a, b, c, d, c′, lf, nd, store, hA, hB, hC, hD, hF, h01, h0, root₁, s₁, s₂, s₆, s₉}
 use Rattle.meaning.specs.Computed.{computed}
 
 -- a key between B and C, and one right of all

@@ -53,7 +53,7 @@ d = replicate 32 4
 abbrev pub c′ : Bytes
 c′ = replicate 32 5
 
-abbrev pub e : Bytes
+abbrev e : Bytes
 e = replicate 32 6
 
 -- places
@@ -63,22 +63,22 @@ o = false
 abbrev i : Bool
 i = true
 
-abbrev pub p0 : Place
+abbrev p0 : Place
 p0 = o ∷ []
 
-abbrev pub p1 : Place
+abbrev p1 : Place
 p1 = i ∷ []
 
-abbrev pub p00 : Place
+abbrev p00 : Place
 p00 = o ∷ o ∷ []
 
-abbrev pub p01 : Place
+abbrev p01 : Place
 p01 = o ∷ i ∷ []
 
-abbrev pub p010 : Place
+abbrev p010 : Place
 p010 = o ∷ i ∷ o ∷ []
 
-abbrev pub p011 : Place
+abbrev p011 : Place
 p011 = o ∷ i ∷ i ∷ []
 
 -- place, version, retired since, and the rest
@@ -119,7 +119,7 @@ module _ (leafHash innerHash : Bytes → Bytes → Bytes) where
   abbrev pub hD : Bytes
   hD = leafHash D d
 
-  abbrev pub hC′ : Bytes
+  abbrev hC′ : Bytes
   hC′ = leafHash C c′
 
   abbrev pub h01 : Bytes
@@ -134,7 +134,7 @@ module _ (leafHash innerHash : Bytes → Bytes → Bytes) where
   abbrev h0′ : Bytes
   h0′ = innerHash hA hC′
 
-  abbrev pub root₂ : Bytes
+  abbrev root₂ : Bytes
   root₂ = innerHash h0′ hD
 
   abbrev root₄ : Bytes

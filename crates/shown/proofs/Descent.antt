@@ -1,14 +1,13 @@
 -- The descent to a neighbour: in a seated tree with a node it comes to a leaf, by a path that is outermost on its side. Assumes nothing.
 use mathlib.Core.Path.{_≡_, refl, ap, sym, _∙_, subst}
-use mathlib.Core.Bool.{Bool, true, false, cond, _&&_, not, false≢true}
-use mathlib.Core.List.{List, [], _∷_, _++_}
+use mathlib.Core.Bool.{Bool, true, false, cond, not, false≢true}
+use mathlib.Core.List.{[], _∷_}
 use mathlib.Core.Option.{Option, some}
 use Rattle.terms.specs.Bits.{Bytes, Side, left, right, Place, longer}
 use Rattle.terms.specs.Records.{Step, Presence}
 use Rattle.meaning.specs.Tree.{Tree, none, leaf, inner, hash}
-use Rattle.meaning.specs.Reading.{Seen, fork}
 use Rattle.meaning.specs.Proving.{step, presenceOf, isGap, raised, raisedBy, descend}
-use Rattle.meaning.specs.Checking.{keepsTo, outermost, parentHash}
+use Rattle.meaning.specs.Checking.{keepsTo, outermost}
 use Rattle.shown.proofs.Paths.{outermost-top, keeps-by-side, keeps-by-zeros, topOf, raised-leads}
 use Rattle.shown.proofs.Views.{onSide, each-side, occupied, Seat, seat-above, Seated, child-seated, other-child, viewed, viewed-inner, gap-or-node, missing-is-zeros, inner-from, inner-from-other}
 

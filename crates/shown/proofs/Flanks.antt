@@ -2,8 +2,8 @@
 -- missing, or the two part. By the walk's side at each node, from the leaf upwards. Assumes nothing.
 use Prim.Native.Nat.{ℕ, suc}
 use mathlib.Core.Path.{_≡_, refl, ap, sym, _∙_, subst, fun-ext}
-use mathlib.Core.Bool.{Bool, true, false, cond, _&&_, not, true≢false, false≢true}
-use mathlib.Core.List.{List, [], _∷_, _++_}
+use mathlib.Core.Bool.{Bool, true, false, cond, not, true≢false}
+use mathlib.Core.List.{[], _∷_}
 use native.Mathlib.Omega.{arith}
 use Rattle.terms.specs.Bits.{Bytes, Side, left, right, Place, longer, bit, before, sameBytes}
 use Rattle.terms.specs.Records.{Grant, grant, Step, Presence}

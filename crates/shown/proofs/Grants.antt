@@ -2,16 +2,16 @@
 -- grants say. At each place the grants on a side go on with its bit. Assumes nothing.
 use Prim.Native.Nat.{ℕ, zero, suc, _+_, _<_}
 use native.Mathlib.Omega.{arith}
-use mathlib.Core.Path.{_≡_, refl, ap, ap₂, sym, _∙_, subst}
-use mathlib.Core.Bool.{Bool, true, false, _&&_, _||_}
+use mathlib.Core.Path.{_≡_, refl, ap, sym, _∙_, subst}
+use mathlib.Core.Bool.{true, _||_}
 use mathlib.Core.List.{List, [], _∷_, _++_, nil≢cons}
 use lib.ListN.{length}
-use Rattle.terms.specs.Bits.{Bytes, Whole32, Side, left, right, Place, longer, All, filter, bits, begins}
+use Rattle.terms.specs.Bits.{Bytes, Whole32, Side, left, right, Place, longer, All, filter, begins}
 use Rattle.terms.specs.Records.{Grant}
 use Rattle.terms.proofs.Lists.{filter-all, all-filter, all-map, all-map₂, filter-passed}
 use Rattle.terms.proofs.Places.{length-bits, length-longer, begins-longer}
 use Rattle.terms.proofs.Order.{before-lex}
-use Rattle.meaning.specs.Tree.{Tree, grants, grantsAt, treeOf, hash}
+use Rattle.meaning.specs.Tree.{grantsAt, treeOf, hash}
 use Rattle.meaning.specs.Reading.{answerOf}
 use Rattle.meaning.specs.Proving.{proveSeen}
 use Rattle.meaning.proofs.Sides.{goes, side, treeBy, treeBy-none, treeAt-by, Radix, Long, Begun, Above, Sorted, sorted-radix, grants-treeOf}
@@ -57,13 +57,12 @@ treeBy-seated zero p (g ∷ []) e s r = s .0
 treeBy-seated zero p (g ∷ h ∷ gs) e s r = absurd r
 treeBy-seated (suc n) p [] e s r = tt
 treeBy-seated (suc n) p (g ∷ []) e s r = s .0
-treeBy-seated (suc n) p (g ∷ h ∷ gs) e s r =
-    (
-      omega arith,
-      one-grown n (suc (length p)) (side (length p) left (g ∷ h ∷ gs)) (side (length p) right (g ∷ h ∷ gs)) (r .0),
-      on-side n p left (g ∷ h ∷ gs) e s (treeBy-seated n (longer left p)) (r .1),
-      on-side n p right (g ∷ h ∷ gs) e s (treeBy-seated n (longer right p)) (r .2),
-    )
+treeBy-seated (suc n) p (g ∷ h ∷ gs) e s r = (
+  omega arith,
+  one-grown n (suc (length p)) (side (length p) left (g ∷ h ∷ gs)) (side (length p) right (g ∷ h ∷ gs)) (r .0),
+  on-side n p left (g ∷ h ∷ gs) e s (treeBy-seated n (longer left p)) (r .1),
+  on-side n p right (g ∷ h ∷ gs) e s (treeBy-seated n (longer right p)) (r .2),
+)
 
 abbrev pub WholeKey : Grant → Type 0
 WholeKey g = Whole32 (g .key)
@@ -78,11 +77,10 @@ all-begin (g ∷ gs) = (refl, all-begin gs)
 -- grants in the order of their keys are in the order of their bits
 ascending-sorted : (gs : List Grant) → All WholeKey gs → Ascending gs → Sorted gs
 ascending-sorted [] w a = tt
-ascending-sorted (g ∷ gs) w a =
-    (
-      all-map₂ WholeKey (Ahead g) (Above g) gs (λ h u e. sym (before-lex (g .key) (h .key) (w .0 .1) (u .1)) ∙ e) (w .1) (a .0),
-      ascending-sorted gs (w .1) (a .1),
-    )
+ascending-sorted (g ∷ gs) w a = (
+  all-map₂ WholeKey (Ahead g) (Above g) gs (λ h u e. sym (before-lex (g .key) (h .key) (w .0 .1) (u .1)) ∙ e) (w .1) (a .0),
+  ascending-sorted gs (w .1) (a .1),
+)
 
 module _ (gs : List Grant) (w : All WholeKey gs) (a : Ascending gs) where
   treeOf-seated : Seated [] (treeOf gs)

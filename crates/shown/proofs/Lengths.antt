@@ -1,8 +1,8 @@
 -- On any store, sound or not, no path that the prover gives has more than 256 steps: what a read sees has no leaf more than 256 steps down.
 -- Assumes nothing.
-use Prim.Native.Nat.{ℕ, zero, suc, _+_, _*_, _<_, _≤_}
+use Prim.Native.Nat.{ℕ, zero, suc, _+_, _<_, _≤_}
 use native.Mathlib.Omega.{arith}
-use mathlib.Core.Path.{_≡_, refl, subst}
+use mathlib.Core.Path.{_≡_, subst}
 use mathlib.Core.Bool.{Bool, true, false, cond, not}
 use mathlib.Core.List.{List, [], _∷_, _++_, map}
 use mathlib.Core.Option.{Option, none, some}
@@ -10,7 +10,7 @@ use lib.ListN.{length, length-append}
 use lib.Dec.{eqb}
 use Rattle.terms.specs.Bits.{Bytes, Side, left, right, Place, longer, All, bit, begins, sameBytes}
 use Rattle.terms.specs.Records.{Child, Body, leafBody, innerBody, Record, Slot, Store, Step, Presence, Proof, presence, absence}
-use Rattle.terms.proofs.Lists.{all-append, all-map}
+use Rattle.terms.proofs.Lists.{all-map}
 use Rattle.meaning.specs.Store.{find, rootOf, childOn}
 use Rattle.meaning.specs.Calls.{Answer, refused, accepted, isKept}
 use Rattle.meaning.specs.Reading.{Seen, lost, gap, leafSeen, fork, seenBody, seenChild, seenAt, seenRoot, seen, Pass, End, broken, atLeaf, atGap, walk}

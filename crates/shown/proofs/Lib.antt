@@ -13,3 +13,4 @@ pub mod Theorems
 pub mod SeenAt
 pub mod Loops
 pub mod Grants
+pub mod Longest

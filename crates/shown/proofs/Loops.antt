@@ -1,9 +1,9 @@
 -- Laws in the form of loops: two paths compared from their tops, a path tested and climbed by index from the leaf, and the descent with the
 -- steps so far. From one step more at the top of a path. Assumes nothing.
 use Prim.Native.Nat.{ℕ, suc, _<_}
-use mathlib.Core.Path.{_≡_, refl, ap, ap₂, sym, _∙_}
+use mathlib.Core.Path.{_≡_, refl, ap, ap₂, _∙_}
 use mathlib.Core.Bool.{Bool, true, false, cond, _&&_, not}
-use mathlib.Core.List.{List, [], _∷_, _++_}
+use mathlib.Core.List.{List, [], _∷_, reverse}
 use mathlib.Core.Option.{Option, none, some}
 use lib.ListN.{length, take, getD}
 use lib.Seq.{take-suc}
@@ -11,9 +11,22 @@ use Rattle.terms.specs.Bits.{Bytes, Side, left, right}
 use Rattle.terms.specs.Records.{Step, Presence}
 use Rattle.meaning.specs.Reading.{Seen, lost, gap, leafSeen, fork}
 use Rattle.meaning.specs.Proving.{step, presenceOf, isGap, raisedBy, descend}
-use Rattle.meaning.specs.Checking.{keepsTo, outermost, sameStep, pathsPart, parentHash, climb}
+use Rattle.meaning.specs.Checking.{keepsTo, outermost, sameStep, partFromTop, pathsPart, parentHash, climb}
 use Rattle.shown.proofs.Paths.{outermost-top, part-by-tops, climb-on}
 use Rattle.shown.proofs.Searches.{raised-twice}
+
+-- a path without steps parts from none
+pub no-part-left : (ys : List Step) → pathsPart [] ys ≡ false
+unfolding pathsPart
+no-part-left ys = refl
+
+no-part : (xs : List Step) → partFromTop xs [] ≡ false
+no-part [] = refl
+no-part (x ∷ xs) = refl
+
+pub no-part-right : (xs : List Step) → pathsPart xs [] ≡ false
+unfolding pathsPart
+no-part-right xs = no-part (reverse xs)
 
 -- m + 1 steps of the one path and n + 1 of the other are left
 pub part-next : (m n : ℕ) (xs ys : List Step) (d : Step) → m < length xs → n < length ys →

@@ -1,7 +1,6 @@
 -- The neighbours that the searches find in a seated tree are grants of it: on the left the last of those smaller than the key, on the right
 -- the first of those greater. Where the walk turns, all grants off it are on that side of the key. Assumes nothing.
 use Prim.Native.Nat.{ℕ, suc}
-use native.Mathlib.Omega.{arith}
 use mathlib.Core.Path.{_≡_, refl, ap, sym, _∙_, subst}
 use mathlib.Core.Bool.{Bool, true, false, cond, not, true≢false}
 use mathlib.Core.List.{List, [], _∷_, _++_}

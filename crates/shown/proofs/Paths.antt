@@ -7,7 +7,7 @@ use Rattle.terms.specs.Bits.{Bytes, Side, left, right}
 use Rattle.terms.specs.Records.{Step, Presence, zeros}
 use Rattle.terms.proofs.Tests.{and-comm, and-assoc, and-true, bit-same, bytes-same}
 use Rattle.meaning.specs.Proving.{step, raised}
-use Rattle.meaning.specs.Checking.{keepsTo, outermost, sameStep, partFromTop, pathsPart, parentHash, climb}
+use Rattle.meaning.specs.Checking.{keepsTo, outermost, sameStep, pathsPart, parentHash, climb}
 
 -- one step more at the top of a path
 pub outermost-top : (b : Side) (steps : List Step) (s : Step) → outermost b (steps ++ (s ∷ [])) ≡ outermost b steps && keepsTo b s
@@ -23,7 +23,7 @@ outermost-turned b (x ∷ xs) ys =
     ∙ ap (_&& outermost b ys) (and-comm (outermost b xs) (keepsTo b x))
 
 -- outermost from either end
-pub outermost-reversed : (b : Side) (steps : List Step) → outermost b (reverse steps) ≡ outermost b steps
+outermost-reversed : (b : Side) (steps : List Step) → outermost b (reverse steps) ≡ outermost b steps
 outermost-reversed b steps = outermost-turned b steps [] ∙ and-true (outermost b steps)
 
 -- the top of a path comes first when it is turned round
@@ -49,19 +49,6 @@ pub part-by-tops : (s t : Step) (xs ys : List Step) →
     ≡ cond (sameStep s t) (pathsPart xs ys) (not (s .side) && t .side && outermost right xs && outermost left ys)
 unfolding pathsPart
 part-by-tops s t xs ys = rw (top-first xs [] s, top-first ys [] t, outermost-reversed right xs, outermost-reversed left ys)
-
--- a path without steps parts from none
-pub no-part-left : (ys : List Step) → pathsPart [] ys ≡ false
-unfolding pathsPart
-no-part-left ys = refl
-
-no-part : (xs : List Step) → partFromTop xs [] ≡ false
-no-part [] = refl
-no-part (x ∷ xs) = refl
-
-pub no-part-right : (xs : List Step) → pathsPart xs [] ≡ false
-unfolding pathsPart
-no-part-right xs = no-part (reverse xs)
 
 same-step : (s : Step) → sameStep s s ≡ true
 unfolding sameStep

@@ -3,7 +3,7 @@
 use Prim.Native.Nat.{ℕ, suc}
 use mathlib.Core.Path.{_≡_, refl, ap, sym, _∙_}
 use mathlib.Core.Bool.{Bool, true, false, cond, not}
-use mathlib.Core.List.{List, [], _∷_, _++_, map, append-assoc}
+use mathlib.Core.List.{List, [], _∷_, map, append-assoc}
 use mathlib.Core.Option.{Option, none, some}
 use Rattle.terms.specs.Bits.{Bytes, Side, bit}
 use Rattle.terms.specs.Records.{Step, Presence}

@@ -3,14 +3,14 @@
 use Prim.Native.Nat.{ℕ, zero, suc, _+_, _<_, _≤_}
 use native.Mathlib.Omega.{arith}
 use mathlib.Core.Path.{_≡_, refl, ap, ap₂, sym, _∙_, subst, fun-ext}
-use mathlib.Core.Bool.{Bool, true, false, cond, _||_, false≢true}
-use mathlib.Core.List.{List, [], _∷_}
+use mathlib.Core.Bool.{true, cond, _||_, false≢true}
+use mathlib.Core.List.{[], _∷_}
 use mathlib.Core.Option.{Option, none, some}
 use lib.ListN.{length, getD}
 use lib.Dec.{eqb}
 use borrow.Author.Tests.{ne-eqb}
-use Rattle.terms.specs.Bits.{Bytes, Whole32, Side, left, right, Place, longer, begins}
-use Rattle.terms.specs.Records.{Grant, Child, Body, leafBody, innerBody, Record, free, used, Store}
+use Rattle.terms.specs.Bits.{Bytes, Side, left, right, Place, longer}
+use Rattle.terms.specs.Records.{Child, Body, leafBody, innerBody, Record, free, used, Store}
 use Rattle.terms.specs.Form.{placeLimit, BodyForm}
 use Rattle.terms.proofs.Places.{length-longer}
 use Rattle.meaning.specs.Tree.{VTree, vnone, vleaf, vinner, topVersion, unversioned, hash}
@@ -78,7 +78,7 @@ module _ (leafHash innerHash : Bytes → Bytes → Bytes) where
         }
 
     -- a standing tree is seated
-    pub stands-seated : (p : Place) (t : VTree) → Stands leafHash innerHash st p t → Seated p (unversioned t)
+    stands-seated : (p : Place) (t : VTree) → Stands leafHash innerHash st p t → Seated p (unversioned t)
     stands-seated p vnone s = tt
     stands-seated p (vleaf v g) s = (s .1, formed v p _ (s .0) .body .0)
     stands-seated p (vinner v l r) s =

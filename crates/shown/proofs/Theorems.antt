@@ -4,19 +4,18 @@ use Prim.Native.Nat.{ℕ, _<_, _≤_}
 use native.Mathlib.Omega.{arith}
 use mathlib.Core.Path.{_≡_, refl, ap, sym, _∙_, subst}
 use mathlib.Core.Bool.{Bool, true, false, cond, _&&_}
-use mathlib.Core.List.{List, [], _∷_}
-use mathlib.Core.Option.{Option, none, some}
+use mathlib.Core.List.{[]}
 use lib.ListN.{length}
 use borrow.Author.Tests.{le-leb, lt-ltb, le-ltb}
 use Rattle.terms.specs.Bits.{Bytes, Whole32, left, right, All, sameBytes}
-use Rattle.terms.specs.Records.{Grant, Presence, Absence, Proof, presence, absence, Store}
+use Rattle.terms.specs.Records.{Presence, Absence, Proof, presence, absence, Store}
 use Rattle.terms.proofs.Tests.{same-bytes, and-left, and-right}
 use Rattle.terms.proofs.Lists.{all-map}
 use Rattle.meaning.specs.Tree.{smaller, greater, hash, unversioned, grantsIn}
-use Rattle.meaning.specs.Store.{treeAtVersion, rootOf}
+use Rattle.meaning.specs.Store.{treeAtVersion}
 use Rattle.meaning.specs.Sound.{Sound, Kept}
-use Rattle.meaning.specs.Calls.{Answer, refused, accepted, isKept}
-use Rattle.meaning.specs.Reading.{seen, walk, readEnd, readKey, readRoot, Verdict, present, absent, answerOf}
+use Rattle.meaning.specs.Calls.{refused, accepted, isKept}
+use Rattle.meaning.specs.Reading.{seen, walk, readEnd, readKey, readRoot, present, absent, answerOf}
 use Rattle.meaning.specs.Proving.{absenceAt, proveEnd, proveSeen, proof, presenceLength, proofLength, prove}
 use Rattle.meaning.specs.Checking.{leadsTo, absenceHolds, checked}
 use Rattle.shown.proofs.Views.{viewed}
@@ -102,8 +101,7 @@ module _ (leafHash innerHash : Bytes → Bytes → Bytes) where
       unfolding proof
       shown root e =
           let same : hash leafHash innerHash (unversioned (treeAtVersion st v)) ≡ root = accepted-same _ _ (sym root-read-is-hash ∙ e) in
-          let p = tree-shown leafHash innerHash k (unversioned (treeAtVersion st v)) whole (version-seated leafHash innerHash st ok v kept) in
-          (
+          let p = tree-shown leafHash innerHash k (unversioned (treeAtVersion st v)) whole (version-seated leafHash innerHash st ok v kept) in (
             p .0,
             rw (kept-test st v kept, version-seen leafHash innerHash st ok v kept) (p .1),
             subst (λ h. checked leafHash innerHash h k (p .0) ≡ accepted (answerOf k (grantsIn (treeAtVersion st v)))) same (p .2),
@@ -140,6 +138,6 @@ module _ (leafHash innerHash : Bytes → Bytes → Bytes) where
           let t = unversioned (treeAtVersion st v) in
           let seated = version-seated leafHash innerHash st ok v kept in
           let given : proveEnd k (walk k 0 [] (viewed leafHash innerHash t)) ≡ accepted (absence a) =
-              rw (kept-test st v kept, version-seen leafHash innerHash st ok v kept) at e in
+          rw (kept-test st v kept, version-seen leafHash innerHash st ok v kept) at e in
           absence-names k _ _ _ _ a (finds-nearest leafHash innerHash left k 0 [] t (start k whole) seated)
           (finds-nearest leafHash innerHash right k 0 [] t (start k whole) seated) (end-absence k (walk k 0 [] (viewed leafHash innerHash t)) a given)

@@ -1,11 +1,9 @@
 -- For a seated tree and any key the prover gives a proof, and the checker's answer to it against the tree's hash is what the tree's grants
 -- say of the key: a walk that ends at the key has a trail that leads up, and any other has neighbours that hold. Assumes nothing.
-use Prim.Native.Nat.{ℕ}
-use native.Mathlib.Omega.{arith}
-use mathlib.Core.Path.{_≡_, refl, ap, sym, _∙_, subst}
-use mathlib.Core.Bool.{Bool, true, false, cond, _&&_, not}
-use mathlib.Core.List.{List, [], _∷_, map}
-use mathlib.Core.Option.{Option, none, some}
+use mathlib.Core.Path.{_≡_, refl, sym, subst}
+use mathlib.Core.Bool.{Bool, true, false, cond}
+use mathlib.Core.List.{List, [], map}
+use mathlib.Core.Option.{none, some}
 use Rattle.terms.specs.Bits.{Bytes, Whole32, Side, left, right, sameBytes}
 use Rattle.terms.specs.Records.{Presence, Proof, presence, zeros}
 use Rattle.terms.proofs.Tests.{bytes-same}

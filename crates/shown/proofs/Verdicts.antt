@@ -4,12 +4,12 @@ use Prim.Native.Nat.{ℕ}
 use native.Mathlib.Omega.{arith}
 use mathlib.Core.Path.{_≡_, refl, ap, sym, _∙_}
 use mathlib.Core.Bool.{Bool, true, false, cond}
-use mathlib.Core.List.{List, map}
+use mathlib.Core.List.{map}
 use Rattle.terms.specs.Bits.{Bytes, left, right, sameBytes}
-use Rattle.terms.specs.Records.{Grant, Presence, Absence, Proof, presence, absence}
+use Rattle.terms.specs.Records.{Absence, Proof, presence, absence}
 use Rattle.terms.proofs.Tests.{same-bytes}
 use Rattle.meaning.specs.Calls.{Answer, refused, accepted}
-use Rattle.meaning.specs.Reading.{Pass, End, broken, atLeaf, atGap, readEnd, Verdict, present, absent}
+use Rattle.meaning.specs.Reading.{End, broken, atLeaf, atGap, readEnd, Verdict, present, absent}
 use Rattle.meaning.specs.Proving.{presenceOf, stepUp, Sought, lostWay, nobody, somebody, neighbour, absenceFrom, absenceAt, proveEnd}
 
 pub accepted-same : {A : Type 0} (x y : A) → accepted x ≡ accepted y → x ≡ y

@@ -1,10 +1,10 @@
 -- What a read sees of a tree, and trees seated at a place: each leaf where its key leads, and a child below each inner node. It goes by the
 -- side of a child. Assumes nothing.
-use Prim.Native.Nat.{ℕ, _<_}
+use Prim.Native.Nat.{_<_}
 use native.Mathlib.Omega.{arith}
 use mathlib.Core.Path.{_≡_, refl, ap, sym, _∙_, fun-ext}
-use mathlib.Core.Bool.{Bool, true, false, _||_, not, true≢false, false≢true}
-use mathlib.Core.List.{List, [], _∷_, _++_}
+use mathlib.Core.Bool.{Bool, true, false, _||_, not, true≢false}
+use mathlib.Core.List.{List}
 use lib.ListN.{length}
 use Rattle.terms.specs.Bits.{Bytes, Whole32, Side, left, right, Place, longer, All, begins}
 use Rattle.terms.specs.Records.{Grant, zeros}

@@ -3,10 +3,10 @@
 use Prim.Native.Nat.{ℕ, suc, _<_}
 use native.Mathlib.Omega.{arith}
 use mathlib.Core.Path.{_≡_, refl, ap, sym, _∙_, subst}
-use mathlib.Core.Bool.{Bool, true, false, cond, _&&_, not, Bool·beq}
+use mathlib.Core.Bool.{Bool, true, false, cond, not}
 use mathlib.Core.List.{List, [], _∷_, _++_, map}
 use lib.ListN.{length}
-use Rattle.terms.specs.Bits.{Bytes, Whole32, Side, left, right, Place, longer, All, bit, begins, before, sameBytes}
+use Rattle.terms.specs.Bits.{Bytes, Whole32, Side, left, right, Place, longer, All, bit, begins, sameBytes}
 use Rattle.terms.specs.Records.{Grant}
 use Rattle.terms.proofs.Tests.{is-false, bit-same, same-bytes}
 use Rattle.terms.proofs.Lists.{all-map}
@@ -14,7 +14,7 @@ use Rattle.terms.proofs.Places.{begins-longer, length-longer}
 use Rattle.terms.proofs.Order.{before-irrefl, before-parted}
 use Rattle.meaning.specs.Tree.{Tree, none, leaf, inner, grants, hash}
 use Rattle.meaning.specs.Calls.{accepted}
-use Rattle.meaning.specs.Reading.{Seen, fork, Pass, End, broken, atLeaf, atGap, walk, readEnd, present, absent, answerOf}
+use Rattle.meaning.specs.Reading.{Pass, End, broken, atLeaf, atGap, walk, readEnd, present, absent, answerOf}
 use Rattle.meaning.specs.Proving.{beyond, stepUp}
 use Rattle.meaning.specs.Checking.{parentHash, climb}
 use Rattle.shown.proofs.Views.{onSide, each-side, Seat, Seated, child-seated, grants-seated, viewed, viewed-inner, passing, inner-from}
@@ -58,7 +58,7 @@ beyond-absent : (b : Side) (k : Bytes) (gs : List Grant) → All (λ g. beyond b
 beyond-absent b k [] h = refl
 beyond-absent b k (g ∷ gs) h =
     let other : sameBytes k (g .key) ≡ false =
-        is-false (sameBytes k (g .key)) (λ e. beyond-itself b k (subst (λ l. beyond b l k ≡ true) (sym (same-bytes k (g .key) e)) (h .0))) in
+    is-false (sameBytes k (g .key)) (λ e. beyond-itself b k (subst (λ l. beyond b l k ≡ true) (sym (same-bytes k (g .key) e)) (h .0))) in
     rw other (beyond-absent b k gs (h .1))
 
 -- of two lists one of which does not have the key, the other decides
