@@ -1,5 +1,5 @@
--- Reads, proofs and checks of the desk's example, computed: with hashes as names where nothing compares them, with two toy hash functions where
--- the checker does. What is refused here must be refused. Assumes nothing.
+-- Reads, proofs and checks of the desk's example, computed: with hashes as names where nothing compares them, with two toy hash functions
+-- where the checker does. What is refused here must be refused. Assumes nothing.
 use Prim.Native.Nat.{ℕ, _+_, _*_, _%_}
 use mathlib.Core.Path.{_≡_, refl}
 use mathlib.Core.Bool.{true, false}
@@ -60,8 +60,10 @@ module _ (leafHash innerHash : Bytes → Bytes → Bytes) where
 
   -- lone inner children have zero siblings: A is present, and B has A and F on its left, where the walk wanted to go right
   pub proofs-of-M9 : map (proof nine 1) (A ∷ B ∷ [])
-      ≡ accepted (presence (presenceOf A a (step left (hF leafHash innerHash) ∷ step left zeros ∷ step left zeros ∷ step left zeros ∷ [])))
-      ∷ accepted (absenceOf B (some (presenceOf F b (step right (hA leafHash innerHash) ∷ step left zeros ∷ step left zeros ∷ step left zeros ∷ []))) none)
+      ≡ accepted (presence (presenceOf A a
+      (step left (hF leafHash innerHash) ∷ step left zeros ∷ step left zeros ∷ step left zeros ∷ [])))
+      ∷ accepted (absenceOf B (some (presenceOf F b
+      (step right (hA leafHash innerHash) ∷ step left zeros ∷ step left zeros ∷ step left zeros ∷ []))) none)
       ∷ []
   unfolding computed
   proofs-of-M9 = refl
@@ -73,7 +75,8 @@ module _ (leafHash innerHash : Bytes → Bytes → Bytes) where
       ∷ accepted (absenceOf D (some (presenceOf C c′ [])) none)
       ∷ accepted (absenceOf A none (some (presenceOf C c′ [])))
       ∷ accepted (presence (presenceOf D d (step right (leafHash C c′) ∷ [])))
-      ∷ accepted (absenceOf B (some (presenceOf A a (step left (leafHash C c′) ∷ step left (hD leafHash innerHash) ∷ []))) (some (presenceOf C c′ (step right (hA leafHash innerHash) ∷ step left (hD leafHash innerHash) ∷ []))))
+      ∷ accepted (absenceOf B (some (presenceOf A a (step left (leafHash C c′) ∷ step left (hD leafHash innerHash) ∷ [])))
+      (some (presenceOf C c′ (step right (hA leafHash innerHash) ∷ step left (hD leafHash innerHash) ∷ []))))
       ∷ []
   unfolding computed
   flags-of-M6 = refl
@@ -88,11 +91,13 @@ module _ (leafHash innerHash : Bytes → Bytes → Bytes) where
   unfolding computed
   room-for-proofs = refl
 
-  pub reads-of-M2 : map (λ v. readKey (s₂ leafHash innerHash) v B) (0 ∷ 1 ∷ 2 ∷ 3 ∷ []) ≡ accepted absent ∷ accepted (present b) ∷ accepted absent ∷ refused 8 ∷ []
+  pub reads-of-M2 : map (λ v. readKey (s₂ leafHash innerHash) v B) (0 ∷ 1 ∷ 2 ∷ 3 ∷ [])
+      ≡ accepted absent ∷ accepted (present b) ∷ accepted absent ∷ refused 8 ∷ []
   unfolding computed
   reads-of-M2 = refl
 
-  pub roots-of-M1 : map (readRoot leafHash innerHash one) (0 ∷ 1 ∷ 2 ∷ []) ≡ accepted zeros ∷ accepted (root₁ leafHash innerHash) ∷ refused 8 ∷ []
+  pub roots-of-M1 : map (readRoot leafHash innerHash one) (0 ∷ 1 ∷ 2 ∷ [])
+      ≡ accepted zeros ∷ accepted (root₁ leafHash innerHash) ∷ refused 8 ∷ []
   unfolding computed
   roots-of-M1 = refl
 
@@ -194,7 +199,8 @@ presence-refused = refl
 -- absence of F: another key in the proof, a neighbour left out, both, the two exchanged; and neighbours that are not next to each other
 pub absence-refused : check F (absenceOf F (some pA) (some pB)) ∷ check F (absenceOf G (some pA) (some pB))
     ∷ check F (absenceOf F (some pA) none) ∷ check F (absenceOf F none (some pB)) ∷ check F (absenceOf F none none)
-    ∷ check F (absenceOf F (some pB) (some pA)) ∷ check F (absenceOf F (some pA) (some pC)) ∷ check G (absenceOf G (some pB) (some pD)) ∷ []
+    ∷ check F (absenceOf F (some pB) (some pA)) ∷ check F (absenceOf F (some pA) (some pC)) ∷ check G
+    (absenceOf G (some pB) (some pD)) ∷ []
     ≡ accepted absent ∷ refused 11 ∷ refused 11 ∷ refused 11 ∷ refused 11 ∷ refused 11 ∷ refused 11 ∷ refused 11 ∷ []
 unfolding computed
 absence-refused = refl
@@ -208,9 +214,12 @@ equal-keys-refused = refl
 
 -- steps that agree in their side and not in their sibling are not equal: B's path with another last byte of D's hash leads to the root, too
 abbrev pB′ : Presence
-pB′ = presenceOf B b (step left (hC toyLeaf toyInner) ∷ step right (hA toyLeaf toyInner) ∷ step left (take 31 (hD toyLeaf toyInner) ++ (7 ∷ [])) ∷ [])
+pB′ =
+    presenceOf B b (step left (hC toyLeaf toyInner) ∷ step right (hA toyLeaf toyInner) ∷ step left
+    (take 31 (hD toyLeaf toyInner) ++ (7 ∷ [])) ∷ [])
 
-pub unequal-steps-refused : check B (presence pB′) ∷ check F (absenceOf F (some pA) (some pB′)) ∷ [] ≡ accepted (present b) ∷ refused 11 ∷ []
+pub unequal-steps-refused : check B (presence pB′) ∷ check F (absenceOf F (some pA) (some pB′)) ∷ []
+    ≡ accepted (present b) ∷ refused 11 ∷ []
 unfolding computed
 unequal-steps-refused = refl
 
@@ -218,11 +227,13 @@ unequal-steps-refused = refl
 abbrev pD′ : Presence
 pD′ = presenceOf (keyOf 0b10000000 2) d (pD .steps)
 
-pub equal-paths-refused : check (keyOf 0b10000000 2) (presence pD′) ∷ check E (absenceOf E (some pD) (some pD′)) ∷ [] ≡ accepted (present d) ∷ refused 11 ∷ []
+pub equal-paths-refused : check (keyOf 0b10000000 2) (presence pD′) ∷ check E (absenceOf E (some pD) (some pD′)) ∷ []
+    ≡ accepted (present d) ∷ refused 11 ∷ []
 unfolding computed
 equal-paths-refused = refl
 
 -- an empty version has the zero root, and no other
-pub flags-0 : checked toyLeaf toyInner zeros A (absenceOf A none none) ∷ check A (absenceOf A none none) ∷ [] ≡ accepted absent ∷ refused 11 ∷ []
+pub flags-0 : checked toyLeaf toyInner zeros A (absenceOf A none none) ∷ check A (absenceOf A none none) ∷ []
+    ≡ accepted absent ∷ refused 11 ∷ []
 unfolding computed
 flags-0 = refl

@@ -51,7 +51,9 @@ module _ (leafHash innerHash : Bytes → Bytes → Bytes) where
         path = raised (up ∷ []) (d .path);
         found = rw (gap-or-node leafHash innerHash (onSide l r b) ∙ ap not e, d .found);
         leads = raised-leads leafHash innerHash up (d .path) _ (d .leads) ∙ inner-from-other leafHash innerHash b l r;
-        outer = outermost-raised b up (d .path) (d .outer) (keeps-by-zeros b (not b) _ (missing-is-zeros leafHash innerHash (onSide l r b) e));
+        outer =
+            outermost-raised b up (d .path) (d .outer)
+            (keeps-by-zeros b (not b) _ (missing-is-zeros leafHash innerHash (onSide l r b) e));
         seat = seat-above (not b) p (d .path .key) (s .0) (d .seat);
       }
 
@@ -60,4 +62,5 @@ module _ (leafHash innerHash : Bytes → Bytes → Bytes) where
   descent b p (leaf g) s e = record { path = presenceOf (g .key) (g .value) []; found = refl; leads = refl; outer = refl; seat = s }
   descent b p (inner l r) s e =
       subst (λ seen. Descent b p (hash leafHash innerHash (inner l r)) (descend b seen)) (sym (viewed-inner leafHash innerHash l r))
-      (at-inner b p l r s (each-side (λ c. Descends b (longer c p) (onSide l r c)) (descent b (longer left p) l) (descent b (longer right p) r)) _ refl)
+      (at-inner b p l r s (each-side (λ c. Descends b (longer c p) (onSide l r c)) (descent b (longer left p) l)
+      (descent b (longer right p) r)) _ refl)

@@ -44,7 +44,8 @@ module _ (leafHash innerHash : Bytes → Bytes → Bytes) where
   -- What the searches find, by the side, for a key that a tree with the hash h does not have; `there`: the tree has a node.
   pub data Flanked (h k : Bytes) (there : Bool) (found : Side → Sought) : Type 0 where
     neither : there ≡ false → ((b : Side) → found b ≡ nobody) → Flanked h k there found
-    only : (b : Side) (p : Presence) → found b ≡ somebody p → found (not b) ≡ nobody → Flank b h k p → outermost (not b) (p .steps) ≡ true →
+    only : (b : Side) (p : Presence) → found b ≡ somebody p → found (not b) ≡ nobody → Flank b h k p →
+        outermost (not b) (p .steps) ≡ true →
         Flanked h k there found
     both : (b : Side) (p q : Presence) → found b ≡ somebody p → found (not b) ≡ somebody q → Flank b h k p → Flank (not b) h k q →
         partFrom b (p .steps) (q .steps) ≡ true → Flanked h k there found
@@ -60,7 +61,8 @@ module _ (leafHash innerHash : Bytes → Bytes → Bytes) where
       Flanked (hash leafHash innerHash t) k (occupied t) (λ b. neighbourBelow b k i (viewed leafHash innerHash t))
 
   -- At an inner node where the walk goes to side b: t is the child there, u the other, and `found` what is found in t.
-  module _ (b : Side) (p : Place) (k : Bytes) (l r : Tree) (s : Seated p (inner l r)) (seat : Seat (longer b p) k) (found : Side → Sought) where
+  module _ (b : Side) (p : Place) (k : Bytes) (l r : Tree) (s : Seated p (inner l r)) (seat : Seat (longer b p) k)
+      (found : Side → Sought) where
     abbrev t : Tree
     t = onSide l r b
 
@@ -77,15 +79,18 @@ module _ (leafHash innerHash : Bytes → Bytes → Bytes) where
     abbrev foundHere : Side → Sought
     foundHere c = orElse (soughtBelow (up ∷ []) (found c)) (fromTrail c (passing leafHash innerHash b l r ∷ []))
 
-    raised-flank : (c : Side) (q : Presence) → Flank c (hash leafHash innerHash t) k q → Flank c (hash leafHash innerHash (inner l r)) k (raised (up ∷ []) q)
+    raised-flank : (c : Side) (q : Presence) → Flank c (hash leafHash innerHash t) k q →
+        Flank c (hash leafHash innerHash (inner l r)) k (raised (up ∷ []) q)
     raised-flank c q w =
         record { leads = raised-leads leafHash innerHash up q _ (w .leads) ∙ inner-from leafHash innerHash b l r; order = w .order }
 
     -- the neighbour by a turn here
-    crossed : occupied u ≡ true → Descent leafHash innerHash b (longer (not b) p) (hash leafHash innerHash u) (descend b (viewed leafHash innerHash u))
+    crossed : occupied u ≡ true →
+        Descent leafHash innerHash b (longer (not b) p) (hash leafHash innerHash u) (descend b (viewed leafHash innerHash u))
     crossed e = descent leafHash innerHash b (longer (not b) p) u (child-seated p l r s (not b)) e
 
-    crossed-flank : (e : occupied u ≡ true) → Flank (not b) (hash leafHash innerHash (inner l r)) k (raised (across ∷ []) (crossed e .path))
+    crossed-flank : (e : occupied u ≡ true) →
+        Flank (not b) (hash leafHash innerHash (inner l r)) k (raised (across ∷ []) (crossed e .path))
     crossed-flank e =
         let d = crossed e in
         record {
@@ -93,7 +98,8 @@ module _ (leafHash innerHash : Bytes → Bytes → Bytes) where
           order = parted-beyond b p k (d .path .key) seat (d .seat);
         }
 
-    crossed-found : (e : occupied u ≡ true) → found (not b) ≡ nobody → foundHere (not b) ≡ somebody (raised (across ∷ []) (crossed e .path))
+    crossed-found : (e : occupied u ≡ true) → found (not b) ≡ nobody →
+        foundHere (not b) ≡ somebody (raised (across ∷ []) (crossed e .path))
     crossed-found e f = rw (f, turn leafHash innerHash b l r true e, crossed e .found)
 
     found-raised : (c : Side) (q : Presence) → found c ≡ somebody q → foundHere c ≡ somebody (raised (up ∷ []) q)
@@ -112,9 +118,11 @@ module _ (leafHash innerHash : Bytes → Bytes → Bytes) where
     from-neither e f =
         let w = other-child p l r s b e in
         only-other b _ k true foundHere _ (none-here (f b)) (crossed-found w (f (not b))) (crossed-flank w)
-        (outermost-raised b across (crossed w .path) (crossed w .outer) (keeps-by-zeros b (not b) _ (missing-is-zeros leafHash innerHash t e)))
+        (outermost-raised b across (crossed w .path) (crossed w .outer)
+        (keeps-by-zeros b (not b) _ (missing-is-zeros leafHash innerHash t e)))
 
-    from-same : (q : Presence) → found b ≡ somebody q → found (not b) ≡ nobody → Flank b (hash leafHash innerHash t) k q → outermost (not b) (q .steps) ≡ true →
+    from-same : (q : Presence) → found b ≡ somebody q → found (not b) ≡ nobody → Flank b (hash leafHash innerHash t) k q →
+        outermost (not b) (q .steps) ≡ true →
         (there : Bool) → occupied u ≡ there → Here
     from-same q f g w o false e =
         only b _ (found-raised b q f) (none-across e g) (raised-flank b q w)
@@ -123,11 +131,14 @@ module _ (leafHash innerHash : Bytes → Bytes → Bytes) where
         both b _ _ (found-raised b q f) (crossed-found e g) (raised-flank b q w) (crossed-flank e)
         (part-at-top b _ _ (q .steps) (crossed e .path .steps) o (crossed e .outer))
 
-    from-other : (q : Presence) → found (not b) ≡ somebody q → found b ≡ nobody → Flank (not b) (hash leafHash innerHash t) k q → outermost b (q .steps) ≡ true → Here
+    from-other : (q : Presence) → found (not b) ≡ somebody q → found b ≡ nobody → Flank (not b) (hash leafHash innerHash t) k q →
+        outermost b (q .steps) ≡ true → Here
     from-other q f g w o =
-        only-other b _ k true foundHere _ (none-here g) (found-raised (not b) q f) (raised-flank (not b) q w) (outermost-raised b up q o (keeps-by-side b _))
+        only-other b _ k true foundHere _ (none-here g) (found-raised (not b) q f) (raised-flank (not b) q w)
+        (outermost-raised b up q o (keeps-by-side b _))
 
-    from-only : (c : Side) → Compared b c → (q : Presence) → found c ≡ somebody q → found (not c) ≡ nobody → Flank c (hash leafHash innerHash t) k q →
+    from-only : (c : Side) → Compared b c → (q : Presence) → found c ≡ somebody q → found (not c) ≡ nobody →
+        Flank c (hash leafHash innerHash t) k q →
         outermost (not c) (q .steps) ≡ true → Here
     from-only c same q f g w o = from-same q f g w o _ refl
     from-only c other q f g w o =
@@ -137,11 +148,13 @@ module _ (leafHash innerHash : Bytes → Bytes → Bytes) where
     flanked-above (neither e f) = from-neither e f
     flanked-above (only c q f g w o) = from-only c (compared b c) q f g w o
     flanked-above (both c q q′ f g w w′ o) =
-        both c _ _ (found-raised c q f) (found-raised (not c) q′ g) (raised-flank c q w) (raised-flank (not c) q′ w′) (part-below c up (q .steps) (q′ .steps) o)
+        both c _ _ (found-raised c q f) (found-raised (not c) q′ g) (raised-flank c q w) (raised-flank (not c) q′ w′)
+        (part-below c up (q .steps) (q′ .steps) o)
 
   -- at a leaf with another key
   leaf-flanked : (k : Bytes) (g : Grant) → sameBytes k (g .key) ≡ false →
-      Flanked (leafHash (g .key) (g .value)) k true (λ b. cond (beyond b (g .key) k) (somebody (presenceOf (g .key) (g .value) [])) nobody)
+      Flanked (leafHash (g .key) (g .value)) k true
+      (λ b. cond (beyond b (g .key) k) (somebody (presenceOf (g .key) (g .value) [])) nobody)
   leaf-flanked k g e =
       let w = beyond-one-side k (g .key) e in
       only (w .0) (presenceOf (g .key) (g .value) []) (rw (w .1)) (rw (w .2)) (record { leads = refl; order = w .1 }) refl
@@ -150,7 +163,8 @@ module _ (leafHash innerHash : Bytes → Bytes → Bytes) where
   flanked k i p none at-p s a = neither refl (λ b. refl)
   flanked k i p (leaf g) at-p s a = leaf-flanked k g (other-key k (g .key) (g .value) a)
   flanked k i p (inner l r) at-p s a =
-      let below = each-side (λ b. FlankedIn k (suc i) (longer b p) (onSide l r b)) (flanked k (suc i) (longer left p) l) (flanked k (suc i) (longer right p) r) in
+      let below = each-side (λ b. FlankedIn k (suc i) (longer b p) (onSide l r b)) (flanked k (suc i) (longer left p) l)
+      (flanked k (suc i) (longer right p) r) in
       inner-flanked below
     where
       inner-flanked : ((b : Side) → FlankedIn k (suc i) (longer b p) (onSide l r b)) →
@@ -158,8 +172,10 @@ module _ (leafHash innerHash : Bytes → Bytes → Bytes) where
       inner-flanked below =
           let b = bit i k in
           let q = next k i p (s .0) at-p in
-          subst (λ seen. Flanked (hash leafHash innerHash (inner l r)) k true (λ c. neighbourBelow c k i seen)) (sym (viewed-inner leafHash innerHash l r))
+          subst (λ seen. Flanked (hash leafHash innerHash (inner l r)) k true (λ c. neighbourBelow c k i seen))
+          (sym (viewed-inner leafHash innerHash l r))
           (subst (Flanked (hash leafHash innerHash (inner l r)) k true)
-          (fun-ext λ c. sym (neighbour-from-trail c k (suc i) (passing leafHash innerHash b l r ∷ []) (viewed leafHash innerHash (onSide l r b))))
+          (fun-ext λ c. sym (neighbour-from-trail c k (suc i) (passing leafHash innerHash b l r ∷ [])
+          (viewed leafHash innerHash (onSide l r b))))
           (flanked-above b p k l r s (q .seat) (λ c. neighbourBelow c k (suc i) (viewed leafHash innerHash (onSide l r b)))
           (below b q (child-seated p l r s b) (sym (answer-on-walk k i p l r at-p s) ∙ a))))

@@ -22,7 +22,8 @@ use Rattle.shown.proofs.Trees.{Shows, tree-shown}
 abbrev HasSeat : Place → Grant → Type 0
 HasSeat p g = Seat p (g .key)
 
-seats-on-side : (p : Place) (b : Side) (gs : List Grant) → length p < 256 → All (HasSeat p) gs → All (HasSeat (longer b p)) (side (length p) b gs)
+seats-on-side : (p : Place) (b : Side) (gs : List Grant) → length p < 256 → All (HasSeat p) gs →
+    All (HasSeat (longer b p)) (side (length p) b gs)
 unfolding side
 seats-on-side p b gs h s =
     all-map₂ (HasSeat p) (λ g. goes (length p) b g ≡ true) (HasSeat (longer b p)) (filter (goes (length p) b) gs)
@@ -36,7 +37,8 @@ grown zero i g (h ∷ gs) = refl
 grown (suc n) i g [] = refl
 grown (suc n) i g (h ∷ gs) = refl
 
-one-grown : (n i : ℕ) (xs ys : List Grant) {g : Grant} {gs : List Grant} → xs ++ ys ≡ g ∷ gs → occupied (treeBy n i xs) || occupied (treeBy n i ys) ≡ true
+one-grown : (n i : ℕ) (xs ys : List Grant) {g : Grant} {gs : List Grant} → xs ++ ys ≡ g ∷ gs →
+    occupied (treeBy n i xs) || occupied (treeBy n i ys) ≡ true
 one-grown n i [] [] e = absurd (nil≢cons e)
 one-grown n i [] (y ∷ ys) e = rw (treeBy-none n i) (grown n i y ys)
 one-grown n i (x ∷ xs) ys e = rw (grown n i x xs)
@@ -93,7 +95,9 @@ module _ (gs : List Grant) (w : All WholeKey gs) (a : Ascending gs) where
 
   -- The proof of a key that the tree of the grants gives is accepted against the tree's hash, and says what the grants say.
   pub grants-shown : (leafHash innerHash : Bytes → Bytes → Bytes) (k : Bytes) → Whole32 k →
-      Shows leafHash innerHash (hash leafHash innerHash (treeOf gs)) k (answerOf k gs) (proveSeen k (viewed leafHash innerHash (treeOf gs)))
+      Shows leafHash innerHash (hash leafHash innerHash (treeOf gs)) k (answerOf k gs)
+      (proveSeen k (viewed leafHash innerHash (treeOf gs)))
   grants-shown leafHash innerHash k whole =
-      subst (λ hs. Shows leafHash innerHash (hash leafHash innerHash (treeOf gs)) k (answerOf k hs) (proveSeen k (viewed leafHash innerHash (treeOf gs))))
+      subst (λ hs. Shows leafHash innerHash (hash leafHash innerHash (treeOf gs)) k (answerOf k hs)
+      (proveSeen k (viewed leafHash innerHash (treeOf gs))))
       (grants-treeOf gs (ascending-sorted gs w a) (long gs w)) (tree-shown leafHash innerHash k (treeOf gs) whole treeOf-seated)

@@ -26,7 +26,8 @@ Depth (suc n) (leafSeen k x) = Unit {0}
 Depth zero (fork hashes kids) = ⊥
 Depth (suc n) (fork hashes kids) = (b : Side) → Depth n (kids b)
 
-body-depth : (n : ℕ) (p : Place) (b : Body) (kid : Side → Child → Seen) → ((c : Side) (d : Child) → Depth n (kid c d)) → Depth (suc n) (seenBody p b kid)
+body-depth : (n : ℕ) (p : Place) (b : Body) (kid : Side → Child → Seen) → ((c : Side) (d : Child) → Depth n (kid c d)) →
+    Depth (suc n) (seenBody p b kid)
 body-depth n p (leafBody k x) kid h = go (begins p k)
   where
     go : (b : Bool) → Depth (suc n) (cond b (leafSeen k x) lost)
@@ -76,7 +77,8 @@ descent-short zero b (leafSeen k x) h = absurd h
 descent-short (suc n) b (leafSeen k x) h = omega arith
 descent-short zero b (fork hashes kids) h = absurd h
 descent-short (suc n) b (fork hashes kids) h =
-    either-short (suc n) (isGap (kids b)) (raisedBy (step (not b) (hashes b) ∷ []) (descend b (kids (not b)))) (raisedBy (step b (hashes (not b)) ∷ []) (descend b (kids b)))
+    either-short (suc n) (isGap (kids b)) (raisedBy (step (not b) (hashes b) ∷ []) (descend b (kids (not b))))
+    (raisedBy (step b (hashes (not b)) ∷ []) (descend b (kids b)))
     (raised-short n (step (not b) (hashes b)) (descend b (kids (not b))) (descent-short n b (kids (not b)) (h (not b))))
     (raised-short n (step b (hashes (not b))) (descend b (kids b)) (descent-short n b (kids b) (h b)))
 
@@ -99,7 +101,8 @@ or-short n (somebody p) y h g = h
 turn-short : (n : ℕ) (b : Side) (p : Pass) → ((c : Side) → Depth n (p .kids c)) → ShortFound (suc n) (fromTrail b (p ∷ []))
 turn-short n b p h = go (turnsAway b p) (descend (not b) (p .kids b)) (descent-short n (not b) (p .kids b) (h b))
   where
-    go : (away : Bool) (o : Option Presence) → ShortIf n o → ShortFound (suc n) (cond away (sought (raisedBy (step b (p .hashes (not b)) ∷ []) o)) nobody)
+    go : (away : Bool) (o : Option Presence) → ShortIf n o →
+        ShortFound (suc n) (cond away (sought (raisedBy (step b (p .hashes (not b)) ∷ []) o)) nobody)
     go false o g = tt
     go true none g = tt
     go true (some q) g = simp length-append (omega arith)
@@ -118,7 +121,8 @@ neighbour-short (suc n) b k i (fork hashes kids) h =
     let p : Pass = record { turn = bit i k; hashes = hashes; kids = kids } in
     rw (neighbour-from-trail b k (suc i) (p ∷ []) (kids (bit i k)))
     (or-short (suc n) (soughtBelow (stepUp p ∷ []) (neighbourBelow b k (suc i) (kids (bit i k)))) (fromTrail b (p ∷ []))
-    (below-short n (stepUp p) (neighbourBelow b k (suc i) (kids (bit i k))) (neighbour-short n b k (suc i) (kids (bit i k)) (h (bit i k)))) (turn-short n b p h))
+    (below-short n (stepUp p) (neighbourBelow b k (suc i) (kids (bit i k)))
+    (neighbour-short n b k (suc i) (kids (bit i k)) (h (bit i k)))) (turn-short n b p h))
 
 -- the walk
 abbrev ShortTrail : ℕ → End → Type 0
@@ -126,7 +130,8 @@ ShortTrail n broken = Unit {0}
 ShortTrail n (atLeaf l x trail) = length (map stepUp trail) < n
 ShortTrail n (atGap trail) = Unit {0}
 
-walk-short : (n : ℕ) (k : Bytes) (i : ℕ) (trail : List Pass) (s : Seen) → Depth n s → ShortTrail (n + length (map stepUp trail)) (walk k i trail s)
+walk-short : (n : ℕ) (k : Bytes) (i : ℕ) (trail : List Pass) (s : Seen) → Depth n s →
+    ShortTrail (n + length (map stepUp trail)) (walk k i trail s)
 walk-short n k i trail lost h = tt
 walk-short n k i trail gap h = tt
 walk-short zero k i trail (leafSeen l x) h = absurd h
@@ -167,7 +172,9 @@ unfolding absenceAt
 end-short n k broken w f = tt
 end-short n k (atLeaf l x trail) w f = go (sameBytes k l)
   where
-    go : (b : Bool) → ShortGiven n (cond b (accepted (presence (presenceOf l x (map stepUp trail)))) (absenceFrom k (neighbour left k (atLeaf l x trail)) (neighbour right k (atLeaf l x trail))))
+    go : (b : Bool) → ShortGiven n
+        (cond b (accepted (presence (presenceOf l x (map stepUp trail))))
+        (absenceFrom k (neighbour left k (atLeaf l x trail)) (neighbour right k (atLeaf l x trail))))
     go true = (w, tt)
     go false = absence-short n k (neighbour left k (atLeaf l x trail)) (neighbour right k (atLeaf l x trail)) (f left) (f right)
 end-short n k (atGap trail) w f = absence-short n k (neighbour left k (atGap trail)) (neighbour right k (atGap trail)) (f left) (f right)
@@ -175,19 +182,23 @@ end-short n k (atGap trail) w f = absence-short n k (neighbour left k (atGap tra
 seen-short : (n : ℕ) (k : Bytes) (s : Seen) → Depth n s → ShortGiven n (proveSeen k s)
 unfolding proveSeen
 seen-short n k s h =
-    end-short n k (walk k 0 [] s) (subst (λ m. ShortTrail m (walk k 0 [] s)) (omega arith) (walk-short n k 0 [] s h)) (λ b. neighbour-short n b k 0 s h)
+    end-short n k (walk k 0 [] s) (subst (λ m. ShortTrail m (walk k 0 [] s)) (omega arith) (walk-short n k 0 [] s h))
+    (λ b. neighbour-short n b k 0 s h)
 
 given-short : (st : Store) (v : ℕ) (k : Bytes) → ShortGiven 257 (proof st v k)
 unfolding proof seen
 given-short st v k = go (isKept st v)
   where
-    go : (b : Bool) → ShortGiven 257 (cond b (proveSeen k (seenRoot (rootOf st v) (λ c d. seenAt 255 (st .slots) (c ∷ []) d))) (refused 8))
+    go : (b : Bool) → ShortGiven 257
+        (cond b (proveSeen k (seenRoot (rootOf st v) (λ c d. seenAt 255 (st .slots) (c ∷ []) d))) (refused 8))
     go true = seen-short 257 k _ (root-depth 255 (st .slots) (rootOf st v))
     go false = tt
 
 -- so of a proof that is given
-pub steps-at-most : (st : Store) (v : ℕ) (k : Bytes) (p : Proof) → proof st v k ≡ accepted p → All (λ q. length (q .steps) ≤ 256) (pathsOf p)
-steps-at-most st v k p e = all-map (Short 257) (λ q. length (q .steps) ≤ 256) (pathsOf p) (λ q h. omega arith) (subst (ShortGiven 257) e (given-short st v k))
+pub steps-at-most : (st : Store) (v : ℕ) (k : Bytes) (p : Proof) → proof st v k ≡ accepted p →
+    All (λ q. length (q .steps) ≤ 256) (pathsOf p)
+steps-at-most st v k p e =
+    all-map (Short 257) (λ q. length (q .steps) ≤ 256) (pathsOf p) (λ q h. omega arith) (subst (ShortGiven 257) e (given-short st v k))
 
 -- 256 steps make 8,520 bytes, and two such paths 17,080
 pub presence-at-most : (q : Presence) → length (q .steps) ≤ 256 → presenceLength q ≤ 8520
@@ -198,7 +209,8 @@ pub proof-at-most : (p : Proof) → All (λ q. presenceLength q ≤ 8520) (paths
 proof-at-most (presence p) h = let a : presenceLength p ≤ 8520 = h .0 in omega arith
 proof-at-most (absence a) h = go (a .leftward) (a .rightward) h
   where
-    go : (l r : Option Presence) → All (λ q. presenceLength q ≤ 8520) (pathIf l ++ pathIf r) → 40 + neighbourLength l + neighbourLength r ≤ 17080
+    go : (l r : Option Presence) → All (λ q. presenceLength q ≤ 8520) (pathIf l ++ pathIf r) →
+        40 + neighbourLength l + neighbourLength r ≤ 17080
     go none none h = omega arith
     go none (some q) h = let b : presenceLength q ≤ 8520 = h .0 in omega arith
     go (some p) none h = let a : presenceLength p ≤ 8520 = h .0 in omega arith

@@ -33,7 +33,8 @@ pub part-next : (m n : ℕ) (xs ys : List Step) (d : Step) → m < length xs →
     pathsPart (take (suc m) xs) (take (suc n) ys)
     ≡ cond (sameStep (getD xs m d) (getD ys n d)) (pathsPart (take m xs) (take n ys))
     (not (getD xs m d .side) && getD ys n d .side && outermost right (take m xs) && outermost left (take n ys))
-part-next m n xs ys d h e = ap₂ pathsPart (take-suc xs m d h) (take-suc ys n d e) ∙ part-by-tops (getD xs m d) (getD ys n d) (take m xs) (take n ys)
+part-next m n xs ys d h e =
+    ap₂ pathsPart (take-suc xs m d h) (take-suc ys n d e) ∙ part-by-tops (getD xs m d) (getD ys n d) (take m xs) (take n ys)
 
 -- n steps are tested, and one more
 pub outermost-next : (b : Side) (n : ℕ) (xs : List Step) (d : Step) → n < length xs →
@@ -60,7 +61,8 @@ raisedBy-twice : (s : Step) (above : List Step) (o : Option Presence) → raised
 raisedBy-twice s above none = refl
 raisedBy-twice s above (some p) = ap some (raised-twice s above p)
 
-either-raised : (b : Bool) (above : List Step) (o q : Option Presence) → cond b (raisedBy above o) (raisedBy above q) ≡ raisedBy above (cond b o q)
+either-raised : (b : Bool) (above : List Step) (o q : Option Presence) →
+    cond b (raisedBy above o) (raisedBy above q) ≡ raisedBy above (cond b o q)
 either-raised true above o q = refl
 either-raised false above o q = refl
 
@@ -70,6 +72,7 @@ descend-below b above gap = refl
 descend-below b above (leafSeen k x) = refl
 descend-below b above (fork hashes kids) =
     ap₂ (cond (isGap (kids b)))
-    (descend-below b (step (not b) (hashes b) ∷ above) (kids (not b)) ∙ raisedBy-twice (step (not b) (hashes b)) above (descend b (kids (not b))))
+    (descend-below b (step (not b) (hashes b) ∷ above) (kids (not b)) ∙ raisedBy-twice (step (not b) (hashes b)) above
+    (descend b (kids (not b))))
     (descend-below b (step b (hashes (not b)) ∷ above) (kids b) ∙ raisedBy-twice (step b (hashes (not b))) above (descend b (kids b)))
     ∙ either-raised (isGap (kids b)) above _ _

@@ -62,7 +62,8 @@ last-append (x ∷ xs) ys = ap (λ o. orFirst o (some x)) (last-append xs ys) �
     go (some g) = refl
 
 -- the end on side b of the grants of an inner node is that of the child there, else of the other
-end-inner : (b : Side) (l r : Tree) → endOf b (grants (inner l r)) ≡ orFirst (endOf b (grants (onSide l r b))) (endOf b (grants (onSide l r (not b))))
+end-inner : (b : Side) (l r : Tree) →
+    endOf b (grants (inner l r)) ≡ orFirst (endOf b (grants (onSide l r b))) (endOf b (grants (onSide l r (not b))))
 end-inner false l r = first-append (grants l) (grants r)
 end-inner true l r = last-append (grants l) (grants r)
 
@@ -94,7 +95,8 @@ nearest-same b k l r h =
     go b (filter-none (λ g. beyond b (g .key) k) gs
     (all-map (λ g. beyond (not b) (g .key) k ≡ true) (λ g. beyond b (g .key) k ≡ false) gs (λ g e. beyond-asym b (g .key) k e) h))
   where
-    go : (c : Side) → grantsBeyond c k (grants (onSide l r (not c))) ≡ [] → nearest c k (grants (inner l r)) ≡ nearest c k (grants (onSide l r c))
+    go : (c : Side) → grantsBeyond c k (grants (onSide l r (not c))) ≡ [] →
+        nearest c k (grants (inner l r)) ≡ nearest c k (grants (onSide l r c))
     go false e = nearest-left k (grants l) (grants r) ∙ rw e
     go true e = nearest-right k (grants l) (grants r) ∙ rw e
 
@@ -103,7 +105,8 @@ nearest-other : (b : Side) (k : Bytes) (l r : Tree) → All (λ g. beyond (not b
 nearest-other b k l r h = go b (filter-all (λ g. beyond (not b) (g .key) k) (grants (onSide l r (not b))) h)
   where
     go : (c : Side) → grantsBeyond (not c) k (grants (onSide l r (not c))) ≡ grants (onSide l r (not c)) →
-        nearest (not c) k (grants (inner l r)) ≡ orFirst (nearest (not c) k (grants (onSide l r c))) (endOf c (grants (onSide l r (not c))))
+        nearest (not c) k (grants (inner l r))
+        ≡ orFirst (nearest (not c) k (grants (onSide l r c))) (endOf c (grants (onSide l r (not c))))
     go false e = nearest-right k (grants l) (grants r) ∙ rw e
     go true e = nearest-left k (grants l) (grants r) ∙ rw e
 
@@ -145,10 +148,12 @@ abbrev pub HasNeighbours : Option Grant → Option Grant → Absence → Type 0
 HasNeighbours l r a = (grantIf (a .leftward) ≡ l) × (grantIf (a .rightward) ≡ r)
 
 -- they are those that the searches name
-given-neighbours : (l r : Option Grant) (a c : Absence) → HasNeighbours l r c → accepted (absence c) ≡ accepted (absence a) → HasNeighbours l r a
+given-neighbours : (l r : Option Grant) (a c : Absence) → HasNeighbours l r c → accepted (absence c) ≡ accepted (absence a) →
+    HasNeighbours l r a
 given-neighbours l r a c w e = let same : c ≡ a = cc in subst (HasNeighbours l r) same w
 
-pub absence-names : (k : Bytes) (x y : Sought) (l r : Option Grant) (a : Absence) → Names x l → Names y r → absenceFrom k x y ≡ accepted (absence a) →
+pub absence-names : (k : Bytes) (x y : Sought) (l r : Option Grant) (a : Absence) → Names x l → Names y r →
+    absenceFrom k x y ≡ accepted (absence a) →
     HasNeighbours l r a
 absence-names k x y l r a no-one no-one e = given-neighbours _ _ a _ (refl, refl) e
 absence-names k x y l r a no-one (one q) e = given-neighbours _ _ a _ (refl, refl) e
@@ -169,9 +174,20 @@ module _ (leafHash innerHash : Bytes → Bytes → Bytes) where
   ends-inner b p l r s f true e x y =
       let d = descent leafHash innerHash b (longer b p) (onSide l r b) (child-seated p l r s b) e in
       let i = f b (child-seated p l r s b) in
-      rw (gap-or-node leafHash innerHash (onSide l r b) ∙ ap not e, raised-grant (step b y ∷ []) (descend b (viewed leafHash innerHash (onSide l r b))), ← i, d .found)
+      rw (
+        gap-or-node leafHash innerHash (onSide l r b) ∙ ap not e,
+        raised-grant (step b y ∷ [])
+            (descend b (viewed leafHash innerHash (onSide l r b))),
+        ← i,
+        d .found,
+      )
   ends-inner b p l r s f false e x y =
-      rw (gap-or-node leafHash innerHash (onSide l r b) ∙ ap not e, raised-grant (step (not b) x ∷ []) (descend b (viewed leafHash innerHash (onSide l r (not b)))), end-missing b (onSide l r b) e)
+      rw (
+        gap-or-node leafHash innerHash (onSide l r b) ∙ ap not e,
+        raised-grant (step (not b) x ∷ [])
+            (descend b (viewed leafHash innerHash (onSide l r (not b)))),
+        end-missing b (onSide l r b) e,
+      )
       (f (not b) (child-seated p l r s (not b)))
 
   descent-ends : (b : Side) (p : Place) (t : Tree) → Ends b p t
@@ -179,7 +195,8 @@ module _ (leafHash innerHash : Bytes → Bytes → Bytes) where
   descent-ends b p (leaf g) s = sym (end-one b g)
   descent-ends b p (inner l r) s =
       subst (λ seen. grantIf (descend b seen) ≡ endOf b (grants (inner l r))) (sym (viewed-inner leafHash innerHash l r))
-      (ends-inner b p l r s (each-side (λ c. Ends b (longer c p) (onSide l r c)) (descent-ends b (longer left p) l) (descent-ends b (longer right p) r)) _ refl _ _
+      (ends-inner b p l r s (each-side (λ c. Ends b (longer c p) (onSide l r c)) (descent-ends b (longer left p) l)
+      (descent-ends b (longer right p) r)) _ refl _ _
       ∙ sym (end-inner b l r))
 
   -- so a turn finds the grant at the end of the child
@@ -194,32 +211,45 @@ module _ (leafHash innerHash : Bytes → Bytes → Bytes) where
   abbrev Nearest : Side → Bytes → ℕ → Place → Tree → Type 0
   Nearest b k i p t = Reached k i p → Seated p t → Names (neighbourBelow b k i (viewed leafHash innerHash t)) (nearest b k (grants t))
 
-  leaf-names : (b on-side : Bool) (g : Grant) → Names (cond on-side (somebody (presenceOf (g .key) (g .value) [])) nobody) (endOf b (cond on-side (g ∷ []) []))
+  leaf-names : (b on-side : Bool) (g : Grant) →
+      Names (cond on-side (somebody (presenceOf (g .key) (g .value) [])) nobody) (endOf b (cond on-side (g ∷ []) []))
   leaf-names b true g = rw (end-one b g) (one _)
   leaf-names b false g = rw (end-none b) no-one
 
   at-inner : (b c : Side) (p : Place) (k : Bytes) (l r : Tree) (x : Sought) → Compared c b → Seat (longer c p) k → Seated p (inner l r) →
       Names x (nearest b k (grants (onSide l r c))) →
-      Names (orElse (soughtBelow (step c (hash leafHash innerHash (onSide l r (not c))) ∷ []) x) (fromTrail b (passing leafHash innerHash c l r ∷ [])))
+      Names (orElse (soughtBelow (step c (hash leafHash innerHash (onSide l r (not c))) ∷ []) x)
+      (fromTrail b (passing leafHash innerHash c l r ∷ [])))
       (nearest b k (grants (inner l r)))
   at-inner b c p k l r x same seat s n =
-      rw (no-turn leafHash innerHash c l r, nearest-same c k l r (grants-off-walk c p k (onSide l r (not c)) seat (child-seated p l r s (not c))))
+      rw (
+        no-turn leafHash innerHash c l r,
+        nearest-same c k l r
+            (grants-off-walk c p k (onSide l r (not c)) seat (child-seated p l r s (not c))),
+      )
       (alone (names-below _ x _ n))
     where
       alone : {y : Sought} {o : Option Grant} → Names y o → Names (orElse y nobody) o
       alone no-one = no-one
       alone (one q) = one q
   at-inner b c p k l r x other seat s n =
-      rw (turn leafHash innerHash c l r _ refl, nearest-other c k l r (grants-off-walk c p k (onSide l r (not c)) seat (child-seated p l r s (not c))))
-      (names-or _ _ _ _ (names-below _ x _ n) (names-turn c (longer (not c) p) (onSide l r (not c)) _ _ refl (child-seated p l r s (not c))))
+      rw (
+        turn leafHash innerHash c l r _ refl,
+        nearest-other c k l r
+            (grants-off-walk c p k (onSide l r (not c)) seat (child-seated p l r s (not c))),
+      )
+      (names-or _ _ _ _ (names-below _ x _ n)
+      (names-turn c (longer (not c) p) (onSide l r (not c)) _ _ refl (child-seated p l r s (not c))))
 
   pub finds-nearest : (b : Side) (k : Bytes) (i : ℕ) (p : Place) (t : Tree) → Nearest b k i p t
   finds-nearest b k i p T.none at-p s = rw (end-none (not b)) no-one
   finds-nearest b k i p (leaf g) at-p s = leaf-names (not b) (beyond b (g .key) k) g
   finds-nearest b k i p (inner l r) at-p s =
-      inner-names (each-side (λ c. Nearest b k (suc i) (longer c p) (onSide l r c)) (finds-nearest b k (suc i) (longer left p) l) (finds-nearest b k (suc i) (longer right p) r))
+      inner-names (each-side (λ c. Nearest b k (suc i) (longer c p) (onSide l r c)) (finds-nearest b k (suc i) (longer left p) l)
+      (finds-nearest b k (suc i) (longer right p) r))
     where
-      inner-names : ((c : Side) → Nearest b k (suc i) (longer c p) (onSide l r c)) → Names (neighbourBelow b k i (viewed leafHash innerHash (inner l r))) (nearest b k (grants (inner l r)))
+      inner-names : ((c : Side) → Nearest b k (suc i) (longer c p) (onSide l r c)) →
+          Names (neighbourBelow b k i (viewed leafHash innerHash (inner l r))) (nearest b k (grants (inner l r)))
       inner-names below =
           let c = bit i k in
           let q = next k i p (s .0) at-p in

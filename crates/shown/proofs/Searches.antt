@@ -37,7 +37,8 @@ at-node s u steps nobody (some p) above true = ap somebody (raised-twice u steps
 at-node s u steps (somebody p) turn above away = ap somebody (raised-twice s steps p)
 
 at-leaf : (l x : Bytes) (steps : List Step) (above : Sought) (on-side : Bool) →
-    cond on-side (somebody (presenceOf l x steps)) above ≡ orElse (soughtBelow steps (cond on-side (somebody (presenceOf l x [])) nobody)) above
+    cond on-side (somebody (presenceOf l x steps)) above
+    ≡ orElse (soughtBelow steps (cond on-side (somebody (presenceOf l x [])) nobody)) above
 at-leaf l x steps above true = refl
 at-leaf l x steps above false = refl
 
@@ -55,7 +56,8 @@ neighbour-from-trail b k i trail (fork hashes kids) =
     neighbour-from-trail b k (suc i) (p ∷ trail) (kids (bit i k))
     ∙ at-node (stepUp p) (step b (hashes (not b))) (map stepUp trail) (neighbourBelow b k (suc i) (kids (bit i k)))
     (descend (not b) (kids b)) (fromTrail b trail) (turnsAway b p)
-    ∙ ap (λ x. orElse (soughtBelow (map stepUp trail) x) (fromTrail b trail)) (sym (neighbour-from-trail b k (suc i) (p ∷ []) (kids (bit i k))))
+    ∙ ap (λ x. orElse (soughtBelow (map stepUp trail) x) (fromTrail b trail))
+    (sym (neighbour-from-trail b k (suc i) (p ∷ []) (kids (bit i k))))
 
 module _ (leafHash innerHash : Bytes → Bytes → Bytes) where
   -- at an inner node the walk does not turn away from its own side
@@ -67,7 +69,8 @@ module _ (leafHash innerHash : Bytes → Bytes → Bytes) where
   -- it turns away from the other, if there is a child
   pub turn : (b : Side) (l r : Tree) (there : Bool) → occupied (onSide l r (not b)) ≡ there →
       fromTrail (not b) (passing leafHash innerHash b l r ∷ [])
-      ≡ cond there (sought (raisedBy (step (not b) (hash leafHash innerHash (onSide l r b)) ∷ []) (descend b (viewed leafHash innerHash (onSide l r (not b)))))) nobody
+      ≡ cond there (sought (raisedBy (step (not b) (hash leafHash innerHash (onSide l r b)) ∷ [])
+      (descend b (viewed leafHash innerHash (onSide l r (not b)))))) nobody
   unfolding turnsAway
   turn false l r there e = rw (gap-or-node leafHash innerHash r, e, not-not there)
   turn true l r there e = rw (gap-or-node leafHash innerHash l, e, not-not there)

@@ -45,7 +45,8 @@ module _ (s : List Slot) (p : Place) (c : Child) where
   pub child-leaf : (n : ℕ) (r : Record) (k x : Bytes) → 1 ≤ c .version → find (c .version) p s ≡ some r → r .body ≡ leafBody k x →
       seenAt n s p c ≡ cond (begins p k) (leafSeen k x) lost
   child-leaf zero r k x h e b = rw (ne-eqb (c .version) 0 (omega arith), e) (ap (λ y. seenBody p y (λ d a. lost)) b)
-  child-leaf (suc n) r k x h e b = rw (ne-eqb (c .version) 0 (omega arith), e) (ap (λ y. seenBody p y (λ d a. seenAt n s (longer d p) a)) b)
+  child-leaf (suc n) r k x h e b =
+      rw (ne-eqb (c .version) 0 (omega arith), e) (ap (λ y. seenBody p y (λ d a. seenAt n s (longer d p) a)) b)
 
   pub child-fork : (n : ℕ) (r : Record) (l m : Child) → 1 ≤ c .version → find (c .version) p s ≡ some r → r .body ≡ innerBody l m →
       seenAt (suc n) s p c ≡ fork (λ b. childOn b l m .hash) (λ b. seenAt n s (longer b p) (childOn b l m))

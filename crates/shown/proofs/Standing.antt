@@ -21,7 +21,8 @@ use Rattle.meaning.proofs.Finding.{Hit, miss, hit, hits, isNode-eq}
 use Rattle.shown.proofs.Views.{onSide, each-side, occupied, Seated, viewed}
 
 -- What is found stands in a slot.
-found-at : (st : Store) (v : ℕ) (p : Place) (r : Record) → find v p (st .slots) ≡ some r → (i : ℕ) × At st i r × (r .version ≡ v) × (r .place ≡ p)
+found-at : (st : Store) (v : ℕ) (p : Place) (r : Record) → find v p (st .slots) ≡ some r →
+    (i : ℕ) × At st i r × (r .version ≡ v) × (r .place ≡ p)
 unfolding At
 found-at st v p r e = go _ (hits (st .slots) v p) e
   where
@@ -46,7 +47,8 @@ module _ (leafHash innerHash : Bytes → Bytes → Bytes) where
   body-hash (vinner v l r) b e = ap (bodyHash leafHash innerHash) e
 
   child-hash : (l r : VTree) (b : Side) →
-      childOn b (childOf leafHash innerHash l) (childOf leafHash innerHash r) .hash ≡ hash leafHash innerHash (onSide (unversioned l) (unversioned r) b)
+      childOn b (childOf leafHash innerHash l) (childOf leafHash innerHash r) .hash
+      ≡ hash leafHash innerHash (onSide (unversioned l) (unversioned r) b)
   unfolding childOf
   child-hash l r = each-side _ refl refl
 
@@ -117,7 +119,8 @@ module _ (leafHash innerHash : Bytes → Bytes → Bytes) where
         (stands-seen n (longer right p) r (rw length-longer (omega arith)) (s .3))))
 
     -- the root record has the body of the root node
-    root-body : (t : VTree) (r : Record) → Stands leafHash innerHash st [] t → find (topVersion t) [] (st .slots) ≡ some r → occupied (unversioned t) ≡ true →
+    root-body : (t : VTree) (r : Record) → Stands leafHash innerHash st [] t → find (topVersion t) [] (st .slots) ≡ some r →
+        occupied (unversioned t) ≡ true →
         HasBody t (r .body)
     unfolding Found
     root-body vnone r s e o = absurd (false≢true o)
@@ -125,7 +128,8 @@ module _ (leafHash innerHash : Bytes → Bytes → Bytes) where
     root-body (vinner v a b) r s e o = let w : s .0 .0 ≡ r = cc in ap (λ x. x .body) (sym w) ∙ s .0 .2
 
     -- what is seen at the root, from its record
-    root-seen : (n : ℕ) (t : VTree) (r : Record) → suc n ≡ 256 → Stands leafHash innerHash st [] t → 1 ≤ topVersion t → find (topVersion t) [] (st .slots) ≡ some r →
+    root-seen : (n : ℕ) (t : VTree) (r : Record) → suc n ≡ 256 → Stands leafHash innerHash st [] t → 1 ≤ topVersion t →
+        find (topVersion t) [] (st .slots) ≡ some r →
         seenBody [] (r .body) (λ b d. seenAt n (st .slots) (b ∷ []) d) ≡ viewed leafHash innerHash (unversioned t)
     unfolding childOf longer
     root-seen n t r m s one e = rw (ne-eqb (topVersion t) 0 (omega arith), e) at (stands-seen (suc n) [] t (omega arith) s)
@@ -147,7 +151,8 @@ module _ (leafHash innerHash : Bytes → Bytes → Bytes) where
           go (leafBody k x) = refl
           go (innerBody a b) = refl
 
-      at-root : (r : Record) → rootOf st v ≡ some r → (1 ≤ topVersion (treeFound (some r) below)) × (find (topVersion (treeFound (some r) below)) [] (st .slots) ≡ some r)
+      at-root : (r : Record) → rootOf st v ≡ some r →
+          (1 ≤ topVersion (treeFound (some r) below)) × (find (topVersion (treeFound (some r) below)) [] (st .slots) ≡ some r)
       unfolding rootOf
       at-root r e =
           let w = found-at st v [] r e in
@@ -172,7 +177,8 @@ module _ (leafHash innerHash : Bytes → Bytes → Bytes) where
     version-seen v kept = seen-go v (λ b w. treeFrom 255 (st .slots) w (b ∷ [])) 255 (rootOf st v) refl refl (ok .stands v kept)
 
     -- the root read gives its hash
-    pub version-hash : (v : ℕ) → Kept st v → rootHash leafHash innerHash (rootOf st v) ≡ hash leafHash innerHash (unversioned (treeAtVersion st v))
+    pub version-hash : (v : ℕ) → Kept st v →
+        rootHash leafHash innerHash (rootOf st v) ≡ hash leafHash innerHash (unversioned (treeAtVersion st v))
     unfolding treeAtVersion
     version-hash v kept = hash-go v (λ b w. treeFrom 255 (st .slots) w (b ∷ [])) (rootOf st v) refl (ok .stands v kept)
 

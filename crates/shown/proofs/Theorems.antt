@@ -35,26 +35,32 @@ pub proof-agrees-with-read : (st : Store) (v : ℕ) (k : Bytes) (p : Proof) → 
 unfolding proof readKey proveSeen
 proof-agrees-with-read st v k p = go (isKept st v)
   where
-    go : (b : Bool) → cond b (proveEnd k (walk k 0 [] (seen st v))) (refused 8) ≡ accepted p → Agrees k (cond b (readEnd k (walk k 0 [] (seen st v))) (refused 8)) p
+    go : (b : Bool) → cond b (proveEnd k (walk k 0 [] (seen st v))) (refused 8) ≡ accepted p →
+        Agrees k (cond b (readEnd k (walk k 0 [] (seen st v))) (refused 8)) p
     go true e = end-agrees k (walk k 0 [] (seen st v)) p e
     go false e = let z : _≡_ {A = ℕ} 0 1 = cc in absurd (omega arith)
 
 -- On any store: every path has at most 256 steps, a presence proof at most 8,520 bytes, any proof at most 17,080.
-pub paths-have-256-steps : (st : Store) (v : ℕ) (k : Bytes) (p : Proof) → proof st v k ≡ accepted p → All (λ q. length (q .steps) ≤ 256) (pathsOf p)
+pub paths-have-256-steps : (st : Store) (v : ℕ) (k : Bytes) (p : Proof) → proof st v k ≡ accepted p →
+    All (λ q. length (q .steps) ≤ 256) (pathsOf p)
 paths-have-256-steps st v k p e = steps-at-most st v k p e
 
-pub presences-have-8520-bytes : (st : Store) (v : ℕ) (k : Bytes) (p : Proof) → proof st v k ≡ accepted p → All (λ q. presenceLength q ≤ 8520) (pathsOf p)
-presences-have-8520-bytes st v k p e = all-map (λ q. length (q .steps) ≤ 256) (λ q. presenceLength q ≤ 8520) (pathsOf p) presence-at-most (steps-at-most st v k p e)
+pub presences-have-8520-bytes : (st : Store) (v : ℕ) (k : Bytes) (p : Proof) → proof st v k ≡ accepted p →
+    All (λ q. presenceLength q ≤ 8520) (pathsOf p)
+presences-have-8520-bytes st v k p e =
+    all-map (λ q. length (q .steps) ≤ 256) (λ q. presenceLength q ≤ 8520) (pathsOf p) presence-at-most (steps-at-most st v k p e)
 
 pub proofs-have-17080-bytes : (st : Store) (v : ℕ) (k : Bytes) (p : Proof) → proof st v k ≡ accepted p → proofLength p ≤ 17080
 proofs-have-17080-bytes st v k p e = proof-at-most p (presences-have-8520-bytes st v k p e)
 
 -- On any store: with room for it the proof is given, else 9.
-pub given-with-room : (st : Store) (v : ℕ) (k : Bytes) (p : Proof) (room : ℕ) → proof st v k ≡ accepted p → proofLength p ≤ room → prove st v k room ≡ accepted p
+pub given-with-room : (st : Store) (v : ℕ) (k : Bytes) (p : Proof) (room : ℕ) → proof st v k ≡ accepted p → proofLength p ≤ room →
+    prove st v k room ≡ accepted p
 unfolding prove
 given-with-room st v k p room e h = rw (e, le-ltb room (proofLength p) h)
 
-pub nine-without-room : (st : Store) (v : ℕ) (k : Bytes) (p : Proof) (room : ℕ) → proof st v k ≡ accepted p → room < proofLength p → prove st v k room ≡ refused 9
+pub nine-without-room : (st : Store) (v : ℕ) (k : Bytes) (p : Proof) (room : ℕ) → proof st v k ≡ accepted p → room < proofLength p →
+    prove st v k room ≡ refused 9
 unfolding prove
 nine-without-room st v k p room e h = rw (e, lt-ltb room (proofLength p) h)
 
@@ -63,8 +69,14 @@ module _ (leafHash innerHash : Bytes → Bytes → Bytes) where
   pub checked-present : (root k x : Bytes) (p : Proof) → checked leafHash innerHash root k p ≡ accepted (present x) →
       (q : Presence) × (p ≡ presence q) × (q .key ≡ k) × (q .value ≡ x) × (leadsTo leafHash innerHash root q ≡ true)
   checked-present root k x (presence q) e =
-      let w = passed (sameBytes k (q .key) && leadsTo leafHash innerHash root q) (present (q .value)) (present x) e in
-      (q, refl, sym (same-bytes k (q .key) (and-left _ (leadsTo leafHash innerHash root q) (w .0))), cc, and-right (sameBytes k (q .key)) _ (w .0))
+      let w = passed (sameBytes k (q .key) && leadsTo leafHash innerHash root q) (present (q .value)) (present x) e in (
+        q,
+        refl,
+        sym (same-bytes k (q .key) (and-left _ (leadsTo leafHash innerHash root q) (w .0))),
+        cc,
+        and-right
+            (sameBytes k (q .key)) _ (w .0),
+      )
   checked-present root k x (absence a) e =
       let w = passed (sameBytes k (a .key) && absenceHolds leafHash innerHash root k (a .leftward) (a .rightward)) absent (present x) e in
       let z : _≡_ {A = ℕ} 0 1 = cc in absurd (omega arith)
@@ -93,31 +105,38 @@ module _ (leafHash innerHash : Bytes → Bytes → Bytes) where
       unfolding readKey
       key-read-is-answer =
           rw (kept-test st v kept, version-seen leafHash innerHash st ok v kept)
-          (walk-answers leafHash innerHash k 0 [] (unversioned (treeAtVersion st v)) [] (start k whole) (version-seated leafHash innerHash st ok v kept))
+          (walk-answers leafHash innerHash k 0 [] (unversioned (treeAtVersion st v)) [] (start k whole)
+          (version-seated leafHash innerHash st ok v kept))
 
       -- There is a proof, and the checker's answer to it against the version's root is what the version's grants say of the key.
       pub shown : (root : Bytes) → readRoot leafHash innerHash st v ≡ accepted root →
-          (p : Proof) × (proof st v k ≡ accepted p) × (checked leafHash innerHash root k p ≡ accepted (answerOf k (grantsIn (treeAtVersion st v))))
+          (p : Proof) × (proof st v k ≡ accepted p) ×
+          (checked leafHash innerHash root k p ≡ accepted (answerOf k (grantsIn (treeAtVersion st v))))
       unfolding proof
       shown root e =
           let same : hash leafHash innerHash (unversioned (treeAtVersion st v)) ≡ root = accepted-same _ _ (sym root-read-is-hash ∙ e) in
-          let p = tree-shown leafHash innerHash k (unversioned (treeAtVersion st v)) whole (version-seated leafHash innerHash st ok v kept) in (
+          let p = tree-shown leafHash innerHash k (unversioned (treeAtVersion st v)) whole
+          (version-seated leafHash innerHash st ok v kept) in (
             p .0,
             rw (kept-test st v kept, version-seen leafHash innerHash st ok v kept) (p .1),
             subst (λ h. checked leafHash innerHash h k (p .0) ≡ accepted (answerOf k (grantsIn (treeAtVersion st v)))) same (p .2),
           )
 
       -- So a key with a value in the version is proved present with that value,
-      pub granted-is-proved-present : (root x : Bytes) → readRoot leafHash innerHash st v ≡ accepted root → answerOf k (grantsIn (treeAtVersion st v)) ≡ present x →
-          (q : Presence) × (proof st v k ≡ accepted (presence q)) × (q .key ≡ k) × (q .value ≡ x) × (leadsTo leafHash innerHash root q ≡ true)
+      pub granted-is-proved-present : (root x : Bytes) → readRoot leafHash innerHash st v ≡ accepted root →
+          answerOf k (grantsIn (treeAtVersion st v)) ≡ present x →
+          (q : Presence) × (proof st v k ≡ accepted (presence q)) × (q .key ≡ k) × (q .value ≡ x) ×
+          (leadsTo leafHash innerHash root q ≡ true)
       granted-is-proved-present root x e a =
           let p = shown root e in
           let w = checked-present root k x (p .0) (p .2 ∙ ap accepted a) in
           (w .0, p .1 ∙ ap accepted (w .1), w .2, w .3, w .4)
 
       -- any other key is proved absent,
-      pub other-is-proved-absent : (root : Bytes) → readRoot leafHash innerHash st v ≡ accepted root → answerOf k (grantsIn (treeAtVersion st v)) ≡ absent →
-          (a : Absence) × (proof st v k ≡ accepted (absence a)) × (a .key ≡ k) × (absenceHolds leafHash innerHash root k (a .leftward) (a .rightward) ≡ true)
+      pub other-is-proved-absent : (root : Bytes) → readRoot leafHash innerHash st v ≡ accepted root →
+          answerOf k (grantsIn (treeAtVersion st v)) ≡ absent →
+          (a : Absence) × (proof st v k ≡ accepted (absence a)) × (a .key ≡ k) ×
+          (absenceHolds leafHash innerHash root k (a .leftward) (a .rightward) ≡ true)
       other-is-proved-absent root e a =
           let p = shown root e in
           let w = checked-absent root k (p .0) (p .2 ∙ ap accepted a) in
@@ -132,7 +151,8 @@ module _ (leafHash innerHash : Bytes → Bytes → Bytes) where
 
       -- The neighbours in a proof of absence: on the left the last of the smaller grants, on the right the first of the greater.
       pub neighbours-are-nearest : (a : Absence) → proof st v k ≡ accepted (absence a) →
-          (grantIf (a .leftward) ≡ lastOf (smaller k (grantsIn (treeAtVersion st v)))) × (grantIf (a .rightward) ≡ firstOf (greater k (grantsIn (treeAtVersion st v))))
+          (grantIf (a .leftward) ≡ lastOf (smaller k (grantsIn (treeAtVersion st v)))) ×
+          (grantIf (a .rightward) ≡ firstOf (greater k (grantsIn (treeAtVersion st v))))
       unfolding proof proveSeen absenceAt smaller greater
       neighbours-are-nearest a e =
           let t = unversioned (treeAtVersion st v) in
@@ -140,4 +160,5 @@ module _ (leafHash innerHash : Bytes → Bytes → Bytes) where
           let given : proveEnd k (walk k 0 [] (viewed leafHash innerHash t)) ≡ accepted (absence a) =
           rw (kept-test st v kept, version-seen leafHash innerHash st ok v kept) at e in
           absence-names k _ _ _ _ a (finds-nearest leafHash innerHash left k 0 [] t (start k whole) seated)
-          (finds-nearest leafHash innerHash right k 0 [] t (start k whole) seated) (end-absence k (walk k 0 [] (viewed leafHash innerHash t)) a given)
+          (finds-nearest leafHash innerHash right k 0 [] t (start k whole) seated)
+          (end-absence k (walk k 0 [] (viewed leafHash innerHash t)) a given)

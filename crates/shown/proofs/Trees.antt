@@ -22,12 +22,14 @@ module _ (leafHash innerHash : Bytes → Bytes → Bytes) where
   abbrev pub Shows : Bytes → Bytes → Verdict → Answer Proof → Type 0
   Shows root k verdict given = (p : Proof) × (given ≡ accepted p) × (checked leafHash innerHash root k p ≡ accepted verdict)
 
-  flank-holds : (b : Side) (h k : Bytes) (p : Presence) → Flank leafHash innerHash b h k p → neighbourHolds leafHash innerHash b h k p ≡ true
+  flank-holds : (b : Side) (h k : Bytes) (p : Presence) → Flank leafHash innerHash b h k p →
+      neighbourHolds leafHash innerHash b h k p ≡ true
   unfolding neighbourHolds leadsTo
   flank-holds b h k p w = rw (w .leads, bytes-same h, w .order)
 
   -- neighbours that flank the key make a proof of absence
-  absence-shown : (h k : Bytes) (there : Bool) (found : Side → Sought) → (there ≡ false → h ≡ zeros) → Flanked leafHash innerHash h k there found →
+  absence-shown : (h k : Bytes) (there : Bool) (found : Side → Sought) → (there ≡ false → h ≡ zeros) →
+      Flanked leafHash innerHash h k there found →
       Shows h k absent (absenceFrom k (found left) (found right))
   absence-shown h k there found z (neither e f) =
       (absenceOf k none none, rw (f left, f right), rw (z e, bytes-same k, bytes-same zeros))
@@ -59,10 +61,12 @@ module _ (leafHash innerHash : Bytes → Bytes → Bytes) where
     shown-absent e came a =
         rw a
         (absence-shown root k (occupied t) (λ b. neighbour b k e) (missing-is-zeros leafHash innerHash t)
-        (subst (λ x. Flanked leafHash innerHash root k (occupied t) (λ b. neighbour b k x)) came (flanked leafHash innerHash k 0 [] t (start k w) s a)))
+        (subst (λ x. Flanked leafHash innerHash root k (occupied t) (λ b. neighbour b k x)) came
+        (flanked leafHash innerHash k 0 [] t (start k w) s a)))
 
     shown-leaf : (l x : Bytes) (trail : List Pass) → Came (atLeaf l x trail) → (same : Bool) → sameBytes k l ≡ same →
-        Shows root k (answerOf k (grants t)) (cond same (accepted (presence (presenceOf l x (map stepUp trail)))) (absenceAt k (atLeaf l x trail)))
+        Shows root k (answerOf k (grants t))
+        (cond same (accepted (presence (presenceOf l x (map stepUp trail)))) (absenceAt k (atLeaf l x trail)))
     unfolding leadsTo
     shown-leaf l x trail came true e =
         let says : accepted (present x) ≡ accepted (answerOf k (grants t)) = rw e at (end-answers (atLeaf l x trail) came) in

@@ -43,7 +43,8 @@ abbrev pub Agrees : Bytes → Answer Verdict → Proof → Type 0
 Agrees k read (presence q) = (q .key ≡ k) × (read ≡ accepted (present (q .value)))
 Agrees k read (absence a) = (a .key ≡ k) × (read ≡ accepted absent)
 
-absence-agrees : (k : Bytes) (read : Answer Verdict) (given : Answer Proof) (p : Proof) → Absent k given → read ≡ accepted absent → given ≡ accepted p → Agrees k read p
+absence-agrees : (k : Bytes) (read : Answer Verdict) (given : Answer Proof) (p : Proof) → Absent k given → read ≡ accepted absent →
+    given ≡ accepted p → Agrees k read p
 absence-agrees k read given p no-proof r e = let z : _≡_ {A = ℕ} 0 1 = cc in absurd (omega arith)
 absence-agrees k read given (presence q) (a-proof a f) r e = let z : _≡_ {A = ℕ} 0 1 = cc in absurd (omega arith)
 absence-agrees k read given (absence c) (a-proof a f) r e = let same : a ≡ c = cc in (ap (λ x. x .key) (sym same) ∙ f, r)
@@ -69,7 +70,8 @@ end-absence k broken a h = let z : _≡_ {A = ℕ} 0 1 = cc in absurd (omega ari
 end-absence k (atGap trail) a h = h
 end-absence k (atLeaf l x trail) a h = go (sameBytes k l) h
   where
-    go : (b : Bool) → cond b (accepted (presence (presenceOf l x (map stepUp trail)))) (absenceAt k (atLeaf l x trail)) ≡ accepted (absence a) →
+    go : (b : Bool) → cond b (accepted (presence (presenceOf l x (map stepUp trail)))) (absenceAt k (atLeaf l x trail))
+        ≡ accepted (absence a) →
         absenceAt k (atLeaf l x trail) ≡ accepted (absence a)
     go true e = let z : _≡_ {A = ℕ} 0 1 = cc in absurd (omega arith)
     go false e = e

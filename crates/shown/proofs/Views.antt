@@ -66,7 +66,8 @@ pub child-seated : (p : Place) (l r : Tree) → Seated p (inner l r) → (b : Si
 child-seated p l r s false = s .2
 child-seated p l r s true = s .3
 
-pub other-child : (p : Place) (l r : Tree) → Seated p (inner l r) → (b : Side) → occupied (onSide l r b) ≡ false → occupied (onSide l r (not b)) ≡ true
+pub other-child : (p : Place) (l r : Tree) → Seated p (inner l r) → (b : Side) → occupied (onSide l r b) ≡ false →
+    occupied (onSide l r (not b)) ≡ true
 other-child p l r s false e = rw e at (s .1)
 other-child p l r s true e = first (occupied l) (occupied r) e (s .1)
   where
@@ -95,7 +96,8 @@ module _ (leafHash innerHash : Bytes → Bytes → Bytes) where
   -- the children of an inner node are seen as trees
   pub viewed-inner : (l r : Tree) → viewed (inner l r) ≡ fork (λ b. hash leafHash innerHash (onSide l r b)) (λ b. viewed (onSide l r b))
   viewed-inner l r =
-      ap (fork (λ b. hash leafHash innerHash (onSide l r b))) (fun-ext (each-side (λ b. onSide (viewed l) (viewed r) b ≡ viewed (onSide l r b)) refl refl))
+      ap (fork (λ b. hash leafHash innerHash (onSide l r b)))
+      (fun-ext (each-side (λ b. onSide (viewed l) (viewed r) b ≡ viewed (onSide l r b)) refl refl))
 
   -- an inner node passed by a walk that turns to side b
   abbrev pub passing : Side → Tree → Tree → Pass

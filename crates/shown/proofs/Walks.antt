@@ -70,7 +70,8 @@ absent-before : (k : Bytes) (gs hs : List Grant) → answerOf k gs ≡ absent �
 absent-before k [] hs h = refl
 absent-before k (g ∷ gs) hs h = go (sameBytes k (g .key)) h (absent-before k gs hs)
   where
-    go : (b : Bool) → cond b (present (g .value)) (answerOf k gs) ≡ absent → (answerOf k gs ≡ absent → answerOf k (gs ++ hs) ≡ answerOf k hs) →
+    go : (b : Bool) → cond b (present (g .value)) (answerOf k gs) ≡ absent →
+        (answerOf k gs ≡ absent → answerOf k (gs ++ hs) ≡ answerOf k hs) →
         cond b (present (g .value)) (answerOf k (gs ++ hs)) ≡ answerOf k hs
     go true e f = let z : _≡_ {A = ℕ} 0 1 = cc in absurd (omega arith)
     go false e f = f e
@@ -91,11 +92,15 @@ answer-on-walk k i p l r at-p s =
 module _ (leafHash innerHash : Bytes → Bytes → Bytes) where
   -- The walk for k from bit i answers what the grants of t say.
   abbrev Answers : Bytes → ℕ → Place → Tree → Type 0
-  Answers k i p t = (trail : List Pass) → Reached k i p → Seated p t → readEnd k (walk k i trail (viewed leafHash innerHash t)) ≡ accepted (answerOf k (grants t))
+  Answers k i p t =
+      (trail : List Pass) → Reached k i p → Seated p t →
+      readEnd k (walk k i trail (viewed leafHash innerHash t)) ≡ accepted (answerOf k (grants t))
 
-  answers-inner : (k : Bytes) (i : ℕ) (p : Place) (l r : Tree) → ((b : Side) → Answers k (suc i) (longer b p) (onSide l r b)) → Answers k i p (inner l r)
+  answers-inner : (k : Bytes) (i : ℕ) (p : Place) (l r : Tree) → ((b : Side) → Answers k (suc i) (longer b p) (onSide l r b)) →
+      Answers k i p (inner l r)
   answers-inner k i p l r f trail at-p s =
-      subst (λ seen. readEnd k (walk k i trail seen) ≡ accepted (answerOf k (grants (inner l r)))) (sym (viewed-inner leafHash innerHash l r))
+      subst (λ seen. readEnd k (walk k i trail seen) ≡ accepted (answerOf k (grants (inner l r))))
+      (sym (viewed-inner leafHash innerHash l r))
       (f (bit i k) _ (next k i p (s .0) at-p) (child-seated p l r s (bit i k)) ∙ ap accepted (sym (answer-on-walk k i p l r at-p s)))
 
   pub walk-answers : (k : Bytes) (i : ℕ) (p : Place) (t : Tree) → Answers k i p t
@@ -103,16 +108,19 @@ module _ (leafHash innerHash : Bytes → Bytes → Bytes) where
   walk-answers k i p (leaf g) trail at-p s = refl
   walk-answers k i p (inner l r) trail at-p s =
       answers-inner k i p l r
-      (each-side (λ b. Answers k (suc i) (longer b p) (onSide l r b)) (walk-answers k (suc i) (longer left p) l) (walk-answers k (suc i) (longer right p) r))
+      (each-side (λ b. Answers k (suc i) (longer b p) (onSide l r b)) (walk-answers k (suc i) (longer left p) l)
+      (walk-answers k (suc i) (longer right p) r))
       trail at-p s
 
   -- A walk ends at a leaf from which its whole trail leads where the trail that it had leads from h, or at a missing child.
   abbrev pub Climbs : Bytes → List Pass → End → Type 0
   Climbs h trail broken = ⊥
-  Climbs h trail (atLeaf l x whole) = climb leafHash innerHash (leafHash l x) (map stepUp whole) ≡ climb leafHash innerHash h (map stepUp trail)
+  Climbs h trail (atLeaf l x whole) =
+      climb leafHash innerHash (leafHash l x) (map stepUp whole) ≡ climb leafHash innerHash h (map stepUp trail)
   Climbs h trail (atGap whole) = Unit {0}
 
-  climbs-above : (h g : Bytes) (p : Pass) (trail : List Pass) (e : End) → parentHash leafHash innerHash h (stepUp p) ≡ g → Climbs h (p ∷ trail) e → Climbs g trail e
+  climbs-above : (h g : Bytes) (p : Pass) (trail : List Pass) (e : End) → parentHash leafHash innerHash h (stepUp p) ≡ g →
+      Climbs h (p ∷ trail) e → Climbs g trail e
   climbs-above h g p trail broken e c = c
   climbs-above h g p trail (atLeaf l x whole) e c = c ∙ ap (λ u. climb leafHash innerHash u (map stepUp trail)) e
   climbs-above h g p trail (atGap whole) e c = tt
@@ -126,5 +134,6 @@ module _ (leafHash innerHash : Bytes → Bytes → Bytes) where
       subst (λ seen. Climbs (hash leafHash innerHash (inner l r)) trail (walk k i trail seen)) (sym (viewed-inner leafHash innerHash l r))
       (climbs-above (hash leafHash innerHash (onSide l r (bit i k))) (hash leafHash innerHash (inner l r)) p trail
       (walk k (suc i) (p ∷ trail) (viewed leafHash innerHash (onSide l r (bit i k)))) (inner-from leafHash innerHash (bit i k) l r)
-      (each-side (λ b. Climbs (hash leafHash innerHash (onSide l r b)) (p ∷ trail) (walk k (suc i) (p ∷ trail) (viewed leafHash innerHash (onSide l r b))))
+      (each-side (λ b. Climbs (hash leafHash innerHash (onSide l r b)) (p ∷ trail)
+      (walk k (suc i) (p ∷ trail) (viewed leafHash innerHash (onSide l r b))))
       (walk-climbs k (suc i) (p ∷ trail) l) (walk-climbs k (suc i) (p ∷ trail) r) (bit i k)))
