@@ -4,18 +4,17 @@ use Prim.Native.Nat.{ℕ, suc}
 use mathlib.Core.Path.{_≡_, refl, ap, sym, _∙_, subst, fun-ext}
 use mathlib.Core.Bool.{Bool, true, false, cond, not, true≢false}
 use mathlib.Core.List.{[], _∷_}
-use native.Mathlib.Omega.{arith}
 use Rattle.terms.specs.Bits.{Bytes, Side, left, right, Place, longer, bit, before, sameBytes}
 use Rattle.terms.specs.Records.{Grant, grant, Step, Presence}
 use Rattle.terms.proofs.Tests.{bytes-same}
 use Rattle.terms.proofs.Order.{before-asym, before-total}
 use Rattle.meaning.specs.Tree.{Tree, none, leaf, inner, grants, hash}
-use Rattle.meaning.specs.Reading.{present, absent, answerOf}
+use Rattle.meaning.specs.Reading.{Seen, present, absent, answerOf}
 use Rattle.meaning.specs.Proving.{step, presenceOf, raised, descend, Sought, nobody, somebody, fromTrail, beyond}
 use Rattle.meaning.specs.Checking.{outermost}
 use Rattle.shown.proofs.Paths.{keeps-by-side, keeps-by-zeros, partFrom, part-below, part-at-top, topOf, raised-leads}
 use Rattle.shown.proofs.Views.{onSide, each-side, Compared, same, other, compared, not-not, occupied, Seat, Seated, child-seated, other-child, viewed, viewed-inner, passing, missing-is-zeros, inner-from, inner-from-other}
-use Rattle.shown.proofs.Walks.{Reached, next, parted-beyond, answer-on-walk}
+use Rattle.shown.proofs.Walks.{Reached, next, parted-beyond, present-absent, answer-on-walk}
 use Rattle.shown.proofs.Descent.{outermost-raised, Descent, descent}
 use Rattle.shown.proofs.Searches.{orElse, soughtBelow, neighbourBelow, neighbour-from-trail, no-turn, turn}
 
@@ -32,7 +31,7 @@ other-key : (k l x : Bytes) → answerOf k (grant l x ∷ []) ≡ absent → sam
 other-key k l x = go (sameBytes k l)
   where
     go : (b : Bool) → cond b (present x) absent ≡ absent → b ≡ false
-    go true e = let z : _≡_ {A = ℕ} 0 1 = cc in absurd (omega arith)
+    go true e = present-absent x e
     go false e = refl
 
 module _ (leafHash innerHash : Bytes → Bytes → Bytes) where
@@ -159,23 +158,24 @@ module _ (leafHash innerHash : Bytes → Bytes → Bytes) where
       let w = beyond-one-side k (g .key) e in
       only (w .0) (presenceOf (g .key) (g .value) []) (rw (w .1)) (rw (w .2)) (record { leads = refl; order = w .1 }) refl
 
+  flanked-inner : (k : Bytes) (i : ℕ) (p : Place) (l r : Tree) → ((b : Side) → FlankedIn k (suc i) (longer b p) (onSide l r b)) →
+      FlankedIn k i p (inner l r)
+  flanked-inner k i p l r below at-p s a =
+      let b = bit i k in
+      let q = next k i p (s .0) at-p in
+      let seenThere : Seen = viewed leafHash innerHash (onSide l r b) in
+      let Root : (Side → Sought) → Type 0 = Flanked (hash leafHash innerHash (inner l r)) k true in
+      subst (λ seen. Root (λ c. neighbourBelow c k i seen)) (sym (viewed-inner leafHash innerHash l r))
+      (subst Root (fun-ext λ c. sym (neighbour-from-trail c k (suc i) (passing leafHash innerHash b l r ∷ []) seenThere))
+      (flanked-above b p k l r s (q .seat) (λ c. neighbourBelow c k (suc i) seenThere)
+      (below b q (child-seated p l r s b) (sym (answer-on-walk k i p l r at-p s) ∙ a))))
+
+  -- the neighbours of an absent key flank it, in every seated tree
   pub flanked : (k : Bytes) (i : ℕ) (p : Place) (t : Tree) → FlankedIn k i p t
   flanked k i p none at-p s a = neither refl (λ b. refl)
   flanked k i p (leaf g) at-p s a = leaf-flanked k g (other-key k (g .key) (g .value) a)
   flanked k i p (inner l r) at-p s a =
-      let below = each-side (λ b. FlankedIn k (suc i) (longer b p) (onSide l r b)) (flanked k (suc i) (longer left p) l)
-      (flanked k (suc i) (longer right p) r) in
-      inner-flanked below
-    where
-      inner-flanked : ((b : Side) → FlankedIn k (suc i) (longer b p) (onSide l r b)) →
-          Flanked (hash leafHash innerHash (inner l r)) k true (λ b. neighbourBelow b k i (viewed leafHash innerHash (inner l r)))
-      inner-flanked below =
-          let b = bit i k in
-          let q = next k i p (s .0) at-p in
-          subst (λ seen. Flanked (hash leafHash innerHash (inner l r)) k true (λ c. neighbourBelow c k i seen))
-          (sym (viewed-inner leafHash innerHash l r))
-          (subst (Flanked (hash leafHash innerHash (inner l r)) k true)
-          (fun-ext λ c. sym (neighbour-from-trail c k (suc i) (passing leafHash innerHash b l r ∷ [])
-          (viewed leafHash innerHash (onSide l r b))))
-          (flanked-above b p k l r s (q .seat) (λ c. neighbourBelow c k (suc i) (viewed leafHash innerHash (onSide l r b)))
-          (below b q (child-seated p l r s b) (sym (answer-on-walk k i p l r at-p s) ∙ a))))
+      flanked-inner k i p l r
+      (each-side (λ b. FlankedIn k (suc i) (longer b p) (onSide l r b)) (flanked k (suc i) (longer left p) l)
+      (flanked k (suc i) (longer right p) r))
+      at-p s a

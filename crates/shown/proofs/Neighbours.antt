@@ -12,8 +12,9 @@ use Rattle.terms.proofs.Order.{before-asym}
 use Rattle.meaning.specs.Tree.{Tree, leaf, inner, grants, hash}
 use Rattle.meaning.specs.Tree as T
 use Rattle.meaning.specs.Calls.{accepted}
+use Rattle.meaning.specs.Reading.{Seen}
 use Rattle.meaning.specs.Proving.{step, presenceOf, raisedBy, isGap, descend, Sought, nobody, somebody, sought, fromTrail, beyond, absenceFrom}
-use Rattle.shown.proofs.Views.{onSide, each-side, Compared, same, other, compared, occupied, Seat, Seated, child-seated, viewed, viewed-inner, passing, gap-or-node}
+use Rattle.shown.proofs.Views.{onSide, each-side, Compared, same, other, compared, not-not, occupied, Seat, Seated, child-seated, viewed, viewed-inner, passing, gap-or-node}
 use Rattle.shown.proofs.Walks.{Reached, next, grants-off-walk}
 use Rattle.shown.proofs.Descent.{descent}
 use Rattle.shown.proofs.Searches.{orElse, soughtBelow, neighbourBelow, neighbour-from-trail, no-turn, turn}
@@ -74,41 +75,34 @@ grantsBeyond b k gs = filter (λ g. beyond b (g .key) k) gs
 abbrev nearest : Side → Bytes → List Grant → Option Grant
 nearest b k gs = endOf (not b) (grantsBeyond b k gs)
 
--- of two lists, that on the other side is asked first
-nearest-left : (k : Bytes) (xs ys : List Grant) → nearest left k (xs ++ ys) ≡ orFirst (nearest left k ys) (nearest left k xs)
-nearest-left k xs ys =
-    ap lastOf (filter-append (λ g. beyond left (g .key) k) xs ys) ∙ last-append (grantsBeyond left k xs) (grantsBeyond left k ys)
-
-nearest-right : (k : Bytes) (xs ys : List Grant) → nearest right k (xs ++ ys) ≡ orFirst (nearest right k xs) (nearest right k ys)
-nearest-right k xs ys =
-    ap firstOf (filter-append (λ g. beyond right (g .key) k) xs ys) ∙ first-append (grantsBeyond right k xs) (grantsBeyond right k ys)
+-- of an inner node, first the child on the other side is asked
+nearest-inner : (b : Side) (k : Bytes) (l r : Tree) →
+    nearest b k (grants (inner l r)) ≡ orFirst (nearest b k (grants (onSide l r (not b)))) (nearest b k (grants (onSide l r b)))
+nearest-inner false k l r =
+    ap lastOf (filter-append (λ g. beyond left (g .key) k) (grants l) (grants r))
+    ∙ last-append (grantsBeyond left k (grants l)) (grantsBeyond left k (grants r))
+nearest-inner true k l r =
+    ap firstOf (filter-append (λ g. beyond right (g .key) k) (grants l) (grants r))
+    ∙ first-append (grantsBeyond right k (grants l)) (grantsBeyond right k (grants r))
 
 beyond-asym : (b : Side) (l k : Bytes) → beyond (not b) l k ≡ true → beyond b l k ≡ false
 beyond-asym false l k h = before-asym k l h
 beyond-asym true l k h = before-asym l k h
 
--- where all grants of the other child are beyond the key, none is near on the walk's side, and all are on theirs
+-- where all grants of the other child are beyond the key, none of them is near on the walk's side,
 nearest-same : (b : Side) (k : Bytes) (l r : Tree) → All (λ g. beyond (not b) (g .key) k ≡ true) (grants (onSide l r (not b))) →
     nearest b k (grants (inner l r)) ≡ nearest b k (grants (onSide l r b))
 nearest-same b k l r h =
     let gs : List Grant = grants (onSide l r (not b)) in
-    go b (filter-none (λ g. beyond b (g .key) k) gs
-    (all-map (λ g. beyond (not b) (g .key) k ≡ true) (λ g. beyond b (g .key) k ≡ false) gs (λ g e. beyond-asym b (g .key) k e) h))
-  where
-    go : (c : Side) → grantsBeyond c k (grants (onSide l r (not c))) ≡ [] →
-        nearest c k (grants (inner l r)) ≡ nearest c k (grants (onSide l r c))
-    go false e = nearest-left k (grants l) (grants r) ∙ rw e
-    go true e = nearest-right k (grants l) (grants r) ∙ rw e
+    let far : All (λ g. beyond b (g .key) k ≡ false) gs =
+    all-map (λ g. beyond (not b) (g .key) k ≡ true) (λ g. beyond b (g .key) k ≡ false) gs (λ g e. beyond-asym b (g .key) k e) h in
+    nearest-inner b k l r ∙ rw (filter-none (λ g. beyond b (g .key) k) gs far, end-none (not b))
 
+-- and on their own side the end of them is
 nearest-other : (b : Side) (k : Bytes) (l r : Tree) → All (λ g. beyond (not b) (g .key) k ≡ true) (grants (onSide l r (not b))) →
     nearest (not b) k (grants (inner l r)) ≡ orFirst (nearest (not b) k (grants (onSide l r b))) (endOf b (grants (onSide l r (not b))))
-nearest-other b k l r h = go b (filter-all (λ g. beyond (not b) (g .key) k) (grants (onSide l r (not b))) h)
-  where
-    go : (c : Side) → grantsBeyond (not c) k (grants (onSide l r (not c))) ≡ grants (onSide l r (not c)) →
-        nearest (not c) k (grants (inner l r))
-        ≡ orFirst (nearest (not c) k (grants (onSide l r c))) (endOf c (grants (onSide l r (not c))))
-    go false e = nearest-right k (grants l) (grants r) ∙ rw e
-    go true e = nearest-left k (grants l) (grants r) ∙ rw e
+nearest-other b k l r h =
+    nearest-inner (not b) k l r ∙ rw (filter-all (λ g. beyond (not b) (g .key) k) (grants (onSide l r (not b))) h, not-not b)
 
 -- The grant that a path proves.
 abbrev pub grantOf : Presence → Grant
@@ -172,22 +166,14 @@ module _ (leafHash innerHash : Bytes → Bytes → Bytes) where
       (raisedBy (step b y ∷ []) (descend b (viewed leafHash innerHash (onSide l r b)))))
       ≡ orFirst (endOf b (grants (onSide l r b))) (endOf b (grants (onSide l r (not b))))
   ends-inner b p l r s f true e x y =
+      let seenThere : Seen = viewed leafHash innerHash (onSide l r b) in
       let d = descent leafHash innerHash b (longer b p) (onSide l r b) (child-seated p l r s b) e in
-      let i = f b (child-seated p l r s b) in
-      rw (
-        gap-or-node leafHash innerHash (onSide l r b) ∙ ap not e,
-        raised-grant (step b y ∷ [])
-            (descend b (viewed leafHash innerHash (onSide l r b))),
-        ← i,
-        d .found,
-      )
+      let end = f b (child-seated p l r s b) in
+      rw (gap-or-node leafHash innerHash (onSide l r b) ∙ ap not e, raised-grant (step b y ∷ []) (descend b seenThere), ← end, d .found)
   ends-inner b p l r s f false e x y =
-      rw (
-        gap-or-node leafHash innerHash (onSide l r b) ∙ ap not e,
-        raised-grant (step (not b) x ∷ [])
-            (descend b (viewed leafHash innerHash (onSide l r (not b)))),
-        end-missing b (onSide l r b) e,
-      )
+      let seenOther : Seen = viewed leafHash innerHash (onSide l r (not b)) in
+      let gone = end-missing b (onSide l r b) e in
+      rw (gap-or-node leafHash innerHash (onSide l r b) ∙ ap not e, raised-grant (step (not b) x ∷ []) (descend b seenOther), gone)
       (f (not b) (child-seated p l r s (not b)))
 
   descent-ends : (b : Side) (p : Place) (t : Tree) → Ends b p t
@@ -222,37 +208,32 @@ module _ (leafHash innerHash : Bytes → Bytes → Bytes) where
       (fromTrail b (passing leafHash innerHash c l r ∷ [])))
       (nearest b k (grants (inner l r)))
   at-inner b c p k l r x same seat s n =
-      rw (
-        no-turn leafHash innerHash c l r,
-        nearest-same c k l r
-            (grants-off-walk c p k (onSide l r (not c)) seat (child-seated p l r s (not c))),
-      )
-      (alone (names-below _ x _ n))
+      let off = grants-off-walk c p k (onSide l r (not c)) seat (child-seated p l r s (not c)) in
+      rw (no-turn leafHash innerHash c l r, nearest-same c k l r off) (alone (names-below _ x _ n))
     where
       alone : {y : Sought} {o : Option Grant} → Names y o → Names (orElse y nobody) o
       alone no-one = no-one
       alone (one q) = one q
   at-inner b c p k l r x other seat s n =
-      rw (
-        turn leafHash innerHash c l r _ refl,
-        nearest-other c k l r
-            (grants-off-walk c p k (onSide l r (not c)) seat (child-seated p l r s (not c))),
-      )
+      let off = grants-off-walk c p k (onSide l r (not c)) seat (child-seated p l r s (not c)) in
+      rw (turn leafHash innerHash c l r _ refl, nearest-other c k l r off)
       (names-or _ _ _ _ (names-below _ x _ n)
       (names-turn c (longer (not c) p) (onSide l r (not c)) _ _ refl (child-seated p l r s (not c))))
+
+  nearest-below : (b : Side) (k : Bytes) (i : ℕ) (p : Place) (l r : Tree) → ((c : Side) → Nearest b k (suc i) (longer c p) (onSide l r c)) →
+      Nearest b k i p (inner l r)
+  nearest-below b k i p l r below at-p s =
+      let c = bit i k in
+      let q = next k i p (s .0) at-p in
+      subst (λ seen. Names (neighbourBelow b k i seen) (nearest b k (grants (inner l r)))) (sym (viewed-inner leafHash innerHash l r))
+      (rw (neighbour-from-trail b k (suc i) (passing leafHash innerHash c l r ∷ []) (viewed leafHash innerHash (onSide l r c)))
+      (at-inner b c p k l r _ (compared c b) (q .seat) s (below c q (child-seated p l r s c))))
 
   pub finds-nearest : (b : Side) (k : Bytes) (i : ℕ) (p : Place) (t : Tree) → Nearest b k i p t
   finds-nearest b k i p T.none at-p s = rw (end-none (not b)) no-one
   finds-nearest b k i p (leaf g) at-p s = leaf-names (not b) (beyond b (g .key) k) g
   finds-nearest b k i p (inner l r) at-p s =
-      inner-names (each-side (λ c. Nearest b k (suc i) (longer c p) (onSide l r c)) (finds-nearest b k (suc i) (longer left p) l)
+      nearest-below b k i p l r
+      (each-side (λ c. Nearest b k (suc i) (longer c p) (onSide l r c)) (finds-nearest b k (suc i) (longer left p) l)
       (finds-nearest b k (suc i) (longer right p) r))
-    where
-      inner-names : ((c : Side) → Nearest b k (suc i) (longer c p) (onSide l r c)) →
-          Names (neighbourBelow b k i (viewed leafHash innerHash (inner l r))) (nearest b k (grants (inner l r)))
-      inner-names below =
-          let c = bit i k in
-          let q = next k i p (s .0) at-p in
-          subst (λ seen. Names (neighbourBelow b k i seen) (nearest b k (grants (inner l r)))) (sym (viewed-inner leafHash innerHash l r))
-          (rw (neighbour-from-trail b k (suc i) (passing leafHash innerHash c l r ∷ []) (viewed leafHash innerHash (onSide l r c)))
-          (at-inner b c p k l r _ (compared c b) (q .seat) s (below c q (child-seated p l r s c))))
+      at-p s

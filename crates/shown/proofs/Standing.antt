@@ -1,5 +1,5 @@
--- In a sound store a read sees the tree of each kept version, that tree is seated at the empty place, and the root read is its hash: each node
--- of a standing tree is found, with the body that its children say. Assumes nothing.
+-- In a sound store a read sees the tree of each kept version, that tree is seated at the empty place, and the root read is its hash: each
+-- node of a standing tree is found, with the body that its children say. Assumes nothing.
 use Prim.Native.Nat.{ℕ, zero, suc, _+_, _<_, _≤_}
 use native.Mathlib.Omega.{arith}
 use mathlib.Core.Path.{_≡_, refl, ap, ap₂, sym, _∙_, subst, fun-ext}

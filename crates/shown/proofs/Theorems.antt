@@ -1,5 +1,5 @@
--- Document 01, 'Reading and proving' and 'Checking': in a sound store the reads of a kept version answer what its tree says, the proof that is
--- given is accepted against the version's root, and says the same. Put together from the other files. Assumes nothing.
+-- Document 01, 'Reading and proving' and 'Checking': in a sound store the reads of a kept version answer what its tree says, and the proof
+-- that is given is accepted against the version's root and says the same. Put together from the other files. Assumes nothing.
 use Prim.Native.Nat.{ℕ, _<_, _≤_}
 use native.Mathlib.Omega.{arith}
 use mathlib.Core.Path.{_≡_, refl, ap, sym, _∙_, subst}
@@ -16,15 +16,14 @@ use Rattle.meaning.specs.Store.{treeAtVersion}
 use Rattle.meaning.specs.Sound.{Sound, Kept}
 use Rattle.meaning.specs.Calls.{refused, accepted, isKept}
 use Rattle.meaning.specs.Reading.{seen, walk, readEnd, readKey, readRoot, present, absent, answerOf}
-use Rattle.meaning.specs.Proving.{absenceAt, proveEnd, proveSeen, proof, presenceLength, proofLength, prove}
+use Rattle.meaning.specs.Proving.{neighbour, absenceAt, proveEnd, proveSeen, proof, presenceLength, proofLength, prove}
 use Rattle.meaning.specs.Checking.{leadsTo, absenceHolds, checked}
-use Rattle.shown.proofs.Views.{viewed}
-use Rattle.shown.proofs.Walks.{start, walk-answers}
+use Rattle.shown.proofs.Walks.{present-absent, start, walk-answers}
 use Rattle.shown.proofs.Trees.{tree-shown}
 use Rattle.shown.proofs.Standing.{version-seen, version-hash, version-seated}
 use Rattle.shown.proofs.Lengths.{pathsOf, steps-at-most, presence-at-most, proof-at-most}
 use Rattle.shown.proofs.Verdicts.{accepted-same, passed, Agrees, end-agrees, end-absence}
-use Rattle.shown.proofs.Neighbours.{firstOf, lastOf, grantIf, absence-names, finds-nearest}
+use Rattle.shown.proofs.Neighbours.{firstOf, lastOf, grantIf, Names, absence-names, finds-nearest}
 
 kept-test : (st : Store) (v : ℕ) → Kept st v → isKept st v ≡ true
 unfolding isKept
@@ -69,24 +68,20 @@ module _ (leafHash innerHash : Bytes → Bytes → Bytes) where
   pub checked-present : (root k x : Bytes) (p : Proof) → checked leafHash innerHash root k p ≡ accepted (present x) →
       (q : Presence) × (p ≡ presence q) × (q .key ≡ k) × (q .value ≡ x) × (leadsTo leafHash innerHash root q ≡ true)
   checked-present root k x (presence q) e =
-      let w = passed (sameBytes k (q .key) && leadsTo leafHash innerHash root q) (present (q .value)) (present x) e in (
-        q,
-        refl,
-        sym (same-bytes k (q .key) (and-left _ (leadsTo leafHash innerHash root q) (w .0))),
-        cc,
-        and-right
-            (sameBytes k (q .key)) _ (w .0),
-      )
+      let leads = leadsTo leafHash innerHash root q in
+      let w = passed (sameBytes k (q .key) && leads) (present (q .value)) (present x) e in
+      (q, refl, sym (same-bytes k (q .key) (and-left _ leads (w .0))), cc, and-right (sameBytes k (q .key)) _ (w .0))
   checked-present root k x (absence a) e =
-      let w = passed (sameBytes k (a .key) && absenceHolds leafHash innerHash root k (a .leftward) (a .rightward)) absent (present x) e in
-      let z : _≡_ {A = ℕ} 0 1 = cc in absurd (omega arith)
+      let holds = absenceHolds leafHash innerHash root k (a .leftward) (a .rightward) in
+      let w = passed (sameBytes k (a .key) && holds) absent (present x) e in
+      present-absent x (sym (w .1))
 
   -- Absent: it is an absence proof of the key, and its neighbours hold.
   pub checked-absent : (root k : Bytes) (p : Proof) → checked leafHash innerHash root k p ≡ accepted absent →
       (a : Absence) × (p ≡ absence a) × (a .key ≡ k) × (absenceHolds leafHash innerHash root k (a .leftward) (a .rightward) ≡ true)
   checked-absent root k (presence q) e =
       let w = passed (sameBytes k (q .key) && leadsTo leafHash innerHash root q) (present (q .value)) absent e in
-      let z : _≡_ {A = ℕ} 0 1 = cc in absurd (omega arith)
+      present-absent (q .value) (w .1)
   checked-absent root k (absence a) e =
       let holds = absenceHolds leafHash innerHash root k (a .leftward) (a .rightward) in
       let w = passed (sameBytes k (a .key) && holds) absent absent e in
@@ -149,16 +144,29 @@ module _ (leafHash innerHash : Bytes → Bytes → Bytes) where
           let w = proof-agrees-with-read st v k (presence q) e in
           (w .0, accepted-same _ _ (sym key-read-is-answer ∙ w .1))
 
-      -- The neighbours in a proof of absence: on the left the last of the smaller grants, on the right the first of the greater.
-      pub neighbours-are-nearest : (a : Absence) → proof st v k ≡ accepted (absence a) →
-          (grantIf (a .leftward) ≡ lastOf (smaller k (grantsIn (treeAtVersion st v)))) ×
-          (grantIf (a .rightward) ≡ firstOf (greater k (grantsIn (treeAtVersion st v))))
-      unfolding proof proveSeen absenceAt smaller greater
-      neighbours-are-nearest a e =
-          let t = unversioned (treeAtVersion st v) in
-          let seated = version-seated leafHash innerHash st ok v kept in
-          let given : proveEnd k (walk k 0 [] (viewed leafHash innerHash t)) ≡ accepted (absence a) =
-          rw (kept-test st v kept, version-seen leafHash innerHash st ok v kept) at e in
-          absence-names k _ _ _ _ a (finds-nearest leafHash innerHash left k 0 [] t (start k whole) seated)
-          (finds-nearest leafHash innerHash right k 0 [] t (start k whole) seated)
-          (end-absence k (walk k 0 [] (viewed leafHash innerHash t)) a given)
+      -- The search on the left names the last of the smaller grants, that on the right the first of the greater; or nobody where there is
+      -- none.
+      pub left-neighbour-is-last-smaller :
+          Names (neighbour left k (walk k 0 [] (seen st v))) (lastOf (smaller k (grantsIn (treeAtVersion st v))))
+      unfolding smaller
+      left-neighbour-is-last-smaller =
+          rw (version-seen leafHash innerHash st ok v kept)
+          (finds-nearest leafHash innerHash left k 0 [] (unversioned (treeAtVersion st v)) (start k whole)
+          (version-seated leafHash innerHash st ok v kept))
+
+      pub right-neighbour-is-first-greater :
+          Names (neighbour right k (walk k 0 [] (seen st v))) (firstOf (greater k (grantsIn (treeAtVersion st v))))
+      unfolding greater
+      right-neighbour-is-first-greater =
+          rw (version-seen leafHash innerHash st ok v kept)
+          (finds-nearest leafHash innerHash right k 0 [] (unversioned (treeAtVersion st v)) (start k whole)
+          (version-seated leafHash innerHash st ok v kept))
+
+      -- So a proof of absence has those two.
+      pub absence-has-nearest : (a : Absence) → proof st v k ≡ accepted (absence a) →
+          (grantIf (a .leftward) ≡ lastOf (smaller k (grantsIn (treeAtVersion st v))))
+          × (grantIf (a .rightward) ≡ firstOf (greater k (grantsIn (treeAtVersion st v))))
+      unfolding proof proveSeen absenceAt
+      absence-has-nearest a e =
+          absence-names k _ _ _ _ a left-neighbour-is-last-smaller right-neighbour-is-first-greater
+          (end-absence k (walk k 0 [] (seen st v)) a (rw (kept-test st v kept) at e))

@@ -57,14 +57,17 @@ beyond-itself true k h = before-irrefl k h
 beyond-absent : (b : Side) (k : Bytes) (gs : List Grant) → All (λ g. beyond b (g .key) k ≡ true) gs → answerOf k gs ≡ absent
 beyond-absent b k [] h = refl
 beyond-absent b k (g ∷ gs) h =
-    let other : sameBytes k (g .key) ≡ false =
-    is-false (sameBytes k (g .key)) (λ e. beyond-itself b k (subst (λ l. beyond b l k ≡ true) (sym (same-bytes k (g .key) e)) (h .0))) in
-    rw other (beyond-absent b k gs (h .1))
+    let equal-never : sameBytes k (g .key) ≡ true → ⊥ =
+    λ e. beyond-itself b k (subst (λ l. beyond b l k ≡ true) (sym (same-bytes k (g .key) e)) (h .0)) in
+    rw (is-false (sameBytes k (g .key)) equal-never) (beyond-absent b k gs (h .1))
 
 -- of two lists one of which does not have the key, the other decides
 absent-after : (k : Bytes) (gs hs : List Grant) → answerOf k hs ≡ absent → answerOf k (gs ++ hs) ≡ answerOf k gs
 absent-after k [] hs h = h
 absent-after k (g ∷ gs) hs h = ap (cond (sameBytes k (g .key)) (present (g .value))) (absent-after k gs hs h)
+
+pub present-absent : {A : Type 0} (x : Bytes) → present x ≡ absent → A
+present-absent x e = let z : _≡_ {A = ℕ} 0 1 = cc in absurd (omega arith)
 
 absent-before : (k : Bytes) (gs hs : List Grant) → answerOf k gs ≡ absent → answerOf k (gs ++ hs) ≡ answerOf k hs
 absent-before k [] hs h = refl
@@ -73,7 +76,7 @@ absent-before k (g ∷ gs) hs h = go (sameBytes k (g .key)) h (absent-before k g
     go : (b : Bool) → cond b (present (g .value)) (answerOf k gs) ≡ absent →
         (answerOf k gs ≡ absent → answerOf k (gs ++ hs) ≡ answerOf k hs) →
         cond b (present (g .value)) (answerOf k (gs ++ hs)) ≡ answerOf k hs
-    go true e f = let z : _≡_ {A = ℕ} 0 1 = cc in absurd (omega arith)
+    go true e f = present-absent (g .value) e
     go false e f = f e
 
 answer-on-side : (b : Side) (k : Bytes) (l r : Tree) → answerOf k (grants (onSide l r (not b))) ≡ absent →
