@@ -1,13 +1,13 @@
 -- Bits by the byte: comparing bytes, or what a shift leaves of them, compares their bits. Assumes nothing.
 use Prim.Native.Nat.{ℕ, zero, suc, _+_, _*_, _-_, _<_, _≤_, _^_, _/_, _%_}
 use native.Mathlib.Omega.{arith}
-use native.Mathlib.Nat.{div-one, add-zero, add-suc, mul-div-cancel, pow-suc, pow-succ', div-div-eq-div-mul, zero-add}
+use native.Mathlib.Nat.{div-one, add-zero, add-suc, mul-div-cancel, pow-suc, pow-succ', div-div-eq-div-mul}
 use native.Mathlib.Numerals.{add-one}
 use mathlib.Core.Path.{_≡_, refl, ap, ap₂, sym, _∙_}
 use mathlib.Core.Bool.{Bool, true, false, not, _&&_, Bool·beq}
 use mathlib.Core.List.{List, [], _∷_, _++_, append-assoc, append-nil}
 use lib.ListN.{length, getD, take, drop, length-append, drop-of-length-le}
-use lib.Seq.{drop-drop, drop-nil, drop-cons, drop-append-le, drop-append-add, take-append-le, take-append-add, take-at, drop-at}
+use lib.Seq.{drop-drop, drop-nil, drop-cons, drop-append-le, drop-append-add, take-append-add, take-at, drop-at}
 use lib.Dec.{eqb}
 use lib.Arith.{mod-mul}
 use lib.Pow.{pow-pos}

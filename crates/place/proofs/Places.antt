@@ -4,14 +4,14 @@ use Prim.Native.Nat.{ℕ, zero, suc, _+_, _*_, _-_, _<_, _≤_, _^_, _/_, _%_}
 use native.Mathlib.Omega.{arith}
 use mathlib.Core.Path.{_≡_, refl, ap, ap₂, sym, _∙_}
 use mathlib.Core.Bool.{Bool, true, false, _&&_}
-use mathlib.Core.List.{List, [], _∷_, _++_}
+use mathlib.Core.List.{[], _∷_, _++_}
 use lib.ListN.{length, getD, take, drop, set, length-set, length-take, length-drop, drop-of-length-le, List·getD-append, List·getD-eq-default}
 use lib.Seq.{drop-append-le, getD-append-add, ext-getD, getD-set-same, getD-set-other}
 use lib.Bits.{bitOr}
 use lib.Dec.{eqb, ltb}
 use borrow.Author.Count.{below-more}
 use borrow.Author.Tests.{eqb-true, ltb-true, ltb-false}
-use Rattle.terms.specs.Bits.{Bytes, Byte, All, Side, Place, bits, longer, pack, packed, digit, noneSet}
+use Rattle.terms.specs.Bits.{Bytes, Byte, All, Side, Place, bits, longer, pack, packed, noneSet}
 use Rattle.terms.proofs.Tests.{and-left, and-right}
 use Rattle.terms.proofs.Lists.{all-of}
 use Rattle.terms.proofs.Places.{length-bits, length-pack, length-longer, pack-bytes, pack-ext, pack-place, place-packed}

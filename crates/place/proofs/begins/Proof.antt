@@ -4,7 +4,6 @@ use Prim.Native.Nat.{_-_, _/_, _≤_}
 use native.Mathlib.Omega.{arith}
 use native.Mathlib.Nat.{sub-zero}
 use mathlib.Core.Path.{_≡_, refl, ap, sym, _∙_}
-use lib.ListN.{length}
 use Rattle.terms.specs.Bits.{begins}
 use Rattle.place.specs.Place.{placeOf}
 use Rattle.place.proofs.Bits.{restBegins, begins-next, begins-off, begins-over, begins-all}

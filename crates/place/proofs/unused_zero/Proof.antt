@@ -2,7 +2,7 @@
 -- the bytes. Assumes nothing.
 use Prim.Native.Nat.{_-_, _≤_}
 use native.Mathlib.Omega.{arith}
-use mathlib.Core.Path.{_≡_, refl, sym, _∙_}
+use mathlib.Core.Path.{_≡_, sym, _∙_}
 use lib.ListN.{length, drop}
 use Rattle.terms.specs.Bits.{bits, noneSet}
 use Rattle.place.proofs.Bits.{unused-first, unused-first-off, unused-next, unused-off, unused-end, unused-none}
