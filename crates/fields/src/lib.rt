@@ -38,8 +38,10 @@ pub fn put_u16(s: &mut [u8], at: usize, x: u16)
     requires { ⌜ at + 2 ≤ length (now s) ⌝ }
     ensures { λ _. ⌜ now (s .exit) ≡ written at (le 2 x) (now (s .entry)) ⌝ }
 {
-    s[at] = (x % 256) as u8;
-    s[at + 1] = (x / 256) as u8;
+    let low = (x % 256) as u8;
+    let high = (x / 256) as u8;
+    s[at] = low;
+    s[at + 1] = high;
 }
 
 // Writes a number in the four bytes from `at` on.
