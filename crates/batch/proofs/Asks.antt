@@ -13,8 +13,8 @@ use Rattle.terms.specs.Bits.{Bytes, Byte, All, Whole32}
 use Rattle.terms.specs.Fields.{le, num, field, slice, zeroBytes, allZero, flat, allOf}
 use Rattle.terms.specs.Records.{Ask, insert, delete, askKey, zeros}
 use Rattle.terms.specs.Form.{AskForm}
-use Rattle.terms.proofs.Tests.{and-left, and-right}
-use Rattle.terms.proofs.Fields.{num-le, length-le, le-bytes, le-field, length-slice, all-slice, zero-bytes, all-zero, length-zero-bytes, cuts, flat-cuts, all-of-tests, tests-all, test-failed, Sized, cuts-flat, length-flat}
+use Rattle.terms.proofs.Tests.{and-left, and-right, and-true}
+use Rattle.terms.proofs.Fields.{num-le, length-le, le-bytes, le-field, length-slice, all-slice, zero-bytes, all-zero, length-zero-bytes, cuts, flat-cuts, all-of-tests, tests-all, test-passed, test-failed, Sized, cuts-flat, length-flat}
 use Rattle.batch.specs.Batch.{lengthOf, kindOf, askValue, inserts, askBytes, headIs, isInsert, isDelete, askForm, ask, askOf}
 
 -- a record's fields, and their sizes
@@ -61,9 +61,10 @@ module _ (a : Ask) (h : AskForm a) where
   head-says : headIs (lengthOf a) (kindOf a) (askBytes a) ≡ true
   unfolding headIs field
   head-says =
-      tests-all _
-      (eq-eqb _ _ length-says
-      , (eq-eqb _ _ (ap num (cut a h 1) ∙ num-le 2 (kindOf a) (kind-small a)), (eq-eqb _ _ (ap num (cut a h 2) ∙ num-le 2 0 (omega arith)), tt)))
+      tests-all _ (
+        eq-eqb _ _ length-says,
+        (eq-eqb _ _ (ap num (cut a h 1) ∙ num-le 2 (kindOf a) (kind-small a)), (eq-eqb _ _ (ap num (cut a h 2) ∙ num-le 2 0 (omega arith)), tt)),
+      )
 
   key-says : slice 8 32 (askBytes a) ≡ askKey a
   key-says = cut a h 3
@@ -71,14 +72,23 @@ module _ (a : Ask) (h : AskForm a) where
   value-says : slice 40 32 (askBytes a) ≡ askValue a
   value-says = cut a h 4
 
-head-off : (n k : ℕ) (x : Bytes) → (field 0 4 x ≡ n → ⊥) → headIs n k x ≡ false
+-- the head of a record, test by test
+pub head-length-off : (n k : ℕ) (x : Bytes) → (field 0 4 x ≡ n → ⊥) → headIs n k x ≡ false
 unfolding headIs
-head-off n k x f = test-failed _ (ne-eqb (field 0 4 x) n f)
+head-length-off n k x f = test-failed _ (ne-eqb (field 0 4 x) n f)
+
+pub head-kind-off : (n k : ℕ) (x : Bytes) → field 0 4 x ≡ n → (field 4 2 x ≡ k → ⊥) → headIs n k x ≡ false
+unfolding headIs
+head-kind-off n k x e f = test-passed _ (eq-eqb (field 0 4 x) n e) ∙ test-failed _ (ne-eqb (field 4 2 x) k f)
+
+pub head-zero : (n k : ℕ) (x : Bytes) → field 0 4 x ≡ n → field 4 2 x ≡ k → headIs n k x ≡ eqb (field 6 2 x) 0
+unfolding headIs allOf
+head-zero n k x e f = rw (eq-eqb (field 0 4 x) n e, eq-eqb (field 4 2 x) k f) (and-true (eqb (field 6 2 x) 0))
 
 pub insert-form : (a : Ask) → AskForm a → isInsert (askBytes a) ≡ inserts a
 unfolding isInsert
 insert-form (insert k x) h = head-says (insert k x) h
-insert-form (delete k) h = head-off 72 1 (askBytes (delete k)) (λ e. omega (arith, length-says (delete k) h))
+insert-form (delete k) h = head-length-off 72 1 (askBytes (delete k)) (λ e. omega (arith, length-says (delete k) h))
 
 pub ask-form : (a : Ask) → AskForm a → askForm (askBytes a) ≡ true
 unfolding askForm isDelete zeros
@@ -118,7 +128,7 @@ form-bytes x h l e = go (headIs 72 1 x) refl e
     go true d f = head-bytes 72 1 x h l d
     go false d f =
         let z : slice 40 32 x ≡ zeros =
-            zero-bytes (slice 40 32 x) (and-right (headIs 40 2 x) _ f) ∙ ap zeroBytes (length-slice 40 32 x (omega arith)) ∙ zeros-are in
+        zero-bytes (slice 40 32 x) (and-right (headIs 40 2 x) _ f) ∙ ap zeroBytes (length-slice 40 32 x (omega arith)) ∙ zeros-are in
         rw (← z) (head-bytes 40 2 x h l (and-left (headIs 40 2 x) _ f))
 
 -- what is read is in form
@@ -128,6 +138,7 @@ ask-whole x h l = go (isInsert x)
   where
     part : (i : ℕ) → i + 32 ≤ 72 → Whole32 (slice i 32 x)
     part i m = (length-slice i 32 x (omega arith), all-slice i 32 x h)
+
     go : (t : Bool) → AskForm (cond t (insert (slice 8 32 x) (slice 40 32 x)) (delete (slice 8 32 x)))
     go true = (part 8 (omega arith), part 40 (omega arith))
     go false = part 8 (omega arith)

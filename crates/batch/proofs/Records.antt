@@ -2,23 +2,22 @@
 -- Assumes nothing.
 use Prim.Native.Nat.{ℕ, zero, suc, _+_, _*_, _-_, _<_, _≤_, _/_, _%_}
 use native.Mathlib.Omega.{arith}
-use native.Mathlib.Nat.{sub-zero, zero-add}
+use native.Mathlib.Nat.{sub-zero, zero-add, add-sub-cancel-left}
 use native.Mathlib.Numerals.{add-one}
 use mathlib.Core.Path.{_≡_, refl, ap, ap₂, sym, _∙_}
-use mathlib.Core.Bool.{Bool, true, false, _&&_}
+use mathlib.Core.Bool.{true, false}
 use mathlib.Core.List.{List, [], _∷_, _++_, map}
 use lib.ListN.{length, getD, take, drop, length-take, length-drop, length-map}
-use lib.Seq.{drop-drop, drop-cons, take-take, take-nil}
+use lib.Seq.{drop-drop, drop-cons, take-take, take-add, take-nil}
 use Rattle.terms.specs.Bits.{Bytes, Byte, All, Side}
 use Rattle.terms.specs.Fields.{slice}
 use Rattle.terms.specs.Records.{Ask, askKey}
 use Rattle.terms.specs.Form.{AskForm}
 use Rattle.terms.proofs.Lists.{all-take, all-drop, all-of, all-map}
 use Rattle.terms.proofs.Fields.{length-slice, all-slice}
-use Rattle.terms.proofs.Tests.{and-left, and-right}
-use Rattle.batch.specs.Batch.{ask, records, count, recordsOf, asks, recordAt, askAt, every}
+use Rattle.batch.specs.Batch.{askValue, inserts, ask, records, count, recordsOf, asks, recordAt, askAt}
 use Rattle.batch.specs.Runs.{half}
-use Rattle.batch.proofs.Asks.{ask-whole}
+use Rattle.batch.proofs.Asks.{ask-whole, key-is, insert-is, value-is}
 
 drop-take : {A : Type 0} (m n : ℕ) (xs : List A) → drop m (take (m + n) xs) ≡ take n (drop m xs)
 drop-take zero n xs = rw (zero-add n)
@@ -115,17 +114,58 @@ pub asks-from : (i : ℕ) (b : Bytes) → i < count b → drop i (asks b) ≡ as
 asks-from i b h =
     drop-cons (asks b) i (ask []) (omega (arith, length-asks b)) ∙ rw (asks-at i b (ask []) h, add-one i)
 
--- a record has 72 bytes
-pub record-whole : (i : ℕ) (b : Bytes) → i < count b → All Byte b → (length (recordAt i b) ≡ 72) × All Byte (recordAt i b)
+pub length-record : (i : ℕ) (b : Bytes) → i < count b → length (recordAt i b) ≡ 72
 unfolding recordAt
-record-whole i b h k = (length-slice (72 * i) 72 b (omega arith), all-slice (72 * i) 72 b k)
+length-record i b h = length-slice (72 * i) 72 b (omega arith)
+
+record-bytes : (i : ℕ) (b : Bytes) → All Byte b → All Byte (recordAt i b)
+unfolding recordAt
+record-bytes i b h = all-slice (72 * i) 72 b h
 
 pub records-whole : (b : Bytes) → All Byte b → All (λ x. (length x ≡ 72) × All Byte x) (recordsOf b)
 records-whole b h =
     all-of _ (recordsOf b) [] (λ i l.
-    let k : i < count b = omega (arith, length-records (count b) b) in rw (records-at (count b) i b k) (record-whole i b k h))
+    let k : i < count b = omega (arith, length-records (count b) b) in rw (records-at (count b) i b k) (length-record i b k, record-bytes i b h))
 
 -- what is read is in form
 pub asks-whole : (b : Bytes) → All Byte b → All AskForm (asks b)
 unfolding asks
 asks-whole b h = all-mapped AskForm ask (recordsOf b) (all-map _ _ (recordsOf b) (λ x k. ask-whole x (k .1) (k .0)) (records-whole b h))
+
+-- a part of a slice, and a part of a part
+pub part : (i n : ℕ) (b : Bytes) → take (i + n - i) (drop i b) ≡ slice i n b
+unfolding slice
+part i n b = rw (add-sub-cancel-left i n)
+
+slice-slice : (i j m n : ℕ) (b : Bytes) → j + n ≤ m → slice j n (slice i m b) ≡ slice (i + j) n b
+unfolding slice
+slice-slice i j m n b h =
+    let e : m ≡ j + (m - j) = omega arith in
+    ap (λ (k : ℕ). take n (drop j (take k (drop i b)))) e
+    ∙ ap (take n) (drop-take j (m - j) (drop i b))
+    ∙ take-take n (m - j) (drop j (drop i b)) (omega arith)
+    ∙ ap (take n) (drop-drop j i b)
+
+-- the parts of a record
+pub record-part : (i : ℕ) (b : Bytes) → take (72 * i + 72 - 72 * i) (drop (72 * i) b) ≡ recordAt i b
+unfolding recordAt
+record-part i b = part (72 * i) 72 b
+
+pub key-part : (i : ℕ) (b : Bytes) → take (72 * i + 8 + 32 - (72 * i + 8)) (drop (72 * i + 8) b) ≡ askKey (askAt i b)
+unfolding askAt recordAt
+key-part i b = part (72 * i + 8) 32 b ∙ sym (key-is (recordAt i b) ∙ slice-slice (72 * i) 8 72 32 b (omega arith))
+
+pub length-key : (i : ℕ) (b : Bytes) → i < count b → length (askKey (askAt i b)) ≡ 32
+unfolding askAt
+length-key i b h = ap length (key-is (recordAt i b)) ∙ length-slice 8 32 (recordAt i b) (omega (arith, length-record i b h))
+
+key-and-value : (x : Bytes) → slice 8 64 x ≡ slice 8 32 x ++ slice 40 32 x
+unfolding slice
+key-and-value x = take-add 32 32 (drop 8 x) ∙ ap (λ (l : Bytes). take 32 (drop 8 x) ++ take 32 l) (drop-drop 32 8 x)
+
+pub grant-part : (i : ℕ) (b : Bytes) → inserts (askAt i b) ≡ true → take (72 * i + 8 + 64 - (72 * i + 8)) (drop (72 * i + 8) b) ≡ askKey (askAt i b) ++ askValue (askAt i b)
+unfolding askAt recordAt
+grant-part i b h =
+    let x = recordAt i b in
+    part (72 * i + 8) 64 b ∙ sym (slice-slice (72 * i) 8 72 64 b (omega arith)) ∙ key-and-value x
+    ∙ ap₂ _++_ (sym (key-is x)) (sym (value-is x (sym (insert-is x) ∙ h)))

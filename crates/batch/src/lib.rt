@@ -2,7 +2,7 @@
 ghost use mathlib.Core.Path.{_≡_};
 ghost use mathlib.Core.Bool.{true, false};
 ghost use mathlib.Core.List.{_++_};
-ghost use Prim.Native.Nat.{_/_, _<_};
+ghost use Prim.Native.Nat.{_/_, _≤_, _<_};
 ghost use lib.ListN.{length};
 ghost use Rattle.terms.specs.Records.{askKey};
 ghost use Rattle.batch.specs.Batch.{headIs, isInsert, isDelete, askForm, recordAt, askAt, askValue, inserts, asks, batchForm, ascending};
@@ -10,13 +10,21 @@ ghost use Rattle.batch.specs.Runs.{RunAt, lefts, runOf};
 
 // Batch record, 72 bytes: length 72 and kind 1 (insert) or length 40 and kind 2 (delete), 2 zero, key 32, value 32 (zero for delete).
 const RECORD_SIZE: usize = 72;
+
 const INSERT_LENGTH: u32 = 72;
+
 const INSERT_KIND: u16 = 1;
+
 const DELETE_LENGTH: u32 = 40;
+
 const DELETE_KIND: u16 = 2;
+
 const KIND_AT: usize = 4;
+
 const ZERO_AT: usize = 6;
+
 const KEY_AT: usize = 8;
+
 const VALUE_AT: usize = 40;
 
 // At most 1,024 records.
@@ -67,9 +75,9 @@ fn record_form(x: &[u8]) -> bool
 }
 
 // Record i of a batch, where it lies.
-fn record(b: &[u8], i: usize) -> &[u8]
+fn record_at(b: &[u8], i: usize) -> &[u8]
     requires { ⌜ i < length (now b) / 72 ⌝ }
-    ensures { λ r. ⌜ now r ≡ recordAt i (now (b .entry)) ⌝ }
+    ensures { λ r. ⌜ (now r ≡ recordAt i (now (b .entry))) × (length (now r) ≡ 72) ⌝ }
 {
     let at = RECORD_SIZE * i;
     let end = at + RECORD_SIZE;
@@ -89,7 +97,7 @@ pub fn batch_form(b: &[u8]) -> bool
     }
     let mut i = 0;
     while i < n {
-        if !record_form(record(b, i)) {
+        if !record_form(record_at(b, i)) {
             return false;
         }
         i += 1;
@@ -102,13 +110,13 @@ pub fn is_insert(b: &[u8], i: usize) -> bool
     requires { ⌜ i < length (now b) / 72 ⌝ }
     ensures { λ r. ⌜ r ≡ inserts (askAt i (now (b .entry))) ⌝ }
 {
-    insert_form(record(b, i))
+    insert_form(record_at(b, i))
 }
 
 // The key of record i, where it lies.
 pub fn key(b: &[u8], i: usize) -> &[u8]
     requires { ⌜ i < length (now b) / 72 ⌝ }
-    ensures { λ r. ⌜ now r ≡ askKey (askAt i (now (b .entry))) ⌝ }
+    ensures { λ r. ⌜ (now r ≡ askKey (askAt i (now (b .entry)))) × (length (now r) ≡ 32) ⌝ }
 {
     let at = RECORD_SIZE * i + KEY_AT;
     let end = at + 32;
@@ -118,7 +126,7 @@ pub fn key(b: &[u8], i: usize) -> &[u8]
 // The key and the value of an insert, which lie next to each other.
 pub fn grant(b: &[u8], i: usize) -> &[u8]
     requires { ⌜ (i < length (now b) / 72) × (inserts (askAt i (now b)) ≡ true) ⌝ }
-    ensures { λ r. ⌜ now r ≡ askKey (askAt i (now (b .entry))) ++ askValue (askAt i (now (b .entry))) ⌝ }
+    ensures { λ r. ⌜ (now r ≡ askKey (askAt i (now (b .entry))) ++ askValue (askAt i (now (b .entry)))) × (length (now r) ≡ 64) ⌝ }
 {
     let at = RECORD_SIZE * i + KEY_AT;
     let end = at + 64;
@@ -143,7 +151,7 @@ pub fn batch_order(b: &[u8]) -> bool
 // How many records of a run go left at bit i, by halving: those that go right come after them.
 fn cut(run: &[u8], i: usize) -> usize
     requires { ⌜ RunAt i (now run) ⌝ }
-    ensures { λ r. ⌜ r ≡ lefts i (now (run .entry)) ⌝ }
+    ensures { λ r. ⌜ (r ≡ lefts i (now (run .entry))) × (r ≤ length (now (run .entry)) / 72) ⌝ }
 {
     let mut low = 0;
     let mut high = run.len() / RECORD_SIZE;
