@@ -3,9 +3,9 @@ use Prim.Native.Nat.{ℕ, zero, suc, _+_, _*_, _-_, _<_, _≤_, _/_, _%_, _^_}
 use native.Mathlib.Omega.{arith}
 use mathlib.Core.Path.{_≡_, refl, ap, ap₂, sym, _∙_}
 use mathlib.Core.Bool.{Bool, true, false, _&&_}
-use mathlib.Core.List.{List, [], _∷_, _++_}
-use lib.ListN.{length, take, drop, replicate, take-append-drop, drop-of-length-le, length-take, length-drop}
-use lib.Seq.{drop-drop}
+use mathlib.Core.List.{List, [], _∷_, _++_, append-assoc, append-nil}
+use lib.ListN.{length, take, drop, replicate, take-append-drop, drop-of-length-le, length-append, length-take, length-drop, length-replicate}
+use lib.Seq.{drop-drop, take-at, drop-at}
 use lib.Dec.{eqb}
 use native.Mathlib.Nat.{pow-suc}
 use borrow.Author.Tests.{eqb-true, eq-eqb}
@@ -90,3 +90,55 @@ pub all-of-tests : (ts : List Bool) → allOf ts ≡ true → All (λ t. t ≡ t
 unfolding allOf
 all-of-tests [] h = tt
 all-of-tests (t ∷ ts) h = (and-left t (allOf ts) h, all-of-tests ts (and-right t (allOf ts) h))
+
+-- tests one by one: after one that passes the others decide, and one that fails decides
+pub test-passed : {t : Bool} (ts : List Bool) → t ≡ true → allOf (t ∷ ts) ≡ allOf ts
+unfolding allOf
+test-passed ts e = rw e
+
+pub test-failed : {t : Bool} (ts : List Bool) → t ≡ false → allOf (t ∷ ts) ≡ false
+unfolding allOf
+test-failed ts e = rw e
+
+pub tests-all : (ts : List Bool) → All (λ t. t ≡ true) ts → allOf ts ≡ true
+unfolding allOf
+tests-all [] h = refl
+tests-all (t ∷ ts) h = rw (h .0, tests-all ts (h .1))
+
+-- fields of given sizes
+abbrev pub Sized : List ℕ → List Bytes → Type 0
+Sized [] [] = Unit {0}
+Sized [] (f ∷ fs) = ⊥
+Sized (n ∷ ns) [] = ⊥
+Sized (n ∷ ns) (f ∷ fs) = (length f ≡ n) × Sized ns fs
+
+pub slice-between : (xs f ys : Bytes) (i n : ℕ) → length xs ≡ i → length f ≡ n → slice i n (xs ++ (f ++ ys)) ≡ f
+unfolding slice
+slice-between xs f ys i n e h = rw (drop-at xs (f ++ ys) i e) (take-at f ys n h)
+
+-- the fields of a string that begins with fields are those
+cuts-after : (ns : List ℕ) (fs : List Bytes) (xs ys : Bytes) (i : ℕ) → length xs ≡ i → Sized ns fs → cuts ns i (xs ++ (flat fs ++ ys)) ≡ fs
+cuts-after [] [] xs ys i e h = refl
+cuts-after [] (f ∷ fs) xs ys i e h = absurd h
+cuts-after (n ∷ ns) [] xs ys i e h = absurd h
+cuts-after (n ∷ ns) (f ∷ fs) xs ys i e h =
+    let l = h .0 in
+    rw (append-assoc f (flat fs) ys)
+    (ap₂ _∷_ (slice-between xs f (flat fs ++ ys) i n e l)
+    (ap (cuts ns (i + n)) (sym (append-assoc xs f (flat fs ++ ys))) ∙ cuts-after ns fs (xs ++ f) ys (i + n) (simp length-append (omega arith)) (h .1)))
+
+pub cuts-front : (ns : List ℕ) (fs : List Bytes) (ys : Bytes) → Sized ns fs → cuts ns 0 (flat fs ++ ys) ≡ fs
+cuts-front ns fs ys h = cuts-after ns fs [] ys 0 refl h
+
+pub cuts-flat : (ns : List ℕ) (fs : List Bytes) → Sized ns fs → cuts ns 0 (flat fs) ≡ fs
+cuts-flat ns fs h = ap (cuts ns 0) (sym (append-nil (flat fs))) ∙ cuts-front ns fs [] h
+
+pub length-flat : (ns : List ℕ) (fs : List Bytes) → Sized ns fs → length (flat fs) ≡ total ns
+length-flat [] [] h = refl
+length-flat [] (f ∷ fs) h = absurd h
+length-flat (n ∷ ns) [] h = absurd h
+length-flat (n ∷ ns) (f ∷ fs) h = let l = h .0 in simp length-append (omega (arith, length-flat ns fs (h .1)))
+
+pub length-zero-bytes : (n : ℕ) → length (zeroBytes n) ≡ n
+unfolding zeroBytes
+length-zero-bytes n = length-replicate n 0

@@ -1,0 +1,56 @@
+-- Laws of `written`: what stores leave, how long the memory stays, and writing one field after the other. Assumes nothing.
+use Prim.Native.Nat.{ℕ, suc, _+_, _<_, _≤_}
+use native.Mathlib.Omega.{arith}
+use native.Mathlib.Numerals.{add-one}
+use mathlib.Core.Path.{_≡_, ap, ap₂, sym, _∙_}
+use mathlib.Core.List.{[], _∷_, _++_, append-assoc, append-nil}
+use lib.ListN.{length, getD, take, drop, set, length-append, length-take, length-drop, drop-of-length-le}
+use lib.Seq.{sets, sets-eq, set-at, drop-cons, take-suc, append-snoc, take-all, length-take-le}
+use Rattle.terms.specs.Bits.{Bytes}
+use Rattle.fields.specs.Written.{written}
+
+-- stores one after the other
+sets-written : (f s : Bytes) (i : ℕ) → i + length f ≤ length s → sets s i f ≡ written i f s
+unfolding written
+sets-written f s i h = sets-eq f s i h ∙ append-assoc (take i s) f (drop (i + length f) s)
+
+pub set-two : (s : Bytes) (i a b : ℕ) → i + 2 ≤ length s → set (set s i a) (i + 1) b ≡ written i (a ∷ b ∷ []) s
+set-two s i a b h = rw add-one (sets-written (a ∷ b ∷ []) s i h)
+
+pub set-four : (s : Bytes) (i a b c d : ℕ) → i + 4 ≤ length s → set (set (set (set s i a) (i + 1) b) (i + 2) c) (i + 3) d ≡ written i (a ∷ b ∷ c ∷ d ∷ []) s
+set-four s i a b c d h =
+    let e₁ : i + 1 ≡ suc i = omega arith in
+    let e₂ : i + 2 ≡ suc (suc i) = omega arith in
+    let e₃ : i + 3 ≡ suc (suc (suc i)) = omega arith in
+    rw (e₁, e₂, e₃) (sets-written (a ∷ b ∷ c ∷ d ∷ []) s i h)
+
+pub length-written : (i : ℕ) (f s : Bytes) → i + length f ≤ length s → length (written i f s) ≡ length s
+unfolding written
+length-written i f s h = simp (length-append, length-take, length-drop) (omega arith)
+
+-- a part that is being filled with f from its front: s, where it was s₀ before, has i new bytes
+pub record Filling (f s₀ s : Bytes) (i : ℕ) : Type 0 where
+  pub long : length f ≡ length s₀
+  pub within : i ≤ length s₀
+  pub filled : s ≡ take i f ++ drop i s₀
+
+pub filling-length : {f s₀ s : Bytes} {i : ℕ} → Filling f s₀ s i → length s ≡ length s₀
+filling-length {f} {s₀} {s} {i} w = let l = w .long in let h = w .within in ap length (w .filled) ∙ simp (length-append, length-take, length-drop) (omega arith)
+
+pub filling-next : {f s₀ s : Bytes} {i x : ℕ} → Filling f s₀ s i → i < length s → getD f i 0 ≡ x → Filling f s₀ (set s i x) (i + 1)
+filling-next {f} {s₀} {s} {i} w h e =
+    let l = w .long in
+    let k : i < length s₀ = omega (arith, filling-length w) in
+    record {
+      long = l;
+      within = omega arith;
+      filled = rw (← e, add-one, w .filled, drop-cons s₀ i 0 k, take-suc f i 0 (omega arith))
+          (set-at (take i f) (getD s₀ i 0) (drop (suc i) s₀) (getD f i 0) i (length-take-le i f (omega arith))
+          ∙ sym (append-snoc (take i f) (getD f i 0) (drop (suc i) s₀)));
+    }
+
+pub filling-done : {f s₀ s : Bytes} {i : ℕ} → Filling f s₀ s i → length s ≤ i → s ≡ f
+filling-done {f} {s₀} {s} {i} w h =
+    let l = w .long in
+    let k = filling-length w in
+    w .filled ∙ ap₂ _++_ (take-all i f (omega arith)) (drop-of-length-le s₀ {i = i} (omega arith)) ∙ append-nil f

@@ -1,0 +1,4 @@
+pub mod Sizes
+pub mod Header
+pub mod Slots
+pub mod Stores

@@ -1,0 +1,80 @@
+-- Document 01, 'Bytes': the sizes, kinds and lengths of header and slot, and where their fields begin. All in one place, and nowhere else.
+-- Assumes nothing.
+use Prim.Native.Nat.{ℕ, _+_, _*_, _-_, _/_}
+
+-- Header, 24 bytes: length 24, kind 1, 2 zero, capacity 4, oldest 4, latest 4, 4 zero. Capacity n is 1 to 16,384.
+abbrev pub headerSize : ℕ
+headerSize = 24
+
+abbrev pub headerKind : ℕ
+headerKind = 1
+
+abbrev pub mostSlots : ℕ
+mostSlots = 16384
+
+abbrev pub capacityAt : ℕ
+capacityAt = 8
+
+abbrev pub oldestAt : ℕ
+oldestAt = 12
+
+abbrev pub latestAt : ℕ
+latestAt = 16
+
+-- Slot, 120 bytes. A leaf says length 112, kind 2; an inner record length 120, kind 3.
+abbrev pub slotSize : ℕ
+slotSize = 120
+
+abbrev pub leafLength : ℕ
+leafLength = 112
+
+abbrev pub leafKind : ℕ
+leafKind = 2
+
+abbrev pub innerLength : ℕ
+innerLength = 120
+
+abbrev pub innerKind : ℕ
+innerKind = 3
+
+-- Each record begins with its length (4 bytes) and kind (2 bytes).
+abbrev pub kindAt : ℕ
+kindAt = 4
+
+-- A slot's bit count 2, bits 32, version 4, retired-since 4, and then what its kind says.
+abbrev pub countAt : ℕ
+countAt = 6
+
+abbrev pub bitsAt : ℕ
+bitsAt = 8
+
+abbrev pub versionAt : ℕ
+versionAt = 40
+
+abbrev pub retiredAt : ℕ
+retiredAt = 44
+
+-- A leaf's key 32, value 32, 8 zero.
+abbrev pub keyAt : ℕ
+keyAt = 48
+
+abbrev pub valueAt : ℕ
+valueAt = 80
+
+abbrev pub tailAt : ℕ
+tailAt = 112
+
+-- An inner record's left version 4, left hash 32, right version 4, right hash 32.
+abbrev pub leftAt : ℕ
+leftAt = 48
+
+abbrev pub rightAt : ℕ
+rightAt = 84
+
+-- How many slots there is room for in a store of this many bytes.
+unfoldable pub roomOf : ℕ → ℕ
+roomOf n = (n - headerSize) / slotSize
+
+-- Where slot i begins.
+abbrev pub slotAt : ℕ → ℕ
+slotAt i = headerSize + slotSize * i

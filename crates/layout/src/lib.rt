@@ -1,0 +1,1 @@
+// Header and slots as bytes, document 01, 'Bytes'.
