@@ -3,3 +3,7 @@ pub mod Writing
 pub mod Standing
 pub mod Whole
 pub mod Pruning
+pub mod Nodes
+pub mod Growing
+pub mod Meaning
+pub mod Forms
