@@ -7,3 +7,4 @@ pub mod Nodes
 pub mod Growing
 pub mod Meaning
 pub mod Forms
+pub mod Applying
