@@ -7,7 +7,7 @@ use mathlib.Core.Logic.{_⊎_, inl, inr, _↔_}
 use mathlib.Core.Bool.{Bool, true, false, cond, not, _&&_, false≢true}
 use mathlib.Core.List.{List, []}
 use mathlib.Core.Option.{none, some}
-use lib.ListN.{length, length-map}
+use lib.ListN.{length}
 use lib.Dec.{leb}
 use borrow.Author.Tests.{leb-true, leb-false}
 use Rattle.terms.specs.Bits.{Bytes, left, right, Place, longer, All}
@@ -20,7 +20,7 @@ use Rattle.meaning.specs.Sound.{mostSlots, Kept, Found, NodeOf, Lives, Hashes32
 use Rattle.meaning.proofs.Finding.{isNode-eq, some-inner}
 use Rattle.meaning.proofs.Shaped.{Shaped}
 use Rattle.histories.proofs.Slots.{Has, none-find, Unique, unique-find}
-use Rattle.histories.proofs.Writing.{contents, contents-none, turned-node, has-retire, spoiled-retire, find-retire, unique-retire, free-retire, has-placed, spoiled-placed, placed-has, length-placed, New, Older, find-older, unique-placed}
+use Rattle.histories.proofs.Writing.{contents, contents-none, turned-node, has-retire, spoiled-retire, find-retire, unique-retire, free-retire, has-placed, spoiled-placed, placed-has, length-written, New, Older, find-older, unique-placed}
 use Rattle.histories.proofs.Standing.{Formed, Top, top-none, top-some, reads-top, Alike, stands-alike, carried, node-found, kid-stands}
 use Rattle.histories.proofs.Whole.{Lifetime, retired-later, not-retired, Whole}
 use Rattle.histories.proofs.Nodes.{recordsAt, top-record, kid-records, Origin, origin, origin-node, hasNode-node, node-hasNode, new-distinct, new-in, in-new}
@@ -233,7 +233,7 @@ module _ (leafHash innerHash : Bytes → Bytes → Bytes) where
     pub settled-whole : Whole leafHash innerHash st′
     unfolding settled
     settled-whole = record {
-      size = rw (length-placed news mid, length-map (st .slots) (onRecord (retireIn new (recordsOf leafHash innerHash old) (recordsOf leafHash innerHash now)))) (w .size);
+      size = rw (length-written news new (recordsOf leafHash innerHash old) (recordsOf leafHash innerHash now) (st .slots)) (w .size);
       header = (omega (arith, w .header .0), small);
       whole = λ x h. w .whole x (spoiled-retire x new _ _ (st .slots) (spoiled-placed x news mid h));
       formed = formed′;

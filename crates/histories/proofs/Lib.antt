@@ -8,3 +8,5 @@ pub mod Growing
 pub mod Meaning
 pub mod Forms
 pub mod Applying
+pub mod Unchanged
+pub mod Calls

@@ -7,7 +7,7 @@ use mathlib.Core.Logic.{_⊎_, inl, inr}
 use mathlib.Core.Bool.{Bool, true, false, cond, not, _&&_, true≢false}
 use mathlib.Core.List.{List, [], _∷_, map}
 use mathlib.Core.Option.{Option, none, some}
-use lib.ListN.{length}
+use lib.ListN.{length, length-map}
 use Rattle.terms.specs.Bits.{Bytes, Place, All}
 use Rattle.terms.specs.Records.{Body, Record, Slot, free, used, spoiled}
 use Rattle.terms.proofs.Lists.{all-map}
@@ -134,7 +134,7 @@ placed-has r (q ∷ rs) (free ∷ s) (inr h) l = inr (placed-has r rs s h (omega
 placed-has r rs (used y ∷ s) h l = inr (placed-has r rs s h l)
 placed-has r rs (spoiled y ∷ s) h l = inr (placed-has r rs s h l)
 
-pub free-placed : (rs : List Record) (s : List Slot) → length rs ≤ freeSlots s → freeSlots (placed rs s) + length rs ≡ freeSlots s
+free-placed : (rs : List Record) (s : List Slot) → length rs ≤ freeSlots s → freeSlots (placed rs s) + length rs ≡ freeSlots s
 free-placed [] [] l = refl
 free-placed (r ∷ rs) [] l = absurd (omega arith)
 free-placed [] (free ∷ s) l = omega arith
@@ -142,12 +142,21 @@ free-placed (r ∷ rs) (free ∷ s) l = omega (arith, free-placed rs s (omega ar
 free-placed rs (used y ∷ s) l = free-placed rs s l
 free-placed rs (spoiled y ∷ s) l = free-placed rs s l
 
-pub length-placed : (rs : List Record) (s : List Slot) → length (placed rs s) ≡ length s
+length-placed : (rs : List Record) (s : List Slot) → length (placed rs s) ≡ length s
 length-placed rs [] = refl
 length-placed [] (free ∷ s) = refl
 length-placed (r ∷ rs) (free ∷ s) = ap suc (length-placed rs s)
 length-placed rs (used y ∷ s) = ap suc (length-placed rs s)
 length-placed rs (spoiled y ∷ s) = ap suc (length-placed rs s)
+
+-- placing after retiring
+pub free-written : (rs : List Record) (n : ℕ) (old now : List Record) (s : List Slot) → length rs ≤ freeSlots s →
+    freeSlots s ≡ freeSlots (placed rs (retire n old now s)) + length rs
+free-written rs n old now s l =
+    let e = free-retire n old now s in omega (arith, e, free-placed rs (retire n old now s) (omega (arith, e)))
+
+pub length-written : (rs : List Record) (n : ℕ) (old now : List Record) (s : List Slot) → length (placed rs (retire n old now s)) ≡ length s
+length-written rs n old now s = length-placed rs (retire n old now s) ∙ length-map s (onRecord (retireIn n old now))
 
 abbrev pub Not : ℕ → Place → Record → Type 0
 Not v p r = isNode v p r ≡ false
