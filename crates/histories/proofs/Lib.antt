@@ -10,3 +10,5 @@ pub mod Forms
 pub mod Applying
 pub mod Unchanged
 pub mod Calls
+pub mod Ledger
+pub mod Histories
