@@ -12,3 +12,5 @@ pub mod Unchanged
 pub mod Calls
 pub mod Ledger
 pub mod Histories
+pub mod Theorems
+pub mod DeskHistory
