@@ -11,21 +11,20 @@ use lib.ListN.{length}
 use lib.Dec.{leb}
 use borrow.Author.Tests.{leb-true, leb-false}
 use Rattle.terms.specs.Bits.{Bytes, left, right, Place, longer, All}
-use Rattle.terms.specs.Records.{Record, Slot, spoiled, Store}
+use Rattle.terms.specs.Records.{Record, Slot, Store}
 use Rattle.terms.specs.Form.{top32, RecordForm}
 use Rattle.terms.proofs.Members.{In, all-in}
-use Rattle.meaning.specs.Tree.{VTree, vnone, vleaf, vinner, unversioned, kid, topVersion}
-use Rattle.meaning.specs.Store.{find, treeAtVersion, freeSlots, marked, onRecord, hasNode, retireIn, retire, retiredBy, recordsOf, newRecords, settled}
-use Rattle.meaning.specs.Sound.{mostSlots, Kept, Found, NodeOf, Lives, Hashes32, Stands}
+use Rattle.meaning.specs.Tree.{VTree, vnone, vinner, unversioned, topVersion}
+use Rattle.meaning.specs.Store.{find, treeAtVersion, freeSlots, marked, hasNode, retire, retiredBy, recordsOf, newRecords, settled}
+use Rattle.meaning.specs.Sound.{Kept, Found, NodeOf, Lives, Hashes32, Stands}
 use Rattle.meaning.proofs.Finding.{isNode-eq, some-inner}
-use Rattle.meaning.proofs.Shaped.{Shaped}
+use Rattle.meaning.proofs.Shaped.{Shaped, no-lone-leaf}
 use Rattle.histories.proofs.Slots.{Has, none-find, Unique, unique-find}
 use Rattle.histories.proofs.Writing.{contents, contents-none, turned-node, has-retire, spoiled-retire, find-retire, unique-retire, free-retire, has-placed, spoiled-placed, placed-has, length-written, New, Older, find-older, unique-placed}
 use Rattle.histories.proofs.Standing.{Formed, Top, top-none, top-some, reads-top, Alike, stands-alike, carried, node-found, kid-stands}
 use Rattle.histories.proofs.Whole.{Lifetime, retired-later, not-retired, Whole}
 use Rattle.histories.proofs.Nodes.{recordsAt, top-record, kid-records, Origin, origin, origin-node, hasNode-node, node-hasNode, new-distinct, new-in, in-new}
 use Rattle.histories.proofs.Growing.{Grows, grow-same, grow-none, grow-leaf, grow-inner, grows-node, Grown}
-use Rattle.histories.proofs.Meaning.{no-lone-leaf}
 use Rattle.histories.proofs.Forms.{record-form}
 
 pub last-or : (v m : ℕ) → v ≤ suc m → (v ≤ m) ⊎ (v ≡ suc m)

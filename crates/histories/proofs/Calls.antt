@@ -2,7 +2,7 @@
 -- Assumes nothing.
 use Prim.Native.Nat.{ℕ, suc, _+_, _-_, _≤_, _<_}
 use native.Mathlib.Omega.{arith}
-use mathlib.Core.Path.{_≡_, refl, ap, sym, _∙_, subst}
+use mathlib.Core.Path.{_≡_, refl, ap, sym, _∙_}
 use mathlib.Core.Bool.{Bool, true, false, cond, _&&_}
 use mathlib.Core.List.{List}
 use mathlib.Core.Option.{some}
@@ -13,9 +13,9 @@ use Rattle.terms.specs.Bits.{Bytes, All}
 use Rattle.terms.specs.Records.{Ask, Record, Store}
 use Rattle.terms.specs.Form.{AskForm, top32}
 use Rattle.meaning.specs.Tree.{VTree, unversioned, grantsIn, hash, nextTree}
-use Rattle.meaning.specs.Store.{treeAtVersion, freeSlots, pruned, onRecord, pruneRecord, retireIn, recordsOf, newRecords, settled}
+use Rattle.meaning.specs.Store.{treeAtVersion, freeSlots, pruned, onRecord, pruneRecord, recordsOf, newRecords, settled}
 use Rattle.meaning.specs.Sound.{Kept, Hashes32, Sound}
-use Rattle.meaning.specs.Calls.{Answer, refused, accepted, Outcome, refuse, isKept, Applied, ascending, prune, publish, applyAs, apply}
+use Rattle.meaning.specs.Calls.{accepted, Outcome, refuse, isKept, Applied, ascending, prune, publish, applyAs, apply}
 use Rattle.histories.specs.Claims.{AfterApply, AfterPrune}
 use Rattle.histories.proofs.Writing.{free-written, length-written, free-pruned}
 use Rattle.histories.proofs.Whole.{Whole, sound-whole, whole-sound}

@@ -1,7 +1,7 @@
 -- The records of a shaped tree are in form, where its versions are numbers of four bytes and its hashes have 32 bytes. Assumes nothing.
 use Prim.Native.Nat.{ℕ, zero, suc, _≤_, _<_}
 use native.Mathlib.Omega.{arith}
-use mathlib.Core.Path.{_≡_, refl, ap, sym, _∙_, subst, subst₂}
+use mathlib.Core.Path.{_≡_, refl, ap, sym, subst₂}
 use mathlib.Core.List.{[], _++_}
 use lib.ListN.{length, replicate}
 use Rattle.terms.specs.Bits.{Bytes, Byte, Whole32, All, Place, longer, left, right, bits, begins}

@@ -12,11 +12,10 @@ use lib.Dec.{leb}
 use borrow.Author.Tests.{leb-true, leb-false}
 use Rattle.terms.specs.Bits.{Bytes, All, filter}
 use Rattle.terms.specs.Records.{Grant, Ask, Store}
-use Rattle.terms.specs.Form.{AskForm}
-use Rattle.meaning.specs.Tree.{withBatch, grantsIn}
+use Rattle.meaning.specs.Tree.{grantsIn}
 use Rattle.meaning.specs.Store.{formatted, treeAtVersion}
 use Rattle.meaning.specs.Sound.{mostSlots, Kept, Hashes32, Sound}
-use Rattle.meaning.specs.Calls.{Outcome, Applied, refuse}
+use Rattle.meaning.specs.Calls.{Applied, refuse}
 use Rattle.meaning.specs.History.{Call, formatting, applying, pruning, looking, CallForm, isAccepted, after, took, run, history, Entry, entry, keptBy, noted, ledger, grantsOf, heldFrom, held, Holds}
 use Rattle.meaning.proofs.Shaped.{shaped-treeOf}
 use Rattle.histories.specs.Claims.{AfterApply, AfterPrune}

@@ -1,44 +1,20 @@
 -- In a sound store each kept version's tree is shaped, so it is the tree of its grants: an inner record has a child, and no lone leaf.
 -- Assumes nothing.
-use Prim.Native.Nat.{ℕ, _<_, _≤_}
-use native.Mathlib.Omega.{arith}
+use Prim.Native.Nat.{ℕ}
 use mathlib.Core.Path.{_≡_, refl, ap, sym, _∙_, subst}
-use mathlib.Core.Bool.{true, false, true≢false}
-use mathlib.Core.List.{List, [], _++_}
+use mathlib.Core.List.{[]}
 use mathlib.Core.Option.{Option, none, some}
-use lib.ListN.{length, length-append}
-use Rattle.terms.specs.Bits.{Bytes, left, right, Place, longer, All, begins, bits}
-use Rattle.terms.specs.Records.{Body, leafBody, innerBody, Record, Store, zeros}
-use Rattle.terms.specs.Form.{GrantForm, BodyForm}
-use Rattle.meaning.specs.Tree.{treeOf, grants, hash, VTree, vnone, vleaf, vinner, unversioned, grantsIn, topVersion}
+use Rattle.terms.specs.Bits.{Bytes, left, right, Place, longer}
+use Rattle.terms.specs.Records.{Body, Record, Store}
+use Rattle.terms.specs.Form.{BodyForm}
+use Rattle.meaning.specs.Tree.{hash, VTree, vnone, vleaf, vinner, unversioned, topVersion}
 use Rattle.meaning.specs.Store.{find, rootOf, treeAtVersion, childOf}
-use Rattle.meaning.specs.Sound.{Kept, onlyLeaf, Found, NodeOf, Stands}
+use Rattle.meaning.specs.Sound.{Kept, Found, NodeOf, Stands}
 use Rattle.meaning.specs.Reading.{bodyHash, rootHash}
 use Rattle.meaning.proofs.Finding.{Within, there, go-left, go-right}
-use Rattle.meaning.proofs.Runs.{Ascending}
-use Rattle.meaning.proofs.Shaped.{Shaped}
+use Rattle.meaning.proofs.Shaped.{Shaped, two-grants-below}
 use Rattle.histories.proofs.Standing.{found-record, inner-short, root-some, root-none}
 use Rattle.histories.proofs.Whole.{Whole}
-
--- two grants or more are below an inner node exactly if it has a child, and that not a lone leaf
-two-of : (l r : VTree) (p q : Place) → (topVersion l ≡ 0 → topVersion r ≡ 0 → ⊥) → onlyLeaf l r ≡ false →
-    Shaped p (unversioned l) → Shaped q (unversioned r) → 1 < length (grantsIn l ++ grantsIn r)
-two-of vnone vnone p q c h a b = absurd (c refl refl)
-two-of vnone (vleaf v g) p q c h a b = absurd (true≢false h)
-two-of vnone (vinner v l r) p q c h a b = b .1
-two-of (vleaf v g) vnone p q c h a b = absurd (true≢false h)
-two-of (vleaf v g) (vleaf w k) p q c h a b = omega arith
-two-of (vleaf v g) (vinner w l r) p q c h a b = omega (arith, b .1)
-two-of (vinner v l r) t p q c h a b = simp (length-append (grantsIn l ++ grantsIn r) (grantsIn t)) (omega (arith, a .1))
-
-pub no-lone-leaf : (l r : VTree) → 1 < length (grantsIn l ++ grantsIn r) → onlyLeaf l r ≡ false
-no-lone-leaf vnone vnone h = refl
-no-lone-leaf vnone (vleaf v g) h = absurd (omega arith)
-no-lone-leaf vnone (vinner v l r) h = refl
-no-lone-leaf (vleaf v g) vnone h = absurd (omega arith)
-no-lone-leaf (vleaf v g) (vleaf w k) h = refl
-no-lone-leaf (vleaf v g) (vinner w l r) h = refl
-no-lone-leaf (vinner v l r) t h = refl
 
 pub within-shaped : {u : VTree} {q : Place} {t : VTree} {p : Place} → Within u q t p → Shaped p (unversioned t) → Shaped q (unversioned u)
 within-shaped there s = s
@@ -59,7 +35,7 @@ module _ (leafHash innerHash : Bytes → Bytes → Bytes) (st : Store) (w : Whol
   stands-shaped p (vinner v l r) s =
       let a : Shaped (longer left p) (unversioned l) = stands-shaped (longer left p) l (s .2) in
       let b : Shaped (longer right p) (unversioned r) = stands-shaped (longer right p) r (s .3) in
-      (inner-short st (w .formed) v p _ (s .0), two-of l r (longer left p) (longer right p) (found-form v p _ (s .0) .2) (s .1) a b, a, b)
+      (inner-short st (w .formed) v p _ (s .0), two-grants-below l r (longer left p) (longer right p) (found-form v p _ (s .0) .2) (s .1) a b, a, b)
 
   pub kept-shaped : (v : ℕ) → Kept st v → Shaped [] (unversioned (treeAtVersion st v))
   kept-shaped v k = stands-shaped [] (treeAtVersion st v) (w .stands v k)

@@ -1,6 +1,6 @@
 -- The records of a tree are its nodes, each once: records of two children begin with different places, and records below a node have
 -- longer places. Assumes nothing.
-use Prim.Native.Nat.{ℕ, _<_, _≤_}
+use Prim.Native.Nat.{ℕ, _<_}
 use native.Mathlib.Omega.{arith}
 use mathlib.Core.Path.{_≡_, refl, ap, sym, _∙_, subst₂}
 use mathlib.Core.Logic.{_⊎_, inl, inr}

@@ -1,16 +1,16 @@
 -- A formatted store is sound: it has no record. A pruned store is sound with the trees it had: what is freed lives at no version that is
 -- still kept, so all that their trees name is found as before. Assumes nothing.
-use Prim.Native.Nat.{ℕ, zero, suc, _<_, _≤_}
+use Prim.Native.Nat.{ℕ, zero, suc, _≤_}
 use native.Mathlib.Omega.{arith}
-use mathlib.Core.Path.{_≡_, refl, ap, sym, _∙_, subst₂}
-use mathlib.Core.Logic.{_⊎_, inl, inr}
+use mathlib.Core.Path.{_≡_, ap, sym, subst₂}
+use mathlib.Core.Logic.{inl, inr}
 use mathlib.Core.List.{[]}
-use lib.ListN.{length, replicate, length-replicate, length-map}
+use lib.ListN.{replicate, length-replicate, length-map}
 use Rattle.terms.specs.Bits.{Bytes, Place}
 use Rattle.terms.specs.Records.{Record, Slot, free, used, spoiled, Store}
 use Rattle.terms.proofs.Members.{In}
 use Rattle.meaning.specs.Tree.{vnone}
-use Rattle.meaning.specs.Store.{formatted, find, treeAtVersion, onRecord, retiredBy, pruneRecord, pruned}
+use Rattle.meaning.specs.Store.{formatted, find, treeAtVersion, onRecord, pruneRecord, pruned}
 use Rattle.meaning.specs.Sound.{mostSlots, Kept, NodeOf}
 use Rattle.histories.proofs.Slots.{Has, find-has, none-find, Unique}
 use Rattle.histories.proofs.Writing.{contents, has-pruned, spoiled-pruned, find-pruned, none-pruned, unique-pruned}

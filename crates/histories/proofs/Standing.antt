@@ -8,7 +8,6 @@ use mathlib.Core.Bool.{true, false}
 use mathlib.Core.List.{List, [], _∷_}
 use mathlib.Core.Option.{Option, none, some}
 use lib.ListN.{length}
-use lib.Dec.{eqb}
 use borrow.Author.Tests.{ne-eqb}
 use Rattle.terms.specs.Bits.{Bytes, Side, left, right, Place, longer}
 use Rattle.terms.specs.Records.{grant, Body, leafBody, innerBody, Record, Slot, Store}

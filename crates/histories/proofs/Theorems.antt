@@ -4,7 +4,7 @@ use Prim.Native.Nat.{ℕ, _≤_, _<_, _+_}
 use native.Mathlib.Omega.{arith}
 use mathlib.Core.Path.{_≡_, refl, ap, sym, _∙_, subst}
 use mathlib.Core.Logic.{_↔_}
-use mathlib.Core.Bool.{Bool, true, false, cond, true≢false}
+use mathlib.Core.Bool.{true, false, true≢false}
 use mathlib.Core.List.{List, [], _∷_}
 use mathlib.Core.Option.{Option, none, some}
 use lib.ListN.{length}
@@ -13,9 +13,9 @@ use Rattle.terms.specs.Bits.{Bytes, All}
 use Rattle.terms.specs.Records.{Grant, Ask, Record, Store}
 use Rattle.terms.specs.Form.{GrantForm, AskForm, top32}
 use Rattle.meaning.specs.Tree.{treeOf, hash, unversioned, grantsIn, newRoot, nextTree}
-use Rattle.meaning.specs.Store.{formatted, rootOf, treeAtVersion, freeSlots, newRecords}
+use Rattle.meaning.specs.Store.{formatted, treeAtVersion, freeSlots, newRecords}
 use Rattle.meaning.specs.Sound.{mostSlots, At, Kept, NodeOf, Lives, Hashes32, Sound}
-use Rattle.meaning.specs.Calls.{Answer, refused, accepted, Outcome, refuse, isKept, Applied, ascending, prune, apply}
+use Rattle.meaning.specs.Calls.{Answer, refused, accepted, refuse, isKept, Applied, ascending, prune, apply}
 use Rattle.meaning.specs.Reading.{readRoot}
 use Rattle.meaning.specs.History.{Call, formatting, applying, pruning, looking, CallForm, isAccepted, after, took, run, history, Entry, entry, ledger, grantsOf, held, Holds}
 use Rattle.meaning.proofs.Runs.{Ascending}
@@ -25,7 +25,7 @@ use Rattle.histories.proofs.Whole.{sound-whole, whole-sound}
 use Rattle.histories.proofs.Pruning.{cut, formatted-whole}
 use Rattle.histories.proofs.Meaning.{kept-shaped, root-hash}
 use Rattle.histories.proofs.Unchanged.{unchanged-tree}
-use Rattle.histories.proofs.Calls.{prune-cases, cut-after, needed, answered, left-by, apply-cases, settled-after}
+use Rattle.histories.proofs.Calls.{prune-cases, cut-after, needed, left-by, apply-cases, settled-after}
 use Rattle.histories.proofs.Histories.{keeps-holds, keeps-held, keeps-formatted, keeps-calls}
 
 -- an answer is refused or accepted, with one number or result
@@ -34,9 +34,6 @@ not-both e = let z : _≡_ {A = ℕ} 0 1 = cc in absurd (omega arith)
 
 same-result : {A : Type 0} {x y : A} → _≡_ {A = Answer A} (accepted x) (accepted y) → x ≡ y
 same-result e = cc
-
-same-number : {A : Type 0} {m n : ℕ} → _≡_ {A = Answer A} (refused m) (refused n) → m ≡ n
-same-number e = cc
 
 module _ (leafHash innerHash : Bytes → Bytes → Bytes) where
   -- Formatting: a fresh store is sound.

@@ -11,7 +11,7 @@ use Rattle.terms.proofs.Tests.{same-bytes, bytes-same, is-false}
 use Rattle.terms.proofs.Lists.{filter-all, filter-none, all-map}
 use Rattle.terms.proofs.Order.{before-irrefl, before-asym}
 use Rattle.meaning.specs.Tree.{smaller, greater, withAsk, withBatch, treeOf, VTree, unversioned, grantsIn, versioned, newRoot, nextTree}
-use Rattle.meaning.specs.Reading.{Verdict, present, absent, answerOf}
+use Rattle.meaning.specs.Reading.{present, absent, answerOf}
 use Rattle.meaning.proofs.Runs.{Ascending, Ahead, split-key}
 use Rattle.meaning.proofs.Versions.{versioned-same}
 use Rattle.meaning.proofs.Shaped.{Shaped, shaped-ascending, shaped-treeOf}
