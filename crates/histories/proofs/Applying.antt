@@ -36,7 +36,8 @@ last-or v m h = go (leb v m) refl
 
 module _ (leafHash innerHash : Bytes → Bytes → Bytes) where
   -- the new tree stands where its new records are found and the old tree stands
-  grows-stands : (st : Store) (new : ℕ) (p : Place) {old t : VTree} → Grows new old t → Stands leafHash innerHash st p old → Shaped p (unversioned t) →
+  grows-stands : (st : Store) (new : ℕ) (p : Place) {old t : VTree} → Grows new old t → Stands leafHash innerHash st p old →
+      Shaped p (unversioned t) →
       ((x : Record) → In x (recordsAt leafHash innerHash p t) → New new x → find (x .version) (x .place) (st .slots) ≡ some x) →
       Stands leafHash innerHash st p t
   unfolding Found
@@ -60,20 +61,26 @@ module _ (leafHash innerHash : Bytes → Bytes → Bytes) where
     abbrev st′ : Store
     st′ = settled leafHash innerHash new old now st
 
+    -- the records of the tree before and after, those that are new, and the slots when the old ones are marked
+    abbrev before : List Record
+    before = recordsOf leafHash innerHash old
+
+    abbrev after : List Record
+    after = recordsOf leafHash innerHash now
+
     abbrev news : List Record
     news = newRecords leafHash innerHash new now
 
-    -- the slots when the old records are marked
     abbrev mid : List Slot
-    mid = retire new (recordsOf leafHash innerHash old) (recordsOf leafHash innerHash now) (st .slots)
+    mid = retire new before after (st .slots)
 
     last-kept : Kept st (st .latest)
     last-kept = (w .header .0, omega arith)
 
     older : Older new mid
     older q h =
-        let m = has-retire q new (recordsOf leafHash innerHash old) (recordsOf leafHash innerHash now) (st .slots) h in
-        let t = turned-node new (recordsOf leafHash innerHash old) (recordsOf leafHash innerHash now) (m .0) in
+        let m = has-retire q new before after (st .slots) h in
+        let t = turned-node new before after (m .0) in
         let v : q .version ≡ m .0 .version = sym (ap (λ x. x .version) (m .2)) ∙ t .0 in
         omega (arith, w .versions (m .0) (m .1))
 
@@ -92,16 +99,17 @@ module _ (leafHash innerHash : Bytes → Bytes → Bytes) where
     unfolding settled
     find-fresh x h =
         unique-find (st′ .slots) x unique′
-        (placed-has x news mid h (rw (free-retire new (recordsOf leafHash innerHash old) (recordsOf leafHash innerHash now) (st .slots)) room))
+        (placed-has x news mid h (rw (free-retire new before after (st .slots)) room))
 
     -- where a record comes from
     data Came (r : Record) : Type 0 where
       stayed : Has r (st .slots) → (NodeOf (r .version) (r .place) old [] → NodeOf (r .version) (r .place) now []) → Came r
-      ended : (q : Record) → Has q (st .slots) → marked new q ≡ r → NodeOf (q .version) (q .place) old [] → (NodeOf (q .version) (q .place) now [] → ⊥) → Came r
+      ended : (q : Record) → Has q (st .slots) → marked new q ≡ r → NodeOf (q .version) (q .place) old [] →
+          (NodeOf (q .version) (q .place) now [] → ⊥) → Came r
       fresh : In r (recordsAt leafHash innerHash [] now) → New new r → Came r
 
     came-old : (q r : Record) → Has q (st .slots) →
-        (a b : Bool) → hasNode q (recordsOf leafHash innerHash old) ≡ a → hasNode q (recordsOf leafHash innerHash now) ≡ b →
+        (a b : Bool) → hasNode q before ≡ a → hasNode q after ≡ b →
         cond (a && not b) (marked new q) q ≡ r → Came r
     came-old q r h false b e f k = subst Came k (stayed h (λ n. absurd (false≢true (sym e ∙ node-hasNode leafHash innerHash q old n))))
     came-old q r h true true e f k = subst Came k (stayed h (λ n. hasNode-node leafHash innerHash q now f))
@@ -222,7 +230,8 @@ module _ (leafHash innerHash : Bytes → Bytes → Bytes) where
         (λ n. (omega arith, not-retired new r (λ x. absurd (omega arith))), λ z. origin-node leafHash innerHash r [] now o)
 
     -- what holds of the older versions and of the new one holds of all that are kept
-    each : (P : ℕ → VTree → Type 0) → ((v : ℕ) → Kept st v → P v (treeAtVersion st v)) → P new now → (v : ℕ) → st .oldest ≤ v → v ≤ new → P v (treeAtVersion st′ v)
+    each : (P : ℕ → VTree → Type 0) → ((v : ℕ) → Kept st v → P v (treeAtVersion st v)) → P new now → (v : ℕ) → st .oldest ≤ v → v ≤ new →
+        P v (treeAtVersion st′ v)
     each P f k v l h = go (last-or v (st .latest) (omega arith))
       where
         go : (v ≤ st .latest) ⊎ (v ≡ suc (st .latest)) → P v (treeAtVersion st′ v)
@@ -232,7 +241,7 @@ module _ (leafHash innerHash : Bytes → Bytes → Bytes) where
     pub settled-whole : Whole leafHash innerHash st′
     unfolding settled
     settled-whole = record {
-      size = rw (length-written news new (recordsOf leafHash innerHash old) (recordsOf leafHash innerHash now) (st .slots)) (w .size);
+      size = rw (length-written news new before after (st .slots)) (w .size);
       header = (omega (arith, w .header .0), small);
       whole = λ x h. w .whole x (spoiled-retire x new _ _ (st .slots) (spoiled-placed x news mid h));
       formed = formed′;

@@ -41,7 +41,8 @@ prune-cases P n st f g = go (leb (st .oldest) n) (leb n (st .latest)) refl refl
     go false b e h = f (λ k. omega (arith, leb-false (st .oldest) n e))
 
 module _ (leafHash innerHash : Bytes → Bytes → Bytes) where
-  pub cut-after : (n : ℕ) (st : Store) → Sound leafHash innerHash st → Kept st n → AfterPrune leafHash innerHash n st (freed n st) (cut n st)
+  pub cut-after : (n : ℕ) (st : Store) → Sound leafHash innerHash st → Kept st n →
+      AfterPrune leafHash innerHash n st (freed n st) (cut n st)
   unfolding cut
   cut-after n st s k =
       let w = sound-whole leafHash innerHash st s in
@@ -93,7 +94,8 @@ module _ (leafHash innerHash : Bytes → Bytes → Bytes) where
       order true e = number _ refl
       order false e = f₅ e
 
-  pub settled-after : Hashes32 leafHash → Hashes32 innerHash → (batch : List Ask) (st : Store) → Sound leafHash innerHash st → All AskForm batch →
+  pub settled-after : Hashes32 leafHash → Hashes32 innerHash → (batch : List Ask) (st : Store) → Sound leafHash innerHash st →
+      All AskForm batch →
       (st .latest ≡ top32 → ⊥) → length (needed batch st) ≤ freeSlots (st .slots) → AfterApply leafHash innerHash batch st (answered batch st) (left-by batch st)
   unfolding settled
   settled-after lh ih batch st s ok m room =

@@ -47,7 +47,8 @@ module _ (leafHash innerHash : Bytes → Bytes → Bytes) (lh : Hashes32 leafHas
     two-missing : (l r : VTree) → l ≡ vnone → r ≡ vnone → 1 < length (grantsIn l ++ grantsIn r) → ⊥
     two-missing l r e f h = let k : 1 < 0 = subst₂ (λ x y. 1 < length (grantsIn x ++ grantsIn y)) e f h in omega arith
 
-    body-form : (u : VTree) (q : Place) → Some u → Within u q t [] → (length q ≤ placeLimit (bodyOf leafHash innerHash u)) × BodyForm (bodyOf leafHash innerHash u)
+    body-form : (u : VTree) (q : Place) → Some u → Within u q t [] →
+        (length q ≤ placeLimit (bodyOf leafHash innerHash u)) × BodyForm (bodyOf leafHash innerHash u)
     unfolding begins childOf
     body-form (vleaf v g) q o w =
         let k = within-shaped w s in (omega (arith, prefix-length q (bits (g .key)) (k .0), length-bits (g .key), k .1 .0 .0), k .1)

@@ -43,7 +43,8 @@ from-gives st o (suc n) v l h = go (last-or v (o + n) (omega arith)) (λ k. from
     top : Entry
     top = entry (o + suc n) (holding st (o + suc n))
 
-    go : (v ≤ o + n) ⊎ (v ≡ suc (o + n)) → (v ≤ o + n → grantsOf v (heldFrom st o n) ≡ some (holding st v)) → grantsOf v (top ∷ heldFrom st o n) ≡ some (holding st v)
+    go : (v ≤ o + n) ⊎ (v ≡ suc (o + n)) → (v ≤ o + n → grantsOf v (heldFrom st o n) ≡ some (holding st v)) →
+        grantsOf v (top ∷ heldFrom st o n) ≡ some (holding st v)
     go (inl k) f = grants-there v top (heldFrom st o n) (λ e. omega arith) ∙ f k
     go (inr k) f = let e : o + suc n ≡ v = omega arith in grants-here v top (heldFrom st o n) e ∙ ap (λ x. some (holding st x)) e
 
@@ -96,7 +97,8 @@ module _ (leafHash innerHash : Bytes → Bytes → Bytes) where
   }
 
   -- pruning to n
-  keeps-pruned : (n : ℕ) (st st′ : Store) (es : List Entry) {freed : ℕ} → Keeps st es → Kept st n → AfterPrune leafHash innerHash n st freed st′ → Keeps st′ (filter (keptBy n) es)
+  keeps-pruned : (n : ℕ) (st st′ : Store) (es : List Entry) {freed : ℕ} → Keeps st es → Kept st n →
+      AfterPrune leafHash innerHash n st freed st′ → Keeps st′ (filter (keptBy n) es)
   keeps-pruned n st st′ es k l a = record {
     sound = a .sound;
     first = (
@@ -124,7 +126,8 @@ module _ (leafHash innerHash : Bytes → Bytes → Bytes) where
       go v f false e = grants-dropped v n es (leb-false n v e)
 
   -- a batch
-  keeps-applied : (batch : List Ask) (st st′ : Store) (es : List Entry) {answer : Applied} → Keeps st es → AfterApply leafHash innerHash batch st answer st′ →
+  keeps-applied : (batch : List Ask) (st st′ : Store) (es : List Entry) {answer : Applied} → Keeps st es →
+      AfterApply leafHash innerHash batch st answer st′ →
       Keeps st′ (noted (applying (some batch)) es)
   keeps-applied batch st st′ es k a = subst (Keeps st′) (sym is-noted) (record {
     sound = a .sound;
@@ -140,7 +143,8 @@ module _ (leafHash innerHash : Bytes → Bytes → Bytes) where
           ap (noted (applying (some batch))) (k .first .1)
           ∙ ap₂ _∷_ (ap₂ (λ v gs. entry v gs) (sym (a .latest)) (sym (a .grants))) (sym (k .first .1))
 
-      gives-at : (v : ℕ) → st′ .oldest ≤ v → (v ≤ st .latest) ⊎ (v ≡ suc (st .latest)) → grantsOf v (newest st′ ∷ es) ≡ some (holding st′ v)
+      gives-at : (v : ℕ) → st′ .oldest ≤ v → (v ≤ st .latest) ⊎ (v ≡ suc (st .latest)) →
+          grantsOf v (newest st′ ∷ es) ≡ some (holding st′ v)
       gives-at v l (inl h) =
           let kept : Kept st v = (omega (arith, a .oldest), h) in
           grants-there v (newest st′) es (λ z. omega (arith, a .latest)) ∙ k .gives v kept ∙ ap (λ t. some (grantsIn t)) (sym (a .older v kept))

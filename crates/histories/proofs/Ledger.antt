@@ -46,6 +46,7 @@ pub grants-dropped : (v n : ℕ) (es : List Entry) → v < n → grantsOf v (fil
 grants-dropped v n [] l = refl
 grants-dropped v n (e ∷ es) l = go (keptBy n e) refl (grants-dropped v n es l)
   where
-    go : (b : Bool) → keptBy n e ≡ b → grantsOf v (filter (keptBy n) es) ≡ none → grantsOf v (cond b (e ∷ filter (keptBy n) es) (filter (keptBy n) es)) ≡ none
+    go : (b : Bool) → keptBy n e ≡ b → grantsOf v (filter (keptBy n) es) ≡ none →
+        grantsOf v (cond b (e ∷ filter (keptBy n) es) (filter (keptBy n) es)) ≡ none
     go true q ih = grants-there v e (filter (keptBy n) es) (λ h. true≢false (sym q ∙ kept-not n e (omega arith))) ∙ ih
     go false q ih = ih

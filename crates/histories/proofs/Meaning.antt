@@ -3,7 +3,7 @@
 use Prim.Native.Nat.{ℕ}
 use mathlib.Core.Path.{_≡_, refl, ap, sym, _∙_, subst}
 use mathlib.Core.List.{[]}
-use mathlib.Core.Option.{Option, none, some}
+use mathlib.Core.Option.{Option, none, some, Option·some-injective}
 use Rattle.terms.specs.Bits.{Bytes, left, right, Place, longer}
 use Rattle.terms.specs.Records.{Body, Record, Store}
 use Rattle.terms.specs.Form.{BodyForm}
@@ -20,9 +20,6 @@ pub within-shaped : {u : VTree} {q : Place} {t : VTree} {p : Place} → Within u
 within-shaped there s = s
 within-shaped (go-left w) s = within-shaped w (s .2)
 within-shaped (go-right w) s = within-shaped w (s .3)
-
-some-eq : {x y : Record} → some x ≡ some y → x ≡ y
-some-eq e = cc
 
 module _ (leafHash innerHash : Bytes → Bytes → Bytes) (st : Store) (w : Whole leafHash innerHash st) where
   found-form : (v : ℕ) (p : Place) (b : Body) → Found st v p b → BodyForm b
@@ -46,14 +43,16 @@ module _ (leafHash innerHash : Bytes → Bytes → Bytes) (st : Store) (w : Whol
   unfolding Found childOf
   record-hash v vnone s n e r f = absurd n
   record-hash v (vleaf x g) s n e r f =
-      ap (bodyHash leafHash innerHash) (ap (λ y. y .body) (some-eq (sym f ∙ ap (λ y. find y [] (st .slots)) (sym e) ∙ s .0 .1)) ∙ s .0 .2)
+      ap (bodyHash leafHash innerHash) (ap (λ y. y .body) (Option·some-injective _ _ (sym f ∙ ap (λ y. find y [] (st .slots)) (sym e) ∙ s .0 .1)) ∙ s .0 .2)
   record-hash v (vinner x a b) s n e r f =
-      ap (bodyHash leafHash innerHash) (ap (λ y. y .body) (some-eq (sym f ∙ ap (λ y. find y [] (st .slots)) (sym e) ∙ s .0 .1)) ∙ s .0 .2)
+      ap (bodyHash leafHash innerHash) (ap (λ y. y .body) (Option·some-injective _ _ (sym f ∙ ap (λ y. find y [] (st .slots)) (sym e) ∙ s .0 .1)) ∙ s .0 .2)
 
-  pub root-hash : (v : ℕ) → Kept st v → rootHash leafHash innerHash (rootOf st v) ≡ hash leafHash innerHash (unversioned (treeAtVersion st v))
+  pub root-hash : (v : ℕ) → Kept st v →
+      rootHash leafHash innerHash (rootOf st v) ≡ hash leafHash innerHash (unversioned (treeAtVersion st v))
   unfolding rootOf
   root-hash v k = go (find v [] (st .slots)) refl
     where
-      go : (o : Option Record) → find v [] (st .slots) ≡ o → rootHash leafHash innerHash o ≡ hash leafHash innerHash (unversioned (treeAtVersion st v))
+      go : (o : Option Record) → find v [] (st .slots) ≡ o →
+          rootHash leafHash innerHash o ≡ hash leafHash innerHash (unversioned (treeAtVersion st v))
       go none e = ap (λ t. hash leafHash innerHash (unversioned t)) (sym (root-none st v e))
       go (some r) e = let t = root-some st v r e in record-hash v (treeAtVersion st v) (w .stands v k) (t .0) (t .1) r e

@@ -46,7 +46,8 @@ has-node r x (y ∷ xs) (inr h) e f = go (isNode (r .version) (r .place) y) (has
     go true k = refl
     go false k = k
 
-node-has : (r : Record) (xs : List Record) → hasNode r xs ≡ true → (x : Record) × In x xs × (x .version ≡ r .version) × (x .place ≡ r .place)
+node-has : (r : Record) (xs : List Record) → hasNode r xs ≡ true →
+    (x : Record) × In x xs × (x .version ≡ r .version) × (x .place ≡ r .place)
 node-has r [] h = absurd (false≢true h)
 node-has r (y ∷ xs) h = go (λ k. node-has r xs k) (isNode (r .version) (r .place) y) refl h
   where
@@ -117,64 +118,54 @@ module _ (leafHash innerHash : Bytes → Bytes → Bytes) where
   top-record p (vleaf v g) s = (_, inl refl, refl, refl, refl)
   top-record p (vinner v l r) s = (_, in-right _ (recordsBelow leafHash innerHash p (vinner v l r)) _ (inl refl), refl, refl, refl)
 
-  -- strictly below a node are the records of its children
-  below-cases : (x : Record) (p : Place) (v : ℕ) (l r : VTree) → In x (recordsBelow leafHash innerHash p (vinner v l r)) →
-      (b : Side) × In x (recordsAt (longer b p) (kid b (vinner v l r)))
-  below-cases x p v l r h = last (in-append x (bl ++ br ++ al) ar h)
-    where
-      bl : List Record
-      bl = recordsBelow leafHash innerHash (longer left p) l
+  -- strictly below a node are the records of its children, in four parts: those strictly below the left and the right child, and these
+  module _ (p : Place) (v : ℕ) (l r : VTree) where
+    abbrev belowLeft : List Record
+    belowLeft = recordsBelow leafHash innerHash (longer left p) l
 
-      br : List Record
-      br = recordsBelow leafHash innerHash (longer right p) r
+    abbrev belowRight : List Record
+    belowRight = recordsBelow leafHash innerHash (longer right p) r
 
-      al : List Record
-      al = recordAt leafHash innerHash (longer left p) l
+    abbrev atLeft : List Record
+    atLeft = recordAt leafHash innerHash (longer left p) l
 
-      ar : List Record
-      ar = recordAt leafHash innerHash (longer right p) r
+    abbrev atRight : List Record
+    atRight = recordAt leafHash innerHash (longer right p) r
 
-      first : In x bl ⊎ In x br → (b : Side) × In x (recordsAt (longer b p) (kid b (vinner v l r)))
-      first (inl k) = (left, in-left x bl al k)
-      first (inr k) = (right, in-left x br ar k)
+    -- a record of the child on a side
+    abbrev OfKid : Side → Record → Type 0
+    OfKid b x = In x (recordsAt (longer b p) (kid b (vinner v l r)))
 
-      middle : In x (bl ++ br) ⊎ In x al → (b : Side) × In x (recordsAt (longer b p) (kid b (vinner v l r)))
-      middle (inl k) = first (in-append x bl br k)
-      middle (inr k) = (left, in-right x bl al k)
+    below-cases : (x : Record) → In x (recordsBelow leafHash innerHash p (vinner v l r)) → (b : Side) × OfKid b x
+    below-cases x h = last (in-append x (belowLeft ++ belowRight ++ atLeft) atRight h)
+      where
+        first : In x belowLeft ⊎ In x belowRight → (b : Side) × OfKid b x
+        first (inl k) = (left, in-left x belowLeft atLeft k)
+        first (inr k) = (right, in-left x belowRight atRight k)
 
-      last : In x (bl ++ br ++ al) ⊎ In x ar → (b : Side) × In x (recordsAt (longer b p) (kid b (vinner v l r)))
-      last (inl k) = middle (in-append x (bl ++ br) al k)
-      last (inr k) = (right, in-right x br ar k)
+        middle : In x (belowLeft ++ belowRight) ⊎ In x atLeft → (b : Side) × OfKid b x
+        middle (inl k) = first (in-append x belowLeft belowRight k)
+        middle (inr k) = (left, in-right x belowLeft atLeft k)
 
-  below-kid : (b : Side) (x : Record) (p : Place) (v : ℕ) (l r : VTree) → In x (recordsAt (longer b p) (kid b (vinner v l r))) →
-      In x (recordsBelow leafHash innerHash p (vinner v l r))
-  below-kid b x p v l r h = go b h
-    where
-      bl : List Record
-      bl = recordsBelow leafHash innerHash (longer left p) l
+        last : In x (belowLeft ++ belowRight ++ atLeft) ⊎ In x atRight → (b : Side) × OfKid b x
+        last (inl k) = middle (in-append x (belowLeft ++ belowRight) atLeft k)
+        last (inr k) = (right, in-right x belowRight atRight k)
 
-      br : List Record
-      br = recordsBelow leafHash innerHash (longer right p) r
-
-      al : List Record
-      al = recordAt leafHash innerHash (longer left p) l
-
-      ar : List Record
-      ar = recordAt leafHash innerHash (longer right p) r
-
-      go : (c : Side) → In x (recordsAt (longer c p) (kid c (vinner v l r))) → In x (bl ++ br ++ al ++ ar)
-      go false k = elim (in-append x bl al k) [
-        | inl i ↦ in-left x (bl ++ br ++ al) ar (in-left x (bl ++ br) al (in-left x bl br i))
-        | inr i ↦ in-left x (bl ++ br ++ al) ar (in-right x (bl ++ br) al i)
-      ]
-      go true k = elim (in-append x br ar k) [
-        | inl i ↦ in-left x (bl ++ br ++ al) ar (in-left x (bl ++ br) al (in-right x bl br i))
-        | inr i ↦ in-right x (bl ++ br ++ al) ar i
-      ]
+    below-kid : (b : Side) (x : Record) → OfKid b x → In x (recordsBelow leafHash innerHash p (vinner v l r))
+    below-kid false x h = in-left x (belowLeft ++ belowRight ++ atLeft) atRight (elim (in-append x belowLeft atLeft h) [
+      | inl i ↦ in-left x (belowLeft ++ belowRight) atLeft (in-left x belowLeft belowRight i)
+      | inr i ↦ in-right x (belowLeft ++ belowRight) atLeft i
+    ])
+    below-kid true x h = elim (in-append x belowRight atRight h) [
+      | inl i ↦
+          in-left x (belowLeft ++ belowRight ++ atLeft) atRight
+          (in-left x (belowLeft ++ belowRight) atLeft (in-right x belowLeft belowRight i))
+      | inr i ↦ in-right x (belowLeft ++ belowRight ++ atLeft) atRight i
+    ]
 
   pub kid-records : (b : Side) (x : Record) (p : Place) (v : ℕ) (l r : VTree) → In x (recordsAt (longer b p) (kid b (vinner v l r))) →
       In x (recordsAt p (vinner v l r))
-  kid-records b x p v l r h = in-left x (recordsBelow leafHash innerHash p (vinner v l r)) _ (below-kid b x p v l r h)
+  kid-records b x p v l r h = in-left x (recordsBelow leafHash innerHash p (vinner v l r)) _ (below-kid p v l r b x h)
 
   -- a record of a tree is the record of a node of it
   pub record Origin (x : Record) (t : VTree) (p : Place) : Type 0 where
@@ -202,14 +193,15 @@ module _ (leafHash innerHash : Bytes → Bytes → Bytes) where
       go : In x (recordsBelow leafHash innerHash p (vinner v l r)) ⊎ In x (recordAt leafHash innerHash p (vinner v l r)) →
           (In x (recordsAt (longer left p) l) → Origin x l (longer left p)) → (In x (recordsAt (longer right p) r) → Origin x r (longer right p)) →
           Origin x (vinner v l r) p
-      go (inl k) f g = let c = below-cases x p v l r k in kids (c .0) (c .1) f g
+      go (inl k) f g = let c = below-cases p v l r x k in kids (c .0) (c .1) f g
       go (inr k) f g = record { place = p; tree = vinner v l r; within = there; is = at-is x p (vinner v l r) k }
 
   pub origin-node : (x : Record) (p : Place) (t : VTree) → Origin x t p → NodeOf (x .version) (x .place) t p
   origin-node x p t o = subst₂ (λ v q. NodeOf v q t p) (sym (o .is .version)) (sym (o .is .place)) (within-node (o .is .some) (o .within))
 
   -- and each node has its record
-  node-record : (w : ℕ) (q : Place) (t : VTree) (p : Place) → NodeOf w q t p → (x : Record) × In x (recordsAt p t) × (x .version ≡ w) × (x .place ≡ q)
+  node-record : (w : ℕ) (q : Place) (t : VTree) (p : Place) → NodeOf w q t p →
+      (x : Record) × In x (recordsAt p t) × (x .version ≡ w) × (x .place ≡ q)
   node-record w q vnone p n = absurd n
   node-record w q (vleaf v g) p n = (_, inl refl, n .0, n .1)
   node-record w q (vinner v l r) p (inl n) =
@@ -227,7 +219,7 @@ module _ (leafHash innerHash : Bytes → Bytes → Bytes) where
   below-deeper x p vnone h = absurd h
   below-deeper x p (vleaf v g) h = absurd h
   below-deeper x p (vinner v l r) h =
-      let c = below-cases x p v l r h in
+      let c = below-cases p v l r x h in
       omega (arith, prefix-length (longer (c .0) p) (x .place) (records-prefix x (longer (c .0) p) (kid (c .0) (vinner v l r)) (c .1)), length-longer (c .0) p)
 
   distinct-at : (p : Place) (t : VTree) → Distinct (recordAt leafHash innerHash p t)
@@ -242,30 +234,48 @@ module _ (leafHash innerHash : Bytes → Bytes → Bytes) where
   kids-apart p l r x y h k e =
       sides-apart p (y .place) (rw (sym e) (records-prefix x (longer left p) l h)) (records-prefix y (longer right p) r k)
 
-  distinct-below : (p : Place) (t : VTree) → Distinct (recordsBelow leafHash innerHash p t)
-  distinct-below p vnone = tt
-  distinct-below p (vleaf v g) = tt
-  distinct-below p (vinner v l r) =
-      let bl : List Record = recordsBelow leafHash innerHash (longer left p) l in
-      let br : List Record = recordsBelow leafHash innerHash (longer right p) r in
-      let al : List Record = recordAt leafHash innerHash (longer left p) l in
-      let ar : List Record = recordAt leafHash innerHash (longer right p) r in
+  distinct-kids : (p : Place) (v : ℕ) (l r : VTree) →
+      Distinct (recordsBelow leafHash innerHash (longer left p) l) → Distinct (recordsBelow leafHash innerHash (longer right p) r) →
+      Distinct (recordsBelow leafHash innerHash p (vinner v l r))
+  distinct-kids p v l r dl dr =
       distinct-append (bl ++ br ++ al) ar
-      (distinct-append (bl ++ br) al
-      (distinct-append bl br (distinct-below (longer left p) l) (distinct-below (longer right p) r) (λ x y h k. kids-apart p l r x y (in-left x bl al h) (in-left y br ar k)))
-      (distinct-at (longer left p) l)
-      (λ x y h k e. elim (in-append x bl br h) [
+      (distinct-append (bl ++ br) al (distinct-append bl br dl dr below-below) (distinct-at (longer left p) l) below-left)
+      (distinct-at (longer right p) r) all-right
+    where
+      bl : List Record
+      bl = belowLeft p v l r
+
+      br : List Record
+      br = belowRight p v l r
+
+      al : List Record
+      al = atLeft p v l r
+
+      ar : List Record
+      ar = atRight p v l r
+
+      below-below : Apart bl br
+      below-below x y h k = kids-apart p l r x y (in-left x bl al h) (in-left y br ar k)
+
+      below-left : Apart (bl ++ br) al
+      below-left x y h k e = elim (in-append x bl br h) [
         | inl a ↦ below-apart (longer left p) l x y a k e
         | inr a ↦ kids-apart p l r y x (in-right y bl al k) (in-left x br ar a) (sym e)
-      ]))
-      (distinct-at (longer right p) r)
-      (λ x y h k e. elim (in-append x (bl ++ br) al h) [
+      ]
+
+      all-right : Apart (bl ++ br ++ al) ar
+      all-right x y h k e = elim (in-append x (bl ++ br) al h) [
         | inl a ↦ elim (in-append x bl br a) [
           | inl b ↦ kids-apart p l r x y (in-left x bl al b) (in-right y br ar k) e
           | inr b ↦ below-apart (longer right p) r x y b k e
         ]
         | inr a ↦ kids-apart p l r x y (in-right x bl al a) (in-right y br ar k) e
-      ])
+      ]
+
+  distinct-below : (p : Place) (t : VTree) → Distinct (recordsBelow leafHash innerHash p t)
+  distinct-below p vnone = tt
+  distinct-below p (vleaf v g) = tt
+  distinct-below p (vinner v l r) = distinct-kids p v l r (distinct-below (longer left p) l) (distinct-below (longer right p) r)
 
   -- at the root
   pub hasNode-node : (r : Record) (t : VTree) → hasNode r (recordsOf leafHash innerHash t) ≡ true → NodeOf (r .version) (r .place) t []

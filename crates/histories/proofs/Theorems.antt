@@ -59,7 +59,8 @@ module _ (leafHash innerHash : Bytes → Bytes → Bytes) where
       (λ k e. subst (λ x. AfterPrune leafHash innerHash n st x (cut n st)) (same-result e) (cut-after leafHash innerHash n st s k))
 
   -- A batch, accepted.
-  pub apply-keeps-sound : Hashes32 leafHash → Hashes32 innerHash → (batch : List Ask) (st : Store) (answer : Applied) → Sound leafHash innerHash st →
+  pub apply-keeps-sound : Hashes32 leafHash → Hashes32 innerHash → (batch : List Ask) (st : Store) (answer : Applied) →
+      Sound leafHash innerHash st →
       All AskForm batch → apply leafHash innerHash (some batch) st .answer ≡ accepted answer →
       AfterApply leafHash innerHash batch st answer (apply leafHash innerHash (some batch) st .store)
   unfolding refuse
@@ -71,7 +72,8 @@ module _ (leafHash innerHash : Bytes → Bytes → Bytes) where
       (settled-after leafHash innerHash lh ih batch st s ok m room))
 
   -- Refused calls leave the store as it was.
-  pub refused-apply-writes-nothing : (batch : Option (List Ask)) (st : Store) (n : ℕ) → apply leafHash innerHash batch st .answer ≡ refused n →
+  pub refused-apply-writes-nothing : (batch : Option (List Ask)) (st : Store) (n : ℕ) →
+      apply leafHash innerHash batch st .answer ≡ refused n →
       apply leafHash innerHash batch st .store ≡ st
   unfolding refuse
   refused-apply-writes-nothing none st n e = refl
@@ -108,14 +110,16 @@ module _ (leafHash innerHash : Bytes → Bytes → Bytes) where
       (kept-shaped leafHash innerHash st (sound-whole leafHash innerHash st s) (st .latest) (s .header .0, omega arith)) h
 
   -- Demand 3. After any list of calls a formatted store is sound and holds what the calls have granted to each version.
-  pub histories-hold : Hashes32 leafHash → Hashes32 innerHash → (n : ℕ) → 1 ≤ n → n ≤ mostSlots → (calls : List Call) → All CallForm calls →
+  pub histories-hold : Hashes32 leafHash → Hashes32 innerHash → (n : ℕ) → 1 ≤ n → n ≤ mostSlots → (calls : List Call) →
+      All CallForm calls →
       Holds leafHash innerHash (run leafHash innerHash calls (formatted n))
       (ledger (history leafHash innerHash calls (formatted n)) (entry 0 [] ∷ []))
   histories-hold lh ih n h k calls f =
       keeps-holds leafHash innerHash _ _ (keeps-calls leafHash innerHash lh ih calls (formatted n) _ f (keeps-formatted leafHash innerHash n (h, k)))
 
   -- The same from any sound store, with what it holds.
-  pub sound-histories-hold : Hashes32 leafHash → Hashes32 innerHash → (st : Store) → Sound leafHash innerHash st → (calls : List Call) → All CallForm calls →
+  pub sound-histories-hold : Hashes32 leafHash → Hashes32 innerHash → (st : Store) → Sound leafHash innerHash st → (calls : List Call) →
+      All CallForm calls →
       Holds leafHash innerHash (run leafHash innerHash calls st) (ledger (history leafHash innerHash calls st) (held st))
   sound-histories-hold lh ih st s calls f =
       keeps-holds leafHash innerHash _ _ (keeps-calls leafHash innerHash lh ih calls st (held st) f (keeps-held leafHash innerHash st s))

@@ -74,7 +74,8 @@ shaped-ascending p (inner l r) s =
     (shaped-form (longer left p) l (s .2)) (shaped-form (longer right p) r (s .3)))
 
 -- of grants that go on with b, all or none are on side c
-side-of : (p : Place) (b : Side) (gs : List Grant) → All (Begun (longer b p)) gs → (c : Side) → side (length p) c gs ≡ cond (Bool·beq c b) gs []
+side-of : (p : Place) (b : Side) (gs : List Grant) → All (Begun (longer b p)) gs → (c : Side) →
+    side (length p) c gs ≡ cond (Bool·beq c b) gs []
 unfolding side bit
 side-of p b gs h c = pick (Bool·beq c b) refl
   where
