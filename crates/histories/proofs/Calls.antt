@@ -26,23 +26,23 @@ use Rattle.histories.proofs.Applying.{tree-old, tree-new, settled-whole
 
 -- prune
 
-abbrev freed : ℕ → Store → ℕ
-freed n st = freeSlots (pruned n (st .slots)) - freeSlots (st .slots)
+abbrev freedBy : ℕ → Store → ℕ
+freedBy n st = freeSlots (pruned n (st .slots)) - freeSlots (st .slots)
 
 pub prune-cases : (P : Outcome ℕ → Type 0) (n : ℕ) (st : Store) → ((Kept st n → ⊥) → P (refuse 8 st)) →
-    (Kept st n → P (record { answer = accepted (freed n st); store = cut n st })) → P (prune n st)
+    (Kept st n → P (record { answer = accepted (freedBy n st); store = cut n st })) → P (prune n st)
 unfolding prune cut isKept
 prune-cases P n st f g = go (leb (st .oldest) n) (leb n (st .latest)) refl refl
   where
     go : (a b : Bool) → leb (st .oldest) n ≡ a → leb n (st .latest) ≡ b →
-        P (cond (a && b) (record { answer = accepted (freed n st); store = record { oldest = n; latest = st .latest; slots = pruned n (st .slots) } }) (refuse 8 st))
+        P (cond (a && b) (record { answer = accepted (freedBy n st); store = cut n st }) (refuse 8 st))
     go true true e h = g (leb-true (st .oldest) n e, leb-true n (st .latest) h)
     go true false e h = f (λ k. omega (arith, leb-false n (st .latest) h))
     go false b e h = f (λ k. omega (arith, leb-false (st .oldest) n e))
 
 module _ (leafHash innerHash : Bytes → Bytes → Bytes) where
   pub cut-after : (n : ℕ) (st : Store) → Sound leafHash innerHash st → Kept st n →
-      AfterPrune leafHash innerHash n st (freed n st) (cut n st)
+      AfterPrune leafHash innerHash n st (freedBy n st) (cut n st)
   unfolding cut
   cut-after n st s k =
       let w = sound-whole leafHash innerHash st s in
@@ -58,30 +58,31 @@ module _ (leafHash innerHash : Bytes → Bytes → Bytes) where
   -- apply
 
   -- the tree that a batch makes, the records it needs, the answer and the store that it leaves
-  abbrev pub made : List Ask → Store → VTree
-  made batch st = nextTree (st .latest + 1) (treeAtVersion st (st .latest)) batch
+  abbrev pub treeMade : List Ask → Store → VTree
+  treeMade batch st = nextTree (st .latest + 1) (treeAtVersion st (st .latest)) batch
 
-  abbrev pub needed : List Ask → Store → List Record
-  needed batch st = newRecords leafHash innerHash (st .latest + 1) (made batch st)
+  abbrev pub recordsNeeded : List Ask → Store → List Record
+  recordsNeeded batch st = newRecords leafHash innerHash (st .latest + 1) (treeMade batch st)
 
-  abbrev pub answered : List Ask → Store → Applied
-  answered batch st =
-      record { version = st .latest + 1; root = hash leafHash innerHash (unversioned (made batch st)); count = length (needed batch st) }
+  abbrev pub answerTo : List Ask → Store → Applied
+  answerTo batch st =
+      record { version = st .latest + 1; root = hash leafHash innerHash (unversioned (treeMade batch st)); count = length (recordsNeeded batch st) }
 
-  abbrev pub left-by : List Ask → Store → Store
-  left-by batch st = settled leafHash innerHash (st .latest + 1) (treeAtVersion st (st .latest)) (made batch st) st
+  abbrev pub storeAfter : List Ask → Store → Store
+  storeAfter batch st = settled leafHash innerHash (st .latest + 1) (treeAtVersion st (st .latest)) (treeMade batch st) st
 
   pub apply-cases : (P : Outcome Applied → Type 0) (batch : List Ask) (st : Store) →
       (ascending batch ≡ false → P (refuse 5 st)) →
       (st .latest ≡ top32 → P (refuse 6 st)) →
-      (freeSlots (st .slots) < length (needed batch st) → P (refuse 7 st)) →
-      ((st .latest ≡ top32 → ⊥) → length (needed batch st) ≤ freeSlots (st .slots) → P (record { answer = accepted (answered batch st); store = left-by batch st })) →
+      (freeSlots (st .slots) < length (recordsNeeded batch st) → P (refuse 7 st)) →
+      ((st .latest ≡ top32 → ⊥) → length (recordsNeeded batch st) ≤ freeSlots (st .slots) →
+      P (record { answer = accepted (answerTo batch st); store = storeAfter batch st })) →
       P (apply leafHash innerHash (some batch) st)
   unfolding applyAs publish
   apply-cases P batch st f₅ f₆ f₇ g = order (ascending batch) refl
     where
-      space : (st .latest ≡ top32 → ⊥) → (b : Bool) → ltb (freeSlots (st .slots)) (length (needed batch st)) ≡ b →
-          P (cond b (refuse 7 st) (record { answer = accepted (answered batch st); store = left-by batch st }))
+      space : (st .latest ≡ top32 → ⊥) → (b : Bool) → ltb (freeSlots (st .slots)) (length (recordsNeeded batch st)) ≡ b →
+          P (cond b (refuse 7 st) (record { answer = accepted (answerTo batch st); store = storeAfter batch st }))
       space m true e = f₇ (ltb-true _ _ e)
       space m false e = g m (ltb-false _ _ e)
 
@@ -95,8 +96,8 @@ module _ (leafHash innerHash : Bytes → Bytes → Bytes) where
       order false e = f₅ e
 
   pub settled-after : Hashes32 leafHash → Hashes32 innerHash → (batch : List Ask) (st : Store) → Sound leafHash innerHash st →
-      All AskForm batch →
-      (st .latest ≡ top32 → ⊥) → length (needed batch st) ≤ freeSlots (st .slots) → AfterApply leafHash innerHash batch st (answered batch st) (left-by batch st)
+      All AskForm batch → (st .latest ≡ top32 → ⊥) → length (recordsNeeded batch st) ≤ freeSlots (st .slots) →
+      AfterApply leafHash innerHash batch st (answerTo batch st) (storeAfter batch st)
   unfolding settled
   settled-after lh ih batch st s ok m room =
       let w : Whole leafHash innerHash st = sound-whole leafHash innerHash st s in
@@ -104,19 +105,23 @@ module _ (leafHash innerHash : Bytes → Bytes → Bytes) where
       let old : VTree = treeAtVersion st (st .latest) in
       let kept : Kept st (st .latest) = (s .header .0, omega arith) in
       let shape = kept-shaped leafHash innerHash st w (st .latest) kept in
-      let grown : Grown new old (made batch st) = next-grown new old shape batch ok in
+      let grown : Grown new old (treeMade batch st) = next-grown new old shape batch ok in
       let next : new ≡ suc (st .latest) = omega arith in
       let small : new ≤ top32 = omega (arith, s .header .1) in
-      let tree : treeAtVersion (left-by batch st) new ≡ made batch st = tree-new leafHash innerHash lh ih st w new next small (made batch st) grown room in
+      let tree : treeAtVersion (storeAfter batch st) new ≡ treeMade batch st =
+      tree-new leafHash innerHash lh ih st w new next small (treeMade batch st) grown room in
+      let before : List Record = recordsOf leafHash innerHash old in
+      let after : List Record = recordsOf leafHash innerHash (treeMade batch st) in
       record {
-        sound = whole-sound leafHash innerHash (left-by batch st) (settled-whole leafHash innerHash lh ih st w new next small (made batch st) grown room);
-        capacity = length-written (needed batch st) new (recordsOf leafHash innerHash old) (recordsOf leafHash innerHash (made batch st)) (st .slots);
+        sound = whole-sound leafHash innerHash (storeAfter batch st)
+            (settled-whole leafHash innerHash lh ih st w new next small (treeMade batch st) grown room);
+        capacity = length-written (recordsNeeded batch st) new before after (st .slots);
         oldest = refl;
         latest = next;
         tree = tree;
         grants = ap grantsIn tree ∙ next-grants new old shape batch ok;
-        older = tree-old leafHash innerHash lh ih st w new next small (made batch st) grown room;
+        older = tree-old leafHash innerHash lh ih st w new next small (treeMade batch st) grown room;
         version = refl;
         root = ap (λ t. hash leafHash innerHash (unversioned t)) (sym tree);
-        count = free-written (needed batch st) new (recordsOf leafHash innerHash old) (recordsOf leafHash innerHash (made batch st)) (st .slots) room;
+        count = free-written (recordsNeeded batch st) new before after (st .slots) room;
       }

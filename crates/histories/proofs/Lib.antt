@@ -13,4 +13,3 @@ pub mod Calls
 pub mod Ledger
 pub mod Histories
 pub mod Theorems
-pub mod DeskHistory

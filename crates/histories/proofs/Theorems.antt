@@ -9,9 +9,9 @@ use mathlib.Core.List.{List, [], _∷_}
 use mathlib.Core.Option.{Option, none, some}
 use lib.ListN.{length}
 use borrow.Author.Tests.{le-leb}
-use Rattle.terms.specs.Bits.{Bytes, All}
-use Rattle.terms.specs.Records.{Grant, Ask, Record, Store}
-use Rattle.terms.specs.Form.{GrantForm, AskForm, top32}
+use Rattle.terms.specs.Bits.{Bytes, Place, All}
+use Rattle.terms.specs.Records.{Grant, Ask, Body, leafBody, innerBody, Record, Store}
+use Rattle.terms.specs.Form.{top32, placeLimit, GrantForm, AskForm}
 use Rattle.meaning.specs.Tree.{treeOf, hash, unversioned, grantsIn, newRoot, nextTree}
 use Rattle.meaning.specs.Store.{formatted, treeAtVersion, freeSlots, newRecords}
 use Rattle.meaning.specs.Sound.{mostSlots, At, Kept, NodeOf, Lives, Hashes32, Sound}
@@ -21,11 +21,12 @@ use Rattle.meaning.specs.History.{Call, formatting, applying, pruning, looking,
 use Rattle.meaning.proofs.Runs.{Ascending}
 use Rattle.meaning.proofs.Shaped.{shaped-form, shaped-ascending, shaped-treeOf}
 use Rattle.histories.specs.Claims.{NoChange, AfterApply, AfterPrune}
+use Rattle.histories.proofs.Standing.{node-found}
 use Rattle.histories.proofs.Whole.{sound-whole, whole-sound}
 use Rattle.histories.proofs.Pruning.{cut, formatted-whole}
 use Rattle.histories.proofs.Meaning.{kept-shaped, root-hash}
 use Rattle.histories.proofs.Unchanged.{unchanged-tree}
-use Rattle.histories.proofs.Calls.{prune-cases, cut-after, needed, left-by, apply-cases, settled-after}
+use Rattle.histories.proofs.Calls.{prune-cases, cut-after, recordsNeeded, storeAfter, apply-cases, settled-after}
 use Rattle.histories.proofs.Histories.{keeps-holds, keeps-held, keeps-formatted, keeps-calls}
 
 -- an answer is refused or accepted, with one number or result
@@ -34,6 +35,10 @@ not-both e = let z : _≡_ {A = ℕ} 0 1 = cc in absurd (omega arith)
 
 same-result : {A : Type 0} {x y : A} → _≡_ {A = Answer A} (accepted x) (accepted y) → x ≡ y
 same-result e = cc
+
+most-bits : (b : Body) → placeLimit b ≤ 256
+most-bits (leafBody k x) = omega arith
+most-bits (innerBody l r) = omega arith
 
 module _ (leafHash innerHash : Bytes → Bytes → Bytes) where
   -- Formatting: a fresh store is sound.
@@ -49,6 +54,14 @@ module _ (leafHash innerHash : Bytes → Bytes → Bytes) where
       let t = unversioned (treeAtVersion st v) in
       let shaped = kept-shaped leafHash innerHash st (sound-whole leafHash innerHash st s) v k in
       (shaped-treeOf t shaped, shaped-ascending [] t shaped, shaped-form [] t shaped)
+
+  -- No path is longer than 256 steps: the place of a node has at most 256 bits.
+  pub paths-have-at-most-256-steps : (st : Store) → Sound leafHash innerHash st → (v : ℕ) → Kept st v →
+      (w : ℕ) (q : Place) → NodeOf w q (treeAtVersion st v) [] → length q ≤ 256
+  paths-have-at-most-256-steps st s v k w q n =
+      let r = node-found leafHash innerHash st w q [] (treeAtVersion st v) (s .stands v k) n in
+      let form = sound-whole leafHash innerHash st s .formed (r .0) (r .1) in
+      omega (arith, form .short, most-bits (r .0 .body), ap length (r .3))
 
   -- Pruning, accepted.
   pub prune-keeps-sound : (n : ℕ) (st : Store) (freed : ℕ) → Sound leafHash innerHash st → prune n st .answer ≡ accepted freed →
@@ -68,7 +81,7 @@ module _ (leafHash innerHash : Bytes → Bytes → Bytes) where
       apply-cases leafHash innerHash (λ o. o .answer ≡ accepted answer → AfterApply leafHash innerHash batch st answer (o .store)) batch st
       (λ h e. not-both e) (λ h e. not-both e) (λ h e. not-both e)
       (λ m room e.
-      subst (λ x. AfterApply leafHash innerHash batch st x (left-by leafHash innerHash batch st)) (same-result e)
+      subst (λ x. AfterApply leafHash innerHash batch st x (storeAfter leafHash innerHash batch st)) (same-result e)
       (settled-after leafHash innerHash lh ih batch st s ok m room))
 
   -- Refused calls leave the store as it was.
@@ -93,13 +106,16 @@ module _ (leafHash innerHash : Bytes → Bytes → Bytes) where
       < length (newRecords leafHash innerHash (st .latest + 1) (nextTree (st .latest + 1) (treeAtVersion st (st .latest)) batch)))
   unfolding refuse
   seven-exactly-without-room batch st a l =
-      apply-cases leafHash innerHash (λ o. (o .answer ≡ refused 7) ↔ (freeSlots (st .slots) < length (needed leafHash innerHash batch st))) batch st
-      (λ h. absurd (true≢false (sym a ∙ h))) (λ h. absurd (omega arith)) (λ h. (λ e. h, λ k. refl)) (λ m room. (λ e. not-both (sym e), λ k. absurd (omega arith)))
+      apply-cases leafHash innerHash
+      (λ o. (o .answer ≡ refused 7) ↔ (freeSlots (st .slots) < length (recordsNeeded leafHash innerHash batch st))) batch st
+      (λ h. absurd (true≢false (sym a ∙ h))) (λ h. absurd (omega arith)) (λ h. (λ e. h, λ k. refl))
+      (λ m room. (λ e. not-both (sym e), λ k. absurd (omega arith)))
 
   pub eight-exactly-if-not-kept : (n : ℕ) (st : Store) → (prune n st .answer ≡ refused 8) ↔ (Kept st n → ⊥)
   unfolding refuse
   eight-exactly-if-not-kept n st =
-      prune-cases (λ o. (o .answer ≡ refused 8) ↔ (Kept st n → ⊥)) n st (λ h. (λ e. h, λ k. refl)) (λ h. (λ e. not-both (sym e), λ k. absurd (k h)))
+      prune-cases (λ o. (o .answer ≡ refused 8) ↔ (Kept st n → ⊥)) n st (λ h. (λ e. h, λ k. refl))
+      (λ h. (λ e. not-both (sym e), λ k. absurd (k h)))
 
   -- An insert of the value already there and a delete of an absent key are no change.
   pub no-change-makes-a-root : (new : ℕ) (batch : List Ask) (st : Store) → Sound leafHash innerHash st →
@@ -115,7 +131,8 @@ module _ (leafHash innerHash : Bytes → Bytes → Bytes) where
       Holds leafHash innerHash (run leafHash innerHash calls (formatted n))
       (ledger (history leafHash innerHash calls (formatted n)) (entry 0 [] ∷ []))
   histories-hold lh ih n h k calls f =
-      keeps-holds leafHash innerHash _ _ (keeps-calls leafHash innerHash lh ih calls (formatted n) _ f (keeps-formatted leafHash innerHash n (h, k)))
+      keeps-holds leafHash innerHash _ _
+      (keeps-calls leafHash innerHash lh ih calls (formatted n) _ f (keeps-formatted leafHash innerHash n (h, k)))
 
   -- The same from any sound store, with what it holds.
   pub sound-histories-hold : Hashes32 leafHash → Hashes32 innerHash → (st : Store) → Sound leafHash innerHash st → (calls : List Call) →
@@ -130,8 +147,8 @@ module _ (leafHash innerHash : Bytes → Bytes → Bytes) where
   not-accepted-changes-nothing formatting st e = absurd (true≢false e)
   not-accepted-changes-nothing (applying none) st e = refl
   not-accepted-changes-nothing (applying (some batch)) st e =
-      apply-cases leafHash innerHash (λ o. isAccepted (o .answer) ≡ false → o .store ≡ st) batch st (λ h k. refl) (λ h k. refl) (λ h k. refl)
-      (λ m room k. absurd (true≢false k)) e
+      apply-cases leafHash innerHash (λ o. isAccepted (o .answer) ≡ false → o .store ≡ st) batch st
+      (λ h k. refl) (λ h k. refl) (λ h k. refl) (λ m room k. absurd (true≢false k)) e
   not-accepted-changes-nothing (pruning n) st e =
       prune-cases (λ o. isAccepted (o .answer) ≡ false → o .store ≡ st) n st (λ h k. refl) (λ h k. absurd (true≢false k)) e
   not-accepted-changes-nothing looking st e = refl
@@ -150,5 +167,6 @@ module _ (leafHash innerHash : Bytes → Bytes → Bytes) where
         g .0,
         g .1,
         rw (le-leb (st .oldest) v (k .0), le-leb v (st .latest) (k .1))
-            (ap accepted (root-hash leafHash innerHash st (sound-whole leafHash innerHash st (h .sound)) v k ∙ ap (hash leafHash innerHash) (g .2))),
+            (ap accepted
+            (root-hash leafHash innerHash st (sound-whole leafHash innerHash st (h .sound)) v k ∙ ap (hash leafHash innerHash) (g .2))),
       )

@@ -63,7 +63,8 @@ present-same k x [] s h = not-both h
 present-same k x (g ∷ gs) s h = go (sameBytes k (g .key)) refl h (λ i. present-same k x gs (s .1) i)
   where
     go : (b : Bool) → sameBytes k (g .key) ≡ b → cond b (present (g .value)) (answerOf k gs) ≡ present x →
-        (answerOf k gs ≡ present x → smaller k gs ++ grant k x ∷ greater k gs ≡ gs) → smaller k (g ∷ gs) ++ grant k x ∷ greater k (g ∷ gs) ≡ g ∷ gs
+        (answerOf k gs ≡ present x → smaller k gs ++ grant k x ∷ greater k gs ≡ gs) →
+        smaller k (g ∷ gs) ++ grant k x ∷ greater k (g ∷ gs) ≡ g ∷ gs
     go true e i ih = first-same k x g gs (s .0) (sym (same-bytes k (g .key) e)) (present-eq (g .value) x i)
     go false e i ih = later-same k x g gs (present-key (λ y. before (g .key) y ≡ true) k x gs i (s .0)) (ih i)
 

@@ -56,7 +56,8 @@ pub turned-node : (n : ℕ) (old now : List Record) (r : Record) →
     (turned n old now r .version ≡ r .version) × (turned n old now r .place ≡ r .place)
 unfolding marked
 turned-node n old now r =
-    elim (hasNode r old && not (hasNode r now)) as (λ b. (cond b (marked n r) r .version ≡ r .version) × (cond b (marked n r) r .place ≡ r .place))
+    elim (hasNode r old && not (hasNode r now))
+    as (λ b. (cond b (marked n r) r .version ≡ r .version) × (cond b (marked n r) r .place ≡ r .place))
     [ true ↦ (refl, refl) | false ↦ (refl, refl) ]
 
 pub has-retire : (r : Record) (n : ℕ) (old now : List Record) (s : List Slot) → Has r (retire n old now s) →
