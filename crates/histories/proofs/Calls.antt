@@ -21,7 +21,7 @@ use Rattle.histories.proofs.Writing.{free-written, length-written, free
 use Rattle.histories.proofs.Whole.{Whole, sound-whole, whole-sound}
 use Rattle.histories.proofs.Pruning.{cut, cut-tree, cut-whole}
 use Rattle.histories.proofs.Growing.{Grown, next-grown, next-grants}
-use Rattle.histories.proofs.Meaning.{kept-shaped}
+use Rattle.histories.proofs.Trees.{kept-shaped}
 use Rattle.histories.proofs.Applying.{tree-old, tree-new, settled-whole}
 
 -- prune
@@ -65,8 +65,11 @@ module _ (leafHash innerHash : Bytes → Bytes → Bytes) where
   recordsNeeded batch st = newRecords leafHash innerHash (st .latest + 1) (treeMade batch st)
 
   abbrev pub answerTo : List Ask → Store → Applied
-  answerTo batch st =
-      record { version = st .latest + 1; root = hash leafHash innerHash (unversioned (treeMade batch st)); count = length (recordsNeeded batch st) }
+  answerTo batch st = record {
+    version = st .latest + 1;
+    root = hash leafHash innerHash (unversioned (treeMade batch st));
+    count = length (recordsNeeded batch st);
+  }
 
   abbrev pub storeAfter : List Ask → Store → Store
   storeAfter batch st = settled leafHash innerHash (st .latest + 1) (treeAtVersion st (st .latest)) (treeMade batch st) st

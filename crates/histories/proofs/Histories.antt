@@ -21,7 +21,7 @@ use Rattle.meaning.proofs.Shaped.{shaped-treeOf}
 use Rattle.histories.specs.Claims.{AfterApply, AfterPrune}
 use Rattle.histories.proofs.Whole.{sound-whole, whole-sound}
 use Rattle.histories.proofs.Pruning.{formatted-tree, formatted-whole}
-use Rattle.histories.proofs.Meaning.{kept-shaped}
+use Rattle.histories.proofs.Trees.{kept-shaped}
 use Rattle.histories.proofs.Applying.{last-or}
 use Rattle.histories.proofs.Calls.{prune-cases, cut-after, apply-cases, settled-after}
 use Rattle.histories.proofs.Ledger.{grants-here, grants-there, kept-first, grants-kept, grants-dropped}

@@ -5,7 +5,7 @@ pub mod Whole
 pub mod Pruning
 pub mod Nodes
 pub mod Growing
-pub mod Meaning
+pub mod Trees
 pub mod Forms
 pub mod Applying
 pub mod Unchanged

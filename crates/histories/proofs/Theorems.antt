@@ -24,7 +24,7 @@ use Rattle.histories.specs.Claims.{NoChange, AfterApply, AfterPrune}
 use Rattle.histories.proofs.Standing.{node-found}
 use Rattle.histories.proofs.Whole.{sound-whole, whole-sound}
 use Rattle.histories.proofs.Pruning.{cut, formatted-whole}
-use Rattle.histories.proofs.Meaning.{kept-shaped, root-hash}
+use Rattle.histories.proofs.Trees.{kept-shaped, root-hash}
 use Rattle.histories.proofs.Unchanged.{unchanged-tree}
 use Rattle.histories.proofs.Calls.{prune-cases, cut-after, recordsNeeded, storeAfter, apply-cases, settled-after}
 use Rattle.histories.proofs.Histories.{keeps-holds, keeps-held, keeps-formatted, keeps-calls}
@@ -35,6 +35,10 @@ not-both e = let z : _≡_ {A = ℕ} 0 1 = cc in absurd (omega arith)
 
 same-result : {A : Type 0} {x y : A} → _≡_ {A = Answer A} (accepted x) (accepted y) → x ≡ y
 same-result e = cc
+
+not-accepted : {A : Type 0} (a : Answer A) → isAccepted a ≡ false → (n : ℕ) × (a ≡ refused n)
+not-accepted (refused n) e = (n, refl)
+not-accepted (accepted x) e = absurd (true≢false e)
 
 most-bits : (b : Body) → placeLimit b ≤ 256
 most-bits (leafBody k x) = omega arith
@@ -73,8 +77,7 @@ module _ (leafHash innerHash : Bytes → Bytes → Bytes) where
 
   -- A batch, accepted.
   pub apply-keeps-sound : Hashes32 leafHash → Hashes32 innerHash → (batch : List Ask) (st : Store) (answer : Applied) →
-      Sound leafHash innerHash st →
-      All AskForm batch → apply leafHash innerHash (some batch) st .answer ≡ accepted answer →
+      Sound leafHash innerHash st → All AskForm batch → apply leafHash innerHash (some batch) st .answer ≡ accepted answer →
       AfterApply leafHash innerHash batch st answer (apply leafHash innerHash (some batch) st .store)
   unfolding refuse
   apply-keeps-sound lh ih batch st answer s ok =
@@ -86,8 +89,7 @@ module _ (leafHash innerHash : Bytes → Bytes → Bytes) where
 
   -- Refused calls leave the store as it was.
   pub refused-apply-writes-nothing : (batch : Option (List Ask)) (st : Store) (n : ℕ) →
-      apply leafHash innerHash batch st .answer ≡ refused n →
-      apply leafHash innerHash batch st .store ≡ st
+      apply leafHash innerHash batch st .answer ≡ refused n → apply leafHash innerHash batch st .store ≡ st
   unfolding refuse
   refused-apply-writes-nothing none st n e = refl
   refused-apply-writes-nothing (some batch) st n e =
@@ -143,14 +145,9 @@ module _ (leafHash innerHash : Bytes → Bytes → Bytes) where
 
   -- A call that isn't accepted leaves the store as it was.
   pub not-accepted-changes-nothing : (c : Call) (st : Store) → took leafHash innerHash c st ≡ false → after leafHash innerHash c st ≡ st
-  unfolding refuse
   not-accepted-changes-nothing formatting st e = absurd (true≢false e)
-  not-accepted-changes-nothing (applying none) st e = refl
-  not-accepted-changes-nothing (applying (some batch)) st e =
-      apply-cases leafHash innerHash (λ o. isAccepted (o .answer) ≡ false → o .store ≡ st) batch st
-      (λ h k. refl) (λ h k. refl) (λ h k. refl) (λ m room k. absurd (true≢false k)) e
-  not-accepted-changes-nothing (pruning n) st e =
-      prune-cases (λ o. isAccepted (o .answer) ≡ false → o .store ≡ st) n st (λ h k. refl) (λ h k. absurd (true≢false k)) e
+  not-accepted-changes-nothing (applying batch) st e = let r = not-accepted _ e in refused-apply-writes-nothing batch st (r .0) (r .1)
+  not-accepted-changes-nothing (pruning n) st e = let r = not-accepted _ e in refused-prune-writes-nothing n st (r .0) (r .1)
   not-accepted-changes-nothing looking st e = refl
 
   -- Each record stands in exactly the kept versions of its lifetime.
