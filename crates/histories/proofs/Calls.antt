@@ -76,26 +76,26 @@ module _ (leafHash innerHash : Bytes → Bytes → Bytes) where
 
   pub apply-cases : (P : Outcome Applied → Type 0) (batch : List Ask) (st : Store) →
       (ascending batch ≡ false → P (refuse 5 st)) →
-      (st .latest ≡ top32 → P (refuse 6 st)) →
-      (freeSlots (st .slots) < length (recordsNeeded batch st) → P (refuse 7 st)) →
-      ((st .latest ≡ top32 → ⊥) → length (recordsNeeded batch st) ≤ freeSlots (st .slots) →
+      (ascending batch ≡ true → st .latest ≡ top32 → P (refuse 6 st)) →
+      (ascending batch ≡ true → (st .latest ≡ top32 → ⊥) → freeSlots (st .slots) < length (recordsNeeded batch st) → P (refuse 7 st)) →
+      (ascending batch ≡ true → (st .latest ≡ top32 → ⊥) → length (recordsNeeded batch st) ≤ freeSlots (st .slots) →
       P (record { answer = accepted (answerTo batch st); store = storeAfter batch st })) →
       P (apply leafHash innerHash (some batch) st)
   unfolding applyAs publish
   apply-cases P batch st f₅ f₆ f₇ g = order (ascending batch) refl
     where
-      space : (st .latest ≡ top32 → ⊥) → (b : Bool) → ltb (freeSlots (st .slots)) (length (recordsNeeded batch st)) ≡ b →
+      space : ascending batch ≡ true → (st .latest ≡ top32 → ⊥) → (b : Bool) → ltb (freeSlots (st .slots)) (length (recordsNeeded batch st)) ≡ b →
           P (cond b (refuse 7 st) (record { answer = accepted (answerTo batch st); store = storeAfter batch st }))
-      space m true e = f₇ (ltb-true _ _ e)
-      space m false e = g m (ltb-false _ _ e)
+      space o m true e = f₇ o m (ltb-true _ _ e)
+      space o m false e = g o m (ltb-false _ _ e)
 
-      number : (b : Bool) → eqb (st .latest) top32 ≡ b → P (cond b (refuse 6 st) (applyAs leafHash innerHash (st .latest + 1) batch st))
-      number true e = f₆ (eqb-true (st .latest) top32 e)
-      number false e = space (eqb-false (st .latest) top32 e) _ refl
+      number : ascending batch ≡ true → (b : Bool) → eqb (st .latest) top32 ≡ b → P (cond b (refuse 6 st) (applyAs leafHash innerHash (st .latest + 1) batch st))
+      number o true e = f₆ o (eqb-true (st .latest) top32 e)
+      number o false e = space o (eqb-false (st .latest) top32 e) _ refl
 
       order : (b : Bool) → ascending batch ≡ b →
           P (cond b (cond (eqb (st .latest) top32) (refuse 6 st) (applyAs leafHash innerHash (st .latest + 1) batch st)) (refuse 5 st))
-      order true e = number _ refl
+      order true e = number e _ refl
       order false e = f₅ e
 
   pub settled-after : Hashes32 leafHash → Hashes32 innerHash → (batch : List Ask) (st : Store) → Sound leafHash innerHash st →

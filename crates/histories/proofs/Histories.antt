@@ -162,8 +162,8 @@ module _ (leafHash innerHash : Bytes → Bytes → Bytes) where
     keeps-call (applying (some batch)) st es f k =
         apply-cases leafHash innerHash
         (λ o. Keeps (o .store) (cond (isAccepted (o .answer)) (noted (applying (some batch)) es) es)) batch st
-        (λ e. k) (λ e. k) (λ e. k)
-        (λ m room. keeps-applied batch st _ es k (settled-after leafHash innerHash lh ih batch st (k .sound) f m room))
+        (λ e. k) (λ o e. k) (λ o m e. k)
+        (λ o m room. keeps-applied batch st _ es k (settled-after leafHash innerHash lh ih batch st (k .sound) f m room))
     keeps-call (pruning n) st es f k =
         prune-cases (λ o. Keeps (o .store) (cond (isAccepted (o .answer)) (noted (pruning n) es) es)) n st
         (λ h. k) (λ h. keeps-pruned n st _ es k h (cut-after leafHash innerHash n st (k .sound) h))
