@@ -4,8 +4,8 @@ use Prim.Native.Nat.{ℕ, _≤_}
 use native.Mathlib.Omega.{arith}
 use mathlib.Core.Path.{_≡_, refl, ap, sym, _∙_, subst}
 use mathlib.Core.Logic.{_↔_}
-use mathlib.Core.Bool.{false, true≢false}
-use mathlib.Core.List.{List, [], _∷_}
+use mathlib.Core.Bool.{true, false, true≢false}
+use mathlib.Core.List.{List, [], _∷_, _++_}
 use mathlib.Core.Option.{Option, none, some}
 use lib.ListN.{length}
 use borrow.Author.Tests.{le-leb}
@@ -15,17 +15,17 @@ use Rattle.terms.specs.Form.{placeLimit, GrantForm, AskForm}
 use Rattle.meaning.specs.Tree.{treeOf, hash, unversioned, grantsIn, newRoot, nextTree}
 use Rattle.meaning.specs.Store.{formatted, treeAtVersion}
 use Rattle.meaning.specs.Sound.{mostSlots, At, Kept, NodeOf, Lives, Hashes32, Sound}
-use Rattle.meaning.specs.Calls.{Answer, refused, accepted, refuse, isKept, Applied, prune, apply}
+use Rattle.meaning.specs.Calls.{Answer, refused, accepted, refuse, isKept, Applied, ascending, prune, apply}
 use Rattle.meaning.specs.Reading.{readRoot}
 use Rattle.meaning.specs.History.{Call, formatting, applying, pruning, looking, CallForm, isAccepted, after, took, run, history, Entry, entry, ledger, grantsOf, held, Holds}
 use Rattle.meaning.proofs.Runs.{Ascending}
-use Rattle.meaning.proofs.Shaped.{shaped-form, shaped-ascending, shaped-treeOf}
+use Rattle.meaning.proofs.Shaped.{Shaped, shaped-form, shaped-ascending, shaped-treeOf}
 use Rattle.histories.specs.Claims.{NoChange, ApplyRefuses, not-in-form, not-ascending, no-version-left, no-room, AfterApply, AfterPrune}
 use Rattle.histories.proofs.Standing.{node-found}
 use Rattle.histories.proofs.Whole.{sound-whole, whole-sound}
 use Rattle.histories.proofs.Pruning.{cut, formatted-whole}
 use Rattle.histories.proofs.Trees.{kept-shaped, root-hash}
-use Rattle.histories.proofs.Unchanged.{unchanged-tree}
+use Rattle.histories.proofs.Unchanged.{unchanged-without, unchanged-tree}
 use Rattle.histories.proofs.Calls.{prune-cases, cut-after, storeAfter, apply-cases, settled-after}
 use Rattle.histories.proofs.Histories.{keeps-holds, keeps-held, keeps-formatted, keeps-calls}
 
@@ -140,13 +140,20 @@ module _ (leafHash innerHash : Bytes → Bytes → Bytes) where
       prune-cases (λ o. (o .answer ≡ refused m) ↔ ((m ≡ 8) × (Kept st n → ⊥))) n st
       (λ h. (λ e. (sym (same-number e), h), λ k. ap refused (sym (k .0)))) (λ h. (λ e. not-both (sym e), λ k. absurd (k .1 h)))
 
-  -- An insert of the value already there and a delete of an absent key are no change.
+  -- An insert of the value already there and a delete of an absent key are no change: the tree is that of the batch without them. A batch
+  -- of nothing else makes a new root only.
+  latest-shaped : (st : Store) → Sound leafHash innerHash st → Shaped [] (unversioned (treeAtVersion st (st .latest)))
+  latest-shaped st s = kept-shaped leafHash innerHash st (sound-whole leafHash innerHash st s) (st .latest) (s .header .0, omega arith)
+
+  pub no-change-is-left-out : (new : ℕ) (xs : List Ask) (a : Ask) (ys : List Ask) (st : Store) → Sound leafHash innerHash st →
+      ascending (xs ++ a ∷ ys) ≡ true → NoChange (grantsIn (treeAtVersion st (st .latest))) a →
+      nextTree new (treeAtVersion st (st .latest)) (xs ++ a ∷ ys) ≡ nextTree new (treeAtVersion st (st .latest)) (xs ++ ys)
+  no-change-is-left-out new xs a ys st s o h = unchanged-without new (treeAtVersion st (st .latest)) xs a ys (latest-shaped st s) o h
+
   pub no-change-makes-a-root : (new : ℕ) (batch : List Ask) (st : Store) → Sound leafHash innerHash st →
       All (NoChange (grantsIn (treeAtVersion st (st .latest)))) batch →
       nextTree new (treeAtVersion st (st .latest)) batch ≡ newRoot new (treeAtVersion st (st .latest))
-  no-change-makes-a-root new batch st s h =
-      unchanged-tree new (treeAtVersion st (st .latest)) batch
-      (kept-shaped leafHash innerHash st (sound-whole leafHash innerHash st s) (st .latest) (s .header .0, omega arith)) h
+  no-change-makes-a-root new batch st s h = unchanged-tree new (treeAtVersion st (st .latest)) batch (latest-shaped st s) h
 
   -- Demand 3. After any list of calls a formatted store is sound and holds what the calls have granted to each version.
   pub histories-hold : Hashes32 leafHash → Hashes32 innerHash → (n : ℕ) → 1 ≤ n → n ≤ mostSlots → (calls : List Call) →
