@@ -13,14 +13,15 @@ use borrow.Author.Tests.{leb-true, leb-false}
 use Rattle.terms.specs.Bits.{Bytes, left, right, Place, longer, All}
 use Rattle.terms.specs.Records.{Record, Slot, Store}
 use Rattle.terms.specs.Form.{top32, RecordForm}
+use Rattle.terms.proofs.Tests.{is-false}
 use Rattle.terms.proofs.Members.{In, all-in}
 use Rattle.meaning.specs.Tree.{VTree, vnone, vinner, unversioned, topVersion}
 use Rattle.meaning.specs.Store.{find, treeAtVersion, freeSlots, marked, hasNode, retire, retiredBy, recordsOf, newRecords, settled}
-use Rattle.meaning.specs.Sound.{Kept, Found, NodeOf, Lives, Hashes32, Stands}
+use Rattle.meaning.specs.Sound.{At, Kept, Found, NodeOf, Lives, Hashes32, Stands}
 use Rattle.meaning.proofs.Finding.{isNode-eq, some-inner}
 use Rattle.meaning.proofs.Shaped.{Shaped, no-lone-leaf}
 use Rattle.histories.proofs.Slots.{Has, none-find, Unique, unique-find}
-use Rattle.histories.proofs.Writing.{contents, contents-none, turned-node, has-retire, spoiled-retire, find-retire, unique-retire, free-retire, has-placed, spoiled-placed, placed-has, length-written, New, Older, find-older, unique-placed}
+use Rattle.histories.proofs.Writing.{contents, contents-none, turned, turned-node, retire-at, placed-at, has-retire, spoiled-retire, find-retire, unique-retire, free-retire, has-placed, spoiled-placed, placed-has, length-written, New, Older, find-older, unique-placed}
 use Rattle.histories.proofs.Standing.{Formed, Top, top-none, top-some, reads-top, Alike, stands-alike, carried, node-found, kid-stands}
 use Rattle.histories.proofs.Whole.{Lifetime, retired-later, not-retired, Whole}
 use Rattle.histories.proofs.Nodes.{recordsAt, top-record, kid-records, Origin, origin, origin-node, hasNode-node, node-hasNode, new-distinct, new-in, in-new}
@@ -127,6 +128,30 @@ module _ (leafHash innerHash : Bytes → Bytes → Bytes) where
         go : Has r mid ⊎ In r news → Came r
         go (inl k) = let m = has-retire r new _ _ (st .slots) k in came-old (m .0) r (m .1) _ _ refl refl (m .2)
         go (inr k) = let m = new-in leafHash innerHash new now r k in fresh (m .0) (m .1)
+
+    -- an old record stays in its slot; if it is a node of the old tree alone, it is marked
+    turned-at : (i : ℕ) (r : Record) → At st i r → At st′ i (turned new before after r)
+    unfolding At settled
+    turned-at i r (l, e) = (
+      rw (length-written news new before after (st .slots)) l,
+      placed-at news mid i (turned new before after r) (retire-at new before after (st .slots) i r e),
+    )
+
+    pub ends-at : (i : ℕ) (r : Record) → At st i r → NodeOf (r .version) (r .place) old [] → (NodeOf (r .version) (r .place) now [] → ⊥) →
+        At st′ i (marked new r)
+    ends-at i r a n m =
+        let gone : hasNode r after ≡ false = is-false _ (λ e. m (hasNode-node leafHash innerHash r now e)) in
+        subst (At st′ i) (ap₂ (λ x y. cond (x && not y) (marked new r) r) (node-hasNode leafHash innerHash r old n) gone) (turned-at i r a)
+
+    pub stays-at : (i : ℕ) (r : Record) → At st i r → (NodeOf (r .version) (r .place) old [] → NodeOf (r .version) (r .place) now []) →
+        At st′ i r
+    stays-at i r a f = go (hasNode r before) refl
+      where
+        go : (b : Bool) → hasNode r before ≡ b → At st′ i r
+        go true e =
+            let there : hasNode r after ≡ true = node-hasNode leafHash innerHash r now (f (hasNode-node leafHash innerHash r old e)) in
+            subst (At st′ i) (ap₂ (λ x y. cond (x && not y) (marked new r) r) e there) (turned-at i r a)
+        go false e = subst (At st′ i) (ap (λ x. cond (x && not (hasNode r after)) (marked new r) r) e) (turned-at i r a)
 
     -- the nodes of the kept trees have versions from 1 to latest, those of the new tree from 1 to the new version
     old-number : (v : ℕ) → Kept st v → (x : ℕ) (q : Place) → NodeOf x q (treeAtVersion st v) [] → (1 ≤ x) × (x < new)

@@ -2,9 +2,9 @@
 -- Assumes nothing.
 use Prim.Native.Nat.{ℕ, suc, _+_, _-_, _≤_, _<_}
 use native.Mathlib.Omega.{arith}
-use mathlib.Core.Path.{_≡_, refl, ap, sym, _∙_}
+use mathlib.Core.Path.{_≡_, refl, ap, sym, _∙_, subst}
 use mathlib.Core.Bool.{Bool, true, false, cond, _&&_}
-use mathlib.Core.List.{List}
+use mathlib.Core.List.{List, []}
 use mathlib.Core.Option.{some}
 use lib.ListN.{length, length-map}
 use lib.Dec.{leb, ltb, eqb}
@@ -14,7 +14,7 @@ use Rattle.terms.specs.Records.{Ask, Record, Store}
 use Rattle.terms.specs.Form.{AskForm, top32}
 use Rattle.meaning.specs.Tree.{VTree, unversioned, grantsIn, hash, nextTree}
 use Rattle.meaning.specs.Store.{treeAtVersion, freeSlots, pruned, onRecord, pruneRecord, recordsOf, newRecords, settled}
-use Rattle.meaning.specs.Sound.{Kept, Hashes32, Sound}
+use Rattle.meaning.specs.Sound.{Kept, NodeOf, Hashes32, Sound}
 use Rattle.meaning.specs.Calls.{accepted, Outcome, refuse, isKept, Applied, ascending, prune, publish, applyAs, apply}
 use Rattle.histories.specs.Claims.{AfterApply, AfterPrune}
 use Rattle.histories.proofs.Writing.{free-written, length-written, free-pruned}
@@ -22,7 +22,7 @@ use Rattle.histories.proofs.Whole.{Whole, sound-whole, whole-sound}
 use Rattle.histories.proofs.Pruning.{cut, cut-tree, cut-whole}
 use Rattle.histories.proofs.Growing.{Grown, next-grown, next-grants}
 use Rattle.histories.proofs.Trees.{kept-shaped}
-use Rattle.histories.proofs.Applying.{tree-old, tree-new, settled-whole}
+use Rattle.histories.proofs.Applying.{ends-at, stays-at, tree-old, tree-new, settled-whole}
 
 -- prune
 
@@ -84,12 +84,14 @@ module _ (leafHash innerHash : Bytes → Bytes → Bytes) where
   unfolding applyAs publish
   apply-cases P batch st f₅ f₆ f₇ g = order (ascending batch) refl
     where
-      space : ascending batch ≡ true → (st .latest ≡ top32 → ⊥) → (b : Bool) → ltb (freeSlots (st .slots)) (length (recordsNeeded batch st)) ≡ b →
+      space : ascending batch ≡ true → (st .latest ≡ top32 → ⊥) →
+          (b : Bool) → ltb (freeSlots (st .slots)) (length (recordsNeeded batch st)) ≡ b →
           P (cond b (refuse 7 st) (record { answer = accepted (answerTo batch st); store = storeAfter batch st }))
       space o m true e = f₇ o m (ltb-true _ _ e)
       space o m false e = g o m (ltb-false _ _ e)
 
-      number : ascending batch ≡ true → (b : Bool) → eqb (st .latest) top32 ≡ b → P (cond b (refuse 6 st) (applyAs leafHash innerHash (st .latest + 1) batch st))
+      number : ascending batch ≡ true → (b : Bool) → eqb (st .latest) top32 ≡ b →
+          P (cond b (refuse 6 st) (applyAs leafHash innerHash (st .latest + 1) batch st))
       number o true e = f₆ o (eqb-true (st .latest) top32 e)
       number o false e = space o (eqb-false (st .latest) top32 e) _ refl
 
@@ -124,6 +126,12 @@ module _ (leafHash innerHash : Bytes → Bytes → Bytes) where
         tree = tree;
         grants = ap grantsIn tree ∙ next-grants new old shape batch ok;
         older = tree-old leafHash innerHash lh ih st w new next small (treeMade batch st) grown room;
+        ends = λ i r a n m.
+            ends-at leafHash innerHash lh ih st w new next small (treeMade batch st) grown room i r a n
+            (λ k. m (subst (λ t. NodeOf (r .version) (r .place) t []) (sym tree) k));
+        stays = λ i r a f.
+            stays-at leafHash innerHash lh ih st w new next small (treeMade batch st) grown room i r a
+            (λ n. subst (λ t. NodeOf (r .version) (r .place) t []) tree (f n));
         version = refl;
         root = ap (λ t. hash leafHash innerHash (unversioned t)) (sym tree);
         count = free-written (recordsNeeded batch st) new before after (st .slots) room;

@@ -116,7 +116,8 @@ ascending-rest : (a : Ask) (rest : List Ask) → ascending (a ∷ rest) ≡ true
 ascending-rest a [] h = refl
 ascending-rest a (b ∷ rest) h = and-right (before (askKey a) (askKey b)) (ascending (b ∷ rest)) h
 
-ascending-before : (a : Ask) (xs : List Ask) (b : Ask) (ys : List Ask) → ascending (a ∷ (xs ++ b ∷ ys)) ≡ true → before (askKey a) (askKey b) ≡ true
+ascending-before : (a : Ask) (xs : List Ask) (b : Ask) (ys : List Ask) → ascending (a ∷ (xs ++ b ∷ ys)) ≡ true →
+    before (askKey a) (askKey b) ≡ true
 ascending-before a [] b ys h = and-left (before (askKey a) (askKey b)) (ascending (b ∷ ys)) h
 ascending-before a (x ∷ xs) b ys h =
     before-trans (askKey a) (askKey x) (askKey b) (and-left (before (askKey a) (askKey x)) (ascending (x ∷ (xs ++ b ∷ ys))) h)
@@ -135,7 +136,8 @@ pub unchanged-without : (new : ℕ) (old : VTree) (xs : List Ask) (a : Ask) (ys 
     ascending (xs ++ a ∷ ys) ≡ true → NoChange (grantsIn old) a → nextTree new old (xs ++ a ∷ ys) ≡ nextTree new old (xs ++ ys)
 unfolding nextTree
 unchanged-without new old xs a ys s o h =
-    ap (λ gs. newRoot new (versioned new old (treeOf gs))) (without-ask xs a ys (grantsIn old) (shaped-ascending [] (unversioned old) s) o h)
+    ap (λ gs. newRoot new (versioned new old (treeOf gs)))
+    (without-ask xs a ys (grantsIn old) (shaped-ascending [] (unversioned old) s) o h)
 
 -- a batch of nothing else makes a new root only
 batch-same : (batch : List Ask) (gs : List Grant) → Ascending gs → All (NoChange gs) batch → withBatch batch gs ≡ gs

@@ -2,15 +2,15 @@
 use Prim.Native.Nat.{ℕ, suc, _+_, _<_}
 use mathlib.Core.Path.{_≡_}
 use mathlib.Core.Bool.{true, false}
-use mathlib.Core.List.{List}
+use mathlib.Core.List.{List, []}
 use mathlib.Core.Option.{Option, none, some}
 use lib.ListN.{length}
 use Rattle.terms.specs.Bits.{Bytes}
-use Rattle.terms.specs.Records.{Grant, Ask, insert, delete, Store}
+use Rattle.terms.specs.Records.{Grant, Ask, insert, delete, Record, Store}
 use Rattle.terms.specs.Form.{top32}
 use Rattle.meaning.specs.Tree.{withBatch, hash, unversioned, grantsIn, nextTree}
-use Rattle.meaning.specs.Store.{treeAtVersion, freeSlots, newRecords}
-use Rattle.meaning.specs.Sound.{Kept, Sound}
+use Rattle.meaning.specs.Store.{treeAtVersion, freeSlots, marked, newRecords}
+use Rattle.meaning.specs.Sound.{At, Kept, NodeOf, Sound}
 use Rattle.meaning.specs.Calls.{Applied, ascending}
 use Rattle.meaning.specs.Reading.{answerOf, present, absent}
 
@@ -42,6 +42,12 @@ module _ (leafHash innerHash : Bytes → Bytes → Bytes) where
     pub tree : treeAtVersion st′ (st′ .latest) ≡ nextTree (st′ .latest) (treeAtVersion st (st .latest)) batch
     pub grants : grantsIn (treeAtVersion st′ (st′ .latest)) ≡ withBatch batch (grantsIn (treeAtVersion st (st .latest)))
     pub older : (v : ℕ) → Kept st v → treeAtVersion st′ v ≡ treeAtVersion st v
+    -- a record of the old tree alone is marked retired since the new version, any other old record is as it was
+    pub ends : (i : ℕ) (r : Record) → At st i r → NodeOf (r .version) (r .place) (treeAtVersion st (st .latest)) [] →
+        (NodeOf (r .version) (r .place) (treeAtVersion st′ (st′ .latest)) [] → ⊥) → At st′ i (marked (st′ .latest) r)
+    pub stays : (i : ℕ) (r : Record) → At st i r →
+        (NodeOf (r .version) (r .place) (treeAtVersion st (st .latest)) [] →
+        NodeOf (r .version) (r .place) (treeAtVersion st′ (st′ .latest)) []) → At st′ i r
     pub version : answer .version ≡ st′ .latest
     pub root : answer .root ≡ hash leafHash innerHash (unversioned (treeAtVersion st′ (st′ .latest)))
     pub count : freeSlots (st .slots) ≡ freeSlots (st′ .slots) + answer .count
