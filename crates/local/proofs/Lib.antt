@@ -4,3 +4,7 @@ pub mod Standing
 pub mod Above
 pub mod Seeing
 pub mod LocalIsGlobal
+pub mod Scans
+pub mod Sums
+pub mod Records
+pub mod Parents

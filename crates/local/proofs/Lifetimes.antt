@@ -7,14 +7,19 @@ use mathlib.Core.Logic.{_⊎_, inl, inr}
 use mathlib.Core.Bool.{Bool, true, false, cond, _&&_, true≢false}
 use lib.Dec.{eqb, leb}
 use borrow.Author.Tests.{eqb-true, eqb-false, le-leb, lt-leb, leb-false}
+use Rattle.terms.specs.Bits.{Side, Place}
 use Rattle.terms.specs.Records.{Record, Store}
 use Rattle.meaning.specs.Store.{retiredBy}
 use Rattle.meaning.specs.Sound.{At, Lives}
-use Rattle.meaning.specs.Local.{endsBefore}
+use Rattle.meaning.specs.Local.{endsBefore, childVersion}
 
 -- at v a record has begun and not ended
 abbrev pub Living : Store → ℕ → Record → Type 0
 Living st v r = (r .version ≤ v) × (v < endsBefore st r)
+
+-- a record at p that lives at v and names r as its child on the side b
+abbrev pub ParentAt : Store → Place → Side → ℕ → Record → Type 0
+ParentAt st p b v r = (j : ℕ) × (q : Record) × At st j q × (q .place ≡ p) × Living st v q × (childVersion b (q .body) ≡ r .version)
 
 -- retired since 0, or since a kept version of its life
 abbrev pub Lifetime : Store → Record → Type 0

@@ -17,7 +17,7 @@ use Rattle.meaning.specs.Sound.{At, Found, Stands, NodeOf, Kept, onlyLeaf, Soun
 use Rattle.meaning.specs.Local.{Local, Linked, missing, found, BodyFits, endsBefore, childVersion, LoneLeaf}
 use Rattle.meaning.proofs.Finding.{Within, there, go-on, Some, some-leaf, some-inner, within-node, within-trans}
 use Rattle.local.proofs.Slots.{kidsFrom, some-body, found-at, root-cases, same-record, record-tree, root-tree}
-use Rattle.local.proofs.Lifetimes.{Living, living-lives, lives-living, life-ends}
+use Rattle.local.proofs.Lifetimes.{Living, ParentAt, living-lives, lives-living, life-ends}
 use Rattle.local.proofs.Above.{Subtree, subtree, within-top, Above, above}
 
 -- a leaf has a sibling
@@ -211,14 +211,10 @@ module _ (leafHash innerHash : Bytes → Bytes → Bytes) where
         (omega arith, omega arith)
 
     -- the node above a record, in each tree of its life, is its parent
-    Parent : Place → Side → ℕ → Record → Type 0
-    Parent p b v r = (j : ℕ) × (q : Record) × At st j q × (q .place ≡ p) × Living st v q × (childVersion b (q .body) ≡ r .version)
-
-    parent-above : (p : Place) (b : Side) (v : ℕ) (r : Record) → Kept st v → (u : VTree) → topVersion u ≡ r .version → Above u p b (treeAtVersion st v) [] → Parent p b v r
-    unfolding Parent
+    parent-above : (p : Place) (b : Side) (v : ℕ) (r : Record) → Kept st v → (u : VTree) → topVersion u ≡ r .version → Above u p b (treeAtVersion st v) [] → ParentAt st p b v r
     parent-above p b v r k u e x = go (holder (vinner (x .version) (x .lefts) (x .rights)) p some-inner (within-stands (x .within) (ok .stands v k)))
       where
-        go : Holder (vinner (x .version) (x .lefts) (x .rights)) p → Parent p b v r
+        go : Holder (vinner (x .version) (x .lefts) (x .rights)) p → ParentAt st p b v r
         go h = (
           h .slot,
           h .rec,
@@ -229,14 +225,13 @@ module _ (leafHash innerHash : Bytes → Bytes → Bytes) where
         )
 
     parents : (i : ℕ) (r : Record) (p : Place) (b : Side) → At st i r → r .place ≡ longer b p →
-        (v : ℕ) → st .oldest ≤ v → r .version ≤ v → v < endsBefore st r → Parent p b v r
+        (v : ℕ) → st .oldest ≤ v → r .version ≤ v → v < endsBefore st r → ParentAt st p b v r
     parents i r p b a e v low begun lasts =
         let k : Kept st v = (low, omega (arith, ends i r a)) in
         let u = seen v i r a k (begun, lasts) in
         parent-above p b v r k (u .tree) (u .version) (above (u .within) (omega (arith, ap length e, length-longer b p)) p b e)
 
     pub sound-is-local : Local leafHash innerHash st
-    unfolding Parent
     sound-is-local = record {
       size = ok .size;
       header = ok .header;

@@ -59,11 +59,14 @@ module _ (st : Store) where
       go (some q) k (hit i q′ l g n) =
           let s : q′ ≡ r = cc in subst (λ x. (i : ℕ) × At st i x × (x .version ≡ v) × (x .place ≡ p)) s (i, (l, g), isNode-eq v p q′ n .0, isNode-eq v p q′ n .1)
 
+  pub same-slot : (i j : ℕ) (r q : Record) → At st i r → At st j q → i ≡ j → r ≡ q
+  unfolding At
+  same-slot i j r q a b e = used-eq r q (sym (a .1) ∙ ap (λ m. getD (st .slots) m free) e ∙ b .1)
+
   -- no two records share version and place, and no record has version 0
   module _ (unique : (i j : ℕ) (r q : Record) → At st i r → At st j q → r .version ≡ q .version → r .place ≡ q .place → i ≡ j) where
     pub same-record : (i j : ℕ) (r q : Record) → At st i r → At st j q → r .version ≡ q .version → r .place ≡ q .place → r ≡ q
-    unfolding At
-    same-record i j r q a b e f = used-eq r q (sym (a .1) ∙ ap (λ m. getD (st .slots) m free) (unique i j r q a b e f) ∙ b .1)
+    same-record i j r q a b e f = same-slot i j r q a b (unique i j r q a b e f)
 
     pub at-find : (i : ℕ) (r : Record) → At st i r → find (r .version) (r .place) (st .slots) ≡ some r
     unfolding At
