@@ -8,3 +8,6 @@ pub mod Scans
 pub mod Sums
 pub mod Records
 pub mod Parents
+pub mod InForm
+pub mod Links
+pub mod Decides

@@ -93,7 +93,7 @@ module _ (st : Store) (r : Record) (a n : ℕ) where
       rw (← sum-swap (λ v. byRecord 0 (parentAt st r v)) (st .slots) a n)
       (total-le (byRecord 0 (lifeAbove st r)) (λ y. sumTo (λ v. byRecord 0 (parentAt st r v) y) a n) (st .slots) free (λ j l.
       slot-elim (λ y. byRecord 0 (lifeAbove st r) y ≤ sumTo (λ v. byRecord 0 (parentAt st r v) y) a n) (getD (st .slots) j free)
-      (omega arith) (λ x. omega arith) (λ q e. life-counted st r q a n (h j q (l, e)))))
+      (omega arith) (λ x e. omega arith) (λ q e. life-counted st r q a n (h j q (l, e)))))
 
   counted-lives : st .oldest ≤ a → sumTo (parentsAt st r) a n ≤ total (byRecord 0 (lifeAbove st r)) (st .slots)
   unfolding At parentsAt
@@ -101,7 +101,7 @@ module _ (st : Store) (r : Record) (a n : ℕ) where
       rw (← sum-swap (λ v. byRecord 0 (parentAt st r v)) (st .slots) a n)
       (total-le (λ y. sumTo (λ v. byRecord 0 (parentAt st r v) y) a n) (byRecord 0 (lifeAbove st r)) (st .slots) free (λ j l.
       slot-elim (λ y. sumTo (λ v. byRecord 0 (parentAt st r v) y) a n ≤ byRecord 0 (lifeAbove st r) y) (getD (st .slots) j free)
-      (omega (arith, sum-none a n)) (λ x. omega (arith, sum-none a n)) (λ q e. counted-life st r q a n h)))
+      (omega (arith, sum-none a n)) (λ x e. omega (arith, sum-none a n)) (λ q e. counted-life st r q a n h)))
 
 module _ (st : Store) (kin : Kin st) where
   -- the kept life of a record goes from its first kept version to its end
@@ -154,6 +154,14 @@ module _ (st : Store) (kin : Kin st) where
           let (x, y) = kin .outlives i j r q a c h in (omega arith, omega arith)) in
           absurd (omega arith)
 
+  -- two records with a parent in common at one place are one
+  one-child : (i j : ℕ) (r q : Record) (p : Place) (b : Side) (v : ℕ) → At st i r → At st j q → r .place ≡ q .place → Apart v p →
+      ParentAt st p b v r → ParentAt st p b v q → i ≡ j
+  unfolding Apart
+  one-child i j r q p b v a c e apart (x, u, s, g, k, m) (y, w, t, d, l, n) =
+      let same : u ≡ w = same-slot st x y u w s t (apart x y u w s t g d k l) in
+      kin .unique i j r q a c (sym m ∙ ap (λ z. childVersion b (z .body)) same ∙ n) e
+
   -- so two records at one place never live together
   module _ (sums : (i : ℕ) (r : Record) (p : Place) (b : Side) → At st i r → r .place ≡ longer b p → AddsUp st r) where
     apart-last : (m : ℕ) (p : Place) → Last p → length p ≡ m →
@@ -165,10 +173,9 @@ module _ (st : Store) (kin : Kin st) where
         kin .unique i j r q a c (omega arith) (e ∙ sym f)
     apart-last m p (one-more b o) h ih v low i j r q a c e f k l =
         let above = ih o (omega (arith, length-longer b o)) in
-        let (x, u, s, g, lu, nu) = parent-found i r o b a e (sums i r o b a e) above v low (k .0) (k .1) in
-        let (y, w, t, d, lw, nw) = parent-found j q o b c f (sums j q o b c f) above v low (l .0) (l .1) in
-        let same : u ≡ w = same-slot st x y u w s t (above v low x y u w s t g d lu lw) in
-        kin .unique i j r q a c (sym nu ∙ ap (λ z. childVersion b (z .body)) same ∙ nw) (e ∙ sym f)
+        one-child i j r q o b v a c (e ∙ sym f) (above v low)
+        (parent-found i r o b a e (sums i r o b a e) above v low (k .0) (k .1))
+        (parent-found j q o b c f (sums j q o b c f) above v low (l .0) (l .1))
 
     apart : (m : ℕ) (p : Place) → length p ≡ m → (v : ℕ) → st .oldest ≤ v → Apart v p
     apart zero p h v low = apart-last 0 p (last p) h (λ q k. absurd (omega arith)) v low

@@ -15,10 +15,10 @@ use Rattle.local.specs.Test.{every, total, byRecord, names, isParent}
 use Rattle.local.proofs.Scans.{every-at, at-every, at-total, total-at, one-counted, count-one}
 
 -- a slot is free or spoiled, or holds a record
-pub slot-elim : (P : Slot → Type 0) (y : Slot) → P free → ((x : Bytes) → P (spoiled x)) → ((r : Record) → y ≡ used r → P (used r)) → P y
+pub slot-elim : (P : Slot → Type 0) (y : Slot) → P free → ((x : Bytes) → y ≡ spoiled x → P (spoiled x)) → ((r : Record) → y ≡ used r → P (used r)) → P y
 slot-elim P free f s u = f
 slot-elim P (used r) f s u = u r refl
-slot-elim P (spoiled x) f s u = s x
+slot-elim P (spoiled x) f s u = s x refl
 
 counted-record : (f : Record → ℕ) (y : Slot) → 1 ≤ byRecord 0 f y → (r : Record) × (y ≡ used r) × (1 ≤ f r)
 counted-record f free h = absurd (omega arith)
@@ -32,7 +32,7 @@ module _ (st : Store) where
 
   pub record-every : (f : Record → Bool) → ((i : ℕ) (r : Record) → At st i r → f r ≡ true) → every (byRecord true f) (st .slots) ≡ true
   unfolding At
-  record-every f h = at-every (byRecord true f) (st .slots) free (λ i l. slot-elim (λ y. byRecord true f y ≡ true) (getD (st .slots) i free) refl (λ x. refl) (λ r e. h i r (l, e)))
+  record-every f h = at-every (byRecord true f) (st .slots) free (λ i l. slot-elim (λ y. byRecord true f y ≡ true) (getD (st .slots) i free) refl (λ x e. refl) (λ r e. h i r (l, e)))
 
   pub record-total : (f : Record → ℕ) (i : ℕ) (r : Record) → At st i r → f r ≤ total (byRecord 0 f) (st .slots)
   unfolding At
@@ -56,7 +56,7 @@ module _ (st : Store) where
   unfolding At
   record-one f h u =
       count-one (byRecord 0 f) (st .slots) free
-      (λ i l. slot-elim (λ y. byRecord 0 f y ≤ 1) (getD (st .slots) i free) (omega arith) (λ x. omega arith) (λ r e. h i r (l, e)))
+      (λ i l. slot-elim (λ y. byRecord 0 f y ≤ 1) (getD (st .slots) i free) (omega arith) (λ x e. omega arith) (λ r e. h i r (l, e)))
       (λ i j k l a b.
       let (r, e, c) = counted-record f (getD (st .slots) i free) a in
       let (q, g, d) = counted-record f (getD (st .slots) j free) b in

@@ -50,12 +50,14 @@ body-kid b (leafBody k y) w x p below e h = absurd (omega arith)
 body-kid b (innerBody l r) w x p below e h =
     go-on b (subst (λ t. Within (below b w) (longer b p) t (longer b p)) (ap (below b) (sym e) ∙ sym (kid-below b x l r below)) there)
 
-module _ (leafHash innerHash : Bytes → Bytes → Bytes) (st : Store) (ok : Local leafHash innerHash st) where
-  linked-on : (b : Side) (r : Record) (x y : Child) → BodyFits leafHash innerHash st r (innerBody x y) →
+module _ (leafHash innerHash : Bytes → Bytes → Bytes) (st : Store) where
+  -- the child on a side is linked
+  pub linked-on : (b : Side) (r : Record) (x y : Child) → BodyFits leafHash innerHash st r (innerBody x y) →
       Linked leafHash innerHash st r (longer b (r .place)) (childOn b x y) (childOn (not b) x y)
   linked-on false r x y f = f .0
   linked-on true r x y f = f .1
 
+module _ (leafHash innerHash : Bytes → Bytes → Bytes) (st : Store) (ok : Local leafHash innerHash st) where
   -- what is shown of the tree at a child c, beside d
   record ChildStands (p : Place) (c d : Child) (t : VTree) : Type 0 where
     stands : Stands leafHash innerHash st p t
@@ -128,7 +130,7 @@ module _ (leafHash innerHash : Bytes → Bytes → Bytes) (st : Store) (ok : Loc
       (child-form b x y (subst BodyForm e (ok .formed i r a .body)))
       (omega (arith, length-longer b (r .place)))
       (record-stands n)
-      (linked-on b r x y (subst (BodyFits leafHash innerHash st r) e (ok .bodies i r a)))))
+      (linked-on leafHash innerHash st b r x y (subst (BodyFits leafHash innerHash st r) e (ok .bodies i r a)))))
 
   -- each version's tree stands
   root-stands : (v : ℕ) → Stands leafHash innerHash st [] (treeAtVersion st v)
@@ -172,7 +174,7 @@ module _ (leafHash innerHash : Bytes → Bytes → Bytes) (st : Store) (ok : Loc
         body-lives (suc n) i r a live j q at (λ x y e b m.
         child-lives n r (longer b (r .place)) (childOn b x y) (childOn (not b) x y) (omega (arith, length-longer b (r .place))) live j q at
         (λ k c d g l. below-lives n k c d g l j q at)
-        (linked-on b r x y (subst (BodyFits leafHash innerHash st r) e (ok .bodies i r a))) m) nd
+        (linked-on leafHash innerHash st b r x y (subst (BodyFits leafHash innerHash st r) e (ok .bodies i r a))) m) nd
 
     -- the tree at a record stands in the tree of v
     Reached : Record → Type 0

@@ -41,7 +41,8 @@ holders r s = total (byRecord 0 (isSame r)) s
 
 -- Retired-since is 0, or above the record's version, above oldest and at most latest.
 unfoldable pub lifeTest : Store → Record → Bool
-lifeTest st r = eqb (r .retired) 0 || (ltb (r .version) (r .retired) && ltb (st .oldest) (r .retired) && leb (r .retired) (st .latest))
+lifeTest st r =
+    eqb (r .retired) 0 || allOf (ltb (r .version) (r .retired) ∷ ltb (st .oldest) (r .retired) ∷ leb (r .retired) (st .latest) ∷ [])
 
 abbrev pub isFound : Option Record → Bool
 isFound none = false
@@ -84,6 +85,29 @@ lifeCovered st r =
     (leb (st .oldest) (r .version) && eqb (endsBefore st r) (suc (r .version)))
     (leb (keptLife st r) (total (byRecord 0 (lifeAbove st r)) (st .slots)))
 
+-- A key, value or hash of 32 bytes.
+unfoldable pub whole32Test : Bytes → Bool
+whole32Test x = eqb (length x) 32 && every (λ b. ltb b 256) x
+
+unfoldable pub childFormTest : Child → Bool
+childFormTest c =
+    allOf (leb (c .version) top32 ∷ whole32Test (c .hash) ∷ (not (eqb (c .version) 0) || sameBytes (c .hash) zeros) ∷ [])
+
+abbrev pub bodyFormTest : Body → Bool
+bodyFormTest (leafBody k x) = whole32Test k && whole32Test x
+bodyFormTest (innerBody l r) =
+    allOf (childFormTest l ∷ childFormTest r ∷ not (eqb (l .version) 0 && eqb (r .version) 0) ∷ [])
+
+-- A record is in form. Of the records in a store of bytes this is known.
+unfoldable pub formTest : Record → Bool
+formTest r = allOf
+    (leb (length (r .place)) (placeLimit (r .body))
+    ∷ leb 1 (r .version)
+    ∷ leb (r .version) top32
+    ∷ leb (r .retired) top32
+    ∷ bodyFormTest (r .body)
+    ∷ [])
+
 -- Size and header are right.
 unfoldable pub headTest : Store → Bool
 headTest st = allOf
@@ -124,3 +148,6 @@ module _ (leafHash innerHash : Bytes → Bytes → Bytes) where
   -- What is left to test of a store with a right size and header, whose records are in form.
   unfoldable pub slotsTest : Store → Bool
   slotsTest st = every (slotTest st) (st .slots)
+
+  unfoldable pub localTest : Store → Bool
+  localTest st = allOf (headTest st ∷ every (byRecord true formTest) (st .slots) ∷ slotsTest st ∷ [])
