@@ -11,3 +11,4 @@ pub mod Parents
 pub mod InForm
 pub mod Links
 pub mod Decides
+pub mod Desk
