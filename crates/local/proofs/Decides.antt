@@ -1,26 +1,25 @@
 -- The test decides soundness: it passes exactly the sound stores. A record passes its tests exactly if it is right by itself, and what is
 -- asked of a record's children is what those ask of their parents. Assumes nothing.
-use Prim.Native.Nat.{ℕ, suc, _<_, _≤_, max}
+use Prim.Native.Nat.{ℕ, suc, _<_, _≤_}
 use native.Mathlib.Omega.{arith}
 use mathlib.Core.Path.{_≡_, refl, ap, ap₂, sym, _∙_, subst}
 use mathlib.Core.Logic.{_⊎_, inl, inr, _↔_}
-use mathlib.Core.Bool.{Bool, true, false, cond, not, _&&_, _||_, or-true, false≢true}
-use mathlib.Core.List.{List, [], _∷_}
+use mathlib.Core.Bool.{Bool, true, false, cond, not, or-true, false≢true}
+use mathlib.Core.List.{[]}
 use mathlib.Core.Option.{Option, none, some}
 use lib.ListN.{length, getD}
-use lib.Dec.{eqb, leb}
+use lib.Dec.{eqb}
 use borrow.Author.Tests.{eqb-true, eq-eqb, leb-true, le-leb}
-use Rattle.terms.specs.Bits.{Bytes, Side, left, right, Place, longer, begins}
-use Rattle.terms.specs.Records.{Child, Body, leafBody, innerBody, Record, Slot, free, used, spoiled, Store}
+use Rattle.terms.specs.Bits.{Bytes, Side, left, right, Place, longer}
+use Rattle.terms.specs.Records.{Child, Body, leafBody, innerBody, Record, free, spoiled, Store}
 use Rattle.terms.specs.Form.{RecordForm, top32}
 use Rattle.terms.proofs.Tests.{and-left, and-right, or-cases}
 use Rattle.terms.proofs.Fields.{all-of-tests, tests-all-of}
 use Rattle.meaning.specs.Store.{find, isNode, childOn}
-use Rattle.meaning.specs.Reading.{bodyHash}
 use Rattle.meaning.specs.Sound.{At, Sound, mostSlots}
-use Rattle.meaning.specs.Local.{Local, Linked, missing, found, BodyFits, endsBefore, childVersion, LoneLeaf}
+use Rattle.meaning.specs.Local.{Local, Linked, missing, found, BodyFits, endsBefore, childVersion}
 use Rattle.meaning.proofs.Finding.{isNode-eq, isNode-refl}
-use Rattle.local.specs.Test.{every, byRecord, isSame, holders, isFound, childTest, bodyTest, names, isParent, lifeTest, lifeCovered, headTest, linkTest, recordTest, slotTest, slotsTest, formTest, localTest}
+use Rattle.local.specs.Test.{isSame, holders, isFound, childTest, bodyTest, names, headTest, linkTest, recordTest, slotTest, slotsTest, formTest, localTest}
 use Rattle.local.proofs.Slots.{found-at, same-record, at-find}
 use Rattle.local.proofs.Lifetimes.{Lifetime}
 use Rattle.local.proofs.Standing.{linked-on}

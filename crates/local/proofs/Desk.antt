@@ -2,10 +2,9 @@
 -- that only tell apart what these stores hold. Assumes nothing.
 use Prim.Native.Nat.{ℕ}
 use mathlib.Core.Path.{_≡_, refl, sym, _∙_}
-use mathlib.Core.Bool.{Bool, true, false, not, _&&_, true≢false}
+use mathlib.Core.Bool.{true, false, true≢false}
 use mathlib.Core.List.{List, [], _∷_, _++_}
 use lib.ListN.{getD, take, replicate, set}
-use borrow.Author.Tests.{not-true}
 use Rattle.terms.specs.Bits.{Bytes, Place, All}
 use Rattle.terms.specs.Records.{Child, child, Body, leafBody, innerBody, Record, Slot, free, used, spoiled, Store, zeros}
 use Rattle.terms.specs.Form.{top32}
@@ -16,7 +15,7 @@ use Rattle.meaning.specs.Sound.{Sound}
 use Rattle.meaning.specs.Local.{endsBefore}
 use Rattle.meaning.specs.Computed.{computed}
 use Rattle.meaning.specs.Desk.{s₁, s₂, s₃, s₄, s₅, s₆, s₇, s₈, s₉, s₁₂}
-use Rattle.local.specs.Test.{every, isSame, holders, lifeTest, childTest, names, keptLife, isParent, lifeAbove, lifeCovered, whole32Test, childFormTest, formTest, headTest, linkTest, recordTest, slotsTest, localTest}
+use Rattle.local.specs.Test.{isSame, holders, lifeTest, childTest, names, keptLife, isParent, lifeAbove, lifeCovered, whole32Test, childFormTest, formTest, headTest, linkTest, recordTest, slotsTest, localTest}
 use Rattle.local.proofs.Decides.{test-decides-sound}
 
 abbrev toyLeaf : Bytes → Bytes → Bytes

@@ -1,17 +1,17 @@
 -- The tests of one record against its parents: what they say of it, and that its life is covered. Assumes nothing.
-use Prim.Native.Nat.{ℕ, suc, _<_, _≤_, max}
+use Prim.Native.Nat.{suc, _≤_, max}
 use native.Mathlib.Omega.{arith}
 use mathlib.Core.Path.{_≡_, refl, ap, sym, _∙_, subst₂}
 use mathlib.Core.Logic.{_⊎_, inl, inr, _↔_}
 use mathlib.Core.Bool.{Bool, true, false, cond, not, _&&_, _||_, true≢false, false≢true}
-use mathlib.Core.List.{List, [], _∷_}
+use mathlib.Core.List.{[], _∷_}
 use lib.ListN.{length}
 use lib.Dec.{eqb, leb, ltb}
-use borrow.Author.Tests.{eqb-true, eqb-false, eq-eqb, leb-true, le-leb, ltb-true, lt-ltb, not-true}
-use Rattle.terms.specs.Bits.{Bytes, Side, left, right, Place, longer, sameBytes, samePlace}
+use borrow.Author.Tests.{eqb-true, eq-eqb, leb-true, le-leb, ltb-true, lt-ltb, not-true}
+use Rattle.terms.specs.Bits.{Bytes, Side, left, right, Place, longer, samePlace}
 use Rattle.terms.specs.Records.{Child, Body, leafBody, innerBody, Record, Store}
 use Rattle.terms.specs.Fields.{allOf}
-use Rattle.terms.proofs.Tests.{and-left, and-right, is-false, or-cases, where-passed, passed-where, same-bytes, bytes-same, same-place, place-same}
+use Rattle.terms.proofs.Tests.{and-left, and-right, is-false, or-cases, where-passed, passed-where, same-bytes, bytes-same, same-place}
 use Rattle.terms.proofs.Fields.{all-of-tests, tests-all-of}
 use Rattle.terms.proofs.Places.{length-longer}
 use Rattle.meaning.specs.Store.{childOn}

@@ -1,15 +1,15 @@
 -- A record has a parent at each kept version of its life exactly if the lifetimes of its parents add up to its own. The parents at one
 -- place never live together: by induction on its length, since two that do would have one parent, and that names one version. They live
 -- within the life of their child. So if at some version there were none, they would add up to less. Assumes nothing.
-use Prim.Native.Nat.{ℕ, zero, suc, _+_, _-_, _<_, _≤_, min, max}
+use Prim.Native.Nat.{ℕ, zero, suc, _+_, _-_, _<_, _≤_, max}
 use native.Mathlib.Omega.{arith}
 use mathlib.Core.Path.{_≡_, refl, ap, sym, _∙_, subst}
-use mathlib.Core.Logic.{_⊎_, inl, inr, _↔_}
+use mathlib.Core.Logic.{_↔_}
 use mathlib.Core.Bool.{Bool, true, false, cond}
-use mathlib.Core.List.{List, [], _∷_}
+use mathlib.Core.List.{[]}
 use lib.ListN.{length, getD}
 use Rattle.terms.specs.Bits.{Side, Place, longer}
-use Rattle.terms.specs.Records.{Record, Slot, free, Store}
+use Rattle.terms.specs.Records.{Record, free, Store}
 use Rattle.terms.proofs.Places.{length-longer, longer-inj}
 use Rattle.meaning.specs.Sound.{At}
 use Rattle.meaning.specs.Local.{endsBefore, childVersion}

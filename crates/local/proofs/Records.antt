@@ -1,13 +1,11 @@
 -- Scans over the slots of a store, told of its records; and what it says that one record names another. Assumes nothing.
-use Prim.Native.Nat.{ℕ, zero, suc, _+_, _<_, _≤_}
+use Prim.Native.Nat.{ℕ, _≤_}
 use native.Mathlib.Omega.{arith}
-use mathlib.Core.Path.{_≡_, refl, ap, sym, _∙_, subst}
-use mathlib.Core.Bool.{Bool, true, false, cond, _&&_, _||_, false≢true}
-use mathlib.Core.List.{List, [], _∷_}
-use lib.ListN.{length, getD}
-use Rattle.terms.specs.Bits.{Bytes, Side, left, right, Place, longer}
+use mathlib.Core.Path.{_≡_, refl, sym, subst}
+use mathlib.Core.Bool.{Bool, true, false, _||_}
+use lib.ListN.{getD}
+use Rattle.terms.specs.Bits.{Bytes, Side, left, right, longer}
 use Rattle.terms.specs.Records.{Record, Slot, free, used, spoiled, Store}
-use Rattle.meaning.specs.Store.{isNode}
 use Rattle.meaning.specs.Sound.{At}
 use Rattle.meaning.specs.Local.{childVersion}
 use Rattle.meaning.proofs.Finding.{isNode-eq, isNode-refl}

@@ -1,24 +1,24 @@
 -- In a sound store the records are right one by one. Each record lives at the first kept version of its life and at the last, so it is
 -- seen in the trees of both; what those trees say of its children holds from the first to the last. Assumes nothing.
-use Prim.Native.Nat.{ℕ, zero, suc, _-_, _<_, _≤_, max}
+use Prim.Native.Nat.{ℕ, suc, _-_, _<_, _≤_, max}
 use native.Mathlib.Omega.{arith}
 use mathlib.Core.Path.{_≡_, refl, ap, sym, _∙_, subst, subst₂}
-use mathlib.Core.Logic.{_⊎_, inl, inr, _↔_}
-use mathlib.Core.Bool.{Bool, true, false, not, true≢false}
-use mathlib.Core.List.{List, [], _∷_}
+use mathlib.Core.Logic.{_⊎_, inl, inr}
+use mathlib.Core.Bool.{true, false, not, true≢false}
+use mathlib.Core.List.{[]}
 use lib.ListN.{length}
 use Rattle.terms.specs.Bits.{Bytes, Side, left, right, Place, longer}
 use Rattle.terms.specs.Records.{Grant, Child, Body, leafBody, innerBody, Record, Store}
 use Rattle.terms.proofs.Places.{length-longer}
 use Rattle.meaning.specs.Tree.{VTree, vnone, vleaf, vinner, topVersion, kid, unversioned, hash}
-use Rattle.meaning.specs.Store.{childOn, treeAtVersion, childOf}
+use Rattle.meaning.specs.Store.{treeAtVersion, childOf}
 use Rattle.meaning.specs.Reading.{bodyHash}
 use Rattle.meaning.specs.Sound.{At, Found, Stands, NodeOf, Kept, onlyLeaf, Sound}
 use Rattle.meaning.specs.Local.{Local, Linked, missing, found, BodyFits, endsBefore, childVersion, LoneLeaf}
 use Rattle.meaning.proofs.Finding.{Within, there, go-on, Some, some-leaf, some-inner, within-node, within-trans}
 use Rattle.local.proofs.Slots.{kidsFrom, some-body, found-at, root-cases, same-record, record-tree, root-tree}
 use Rattle.local.proofs.Lifetimes.{Living, ParentAt, living-lives, lives-living, life-ends}
-use Rattle.local.proofs.Above.{Subtree, subtree, within-top, Above, above}
+use Rattle.local.proofs.Above.{subtree, within-top, Above, above}
 
 -- a leaf has a sibling
 has-sibling : (b : Side) (w x : ℕ) (g : Grant) (l r : VTree) → onlyLeaf l r ≡ false → kid b (vinner w l r) ≡ vleaf x g → kid (not b) (vinner w l r) ≡ vnone → ⊥

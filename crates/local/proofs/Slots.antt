@@ -1,18 +1,17 @@
 -- A record is found at its node, and a node that is found stands in a slot; so the tree that is read at a record is the one below its
 -- body. Left and right are said once, by the side. Assumes nothing.
-use Prim.Native.Nat.{ℕ, zero, suc, _+_, _<_, _≤_}
+use Prim.Native.Nat.{ℕ, zero, suc, _≤_}
 use native.Mathlib.Omega.{arith}
 use mathlib.Core.Path.{_≡_, refl, ap, ap₂, sym, _∙_, subst}
 use mathlib.Core.Logic.{_⊎_, inl, inr}
-use mathlib.Core.Bool.{Bool, true, false, cond, not, true≢false}
-use mathlib.Core.List.{List, [], _∷_}
+use mathlib.Core.Bool.{true, false, true≢false}
+use mathlib.Core.List.{List, []}
 use mathlib.Core.Option.{Option, none, some}
-use lib.ListN.{length, getD}
-use lib.Dec.{eqb}
-use borrow.Author.Tests.{eqb-true, ne-eqb}
-use Rattle.terms.specs.Bits.{Bytes, Side, left, right, Place, longer}
+use lib.ListN.{getD}
+use borrow.Author.Tests.{ne-eqb}
+use Rattle.terms.specs.Bits.{Side, left, right, Place, longer}
 use Rattle.terms.specs.Records.{Child, Body, leafBody, innerBody, Record, Slot, free, Store}
-use Rattle.meaning.specs.Tree.{VTree, vnone, vleaf, vinner, topVersion, kid}
+use Rattle.meaning.specs.Tree.{VTree, vnone, topVersion, kid}
 use Rattle.meaning.specs.Store.{find, rootOf, childOn, treeBelow, treeFound, treeFrom, treeAtVersion}
 use Rattle.meaning.specs.Sound.{At, NodeOf}
 use Rattle.meaning.proofs.Finding.{Hit, miss, hit, hits, isNode-eq, isNode-refl, used-eq, Some, some-leaf, some-inner, node-cases}

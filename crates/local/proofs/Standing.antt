@@ -1,26 +1,25 @@
 -- A store whose records are right one by one is sound. By induction on the bits left, the tree read at each record stands, with the hash
 -- of the record's own fields; nodes below a living record live, since a child outlives its parent; and going up from parent to parent
 -- each living record is reached from the root of that version. Assumes nothing.
-use Prim.Native.Nat.{ℕ, zero, suc, _+_, _-_, _<_, _≤_, max}
+use Prim.Native.Nat.{ℕ, zero, suc, _+_, _-_, _≤_}
 use native.Mathlib.Omega.{arith}
 use mathlib.Core.Path.{_≡_, refl, ap, ap₂, sym, _∙_, subst, subst₂}
 use mathlib.Core.Logic.{_⊎_, inl, inr}
-use mathlib.Core.Bool.{Bool, true, false, not}
-use mathlib.Core.List.{List, [], _∷_}
-use mathlib.Core.Option.{Option, none, some}
+use mathlib.Core.Bool.{true, false, not}
+use mathlib.Core.List.{[]}
 use lib.ListN.{length}
 use Rattle.terms.specs.Bits.{Bytes, Side, left, right, Place, longer}
 use Rattle.terms.specs.Records.{Child, child, Body, leafBody, innerBody, Record, Store, zeros}
 use Rattle.terms.specs.Form.{ChildForm, BodyForm, placeLimit}
 use Rattle.terms.proofs.Places.{length-longer}
-use Rattle.meaning.specs.Tree.{VTree, vnone, vleaf, vinner, topVersion, kid}
-use Rattle.meaning.specs.Store.{find, childOn, treeBelow, treeFound, treeFrom, treeAtVersion, childOf}
+use Rattle.meaning.specs.Tree.{VTree, vnone, vleaf, vinner, topVersion}
+use Rattle.meaning.specs.Store.{childOn, treeBelow, treeFrom, treeAtVersion, childOf}
 use Rattle.meaning.specs.Reading.{bodyHash}
-use Rattle.meaning.specs.Sound.{At, Found, Stands, NodeOf, Lives, Kept, onlyLeaf, Sound}
-use Rattle.meaning.specs.Local.{Local, Linked, missing, found, BodyFits, endsBefore, childVersion, LoneLeaf}
+use Rattle.meaning.specs.Sound.{At, Found, Stands, NodeOf, onlyLeaf, Sound}
+use Rattle.meaning.specs.Local.{Local, Linked, missing, found, BodyFits, childVersion, LoneLeaf}
 use Rattle.meaning.proofs.Finding.{Within, there, go-on, Some, within-node, within-trans, Last, empty, one-more, last}
 use Rattle.local.proofs.Slots.{kidsFrom, no-version, kid-below, some-body, body-cases, root-cases, same-record, at-find, record-tree, version-tree, root-tree}
-use Rattle.local.proofs.Lifetimes.{Living, living-lives, lives-living, life-ends}
+use Rattle.local.proofs.Lifetimes.{Living, living-lives, lives-living}
 
 abbrev IsLeaf : VTree → Type 0
 IsLeaf vnone = ⊥
