@@ -1,101 +1,33 @@
--- The test of a record's form decides it. Assumes nothing.
-use mathlib.Core.Path.{_≡_, refl}
-use mathlib.Core.Logic.{_↔_}
-use mathlib.Core.Bool.{true, false, _&&_, true≢false}
+-- The test of a record's form passes exactly if it is in form. Assumes nothing.
 use mathlib.Core.List.{[], _∷_}
 use lib.ListN.{length}
-use lib.Dec.{eqb, ltb}
-use borrow.Author.Tests.{eqb-true, eq-eqb, leb-true, le-leb, ltb-true, lt-ltb, not-true}
-use Rattle.terms.specs.Bits.{Bytes, Byte, Whole32, All, sameBytes}
+use lib.Dec.{ltb}
+use Rattle.terms.specs.Bits.{Bytes, Byte, Whole32}
 use Rattle.terms.specs.Records.{Child, Body, leafBody, innerBody, Record, zeros}
 use Rattle.terms.specs.Form.{ChildForm, BodyForm, RecordForm, top32, placeLimit}
-use Rattle.terms.proofs.Tests.{and-left, and-right, is-false, where-passed, passed-where, same-bytes, bytes-same}
-use Rattle.terms.proofs.Fields.{all-of-tests, tests-all-of}
-use Rattle.local.specs.Test.{every, whole32Test, childFormTest, bodyFormTest, formTest}
+use Rattle.local.specs.Test.{whole32Test, childFormTest, bodyFormTest, formTest}
+use Rattle.local.proofs.Says.{Says, says, equal, at-most, less, both, neither, asked, same, each, done, next}
 
-bytes-tested : (xs : Bytes) → every (λ b. ltb b 256) xs ≡ true ↔ All Byte xs
-bytes-tested [] = (λ h. tt, λ h. refl)
-bytes-tested (x ∷ xs) = (
-  λ h. (ltb-true x 256 (and-left (ltb x 256) (every (λ b. ltb b 256) xs) h), bytes-tested xs .0 (and-right (ltb x 256) (every (λ b. ltb b 256) xs) h)),
-  λ h. rw (lt-ltb x 256 (h .0)) (bytes-tested xs .1 (h .1)),
-)
-
-whole32-tested : (x : Bytes) → whole32Test x ≡ true ↔ Whole32 x
+whole32-says : (x : Bytes) → Says (whole32Test x) (Whole32 x)
 unfolding whole32Test
-whole32-tested x = (
-  λ h. (eqb-true (length x) 32 (and-left (eqb (length x) 32) (every (λ b. ltb b 256) x) h), bytes-tested x .0 (and-right (eqb (length x) 32) (every (λ b. ltb b 256) x) h)),
-  λ h. rw (eq-eqb (length x) 32 (h .0)) (bytes-tested x .1 (h .1)),
-)
+whole32-says x = both (equal (length x) 32) (each (λ b. ltb b 256) Byte (λ b. less b 256) x)
 
-child-tested : (c : Child) → childFormTest c ≡ true ↔ ChildForm c
+child-says : (c : Child) → Says (childFormTest c) (ChildForm c)
 unfolding childFormTest
-child-tested c = (
-  λ h.
-      let t = all-of-tests _ h in
-      record {
-        number = leb-true (c .version) top32 (t .0);
-        hash32 = whole32-tested (c .hash) .0 (t .1 .0);
-        missing = λ e. same-bytes (c .hash) zeros (where-passed (eqb (c .version) 0) (sameBytes (c .hash) zeros) (t .1 .1 .0) (eq-eqb (c .version) 0 e));
-      },
-  λ f.
-      tests-all-of _ (
-        le-leb (c .version) top32 (f .number),
-        (
-          whole32-tested (c .hash) .1 (f .hash32),
-          (
-            passed-where (eqb (c .version) 0) (sameBytes (c .hash) zeros) (λ e. rw (f .missing (eqb-true (c .version) 0 e)) (bytes-same zeros)),
-            tt,
-          ),
-        ),
-      ),
-)
+child-says c =
+    says (next (at-most (c .version) top32) (next (whole32-says (c .hash)) (next (asked (equal (c .version) 0) (same (c .hash) zeros)) done)) .all)
+    (λ h. record { number = h .0; hash32 = h .1 .0; missing = h .1 .1 .0 }) (λ f. (f .number, (f .hash32, (f .missing, tt))))
 
-body-tested : (o : Body) → bodyFormTest o ≡ true ↔ BodyForm o
-body-tested (leafBody k x) = (
-  λ h. (whole32-tested k .0 (and-left (whole32Test k) (whole32Test x) h), whole32-tested x .0 (and-right (whole32Test k) (whole32Test x) h)),
-  λ f. rw (whole32-tested k .1 (f .0)) (whole32-tested x .1 (f .1)),
-)
-body-tested (innerBody l r) = (
-  λ h.
-      let t = all-of-tests _ h in (
-        child-tested l .0 (t .0),
-        child-tested r .0 (t .1 .0),
-        λ a b. true≢false (sym-and a b (not-true (eqb (l .version) 0 && eqb (r .version) 0) (t .1 .1 .0))),
-      ),
-  λ f.
-      tests-all-of _ (
-        child-tested l .1 (f .0),
-        (
-          child-tested r .1 (f .1),
-          (
-            rw (is-false (eqb (l .version) 0 && eqb (r .version) 0) (λ e.
-                f .2 (eqb-true (l .version) 0 (and-left (eqb (l .version) 0) (eqb (r .version) 0) e)) (eqb-true (r .version) 0 (and-right (eqb (l .version) 0) (eqb (r .version) 0) e)))),
-            tt,
-          ),
-        ),
-      ),
-)
-  where
-    sym-and : l .version ≡ 0 → r .version ≡ 0 → eqb (l .version) 0 && eqb (r .version) 0 ≡ false → true ≡ false
-    sym-and a b h = rw (eq-eqb (l .version) 0 a, eq-eqb (r .version) 0 b) at h
+body-says : (o : Body) → Says (bodyFormTest o) (BodyForm o)
+body-says (leafBody k x) = both (whole32-says k) (whole32-says x)
+body-says (innerBody l r) =
+    says (next (child-says l) (next (child-says r) (next (neither (both (equal (l .version) 0) (equal (r .version) 0))) done)) .all)
+    (λ h. (h .0, h .1 .0, λ a b. h .1 .1 .0 (a, b))) (λ f. (f .0, (f .1, (λ k. f .2 (k .0) (k .1), tt))))
 
-pub form-tested : (r : Record) → formTest r ≡ true ↔ RecordForm r
+pub form-says : (r : Record) → Says (formTest r) (RecordForm r)
 unfolding formTest
-form-tested r = (
-  λ h.
-      let t = all-of-tests _ h in
-      record {
-        short = leb-true (length (r .place)) (placeLimit (r .body)) (t .0);
-        versioned = (leb-true 1 (r .version) (t .1 .0), leb-true (r .version) top32 (t .1 .1 .0));
-        number = leb-true (r .retired) top32 (t .1 .1 .1 .0);
-        body = body-tested (r .body) .0 (t .1 .1 .1 .1 .0);
-      },
-  λ f.
-      tests-all-of _ (
-        le-leb (length (r .place)) (placeLimit (r .body)) (f .short),
-        (
-          le-leb 1 (r .version) (f .versioned .0),
-          (le-leb (r .version) top32 (f .versioned .1), (le-leb (r .retired) top32 (f .number), (body-tested (r .body) .1 (f .body), tt))),
-        ),
-      ),
-)
+form-says r =
+    says (next (at-most (length (r .place)) (placeLimit (r .body)))
+    (next (at-most 1 (r .version)) (next (at-most (r .version) top32) (next (at-most (r .retired) top32) (next (body-says (r .body)) done)))) .all)
+    (λ h. record { short = h .0; versioned = (h .1 .0, h .1 .1 .0); number = h .1 .1 .1 .0; body = h .1 .1 .1 .1 .0 })
+    (λ f. (f .short, (f .versioned .0, (f .versioned .1, (f .number, (f .body, tt))))))

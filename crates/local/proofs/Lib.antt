@@ -8,6 +8,7 @@ pub mod Scans
 pub mod Sums
 pub mod Records
 pub mod Parents
+pub mod Says
 pub mod InForm
 pub mod Links
 pub mod Decides

@@ -163,7 +163,10 @@ module _ (st : Store) (kin : Kin st) where
       kin .unique i j r q a c (sym m ∙ ap (λ z. childVersion b (z .body)) same ∙ n) e
 
   -- so two records at one place never live together
-  module _ (sums : (i : ℕ) (r : Record) (p : Place) (b : Side) → At st i r → r .place ≡ longer b p → AddsUp st r) where
+  module _ (sums : (i : ℕ) (r : Record) → At st i r → (r .place ≡ [] → ⊥) → AddsUp st r) where
+    sums-below : (i : ℕ) (r : Record) (p : Place) (b : Side) → At st i r → r .place ≡ longer b p → AddsUp st r
+    sums-below i r p b a e = sums i r a (λ z. omega (arith, ap length e, ap length z, length-longer b p))
+
     apart-last : (m : ℕ) (p : Place) → Last p → length p ≡ m →
         ((q : Place) → suc (length q) ≡ m → (w : ℕ) → st .oldest ≤ w → Apart w q) → (v : ℕ) → st .oldest ≤ v → Apart v p
     unfolding Apart
@@ -174,19 +177,19 @@ module _ (st : Store) (kin : Kin st) where
     apart-last m p (one-more b o) h ih v low i j r q a c e f k l =
         let above = ih o (omega (arith, length-longer b o)) in
         one-child i j r q o b v a c (e ∙ sym f) (above v low)
-        (parent-found i r o b a e (sums i r o b a e) above v low (k .0) (k .1))
-        (parent-found j q o b c f (sums j q o b c f) above v low (l .0) (l .1))
+        (parent-found i r o b a e (sums-below i r o b a e) above v low (k .0) (k .1))
+        (parent-found j q o b c f (sums-below j q o b c f) above v low (l .0) (l .1))
 
     apart : (m : ℕ) (p : Place) → length p ≡ m → (v : ℕ) → st .oldest ≤ v → Apart v p
     apart zero p h v low = apart-last 0 p (last p) h (λ q k. absurd (omega arith)) v low
     apart (suc m) p h v low = apart-last (suc m) p (last p) h (λ q k. apart m q (omega arith)) v low
 
     always-named : AlwaysNamed st
-    always-named i r p b a e v low begun lasts = parent-found i r p b a e (sums i r p b a e) (apart _ p refl) v low begun lasts
+    always-named i r p b a e v low begun lasts = parent-found i r p b a e (sums-below i r p b a e) (apart _ p refl) v low begun lasts
 
-  adds-up : AlwaysNamed st → (i : ℕ) (r : Record) (p : Place) (b : Side) → At st i r → r .place ≡ longer b p → AddsUp st r
+  adds-up-below : AlwaysNamed st → (i : ℕ) (r : Record) (p : Place) (b : Side) → At st i r → r .place ≡ longer b p → AddsUp st r
   unfolding parentsAt
-  adds-up named i r p b a e =
+  adds-up-below named i r p b a e =
       let long = life-long i r a in
       let full : keptLife st r ≤ sumTo (parentsAt st r) (max (st .oldest) (r .version)) (keptLife st r)
       = sum-full (parentsAt st r) (max (st .oldest) (r .version)) (keptLife st r) (λ v x y.
@@ -194,6 +197,13 @@ module _ (st : Store) (kin : Kin st) where
       omega (arith, record-total st (parentAt st r v) (u .0) (u .1) (u .2), counted-parent st r v (u .1) (at-parent p b v r e u) (u .4))) in
       omega (arith, counted-lives st r (max (st .oldest) (r .version)) (keptLife st r) (omega arith))
 
-  -- a record is named at each kept version of its life exactly if the lifetimes of its parents add up to its own
-  pub named-is-summed : AlwaysNamed st ↔ ((i : ℕ) (r : Record) (p : Place) (b : Side) → At st i r → r .place ≡ longer b p → AddsUp st r)
+  adds-up : AlwaysNamed st → (i : ℕ) (r : Record) → At st i r → (r .place ≡ [] → ⊥) → AddsUp st r
+  adds-up named i r a below = go (last (r .place)) refl
+    where
+      go : {p : Place} → Last p → r .place ≡ p → AddsUp st r
+      go empty e = absurd (below e)
+      go (one-more b p) e = adds-up-below named i r p b a e
+
+  -- each record is named at each kept version of its life exactly if the lifetimes of its parents add up to its own
+  pub named-is-summed : AlwaysNamed st ↔ ((i : ℕ) (r : Record) → At st i r → (r .place ≡ [] → ⊥) → AddsUp st r)
   named-is-summed = (adds-up, always-named)

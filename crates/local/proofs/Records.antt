@@ -1,15 +1,16 @@
 -- Scans over the slots of a store, told of its records; and what it says that one record names another. Assumes nothing.
 use Prim.Native.Nat.{ℕ, _≤_}
 use native.Mathlib.Omega.{arith}
-use mathlib.Core.Path.{_≡_, refl, sym, subst}
+use mathlib.Core.Path.{_≡_, refl, ap, sym, subst}
 use mathlib.Core.Bool.{Bool, true, false, _||_}
 use lib.ListN.{getD}
 use Rattle.terms.specs.Bits.{Bytes, Side, left, right, longer}
-use Rattle.terms.specs.Records.{Record, Slot, free, used, spoiled, Store}
+use Rattle.terms.specs.Records.{Child, Body, leafBody, innerBody, Record, Slot, free, used, spoiled, Store}
 use Rattle.meaning.specs.Sound.{At}
 use Rattle.meaning.specs.Local.{childVersion}
 use Rattle.meaning.proofs.Finding.{isNode-eq, isNode-refl}
 use Rattle.local.specs.Test.{every, total, byRecord, names, isParent}
+use Rattle.local.proofs.Says.{Says}
 use Rattle.local.proofs.Scans.{every-at, at-every, at-total, total-at, one-counted, count-one}
 
 -- a slot is free or spoiled, or holds a record
@@ -24,13 +25,15 @@ counted-record f (used r) h = (r, refl, h)
 counted-record f (spoiled x) h = absurd (omega arith)
 
 module _ (st : Store) where
-  pub every-record : (f : Record → Bool) → every (byRecord true f) (st .slots) ≡ true → (i : ℕ) (r : Record) → At st i r → f r ≡ true
+  -- a test of each record
+  pub each-record : (f : Record → Bool) (P : Record → Type 0) → ((r : Record) → Says (f r) (P r)) →
+      Says (every (byRecord true f) (st .slots)) ((i : ℕ) (r : Record) → At st i r → P r)
   unfolding At
-  every-record f h i r a = subst (λ y. byRecord true f y ≡ true) (a .1) (every-at (byRecord true f) (st .slots) free h i (a .0))
-
-  pub record-every : (f : Record → Bool) → ((i : ℕ) (r : Record) → At st i r → f r ≡ true) → every (byRecord true f) (st .slots) ≡ true
-  unfolding At
-  record-every f h = at-every (byRecord true f) (st .slots) free (λ i l. slot-elim (λ y. byRecord true f y ≡ true) (getD (st .slots) i free) refl (λ x e. refl) (λ r e. h i r (l, e)))
+  each-record f P s = record {
+    passed = λ h i r a. s r .passed (subst (λ y. byRecord true f y ≡ true) (a .1) (every-at (byRecord true f) (st .slots) free h i (a .0)));
+    passes = λ h. at-every (byRecord true f) (st .slots) free (λ i l.
+        slot-elim (λ y. byRecord true f y ≡ true) (getD (st .slots) i free) refl (λ x e. refl) (λ r e. s r .passes (h i r (l, e))));
+  }
 
   pub record-total : (f : Record → ℕ) (i : ℕ) (r : Record) → At st i r → f r ≤ total (byRecord 0 f) (st .slots)
   unfolding At
@@ -81,3 +84,11 @@ parent-names q r h = go (names left q r) refl h
     go : (t : Bool) → names left q r ≡ t → t || names right q r ≡ true → (b : Side) × (names b q r ≡ true)
     go true e k = (left, e)
     go false e k = (right, k)
+
+-- what names a record is an inner record
+pub names-inner : (b : Side) (q r : Record) → 1 ≤ r .version → names b q r ≡ true → (l : Child) × (m : Child) × (q .body ≡ innerBody l m)
+names-inner b q r v n = go (q .body) refl
+  where
+    go : (o : Body) → q .body ≡ o → (l : Child) × (m : Child) × (q .body ≡ innerBody l m)
+    go (leafBody k x) e = absurd (omega (arith, names-eq b q r n, ap (childVersion b) e))
+    go (innerBody l m) e = (l, m, e)

@@ -86,11 +86,6 @@ pub flat-cuts : (ns : List ℕ) (i : ℕ) (s : Bytes) → i + total ns ≡ lengt
 flat-cuts [] i s h = sym (drop-of-length-le s {i = i} (omega arith))
 flat-cuts (n ∷ ns) i s h = ap (slice i n s ++_) (flat-cuts ns (i + n) s (omega arith)) ∙ sym (slice-rest i n s)
 
-pub tests-all-of : (ts : List Bool) → All (λ t. t ≡ true) ts → allOf ts ≡ true
-unfolding allOf
-tests-all-of [] h = refl
-tests-all-of (t ∷ ts) h = rw (h .0) (tests-all-of ts (h .1))
-
 pub all-of-tests : (ts : List Bool) → allOf ts ≡ true → All (λ t. t ≡ true) ts
 unfolding allOf
 all-of-tests [] h = tt
