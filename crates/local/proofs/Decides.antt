@@ -15,7 +15,7 @@ use Rattle.meaning.specs.Store.{find, isNode, childOn}
 use Rattle.meaning.specs.Sound.{At, Sound, mostSlots}
 use Rattle.meaning.specs.Local.{Local, Linked, missing, found, BodyFits, childVersion, endsBefore}
 use Rattle.meaning.proofs.Finding.{isNode-eq, isNode-refl}
-use Rattle.local.specs.Test.{isSame, holders, isFound, childTest, bodyTest, names, isParent, headTest, linkTest, recordTest, slotTest, slotsTest, formTest, localTest}
+use Rattle.local.specs.Test.{firstKept, isSame, holders, isFound, childTest, bodyTest, names, isParent, headTest, linkTest, recordTest, slotTest, slotsTest, formTest, localTest}
 use Rattle.local.proofs.Slots.{found-at, same-record, at-find}
 use Rattle.local.proofs.Lifetimes.{Lifetime}
 use Rattle.local.proofs.Standing.{linked-on}
@@ -118,7 +118,7 @@ module _ (leafHash innerHash : Bytes → Bytes → Bytes) (st : Store) where
   -- a child outlives its parents
   outlives : ((i : ℕ) (r : Record) → At st i r → 1 ≤ r .version) → ((i : ℕ) (r : Record) → At st i r → LinksOf r) →
       (i j : ℕ) (r q : Record) → At st i r → At st j q → isParent r q ≡ true →
-      (r .version ≤ max (st .oldest) (q .version)) × (endsBefore st q ≤ endsBefore st r)
+      (r .version ≤ firstKept st q) × (endsBefore st q ≤ endsBefore st r)
   outlives version links i j r q a c h =
       let (b, n) = parent-names q r h in
       let (l, m, e) = names-inner b q r (version i r a) n in

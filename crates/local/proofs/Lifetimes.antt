@@ -25,14 +25,20 @@ ParentAt st p b v r = (j : ℕ) × (q : Record) × At st j q × (q .place ≡ p)
 abbrev pub Lifetime : Store → Record → Type 0
 Lifetime st r = (r .retired ≡ 0) ⊎ ((r .version < r .retired) × (st .oldest < r .retired) × (r .retired ≤ st .latest))
 
+-- the end of a life by cases
+abbrev EndCases : Store → Record → Type 0
+EndCases st r = ((r .retired ≡ 0) × (endsBefore st r ≡ suc (st .latest))) ⊎ ((1 ≤ r .retired) × (endsBefore st r ≡ r .retired))
+
+-- a life ends after it has begun, after oldest, and at most one after latest
+abbrev pub EndsKept : Store → Record → Type 0
+EndsKept st r = (r .version < endsBefore st r) × (st .oldest < endsBefore st r) × (endsBefore st r ≤ suc (st .latest))
+
 module _ (st : Store) (r : Record) where
-  -- the end by cases
-  end-cases : ((r .retired ≡ 0) × (endsBefore st r ≡ suc (st .latest))) ⊎ ((1 ≤ r .retired) × (endsBefore st r ≡ r .retired))
+  end-cases : EndCases st r
   unfolding endsBefore
   end-cases = go _ refl
     where
-      go : (b : Bool) → eqb (r .retired) 0 ≡ b →
-          ((r .retired ≡ 0) × (endsBefore st r ≡ suc (st .latest))) ⊎ ((1 ≤ r .retired) × (endsBefore st r ≡ r .retired))
+      go : (b : Bool) → eqb (r .retired) 0 ≡ b → EndCases st r
       go true e = inl (eqb-true (r .retired) 0 e, rw e)
       go false e = let f = eqb-false (r .retired) 0 e in inr (omega arith, rw e)
 
@@ -40,8 +46,7 @@ module _ (st : Store) (r : Record) where
   unfolding retiredBy
   living-lives v l = (l .0, go end-cases)
     where
-      go : ((r .retired ≡ 0) × (endsBefore st r ≡ suc (st .latest))) ⊎ ((1 ≤ r .retired) × (endsBefore st r ≡ r .retired)) →
-          leb 1 (r .retired) && leb (r .retired) v ≡ false
+      go : EndCases st r → leb 1 (r .retired) && leb (r .retired) v ≡ false
       go (inl e) = rw (lt-leb 1 (r .retired) (omega arith))
       go (inr e) = rw (le-leb 1 (r .retired) (e .0)) (lt-leb (r .retired) v (omega arith))
 
@@ -49,17 +54,14 @@ module _ (st : Store) (r : Record) where
   unfolding retiredBy
   lives-living v k l = (l .0, go end-cases (l .1))
     where
-      go : ((r .retired ≡ 0) × (endsBefore st r ≡ suc (st .latest))) ⊎ ((1 ≤ r .retired) × (endsBefore st r ≡ r .retired)) →
-          leb 1 (r .retired) && leb (r .retired) v ≡ false → v < endsBefore st r
+      go : EndCases st r → leb 1 (r .retired) && leb (r .retired) v ≡ false → v < endsBefore st r
       go (inl e) f = omega arith
       go (inr e) f = omega (arith, leb-false (r .retired) v (rw (le-leb 1 (r .retired) (e .0)) at f))
 
-  pub life-ends : st .oldest ≤ st .latest → r .version ≤ st .latest → Lifetime st r →
-      (r .version < endsBefore st r) × (st .oldest < endsBefore st r) × (endsBefore st r ≤ suc (st .latest))
+  pub life-ends : st .oldest ≤ st .latest → r .version ≤ st .latest → Lifetime st r → EndsKept st r
   life-ends o v l = go end-cases l
     where
-      go : ((r .retired ≡ 0) × (endsBefore st r ≡ suc (st .latest))) ⊎ ((1 ≤ r .retired) × (endsBefore st r ≡ r .retired)) → Lifetime st r →
-          (r .version < endsBefore st r) × (st .oldest < endsBefore st r) × (endsBefore st r ≤ suc (st .latest))
+      go : EndCases st r → Lifetime st r → EndsKept st r
       go (inl e) k = (omega arith, omega arith, omega arith)
       go (inr e) (inl k) = absurd (omega arith)
       go (inr e) (inr k) = (omega arith, omega arith, omega arith)

@@ -9,7 +9,7 @@ use Rattle.terms.specs.Records.{Child, Body, leafBody, innerBody, Record, Store
 use Rattle.meaning.specs.Store.{childOn}
 use Rattle.meaning.specs.Reading.{bodyHash}
 use Rattle.meaning.specs.Local.{endsBefore, LoneLeaf}
-use Rattle.local.specs.Test.{total, byRecord, names, loneLeaf, linkOn, linkTest, lifeTest, lifeCovered, keptLife, lifeAbove}
+use Rattle.local.specs.Test.{total, byRecord, firstKept, names, loneLeaf, linkOn, linkTest, lifeTest, lifeCovered, keptLife, lifeAbove}
 use Rattle.local.proofs.Lifetimes.{Lifetime}
 use Rattle.local.proofs.Says.{Says, says, itself, equal, at-most, less, both, either, neither, asked, branch, same, same-place-says, on-sides, done, next}
 use Rattle.local.proofs.Parents.{AddsUp}
@@ -41,7 +41,7 @@ module _ (leafHash innerHash : Bytes → Bytes → Bytes) (st : Store) where
   -- what a parent q, with the children l and m, says of r, its child on a side
   pub record Link (b : Side) (r q : Record) (l m : Child) : Type 0 where
     pub hash : bodyHash leafHash innerHash (r .body) ≡ childOn b l m .hash
-    pub begun : r .version ≤ max (st .oldest) (q .version)
+    pub begun : r .version ≤ firstKept st q
     pub ends : endsBefore st q ≤ endsBefore st r
     pub paired : LoneLeaf (childOn (not b) l m) (r .body) → ⊥
 
@@ -55,7 +55,7 @@ module _ (leafHash innerHash : Bytes → Bytes → Bytes) (st : Store) where
   link-on b r q (innerBody x y) =
       says (asked (itself (names b q r))
       (next (same (bodyHash leafHash innerHash (r .body)) (childOn b x y .hash))
-      (next (at-most (r .version) (max (st .oldest) (q .version)))
+      (next (at-most (r .version) (firstKept st q))
       (next (at-most (endsBefore st q) (endsBefore st r)) (next (neither (lone-says (childOn (not b) x y) (r .body))) done))) .all))
       (λ h l m e n.
       let k = h n in same-link b r q l m x y e (record { hash = k .0; begun = k .1 .0; ends = k .1 .1 .0; paired = k .1 .1 .1 .0 }))

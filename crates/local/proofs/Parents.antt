@@ -14,7 +14,7 @@ use Rattle.terms.proofs.Places.{length-longer, longer-inj}
 use Rattle.meaning.specs.Sound.{At}
 use Rattle.meaning.specs.Local.{endsBefore, childVersion}
 use Rattle.meaning.proofs.Finding.{Last, empty, one-more, last}
-use Rattle.local.specs.Test.{total, byRecord, isParent, keptLife, lifeAbove}
+use Rattle.local.specs.Test.{total, byRecord, isParent, firstKept, keptLife, lifeAbove}
 use Rattle.local.proofs.Slots.{same-slot}
 use Rattle.local.proofs.Lifetimes.{Living, ParentAt, Lifetime, life-ends}
 use Rattle.local.proofs.Scans.{total-le}
@@ -29,7 +29,7 @@ pub record Kin (st : Store) : Type 0 where
   pub lifetimes : (i : ℕ) (r : Record) → At st i r → Lifetime st r
   pub roots : (i : ℕ) (r : Record) → At st i r → r .place ≡ [] → (st .oldest ≤ r .version) × (endsBefore st r ≡ suc (r .version))
   pub outlives : (i j : ℕ) (r q : Record) → At st i r → At st j q → isParent r q ≡ true →
-      (r .version ≤ max (st .oldest) (q .version)) × (endsBefore st q ≤ endsBefore st r)
+      (r .version ≤ firstKept st q) × (endsBefore st q ≤ endsBefore st r)
 
 -- at each kept version of its life, a record below the root has a parent
 abbrev pub AlwaysNamed : Store → Type 0
@@ -64,12 +64,12 @@ parent-once st r v q =
 
 -- the life of a parent is counted at the n versions from a on
 module _ (st : Store) (r q : Record) (a n : ℕ) where
-  life-counted : (isParent r q ≡ true → (a ≤ max (st .oldest) (q .version)) × (endsBefore st q ≤ a + n)) →
+  life-counted : (isParent r q ≡ true → (a ≤ firstKept st q) × (endsBefore st q ≤ a + n)) →
       lifeAbove st r q ≤ sumTo (λ v. parentAt st r v q) a n
   unfolding parentAt lifeAbove keptLife
   life-counted h = go (isParent r q) refl
     where
-      go : (t : Bool) → isParent r q ≡ t → cond t (endsBefore st q - max (st .oldest) (q .version)) 0 ≤ sumTo (λ v. cond t (inside (q .version) (endsBefore st q) v) 0) a n
+      go : (t : Bool) → isParent r q ≡ t → cond t (endsBefore st q - firstKept st q) 0 ≤ sumTo (λ v. cond t (inside (q .version) (endsBefore st q) v) 0) a n
       go true e = let k = h e in omega (arith, sum-inside (q .version) (endsBefore st q) a n)
       go false e = omega arith
 
@@ -77,7 +77,7 @@ module _ (st : Store) (r q : Record) (a n : ℕ) where
   unfolding parentAt lifeAbove keptLife
   counted-life h = go (isParent r q)
     where
-      go : (t : Bool) → sumTo (λ v. cond t (inside (q .version) (endsBefore st q) v) 0) a n ≤ cond t (endsBefore st q - max (st .oldest) (q .version)) 0
+      go : (t : Bool) → sumTo (λ v. cond t (inside (q .version) (endsBefore st q) v) 0) a n ≤ cond t (endsBefore st q - firstKept st q) 0
       go true = omega (arith, sum-inside (q .version) (endsBefore st q) a n)
       go false = omega (arith, sum-none a n)
 
@@ -86,7 +86,7 @@ parentsAt : Store → Record → ℕ → ℕ
 parentsAt st r v = total (byRecord 0 (parentAt st r v)) (st .slots)
 
 module _ (st : Store) (r : Record) (a n : ℕ) where
-  lives-counted : ((j : ℕ) (q : Record) → At st j q → isParent r q ≡ true → (a ≤ max (st .oldest) (q .version)) × (endsBefore st q ≤ a + n)) →
+  lives-counted : ((j : ℕ) (q : Record) → At st j q → isParent r q ≡ true → (a ≤ firstKept st q) × (endsBefore st q ≤ a + n)) →
       total (byRecord 0 (lifeAbove st r)) (st .slots) ≤ sumTo (parentsAt st r) a n
   unfolding At parentsAt
   lives-counted h =
@@ -105,7 +105,7 @@ module _ (st : Store) (r : Record) (a n : ℕ) where
 
 module _ (st : Store) (kin : Kin st) where
   -- the kept life of a record goes from its first kept version to its end
-  life-long : (i : ℕ) (r : Record) → At st i r → max (st .oldest) (r .version) + keptLife st r ≡ endsBefore st r
+  life-long : (i : ℕ) (r : Record) → At st i r → firstKept st r + keptLife st r ≡ endsBefore st r
   unfolding keptLife
   life-long i r a = omega (arith, life-ends st r (kin .order) (kin .versions i r a .1) (kin .lifetimes i r a))
 
@@ -146,11 +146,11 @@ module _ (st : Store) (kin : Kin st) where
           (j, q, c, f, l, g)
       go zero k =
           let long = life-long i r a in
-          let less : sumTo (parentsAt st r) (max (st .oldest) (r .version)) (keptLife st r) < keptLife st r
-          = sum-gap (parentsAt st r) (max (st .oldest) (r .version)) (keptLife st r) v
+          let less : sumTo (parentsAt st r) (firstKept st r) (keptLife st r) < keptLife st r
+          = sum-gap (parentsAt st r) (firstKept st r) (keptLife st r) v
           (λ w x y. few-parents i r p b e w (apart w (omega arith))) (omega arith) (omega arith) k in
-          let more : total (byRecord 0 (lifeAbove st r)) (st .slots) ≤ sumTo (parentsAt st r) (max (st .oldest) (r .version)) (keptLife st r)
-          = lives-counted st r (max (st .oldest) (r .version)) (keptLife st r) (λ j q c h.
+          let more : total (byRecord 0 (lifeAbove st r)) (st .slots) ≤ sumTo (parentsAt st r) (firstKept st r) (keptLife st r)
+          = lives-counted st r (firstKept st r) (keptLife st r) (λ j q c h.
           let (x, y) = kin .outlives i j r q a c h in (omega arith, omega arith)) in
           absurd (omega arith)
 
@@ -191,11 +191,11 @@ module _ (st : Store) (kin : Kin st) where
   unfolding parentsAt
   adds-up-below named i r p b a e =
       let long = life-long i r a in
-      let full : keptLife st r ≤ sumTo (parentsAt st r) (max (st .oldest) (r .version)) (keptLife st r)
-      = sum-full (parentsAt st r) (max (st .oldest) (r .version)) (keptLife st r) (λ v x y.
+      let full : keptLife st r ≤ sumTo (parentsAt st r) (firstKept st r) (keptLife st r)
+      = sum-full (parentsAt st r) (firstKept st r) (keptLife st r) (λ v x y.
       let u = named i r p b a e v (omega arith) (omega arith) (omega arith) in
       omega (arith, record-total st (parentAt st r v) (u .0) (u .1) (u .2), counted-parent st r v (u .1) (at-parent p b v r e u) (u .4))) in
-      omega (arith, counted-lives st r (max (st .oldest) (r .version)) (keptLife st r) (omega arith))
+      omega (arith, counted-lives st r (firstKept st r) (keptLife st r) (omega arith))
 
   adds-up : AlwaysNamed st → (i : ℕ) (r : Record) → At st i r → (r .place ≡ [] → ⊥) → AddsUp st r
   adds-up named i r a below = go (last (r .place)) refl

@@ -16,12 +16,14 @@ use Rattle.meaning.specs.Reading.{bodyHash}
 use Rattle.meaning.specs.Sound.{At, Found, Stands, NodeOf, Kept, onlyLeaf, Sound}
 use Rattle.meaning.specs.Local.{Local, Linked, missing, found, BodyFits, endsBefore, childVersion, LoneLeaf}
 use Rattle.meaning.proofs.Finding.{Within, there, go-on, Some, some-leaf, some-inner, within-node, within-trans}
-use Rattle.local.proofs.Slots.{kidsFrom, some-body, found-at, root-cases, same-record, record-tree, root-tree}
-use Rattle.local.proofs.Lifetimes.{Living, ParentAt, living-lives, lives-living, life-ends}
+use Rattle.local.specs.Test.{firstKept}
+use Rattle.local.proofs.Slots.{RootCases, kidsFrom, some-body, found-at, root-cases, same-record, record-tree, root-tree}
+use Rattle.local.proofs.Lifetimes.{Living, EndsKept, ParentAt, living-lives, lives-living, life-ends}
 use Rattle.local.proofs.Above.{subtree, within-top, Above, above}
 
 -- a leaf has a sibling
-has-sibling : (b : Side) (w x : ℕ) (g : Grant) (l r : VTree) → onlyLeaf l r ≡ false → kid b (vinner w l r) ≡ vleaf x g → kid (not b) (vinner w l r) ≡ vnone → ⊥
+has-sibling : (b : Side) (w x : ℕ) (g : Grant) (l r : VTree) → onlyLeaf l r ≡ false →
+    kid b (vinner w l r) ≡ vleaf x g → kid (not b) (vinner w l r) ≡ vnone → ⊥
 has-sibling false w x g l r h e f = true≢false (subst₂ (λ s t. onlyLeaf s t ≡ false) e f h)
 has-sibling true w x g l r h e f = true≢false (subst₂ (λ s t. onlyLeaf s t ≡ false) f e h)
 
@@ -29,17 +31,26 @@ none-not : {A : Type 0} (u : VTree) → Some u → u ≡ vnone → A
 none-not (vleaf w g) s e = let z : _≡_ {A = ℕ} 0 1 = cc in absurd (omega arith)
 none-not (vinner w l r) s e = let z : _≡_ {A = ℕ} 0 1 = cc in absurd (omega arith)
 
+none-or-some : (u : VTree) → (u ≡ vnone) ⊎ Some u
+none-or-some vnone = inl refl
+none-or-some (vleaf w g) = inr some-leaf
+none-or-some (vinner w l r) = inr some-inner
+
 some-of : (u : VTree) → 1 ≤ topVersion u → Some u
 some-of vnone h = absurd (omega arith)
 some-of (vleaf w g) h = some-leaf
 some-of (vinner w l r) h = some-inner
 
 module _ (leafHash innerHash : Bytes → Bytes → Bytes) where
+  -- what a record says of the tree at a child
+  abbrev childAt : VTree → Child
+  childAt t = childOf leafHash innerHash t
+
   -- what the record of a node holds
   abbrev nodeBody : VTree → Body
   nodeBody vnone = leafBody [] []
   nodeBody (vleaf v g) = leafBody (g .key) (g .value)
-  nodeBody (vinner v l r) = innerBody (childOf leafHash innerHash l) (childOf leafHash innerHash r)
+  nodeBody (vinner v l r) = innerBody (childAt l) (childAt r)
 
   node-hash : (u : VTree) → Some u → bodyHash leafHash innerHash (nodeBody u) ≡ hash leafHash innerHash (unversioned u)
   unfolding childOf
@@ -52,12 +63,15 @@ module _ (leafHash innerHash : Bytes → Bytes → Bytes) where
   kid-version true w l r = refl
 
   module _ (st : Store) (ok : Sound leafHash innerHash st) where
+    abbrev Standing : Place → VTree → Type 0
+    Standing p t = Stands leafHash innerHash st p t
+
     stands-kid : (b : Side) (p : Place) (w : ℕ) (l r : VTree) →
-        Stands leafHash innerHash st p (vinner w l r) → Stands leafHash innerHash st (longer b p) (kid b (vinner w l r))
+        Standing p (vinner w l r) → Standing (longer b p) (kid b (vinner w l r))
     stands-kid false p w l r s = s .2
     stands-kid true p w l r s = s .3
 
-    within-stands : {u : VTree} {q : Place} {t : VTree} {p : Place} → Within u q t p → Stands leafHash innerHash st p t → Stands leafHash innerHash st q u
+    within-stands : {u : VTree} {q : Place} {t : VTree} {p : Place} → Within u q t p → Standing p t → Standing q u
     within-stands there s = s
     within-stands (go-on b {w = x} {l = l} {r = r} {p = p} w) s = within-stands w (stands-kid b p x l r s)
 
@@ -75,19 +89,19 @@ module _ (leafHash innerHash : Bytes → Bytes → Bytes) where
     held u q (r, e, f) =
         let w = found-at st (topVersion u) q r e in record { slot = w .0; rec = r; at = w .1; place = w .3; version = w .2; body = f }
 
-    holder : (u : VTree) (q : Place) → Some u → Stands leafHash innerHash st q u → Holder u q
+    holder : (u : VTree) (q : Place) → Some u → Standing q u → Holder u q
     holder (vleaf v g) q h s = held (vleaf v g) q (s .0)
     holder (vinner v l r) q h s = held (vinner v l r) q (s .0)
 
     -- the life of a record
-    ends : (i : ℕ) (r : Record) → At st i r → (r .version < endsBefore st r) × (st .oldest < endsBefore st r) × (endsBefore st r ≤ suc (st .latest))
+    ends : (i : ℕ) (r : Record) → At st i r → EndsKept st r
     ends i r a = life-ends st r (ok .header .0) (ok .versions i r a .1) (ok .lifetimes i r a)
 
     -- a record that lives at a kept version, seen in its tree
     record Seen (r : Record) (v : ℕ) : Type 0 where
       tree : VTree
       within : Within tree (r .place) (treeAtVersion st v) []
-      stands : Stands leafHash innerHash st (r .place) tree
+      stands : Standing (r .place) tree
       here : Some tree
       body : r .body ≡ nodeBody tree
       version : topVersion tree ≡ r .version
@@ -98,26 +112,33 @@ module _ (leafHash innerHash : Bytes → Bytes → Bytes) where
         let s = within-stands (u .within) (ok .stands v k) in
         let h = holder (u .tree) (r .place) (u .here) s in
         let e : h .rec ≡ r = same-record st (ok .unique) (h .slot) i (h .rec) r (h .at) a (h .version ∙ u .version) (h .place) in
-        record { tree = u .tree; within = u .within; stands = s; here = u .here; body = sym (ap (λ x. x .body) e) ∙ h .body; version = u .version }
+        record {
+          tree = u .tree;
+          within = u .within;
+          stands = s;
+          here = u .here;
+          body = sym (ap (λ x. x .body) e) ∙ h .body;
+          version = u .version;
+        }
 
     -- the record of what stands in the tree of v lives at v
-    holder-living : (v : ℕ) → Kept st v → (u : VTree) (q : Place) → Some u → Within u q (treeAtVersion st v) [] → (h : Holder u q) → Living st v (h .rec)
+    holder-living : (v : ℕ) → Kept st v → (u : VTree) (q : Place) → Some u → Within u q (treeAtVersion st v) [] →
+        (h : Holder u q) → Living st v (h .rec)
     holder-living v k u q s w h =
         lives-living st (h .rec) v (k .1)
-        (ok .exact v k (h .slot) (h .rec) (h .at) .0 (subst₂ (λ x p. NodeOf x p (treeAtVersion st v) []) (sym (h .version)) (sym (h .place)) (within-node s w)))
+        (ok .exact v k (h .slot) (h .rec) (h .at) .0
+        (subst₂ (λ x p. NodeOf x p (treeAtVersion st v) []) (sym (h .version)) (sym (h .place)) (within-node s w)))
 
     -- what is there has a version
-    some-version : (u : VTree) (q : Place) → Some u → Stands leafHash innerHash st q u → 1 ≤ topVersion u
+    some-version : (u : VTree) (q : Place) → Some u → Standing q u → 1 ≤ topVersion u
     some-version u q s h = let k = holder u q s h in omega (arith, ok .versions (k .slot) (k .rec) (k .at), k .version)
 
-    no-version-none : (u : VTree) (q : Place) → Stands leafHash innerHash st q u → topVersion u ≡ 0 → u ≡ vnone
-    no-version-none vnone q h e = refl
-    no-version-none (vleaf w g) q h e = absurd (omega (arith, some-version (vleaf w g) q some-leaf h))
-    no-version-none (vinner w l r) q h e = absurd (omega (arith, some-version (vinner w l r) q some-inner h))
+    no-version-none : (u : VTree) (q : Place) → Standing q u → topVersion u ≡ 0 → u ≡ vnone
+    no-version-none u q h e = elim (none-or-some u) [ inl n ↦ n | inr s ↦ absurd (omega (arith, some-version u q s h)) ]
 
     -- a node is no leaf where it has no sibling
-    sibling : (b : Side) (w : ℕ) (l r : VTree) (p : Place) → Stands leafHash innerHash st p (vinner w l r) →
-        (k : VTree) → kid b (vinner w l r) ≡ k → Some k → LoneLeaf (childOf leafHash innerHash (kid (not b) (vinner w l r))) (nodeBody k) → ⊥
+    sibling : (b : Side) (w : ℕ) (l r : VTree) (p : Place) → Standing p (vinner w l r) →
+        (k : VTree) → kid b (vinner w l r) ≡ k → Some k → LoneLeaf (childAt (kid (not b) (vinner w l r))) (nodeBody k) → ⊥
     unfolding childOf
     sibling b w l r p s (vleaf x g) e h z =
         has-sibling b w x g l r (s .1) e (no-version-none (kid (not b) (vinner w l r)) (longer (not b) p) (stands-kid (not b) p w l r s) z)
@@ -125,49 +146,56 @@ module _ (leafHash innerHash : Bytes → Bytes → Bytes) where
 
     -- a child k of the record r, beside d; at the last version of r's life k′ stands there with the same version
     module _ (i : ℕ) (r : Record) (a : At st i r) (v : ℕ) (end : suc v ≡ endsBefore st r) where
-      first-kept : Kept st (max (st .oldest) (r .version)) × Living st (max (st .oldest) (r .version)) r
-      first-kept = let e = ends i r a in let f = ok .versions i r a in let g = ok .header in ((omega arith, omega arith), (omega arith, omega arith))
+      first-kept : Kept st (firstKept st r) × Living st (firstKept st r) r
+      first-kept =
+          let e = ends i r a in
+          let f = ok .versions i r a in
+          let g = ok .header in
+          ((omega arith, omega arith), (omega arith, omega arith))
 
       last-kept : Kept st v × Living st v r
       last-kept = let e = ends i r a in ((omega arith, omega arith), (omega arith, omega arith))
 
       some-linked : (p : Place) (k k′ : VTree) (d : Child) → Some k → Some k′ →
-          Within k p (treeAtVersion st (max (st .oldest) (r .version))) [] → Within k′ p (treeAtVersion st v) [] → topVersion k′ ≡ topVersion k →
-          (LoneLeaf d (nodeBody k) → ⊥) → Linked leafHash innerHash st r p (childOf leafHash innerHash k) d
+          Within k p (treeAtVersion st (firstKept st r)) [] → Within k′ p (treeAtVersion st v) [] → topVersion k′ ≡ topVersion k →
+          (LoneLeaf d (nodeBody k) → ⊥) → Linked leafHash innerHash st r p (childAt k) d
       unfolding childOf
       some-linked p k k′ d s s′ w w′ e lone =
           let f = first-kept .0 in
           let l = last-kept .0 in
           let q = holder k p s (within-stands w (ok .stands _ f)) in
           let q′ = holder k′ p s′ (within-stands w′ (ok .stands v l)) in
-          let same : q′ .rec ≡ q .rec = same-record st (ok .unique) (q′ .slot) (q .slot) (q′ .rec) (q .rec) (q′ .at) (q .at) (q′ .version ∙ e ∙ sym (q .version)) (q′ .place ∙ sym (q .place)) in
-          let begun : Living st (max (st .oldest) (r .version)) (q .rec) = holder-living _ f k p s w q in
+          let same : q′ .rec ≡ q .rec
+          = same-record st (ok .unique) (q′ .slot) (q .slot) (q′ .rec) (q .rec) (q′ .at) (q .at)
+          (q′ .version ∙ e ∙ sym (q .version)) (q′ .place ∙ sym (q .place)) in
+          let begun : Living st (firstKept st r) (q .rec) = holder-living _ f k p s w q in
           let lasts : Living st v (q .rec) = subst (Living st v) same (holder-living v l k′ p s′ w′ q′) in
-          found (q .slot) (q .rec) (q .at) (q .place) (q .version) (ap (bodyHash leafHash innerHash) (q .body) ∙ node-hash k s) (begun .0) (omega arith)
-          (λ z. lone (subst (LoneLeaf d) (q .body) z))
+          found (q .slot) (q .rec) (q .at) (q .place) (q .version)
+          (ap (bodyHash leafHash innerHash) (q .body) ∙ node-hash k s) (begun .0) (omega arith) (λ z. lone (subst (LoneLeaf d) (q .body) z))
 
       linked : (p : Place) (k k′ : VTree) (d : Child) →
-          Within k p (treeAtVersion st (max (st .oldest) (r .version))) [] → Within k′ p (treeAtVersion st v) [] → topVersion k′ ≡ topVersion k →
-          (Some k → LoneLeaf d (nodeBody k) → ⊥) → Linked leafHash innerHash st r p (childOf leafHash innerHash k) d
+          Within k p (treeAtVersion st (firstKept st r)) [] → Within k′ p (treeAtVersion st v) [] → topVersion k′ ≡ topVersion k →
+          (Some k → LoneLeaf d (nodeBody k) → ⊥) → Linked leafHash innerHash st r p (childAt k) d
       unfolding childOf
-      linked p vnone k′ d w w′ e lone = missing refl
-      linked p (vleaf x g) k′ d w w′ e lone =
-          let u = some-version (vleaf x g) p some-leaf (within-stands w (ok .stands _ (first-kept .0))) in
-          some-linked p (vleaf x g) k′ d some-leaf (some-of k′ (omega arith)) w w′ e (lone some-leaf)
-      linked p (vinner x y z) k′ d w w′ e lone =
-          let u = some-version (vinner x y z) p some-inner (within-stands w (ok .stands _ (first-kept .0))) in
-          some-linked p (vinner x y z) k′ d some-inner (some-of k′ (omega arith)) w w′ e (lone some-inner)
+      linked p k k′ d w w′ e lone =
+          elim (none-or-some k) [
+            | inl n ↦ missing (ap topVersion n)
+            | inr s ↦
+                let u = some-version k p s (within-stands w (ok .stands _ (first-kept .0))) in
+                some-linked p k k′ d s (some-of k′ (omega arith)) w w′ e (lone s)
+          ]
 
       body-fits : (u u′ : VTree) → Some u → Some u′ → nodeBody u ≡ nodeBody u′ →
-          Within u (r .place) (treeAtVersion st (max (st .oldest) (r .version))) [] → Stands leafHash innerHash st (r .place) u →
+          Within u (r .place) (treeAtVersion st (firstKept st r)) [] → Standing (r .place) u →
           Within u′ (r .place) (treeAtVersion st v) [] → BodyFits leafHash innerHash st r (nodeBody u)
       body-fits (vleaf x g) u′ s s′ e w b w′ = b .1
       body-fits (vinner x l m) (vleaf y g) s s′ e w b w′ = let z : _≡_ {A = ℕ} 0 1 = cc in absurd (omega arith)
       body-fits (vinner x l m) (vinner y l′ m′) s s′ e w b w′ = (kid-linked left, kid-linked right)
         where
-          kid-linked : (c : Side) → Linked leafHash innerHash st r (longer c (r .place)) (childOf leafHash innerHash (kid c (vinner x l m))) (childOf leafHash innerHash (kid (not c) (vinner x l m)))
+          kid-linked : (c : Side) →
+              Linked leafHash innerHash st r (longer c (r .place)) (childAt (kid c (vinner x l m))) (childAt (kid (not c) (vinner x l m)))
           kid-linked c =
-              linked (longer c (r .place)) (kid c (vinner x l m)) (kid c (vinner y l′ m′)) (childOf leafHash innerHash (kid (not c) (vinner x l m)))
+              linked (longer c (r .place)) (kid c (vinner x l m)) (kid c (vinner y l′ m′)) (childAt (kid (not c) (vinner x l m)))
               (within-trans (go-on c there) w) (within-trans (go-on c there) w′)
               (sym (kid-version c y l′ m′) ∙ ap (childVersion c) (sym e) ∙ kid-version c x l m)
               (λ k. sibling c x l m (r .place) b (kid c (vinner x l m)) refl k)
@@ -186,8 +214,7 @@ module _ (leafHash innerHash : Bytes → Bytes → Bytes) where
         (body-fits i r a v e (u .tree) (u′ .tree) (u .here) (u′ .here) (sym (u .body) ∙ u′ .body) (u .within) (u .stands) (u′ .within))
 
     -- the root of v's tree has version v
-    root-version : (n v : ℕ) → n ≡ 256 → Some (treeAtVersion st v) →
-        (treeAtVersion st v ≡ vnone) ⊎ ((i : ℕ) × (r : Record) × At st i r × (r .version ≡ v) × (r .place ≡ [])) → topVersion (treeAtVersion st v) ≡ v
+    root-version : (n v : ℕ) → n ≡ 256 → Some (treeAtVersion st v) → RootCases st v → topVersion (treeAtVersion st v) ≡ v
     root-version n v e s (inl k) = none-not (treeAtVersion st v) s k
     root-version n v e s (inr k) =
         sym (ap topVersion (root-tree st (ok .versions) n v (k .1) e (k .3) (k .4)))
@@ -211,8 +238,10 @@ module _ (leafHash innerHash : Bytes → Bytes → Bytes) where
         (omega arith, omega arith)
 
     -- the node above a record, in each tree of its life, is its parent
-    parent-above : (p : Place) (b : Side) (v : ℕ) (r : Record) → Kept st v → (u : VTree) → topVersion u ≡ r .version → Above u p b (treeAtVersion st v) [] → ParentAt st p b v r
-    parent-above p b v r k u e x = go (holder (vinner (x .version) (x .lefts) (x .rights)) p some-inner (within-stands (x .within) (ok .stands v k)))
+    parent-above : (p : Place) (b : Side) (v : ℕ) (r : Record) → Kept st v → (u : VTree) → topVersion u ≡ r .version →
+        Above u p b (treeAtVersion st v) [] → ParentAt st p b v r
+    parent-above p b v r k u e x =
+        go (holder (vinner (x .version) (x .lefts) (x .rights)) p some-inner (within-stands (x .within) (ok .stands v k)))
       where
         go : Holder (vinner (x .version) (x .lefts) (x .rights)) p → ParentAt st p b v r
         go h = (

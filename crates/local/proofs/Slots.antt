@@ -16,6 +16,14 @@ use Rattle.meaning.specs.Store.{find, rootOf, childOn, treeBelow, treeFound, tr
 use Rattle.meaning.specs.Sound.{At, NodeOf}
 use Rattle.meaning.proofs.Finding.{Hit, miss, hit, hits, isNode-eq, isNode-refl, used-eq, Some, some-leaf, some-inner, node-cases}
 
+-- the tree that is read at a record, n bits short of a key
+abbrev pub treeOn : ℕ → Store → Record → VTree
+treeOn n st r = treeFrom n (st .slots) (r .version) (r .place)
+
+-- a version has no tree, or a root record
+abbrev pub RootCases : Store → ℕ → Type 0
+RootCases st v = (treeAtVersion st v ≡ vnone) ⊎ ((i : ℕ) × (r : Record) × At st i r × (r .version ≡ v) × (r .place ≡ []))
+
 -- what stands on each side below a place that is n bits short of a key
 abbrev pub kidsFrom : ℕ → List Slot → Place → Side → ℕ → VTree
 kidsFrom zero s p = λ b w. vnone
@@ -29,7 +37,8 @@ from-found : (n v : ℕ) (s : List Slot) (p : Place) → 1 ≤ v → treeFrom n 
 from-found zero v s p h = rw (ne-eqb v 0 (λ e. omega arith))
 from-found (suc n) v s p h = rw (ne-eqb v 0 (λ e. omega arith))
 
-pub kid-below : (b : Side) (v : ℕ) (l r : Child) (below : Side → ℕ → VTree) → kid b (treeBelow v (innerBody l r) below) ≡ below b (childOn b l r .version)
+pub kid-below : (b : Side) (v : ℕ) (l r : Child) (below : Side → ℕ → VTree) →
+    kid b (treeBelow v (innerBody l r) below) ≡ below b (childOn b l r .version)
 kid-below false v l r below = refl
 kid-below true v l r below = refl
 
@@ -39,7 +48,8 @@ some-body w (innerBody l r) below = (some-inner, refl)
 
 -- a node of the tree below a record is its own, or one below a child
 pub body-cases : (v w : ℕ) (q p : Place) (o : Body) (below : Side → ℕ → VTree) → NodeOf v q (treeBelow w o below) p →
-    ((w ≡ v) × (p ≡ q)) ⊎ ((l : Child) × (r : Child) × (o ≡ innerBody l r) × (b : Side) × NodeOf v q (below b (childOn b l r .version)) (longer b p))
+    ((w ≡ v) × (p ≡ q))
+    ⊎ ((l : Child) × (r : Child) × (o ≡ innerBody l r) × (b : Side) × NodeOf v q (below b (childOn b l r .version)) (longer b p))
 body-cases v w q p (leafBody k x) below h = inl h
 body-cases v w q p (innerBody l r) below h =
     elim (node-cases v w q p (below left (l .version)) (below right (r .version)) h) [
@@ -56,7 +66,9 @@ module _ (st : Store) where
       go : (o : Option Record) → o ≡ some r → Hit (st .slots) v p o → (i : ℕ) × At st i r × (r .version ≡ v) × (r .place ≡ p)
       go none k (miss f) = let z : _≡_ {A = ℕ} 0 1 = cc in absurd (omega arith)
       go (some q) k (hit i q′ l g n) =
-          let s : q′ ≡ r = cc in subst (λ x. (i : ℕ) × At st i x × (x .version ≡ v) × (x .place ≡ p)) s (i, (l, g), isNode-eq v p q′ n .0, isNode-eq v p q′ n .1)
+          let s : q′ ≡ r = cc in
+          let w = isNode-eq v p q′ n in
+          subst (λ x. (i : ℕ) × At st i x × (x .version ≡ v) × (x .place ≡ p)) s (i, (l, g), w .0, w .1)
 
   pub same-slot : (i j : ℕ) (r q : Record) → At st i r → At st j q → i ≡ j → r ≡ q
   unfolding At
@@ -76,10 +88,10 @@ module _ (st : Store) where
         go (some q) e h = let w = found-at (r .version) (r .place) q e in ap some (same-record (w .0) i q r (w .1) a (w .2) (w .3))
 
     module _ (versions : (i : ℕ) (r : Record) → At st i r → (1 ≤ r .version) × (r .version ≤ st .latest)) where
-      pub record-tree : (n i : ℕ) (r : Record) → At st i r →
-          treeFrom n (st .slots) (r .version) (r .place) ≡ treeBelow (r .version) (r .body) (kidsFrom n (st .slots) (r .place))
+      pub record-tree : (n i : ℕ) (r : Record) → At st i r → treeOn n st r ≡ treeBelow (r .version) (r .body) (kidsFrom n (st .slots) (r .place))
       record-tree n i r a =
-          from-found n (r .version) (st .slots) (r .place) (versions i r a .0) ∙ ap (λ o. treeFound o (kidsFrom n (st .slots) (r .place))) (at-find i r a)
+          from-found n (r .version) (st .slots) (r .place) (versions i r a .0)
+          ∙ ap (λ o. treeFound o (kidsFrom n (st .slots) (r .place))) (at-find i r a)
 
   root-found : (n v : ℕ) → n ≡ 256 → treeAtVersion st v ≡ treeFound (find v [] (st .slots)) (kidsFrom n (st .slots) [])
   unfolding treeAtVersion rootOf longer
@@ -87,12 +99,10 @@ module _ (st : Store) where
   root-found (suc n) v e =
       let m : 255 ≡ n = omega arith in ap (λ k. treeFound (find v [] (st .slots)) (λ b w. treeFrom k (st .slots) w (longer b []))) m
 
-  -- a version has no tree, or a root record
-  pub root-cases : (v : ℕ) → (treeAtVersion st v ≡ vnone) ⊎ ((i : ℕ) × (r : Record) × At st i r × (r .version ≡ v) × (r .place ≡ []))
+  pub root-cases : (v : ℕ) → RootCases st v
   root-cases v = go _ refl
     where
-      go : (o : Option Record) → find v [] (st .slots) ≡ o →
-          (treeAtVersion st v ≡ vnone) ⊎ ((i : ℕ) × (r : Record) × At st i r × (r .version ≡ v) × (r .place ≡ []))
+      go : (o : Option Record) → find v [] (st .slots) ≡ o → RootCases st v
       go none e = inl (root-found 256 v refl ∙ ap (λ o. treeFound o (kidsFrom 256 (st .slots) [])) e)
       go (some r) e = let w = found-at v [] r e in inr (w .0, r, w .1, w .2, w .3)
 
@@ -106,5 +116,5 @@ module _ (st : Store) where
         go (some r) k = let w = found-at 0 [] r k in let u = versions (w .0) r (w .1) in absurd (omega (arith, w .2))
     version-tree n (suc v) e = root-found n (suc v) e ∙ sym (from-found n (suc v) (st .slots) [] (omega arith))
 
-    pub root-tree : (n v : ℕ) (r : Record) → n ≡ 256 → r .version ≡ v → r .place ≡ [] → treeFrom n (st .slots) (r .version) (r .place) ≡ treeAtVersion st v
+    pub root-tree : (n v : ℕ) (r : Record) → n ≡ 256 → r .version ≡ v → r .place ≡ [] → treeOn n st r ≡ treeAtVersion st v
     root-tree n v r e f g = ap₂ (treeFrom n (st .slots)) f g ∙ sym (version-tree n v e)

@@ -18,8 +18,12 @@ use Rattle.meaning.specs.Reading.{bodyHash}
 use Rattle.meaning.specs.Sound.{At, Found, Stands, NodeOf, onlyLeaf, Sound}
 use Rattle.meaning.specs.Local.{Local, Linked, missing, found, BodyFits, childVersion, LoneLeaf}
 use Rattle.meaning.proofs.Finding.{Within, there, go-on, Some, within-node, within-trans, Last, empty, one-more, last}
-use Rattle.local.proofs.Slots.{kidsFrom, no-version, kid-below, some-body, body-cases, root-cases, same-record, at-find, record-tree, version-tree, root-tree}
+use Rattle.local.proofs.Slots.{treeOn, RootCases, kidsFrom, no-version, kid-below, some-body, body-cases, root-cases, same-record, at-find, record-tree, version-tree, root-tree}
 use Rattle.local.proofs.Lifetimes.{Living, living-lives, lives-living}
+
+-- the record is a node of the tree t that stands at p
+abbrev HasNode : Record → VTree → Place → Type 0
+HasNode q t p = NodeOf (q .version) (q .place) t p
 
 abbrev IsLeaf : VTree → Type 0
 IsLeaf vnone = ⊥
@@ -71,17 +75,17 @@ module _ (leafHash innerHash : Bytes → Bytes → Bytes) (st : Store) (ok : Loc
 
   -- from the tree at each record to the tree at a child
   child-stands : (n : ℕ) (r : Record) (p : Place) (c d : Child) → ChildForm c → length p + n ≡ 256 →
-      ((i : ℕ) (q : Record) → At st i q → length (q .place) + n ≡ 256 → RecordStands q (treeFrom n (st .slots) (q .version) (q .place))) →
+      ((i : ℕ) (q : Record) → At st i q → length (q .place) + n ≡ 256 → RecordStands q (treeOn n st q)) →
       Linked leafHash innerHash st r p c d → ChildStands p c d (treeFrom n (st .slots) (c .version) p)
   unfolding childOf
   child-stands n r p c d form h ih (missing e) =
       subst (ChildStands p c d) (sym (ap (λ w. treeFrom n (st .slots) w p) e ∙ no-version n (st .slots) p))
       (record { stands = tt; says = child-eq c 0 zeros (sym e) (sym (form .missing e)); fits = λ k. absurd k })
   child-stands n r p c d form h ih (found i q a pl ve ha ol un only) =
-      let u : RecordStands q (treeFrom n (st .slots) (q .version) (q .place)) = ih i q a (rw pl h) in
+      let u : RecordStands q (treeOn n st q) = ih i q a (rw pl h) in
       subst (ChildStands p c d) (ap₂ (treeFrom n (st .slots)) ve pl)
       (record {
-        stands = subst (λ s. Stands leafHash innerHash st s (treeFrom n (st .slots) (q .version) (q .place))) pl (u .stands);
+        stands = subst (λ s. Stands leafHash innerHash st s (treeOn n st q)) pl (u .stands);
         says = u .says ∙ child-eq c (q .version) _ ve ha;
         fits = λ k z. only (u .fits d k z);
       })
@@ -118,7 +122,7 @@ module _ (leafHash innerHash : Bytes → Bytes → Bytes) (st : Store) (ok : Loc
   inner-short i r x y a e = subst (λ o. length (r .place) ≤ placeLimit o) e (ok .formed i r a .short)
 
   -- the tree at each record
-  record-stands : (n i : ℕ) (r : Record) → At st i r → length (r .place) + n ≡ 256 → RecordStands r (treeFrom n (st .slots) (r .version) (r .place))
+  record-stands : (n i : ℕ) (r : Record) → At st i r → length (r .place) + n ≡ 256 → RecordStands r (treeOn n st r)
   record-stands zero i r a h =
       subst (RecordStands r) (sym (record-tree st (ok .unique) (ok .versions) 0 i r a))
       (body-stands i r a (r .body) refl (ok .bodies i r a) _ (λ x y e b. absurd (omega (arith, inner-short i r x y a e))))
@@ -135,7 +139,7 @@ module _ (leafHash innerHash : Bytes → Bytes → Bytes) (st : Store) (ok : Loc
   root-stands : (v : ℕ) → Stands leafHash innerHash st [] (treeAtVersion st v)
   root-stands v = go 256 refl (root-cases st v)
     where
-      go : (n : ℕ) → n ≡ 256 → (treeAtVersion st v ≡ vnone) ⊎ ((i : ℕ) × (r : Record) × At st i r × (r .version ≡ v) × (r .place ≡ [])) →
+      go : (n : ℕ) → n ≡ 256 → RootCases st v →
           Stands leafHash innerHash st [] (treeAtVersion st v)
       go n e (inl k) = subst (Stands leafHash innerHash st []) (sym k) tt
       go n e (inr k) =
@@ -146,28 +150,28 @@ module _ (leafHash innerHash : Bytes → Bytes → Bytes) (st : Store) (ok : Loc
     -- a child lives at each kept version of its parent's life, and so do the nodes below it
     child-lives : (n : ℕ) (r : Record) (p : Place) (c d : Child) → length p + n ≡ 256 → Living st v r → (j : ℕ) (q : Record) → At st j q →
         ((i : ℕ) (k : Record) → At st i k → length (k .place) + n ≡ 256 → Living st v k →
-        NodeOf (q .version) (q .place) (treeFrom n (st .slots) (k .version) (k .place)) (k .place) → Living st v q) →
-        Linked leafHash innerHash st r p c d → NodeOf (q .version) (q .place) (treeFrom n (st .slots) (c .version) p) p → Living st v q
+        HasNode q (treeOn n st k) (k .place) → Living st v q) →
+        Linked leafHash innerHash st r p c d → HasNode q (treeFrom n (st .slots) (c .version) p) p → Living st v q
     child-lives n r p c d h live j q at ih (missing e) nd =
-        absurd (subst (λ t. NodeOf (q .version) (q .place) t p) (ap (λ w. treeFrom n (st .slots) w p) e ∙ no-version n (st .slots) p) nd)
+        absurd (subst (λ t. HasNode q t p) (ap (λ w. treeFrom n (st .slots) w p) e ∙ no-version n (st .slots) p) nd)
     child-lives n r p c d h live j q at ih (found i k a pl ve ha ol un only) nd =
         ih i k a (rw pl h) (omega arith)
-        (subst₂ (λ x y. NodeOf (q .version) (q .place) (treeFrom n (st .slots) x y) y) (sym ve) (sym pl) nd)
+        (subst₂ (λ x y. HasNode q (treeFrom n (st .slots) x y) y) (sym ve) (sym pl) nd)
 
     body-lives : (n i : ℕ) (r : Record) → At st i r → Living st v r → (j : ℕ) (q : Record) → At st j q →
         ((x y : Child) → r .body ≡ innerBody x y → (b : Side) →
-        NodeOf (q .version) (q .place) (kidsFrom n (st .slots) (r .place) b (childOn b x y .version)) (longer b (r .place)) → Living st v q) →
-        NodeOf (q .version) (q .place) (treeFrom n (st .slots) (r .version) (r .place)) (r .place) → Living st v q
+        HasNode q (kidsFrom n (st .slots) (r .place) b (childOn b x y .version)) (longer b (r .place)) → Living st v q) →
+        HasNode q (treeOn n st r) (r .place) → Living st v q
     body-lives n i r a live j q at kids nd =
         elim (body-cases (q .version) (r .version) (q .place) (r .place) (r .body) (kidsFrom n (st .slots) (r .place))
-        (subst (λ t. NodeOf (q .version) (q .place) t (r .place)) (record-tree st (ok .unique) (ok .versions) n i r a) nd)) [
+        (subst (λ t. HasNode q t (r .place)) (record-tree st (ok .unique) (ok .versions) n i r a) nd)) [
           | inl e ↦ subst (Living st v) (same-record st (ok .unique) i j r q a at (e .0) (e .1)) live
           | inr e ↦ kids (e .0) (e .1) (e .2) (e .3) (e .4)
         ]
 
     -- the nodes below a record that lives at v live at v
     below-lives : (n i : ℕ) (r : Record) → At st i r → length (r .place) + n ≡ 256 → Living st v r → (j : ℕ) (q : Record) → At st j q →
-        NodeOf (q .version) (q .place) (treeFrom n (st .slots) (r .version) (r .place)) (r .place) → Living st v q
+        HasNode q (treeOn n st r) (r .place) → Living st v q
     below-lives zero i r a h live j q at nd = body-lives 0 i r a live j q at (λ x y e b m. absurd m) nd
     below-lives (suc n) i r a h live j q at nd =
         body-lives (suc n) i r a live j q at (λ x y e b m.
@@ -177,7 +181,7 @@ module _ (leafHash innerHash : Bytes → Bytes → Bytes) (st : Store) (ok : Loc
 
     -- the tree at a record stands in the tree of v
     Reached : Record → Type 0
-    Reached r = (n : ℕ) → length (r .place) + n ≡ 256 → Within (treeFrom n (st .slots) (r .version) (r .place)) (r .place) (treeAtVersion st v) []
+    Reached r = (n : ℕ) → length (r .place) + n ≡ 256 → Within (treeOn n st r) (r .place) (treeAtVersion st v) []
 
     root-reached : (i : ℕ) (r : Record) → At st i r → r .place ≡ [] → Living st v r → Reached r
     unfolding Reached
@@ -219,15 +223,15 @@ module _ (leafHash innerHash : Bytes → Bytes → Bytes) (st : Store) (ok : Loc
         subst (λ w. NodeOf w (r .place) (treeAtVersion st v) []) (ap topVersion e ∙ s .1)
         (within-node (subst Some (sym e) (s .0)) (reached _ i r a refl live n h))
 
-    node-living : (j : ℕ) (q : Record) → At st j q → NodeOf (q .version) (q .place) (treeAtVersion st v) [] → Living st v q
+    node-living : (j : ℕ) (q : Record) → At st j q → HasNode q (treeAtVersion st v) [] → Living st v q
     node-living j q at nd = go 256 refl (root-cases st v)
       where
-        go : (n : ℕ) → n ≡ 256 → (treeAtVersion st v ≡ vnone) ⊎ ((i : ℕ) × (r : Record) × At st i r × (r .version ≡ v) × (r .place ≡ [])) → Living st v q
-        go n e (inl k) = absurd (subst (λ t. NodeOf (q .version) (q .place) t []) k nd)
+        go : (n : ℕ) → n ≡ 256 → RootCases st v → Living st v q
+        go n e (inl k) = absurd (subst (λ t. HasNode q t []) k nd)
         go n e (inr k) =
             let u = ok .roots (k .0) (k .1) (k .2) (k .4) in
             below-lives n (k .0) (k .1) (k .2) (omega (arith, ap length (k .4))) (omega (arith, k .3), omega (arith, k .3)) j q at
-            (subst₂ (λ t p. NodeOf (q .version) (q .place) t p) (sym (root-tree st (ok .versions) n v (k .1) e (k .3) (k .4))) (sym (k .4)) nd)
+            (subst₂ (λ t p. HasNode q t p) (sym (root-tree st (ok .versions) n v (k .1) e (k .3) (k .4))) (sym (k .4)) nd)
 
   limit : (o : Body) → placeLimit o ≤ 256
   limit (leafBody k x) = omega arith

@@ -66,9 +66,13 @@ abbrev pub loneLeaf : Child → Body → Bool
 loneLeaf d (leafBody k x) = eqb (d .version) 0
 loneLeaf d (innerBody l r) = false
 
+-- The first kept version of a record's life.
+abbrev pub firstKept : Store → Record → ℕ
+firstKept st r = max (st .oldest) (r .version)
+
 -- How many kept versions a record lives at.
 unfoldable pub keptLife : Store → Record → ℕ
-keptLife st r = endsBefore st r - max (st .oldest) (r .version)
+keptLife st r = endsBefore st r - firstKept st r
 
 -- q is a parent of r.
 unfoldable pub isParent : Record → Record → Bool
@@ -120,7 +124,7 @@ module _ (leafHash innerHash : Bytes → Bytes → Bytes) where
   linkOn b st r q (leafBody k x) = true
   linkOn b st r q (innerBody l m) = not (names b q r) || allOf
       (sameBytes (bodyHash leafHash innerHash (r .body)) (childOn b l m .hash)
-      ∷ leb (r .version) (max (st .oldest) (q .version))
+      ∷ leb (r .version) (firstKept st q)
       ∷ leb (endsBefore st q) (endsBefore st r)
       ∷ not (loneLeaf (childOn (not b) l m) (r .body))
       ∷ [])
