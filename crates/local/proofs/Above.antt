@@ -21,7 +21,8 @@ pub record Subtree (w : ℕ) (q : Place) (t : VTree) (p : Place) : Type 0 where
   pub here : Some tree
   pub version : topVersion tree ≡ w
 
-subtree-below : (b : Side) (w x : ℕ) (q p : Place) (l r : VTree) → Subtree w q (kid b (vinner x l r)) (longer b p) → Subtree w q (vinner x l r) p
+subtree-below : (b : Side) (w x : ℕ) (q p : Place) (l r : VTree) →
+    Subtree w q (kid b (vinner x l r)) (longer b p) → Subtree w q (vinner x l r) p
 subtree-below b w x q p l r s = record { tree = s .tree; within = go-on b (s .within); here = s .here; version = s .version }
 
 pub subtree : (w : ℕ) (q : Place) (t : VTree) (p : Place) → NodeOf w q t p → Subtree w q t p
@@ -60,8 +61,10 @@ above-step u q x l r s c p b w e f true k =
 above-step u q x l r s c p b w e f false k =
     let m = within-top w (ltb-false _ _ k) in
     let n = longer-inj s p c b (sym (m .1) ∙ e) in
-    subst₂ (λ y d. Above u y d (vinner x l r) s) (n .0) (n .1) (record { version = x; lefts = l; rights = r; within = there; child = sym (m .0) })
+    subst₂ (λ y d. Above u y d (vinner x l r) s) (n .0) (n .1)
+    (record { version = x; lefts = l; rights = r; within = there; child = sym (m .0) })
 
-pub above : {u : VTree} {q : Place} {t : VTree} {s : Place} → Within u q t s → length s < length q → (p : Place) (b : Side) → q ≡ longer b p → Above u p b t s
+pub above : {u : VTree} {q : Place} {t : VTree} {s : Place} → Within u q t s → length s < length q →
+    (p : Place) (b : Side) → q ≡ longer b p → Above u p b t s
 above there h p b e = absurd (omega arith)
 above {u} {q} (go-on c {w = x} {l = l} {r = r} {p = s} w) h p b e = above-step u q x l r s c p b w e (λ k. above w k p b e) _ refl

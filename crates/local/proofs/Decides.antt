@@ -66,7 +66,8 @@ module _ (st : Store) where
   body-says p (leafBody k x) = itself (begins p k)
   body-says p (innerBody l r) = both (child-says (longer left p) l) (child-says (longer right p) r)
 
-  head-says : Says (headTest st) (((1 ≤ length (st .slots)) × (length (st .slots) ≤ mostSlots)) × ((st .oldest ≤ st .latest) × (st .latest ≤ top32)))
+  head-says : Says (headTest st)
+      (((1 ≤ length (st .slots)) × (length (st .slots) ≤ mostSlots)) × ((st .oldest ≤ st .latest) × (st .latest ≤ top32)))
   unfolding headTest
   head-says =
       says (next (at-most 1 (length (st .slots))) (next (at-most (length (st .slots)) mostSlots)
@@ -74,6 +75,10 @@ module _ (st : Store) where
       (λ h. ((h .0, h .1 .0), (h .1 .1 .0, h .1 .1 .1 .0))) (λ f. (f .0 .0, (f .0 .1, (f .1 .0, (f .1 .1, tt)))))
 
 module _ (leafHash innerHash : Bytes → Bytes → Bytes) (st : Store) where
+  -- the child on a side is linked
+  abbrev LinkedOn : Side → Record → Child → Child → Type 0
+  LinkedOn b q l m = Linked leafHash innerHash st q (longer b (q .place)) (childOn b l m) (childOn (not b) l m)
+
   -- what its parents say of a record
   abbrev LinksOf : Record → Type 0
   LinksOf r = (j : ℕ) (q : Record) → At st j q →
@@ -95,8 +100,16 @@ module _ (leafHash innerHash : Bytes → Bytes → Bytes) (st : Store) where
       (next (life-says st r)
       (next (equal (holders r (st .slots)) 1)
       (next (body-says st (r .place) (r .body))
-      (next (each-record st (linkTest leafHash innerHash st r) _ (link-says leafHash innerHash st r)) (next (covered-says st r) done))))) .all)
-      (λ h. record { latest = h .0; life = h .1 .0; once = h .1 .1 .0; body = h .1 .1 .1 .0; links = h .1 .1 .1 .1 .0; covered = h .1 .1 .1 .1 .1 .0 })
+      (next (each-record st (linkTest leafHash innerHash st r) _ (link-says leafHash innerHash st r))
+      (next (covered-says st r) done))))) .all)
+      (λ h. record {
+        latest = h .0;
+        life = h .1 .0;
+        once = h .1 .1 .0;
+        body = h .1 .1 .1 .0;
+        links = h .1 .1 .1 .1 .0;
+        covered = h .1 .1 .1 .1 .1 .0;
+      })
       (λ p. (p .latest, (p .life, (p .once, (p .body, (p .links, (p .covered, tt)))))))
 
   abbrev Passing : Slot → Type 0
@@ -104,7 +117,8 @@ module _ (leafHash innerHash : Bytes → Bytes → Bytes) (st : Store) where
 
   -- no slot is spoiled, and each record passes
   slots-say : Says (slotsTest leafHash innerHash st)
-      (((i : ℕ) (x : Bytes) → i < length (st .slots) → getD (st .slots) i free ≡ spoiled x → ⊥) × ((i : ℕ) (r : Record) → At st i r → Passed r))
+      (((i : ℕ) (x : Bytes) → i < length (st .slots) → getD (st .slots) i free ≡ spoiled x → ⊥)
+      × ((i : ℕ) (r : Record) → At st i r → Passed r))
   unfolding slotsTest At
   slots-say = record {
     passed = λ h. (
@@ -134,14 +148,15 @@ module _ (leafHash innerHash : Bytes → Bytes → Bytes) (st : Store) where
         (omega (arith, counted-node r r refl refl)) (omega (arith, counted-node r q (sym e) (sym f)))
 
     passed-linked : (b : Side) (j : ℕ) (q : Record) (l m : Child) → At st j q → q .body ≡ innerBody l m →
-        ChildFound st (longer b (q .place)) (childOn b l m) → Linked leafHash innerHash st q (longer b (q .place)) (childOn b l m) (childOn (not b) l m)
+        ChildFound st (longer b (q .place)) (childOn b l m) → LinkedOn b q l m
     passed-linked b j q l m c e (inl z) = missing z
     passed-linked b j q l m c e (inr (r, f)) =
         let (i, a, v, p) = found-at st (childOn b l m .version) (longer b (q .place)) r f in
         let k = passed i r a .links j q c b l m e (eq-names b q r (v ∙ sym (ap (childVersion b) e)) p) in
         found i r a p v (k .hash) (k .begun) (k .ends) (k .paired)
 
-    passed-bodies : (j : ℕ) (q : Record) → At st j q → (o : Body) → q .body ≡ o → BodyFound st (q .place) o → BodyFits leafHash innerHash st q o
+    passed-bodies : (j : ℕ) (q : Record) → At st j q → (o : Body) → q .body ≡ o →
+        BodyFound st (q .place) o → BodyFits leafHash innerHash st q o
     passed-bodies j q c (leafBody k x) e h = h
     passed-bodies j q c (innerBody l m) e h = (passed-linked left j q l m c e (h .0), passed-linked right j q l m c e (h .1))
 
@@ -175,12 +190,13 @@ module _ (leafHash innerHash : Bytes → Bytes → Bytes) (st : Store) where
   -- from the rules to the tests
   module _ (ok : Local leafHash innerHash st) where
     local-links : (i : ℕ) (r : Record) → At st i r → LinksOf r
-    local-links i r a j q c b l m e n = go (linked-on leafHash innerHash st b q l m (subst (BodyFits leafHash innerHash st q) e (ok .bodies j q c)))
+    local-links i r a j q c b l m e n =
+        go (linked-on leafHash innerHash st b q l m (subst (BodyFits leafHash innerHash st q) e (ok .bodies j q c)))
       where
         version : r .version ≡ childOn b l m .version
         version = names-eq b q r n .0 ∙ ap (childVersion b) e
 
-        go : Linked leafHash innerHash st q (longer b (q .place)) (childOn b l m) (childOn (not b) l m) → Link leafHash innerHash st b r q l m
+        go : LinkedOn b q l m → Link leafHash innerHash st b r q l m
         go (missing z) = absurd (omega (arith, version, ok .versions i r a))
         go (found k x d p v h f g o) =
             subst (λ y. Link leafHash innerHash st b y q l m)
@@ -193,7 +209,8 @@ module _ (leafHash innerHash : Bytes → Bytes → Bytes) (st : Store) where
 
     bodies-found : (q : Record) (o : Body) → BodyFits leafHash innerHash st q o → BodyFound st (q .place) o
     bodies-found q (leafBody k x) f = f
-    bodies-found q (innerBody l m) f = (linked-found q (longer left (q .place)) l m (f .0), linked-found q (longer right (q .place)) m l (f .1))
+    bodies-found q (innerBody l m) f =
+        (linked-found q (longer left (q .place)) l m (f .0), linked-found q (longer right (q .place)) m l (f .1))
 
     held-once : (i : ℕ) (r : Record) → At st i r → holders r (st .slots) ≡ 1
     unfolding holders
@@ -241,7 +258,8 @@ module _ (leafHash innerHash : Bytes → Bytes → Bytes) (st : Store) where
   pub test-decides-sound : (localTest leafHash innerHash st ≡ true) ↔ Sound leafHash innerHash st
   unfolding localTest
   test-decides-sound =
-      let test = next (head-says st) (next (each-record st formTest RecordForm form-says) (next (itself (slotsTest leafHash innerHash st)) done)) .all in (
+      let test = next (head-says st) (next (each-record st formTest RecordForm form-says)
+      (next (itself (slotsTest leafHash innerHash st)) done)) .all in (
         λ h. let t = test .passed h in slots-test-decides-sound (t .0 .0) (t .0 .1) (t .1 .0) .0 (t .1 .1 .0),
         λ s. test .passes ((s .size, s .header), (s .formed, (slots-test-decides-sound (s .size) (s .header) (s .formed) .1 s, tt))),
       )

@@ -116,13 +116,13 @@ abbrev Fails : Store → Type 0
 Fails st = localTest toyLeaf toyInner st ≡ false
 
 good-passes : All Passes good
-unfolding computed endsBefore allOf isSame holders lifeTest childTest names keptLife isParent lifeAbove lifeCovered whole32Test childFormTest
-    formTest headTest linkTest recordTest slotsTest localTest
+unfolding computed endsBefore allOf isSame holders lifeTest childTest names keptLife isParent lifeAbove lifeCovered whole32Test
+    childFormTest formTest headTest linkTest recordTest slotsTest localTest
 good-passes = (refl, (refl, (refl, (refl, (refl, (refl, (refl, (refl, (refl, (refl, (refl, (refl, tt))))))))))))
 
 damaged-fails : All Fails damaged
-unfolding computed endsBefore allOf isSame holders lifeTest childTest names keptLife isParent lifeAbove lifeCovered whole32Test childFormTest
-    formTest headTest linkTest recordTest slotsTest localTest
+unfolding computed endsBefore allOf isSame holders lifeTest childTest names keptLife isParent lifeAbove lifeCovered whole32Test
+    childFormTest formTest headTest linkTest recordTest slotsTest localTest
 damaged-fails = (refl, (refl, (refl, (refl, (refl, (refl, (refl, (refl, (refl, (refl, (refl, (refl, (refl, tt)))))))))))))
 
 pub desk-stores-sound : All (Sound toyLeaf toyInner) good

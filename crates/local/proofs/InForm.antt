@@ -15,7 +15,8 @@ whole32-says x = both (equal (length x) 32) (each (λ b. ltb b 256) Byte (λ b. 
 child-says : (c : Child) → Says (childFormTest c) (ChildForm c)
 unfolding childFormTest
 child-says c =
-    says (next (at-most (c .version) top32) (next (whole32-says (c .hash)) (next (asked (equal (c .version) 0) (same (c .hash) zeros)) done)) .all)
+    says (next (at-most (c .version) top32) (next (whole32-says (c .hash))
+    (next (asked (equal (c .version) 0) (same (c .hash) zeros)) done)) .all)
     (λ h. record { number = h .0; hash32 = h .1 .0; missing = h .1 .1 .0 }) (λ f. (f .number, (f .hash32, (f .missing, tt))))
 
 body-says : (o : Body) → Says (bodyFormTest o) (BodyForm o)
@@ -28,6 +29,7 @@ pub form-says : (r : Record) → Says (formTest r) (RecordForm r)
 unfolding formTest
 form-says r =
     says (next (at-most (length (r .place)) (placeLimit (r .body)))
-    (next (at-most 1 (r .version)) (next (at-most (r .version) top32) (next (at-most (r .retired) top32) (next (body-says (r .body)) done)))) .all)
+    (next (at-most 1 (r .version)) (next (at-most (r .version) top32) (next (at-most (r .retired) top32)
+    (next (body-says (r .body)) done)))) .all)
     (λ h. record { short = h .0; versioned = (h .1 .0, h .1 .1 .0); number = h .1 .1 .1 .0; body = h .1 .1 .1 .1 .0 })
     (λ f. (f .short, (f .versioned .0, (f .versioned .1, (f .number, (f .body, tt))))))

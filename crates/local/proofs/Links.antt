@@ -18,7 +18,8 @@ pub life-says : (st : Store) (r : Record) → Says (lifeTest st r) (Lifetime st 
 unfolding lifeTest
 life-says st r =
     either (equal (r .retired) 0)
-    (says (next (less (r .version) (r .retired)) (next (less (st .oldest) (r .retired)) (next (at-most (r .retired) (st .latest)) done)) .all)
+    (says (next (less (r .version) (r .retired)) (next (less (st .oldest) (r .retired))
+    (next (at-most (r .retired) (st .latest)) done)) .all)
     (λ h. (h .0, h .1 .0, h .1 .1 .0)) (λ h. (h .0, (h .1, (h .2, tt)))))
 
 -- a root lives at its own version alone; the lifetimes of another record's parents add up to its own
@@ -65,5 +66,6 @@ module _ (leafHash innerHash : Bytes → Bytes → Bytes) (st : Store) where
       Says (linkTest leafHash innerHash st r q) ((b : Side) (l m : Child) → q .body ≡ innerBody l m → names b q r ≡ true → Link b r q l m)
   unfolding linkTest
   link-says r q =
-      on-sides (λ b. linkOn leafHash innerHash b st r q (q .body)) (λ b. (l m : Child) → q .body ≡ innerBody l m → names b q r ≡ true → Link b r q l m)
+      on-sides (λ b. linkOn leafHash innerHash b st r q (q .body))
+      (λ b. (l m : Child) → q .body ≡ innerBody l m → names b q r ≡ true → Link b r q l m)
       (λ b. link-on b r q (q .body))

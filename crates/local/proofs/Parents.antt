@@ -69,7 +69,8 @@ module _ (st : Store) (r q : Record) (a n : ℕ) where
   unfolding parentAt lifeAbove keptLife
   life-counted h = go (isParent r q) refl
     where
-      go : (t : Bool) → isParent r q ≡ t → cond t (endsBefore st q - firstKept st q) 0 ≤ sumTo (λ v. cond t (inside (q .version) (endsBefore st q) v) 0) a n
+      go : (t : Bool) → isParent r q ≡ t →
+          cond t (endsBefore st q - firstKept st q) 0 ≤ sumTo (λ v. cond t (inside (q .version) (endsBefore st q) v) 0) a n
       go true e = let k = h e in omega (arith, sum-inside (q .version) (endsBefore st q) a n)
       go false e = omega arith
 
@@ -110,7 +111,8 @@ module _ (st : Store) (kin : Kin st) where
   life-long i r a = omega (arith, life-ends st r (kin .order) (kin .versions i r a .1) (kin .lifetimes i r a))
 
   -- a parent stands one bit above
-  parent-above : (p : Place) (b : Side) (r q : Record) → r .place ≡ longer b p → isParent r q ≡ true → (q .place ≡ p) × (childVersion b (q .body) ≡ r .version)
+  parent-above : (p : Place) (b : Side) (r q : Record) → r .place ≡ longer b p → isParent r q ≡ true →
+      (q .place ≡ p) × (childVersion b (q .body) ≡ r .version)
   parent-above p b r q e h =
       let (d, n) = parent-names q r h in
       let (f, g) = names-eq d q r n in
@@ -124,9 +126,9 @@ module _ (st : Store) (kin : Kin st) where
   Apart : ℕ → Place → Type 0
   Apart v p = (i j : ℕ) (r q : Record) → At st i r → At st j q → r .place ≡ p → q .place ≡ p → Living st v r → Living st v q → i ≡ j
 
-  few-parents : (i : ℕ) (r : Record) (p : Place) (b : Side) → r .place ≡ longer b p → (v : ℕ) → Apart v p → parentsAt st r v ≤ 1
+  few-parents : (r : Record) (p : Place) (b : Side) → r .place ≡ longer b p → (v : ℕ) → Apart v p → parentsAt st r v ≤ 1
   unfolding Apart parentsAt
-  few-parents i r p b e v apart =
+  few-parents r p b e v apart =
       record-one st (parentAt st r v) (λ j q c. parent-once st r v q) (λ j k q x c d g h.
       let (m, l) = parent-counted st r v q g in
       let (n, o) = parent-counted st r v x h in
@@ -148,7 +150,7 @@ module _ (st : Store) (kin : Kin st) where
           let long = life-long i r a in
           let less : sumTo (parentsAt st r) (firstKept st r) (keptLife st r) < keptLife st r
           = sum-gap (parentsAt st r) (firstKept st r) (keptLife st r) v
-          (λ w x y. few-parents i r p b e w (apart w (omega arith))) (omega arith) (omega arith) k in
+          (λ w x y. few-parents r p b e w (apart w (omega arith))) (omega arith) (omega arith) k in
           let more : total (byRecord 0 (lifeAbove st r)) (st .slots) ≤ sumTo (parentsAt st r) (firstKept st r) (keptLife st r)
           = lives-counted st r (firstKept st r) (keptLife st r) (λ j q c h.
           let (x, y) = kin .outlives i j r q a c h in (omega arith, omega arith)) in

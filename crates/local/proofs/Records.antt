@@ -14,7 +14,8 @@ use Rattle.local.proofs.Says.{Says}
 use Rattle.local.proofs.Scans.{every-at, at-every, at-total, total-at, one-counted, count-one}
 
 -- a slot is free or spoiled, or holds a record
-pub slot-elim : (P : Slot → Type 0) (y : Slot) → P free → ((x : Bytes) → y ≡ spoiled x → P (spoiled x)) → ((r : Record) → y ≡ used r → P (used r)) → P y
+pub slot-elim : (P : Slot → Type 0) (y : Slot) →
+    P free → ((x : Bytes) → y ≡ spoiled x → P (spoiled x)) → ((r : Record) → y ≡ used r → P (used r)) → P y
 slot-elim P free f s u = f
 slot-elim P (used r) f s u = u r refl
 slot-elim P (spoiled x) f s u = s x refl
@@ -37,7 +38,8 @@ module _ (st : Store) where
 
   pub record-total : (f : Record → ℕ) (i : ℕ) (r : Record) → At st i r → f r ≤ total (byRecord 0 f) (st .slots)
   unfolding At
-  record-total f i r a = subst (λ y. byRecord 0 f y ≤ total (byRecord 0 f) (st .slots)) (a .1) (at-total (byRecord 0 f) (st .slots) free i (a .0))
+  record-total f i r a =
+      subst (λ y. byRecord 0 f y ≤ total (byRecord 0 f) (st .slots)) (a .1) (at-total (byRecord 0 f) (st .slots) free i (a .0))
 
   pub total-record : (f : Record → ℕ) → 1 ≤ total (byRecord 0 f) (st .slots) → (i : ℕ) × (r : Record) × At st i r × (1 ≤ f r)
   unfolding At
@@ -50,7 +52,8 @@ module _ (st : Store) where
       (i j : ℕ) (r q : Record) → At st i r → At st j q → 1 ≤ f r → 1 ≤ f q → i ≡ j
   unfolding At
   one-record f h i j r q a b k l =
-      one-counted (byRecord 0 f) (st .slots) free h i j (a .0) (b .0) (subst (λ y. 1 ≤ byRecord 0 f y) (sym (a .1)) k) (subst (λ y. 1 ≤ byRecord 0 f y) (sym (b .1)) l)
+      one-counted (byRecord 0 f) (st .slots) free h i j (a .0) (b .0)
+      (subst (λ y. 1 ≤ byRecord 0 f y) (sym (a .1)) k) (subst (λ y. 1 ≤ byRecord 0 f y) (sym (b .1)) l)
 
   pub record-one : (f : Record → ℕ) → ((i : ℕ) (r : Record) → At st i r → f r ≤ 1) →
       ((i j : ℕ) (r q : Record) → At st i r → At st j q → 1 ≤ f r → 1 ≤ f q → i ≡ j) → total (byRecord 0 f) (st .slots) ≤ 1

@@ -35,7 +35,8 @@ module _ {A : Type 0} where
       go zero e ih = let (i, l, k) = ih (omega arith) in (suc i, omega arith, k)
       go (suc n) e ih = (0, omega arith, omega arith)
 
-  pub total-le : (f g : A → ℕ) (xs : List A) (d : A) → ((i : ℕ) → i < length xs → f (getD xs i d) ≤ g (getD xs i d)) → total f xs ≤ total g xs
+  pub total-le : (f g : A → ℕ) (xs : List A) (d : A) →
+      ((i : ℕ) → i < length xs → f (getD xs i d) ≤ g (getD xs i d)) → total f xs ≤ total g xs
   total-le f g [] d h = omega arith
   total-le f g (x ∷ xs) d h = omega (arith, h 0 (omega arith), total-le f g xs d (λ i l. h (suc i) (omega arith)))
 
@@ -61,11 +62,12 @@ module _ {A : Type 0} where
       ((i j : ℕ) → i < length xs → j < length xs → 1 ≤ f (getD xs i d) → 1 ≤ f (getD xs j d) → i ≡ j) → total f xs ≤ 1
   count-one f [] d h u = omega arith
   count-one f (x ∷ xs) d h u =
-      go (total f xs) refl (count-one f xs d (λ i l. h (suc i) (omega arith)) (λ i j k l a b. omega (arith, u (suc i) (suc j) (omega arith) (omega arith) a b)))
+      go
+      (count-one f xs d (λ i l. h (suc i) (omega arith)) (λ i j k l a b. omega (arith, u (suc i) (suc j) (omega arith) (omega arith) a b)))
+      (f x) refl (total f xs) refl
     where
-      go : (n : ℕ) → total f xs ≡ n → total f xs ≤ 1 → f x + total f xs ≤ 1
-      go zero e t = omega (arith, h 0 (omega arith))
-      go (suc n) e t =
-          let (i, l, a) = total-at f xs d (omega arith) in
-          let k : f x < 1 = elim (f x) as (λ m. f x ≡ m → m < 1) [ zero ↦ λ z. omega arith | suc m ↦ λ z. absurd (omega (arith, u 0 (suc i) (omega arith) (omega arith) (omega arith) a)) ] refl in
-          omega arith
+      go : total f xs ≤ 1 → (m : ℕ) → f x ≡ m → (n : ℕ) → total f xs ≡ n → f x + total f xs ≤ 1
+      go k zero e n t = omega arith
+      go k (suc m) e zero t = omega (arith, h 0 (omega arith))
+      go k (suc m) e (suc n) t =
+          let (i, l, a) = total-at f xs d (omega arith) in absurd (omega (arith, u 0 (suc i) (omega arith) (omega arith) (omega arith) a))

@@ -88,7 +88,8 @@ module _ (st : Store) where
         go (some q) e h = let w = found-at (r .version) (r .place) q e in ap some (same-record (w .0) i q r (w .1) a (w .2) (w .3))
 
     module _ (versions : (i : ℕ) (r : Record) → At st i r → (1 ≤ r .version) × (r .version ≤ st .latest)) where
-      pub record-tree : (n i : ℕ) (r : Record) → At st i r → treeOn n st r ≡ treeBelow (r .version) (r .body) (kidsFrom n (st .slots) (r .place))
+      pub record-tree : (n i : ℕ) (r : Record) → At st i r →
+          treeOn n st r ≡ treeBelow (r .version) (r .body) (kidsFrom n (st .slots) (r .place))
       record-tree n i r a =
           from-found n (r .version) (st .slots) (r .place) (versions i r a .0)
           ∙ ap (λ o. treeFound o (kidsFrom n (st .slots) (r .place))) (at-find i r a)

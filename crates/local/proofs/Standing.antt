@@ -91,7 +91,8 @@ module _ (leafHash innerHash : Bytes → Bytes → Bytes) (st : Store) (ok : Loc
       })
 
   -- from the trees at its children to the tree at a record
-  body-stands : (i : ℕ) (r : Record) → At st i r → (o : Body) → r .body ≡ o → BodyFits leafHash innerHash st r o → (below : Side → ℕ → VTree) →
+  body-stands : (i : ℕ) (r : Record) → At st i r → (o : Body) → r .body ≡ o → BodyFits leafHash innerHash st r o →
+      (below : Side → ℕ → VTree) →
       ((x y : Child) → o ≡ innerBody x y → (b : Side) →
       ChildStands (longer b (r .place)) (childOn b x y) (childOn (not b) x y) (below b (childOn b x y .version))) →
       RecordStands r (treeBelow (r .version) o below)
@@ -187,16 +188,16 @@ module _ (leafHash innerHash : Bytes → Bytes → Bytes) (st : Store) (ok : Loc
     unfolding Reached
     root-reached i r a e live n h =
         let u = ok .roots i r a e in
-        let f : r .version ≡ v = omega arith in
-        let g : n ≡ 256 = omega (arith, ap length e) in
-        subst₂ (λ x p. Within x p (treeAtVersion st v) []) (version-tree st (ok .versions) n v g ∙ sym (ap₂ (treeFrom n (st .slots)) f e)) (sym e) there
+        subst₂ (λ x p. Within x p (treeAtVersion st v) [])
+        (sym (root-tree st (ok .versions) n v r (omega (arith, ap length e)) (omega arith) e)) (sym e) there
 
-    kid-reached : (i j : ℕ) (r q : Record) (b : Side) → At st i r → At st j q → r .place ≡ longer b (q .place) → childVersion b (q .body) ≡ r .version →
-        Reached q → Reached r
+    kid-reached : (i j : ℕ) (r q : Record) (b : Side) → At st i r → At st j q →
+        r .place ≡ longer b (q .place) → childVersion b (q .body) ≡ r .version → Reached q → Reached r
     unfolding Reached
     kid-reached i j r q b a c e f up n h =
         within-trans
-        (subst₂ (λ p t. Within (treeFrom n (st .slots) (r .version) p) p t (q .place)) (sym e) (sym (record-tree st (ok .unique) (ok .versions) (suc n) j q c))
+        (subst₂ (λ p t. Within (treeFrom n (st .slots) (r .version) p) p t (q .place)) (sym e)
+        (sym (record-tree st (ok .unique) (ok .versions) (suc n) j q c))
         (body-kid b (q .body) (r .version) (q .version) (q .place) (kidsFrom (suc n) (st .slots) (q .place)) f (ok .versions i r a .0)))
         (up (suc n) (omega (arith, ap length e, length-longer b (q .place))))
 
@@ -212,10 +213,11 @@ module _ (leafHash innerHash : Bytes → Bytes → Bytes) (st : Store) (ok : Loc
 
     reached : (m i : ℕ) (r : Record) → At st i r → length (r .place) ≡ m → Living st v r → Reached r
     reached zero i r a h live = parent-reached 0 i r a live (λ j q c k l. absurd (omega arith)) (r .place) refl (last (r .place)) h
-    reached (suc m) i r a h live = parent-reached (suc m) i r a live (λ j q c k l. reached m j q c (omega arith) l) (r .place) refl (last (r .place)) h
+    reached (suc m) i r a h live =
+        parent-reached (suc m) i r a live (λ j q c k l. reached m j q c (omega arith) l) (r .place) refl (last (r .place)) h
 
     -- so a record is a node of the tree of v exactly if it lives at v
-    living-node : (n i : ℕ) (r : Record) → At st i r → length (r .place) + n ≡ 256 → Living st v r → NodeOf (r .version) (r .place) (treeAtVersion st v) []
+    living-node : (n i : ℕ) (r : Record) → At st i r → length (r .place) + n ≡ 256 → Living st v r → HasNode r (treeAtVersion st v) []
     unfolding Reached
     living-node n i r a h live =
         let e = record-tree st (ok .unique) (ok .versions) n i r a in
@@ -249,6 +251,8 @@ module _ (leafHash innerHash : Bytes → Bytes → Bytes) (st : Store) (ok : Loc
     stands = λ v k. root-stands v;
     exact = λ v k i r a. (
       λ nd. living-lives st r v (node-living v (k .0) i r a nd),
-      λ l. living-node v (k .0) (256 - length (r .place)) i r a (omega (arith, ok .formed i r a .short, limit (r .body))) (lives-living st r v (k .1) l),
+      λ l.
+          living-node v (k .0) (256 - length (r .place)) i r a (omega (arith, ok .formed i r a .short, limit (r .body)))
+          (lives-living st r v (k .1) l),
     );
   }

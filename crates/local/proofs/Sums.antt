@@ -51,7 +51,8 @@ pub sum-none : (a n : ℕ) → sumTo (λ v. 0) a n ≡ 0
 sum-none a zero = refl
 sum-none a (suc n) = omega (arith, sum-none a n)
 
-pub sum-swap : {A : Type 0} (g : ℕ → A → ℕ) (xs : List A) (a n : ℕ) → total (λ x. sumTo (λ v. g v x) a n) xs ≡ sumTo (λ v. total (g v) xs) a n
+pub sum-swap : {A : Type 0} (g : ℕ → A → ℕ) (xs : List A) (a n : ℕ) →
+    total (λ x. sumTo (λ v. g v x) a n) xs ≡ sumTo (λ v. total (g v) xs) a n
 sum-swap g xs a zero = total-none xs
 sum-swap g xs a (suc n) = total-plus (g (a + n)) (λ x. sumTo (λ v. g v x) a n) xs ∙ ap (total (g (a + n)) xs +_) (sum-swap g xs a n)
 
@@ -69,5 +70,6 @@ sum-gap f a zero w h k l e = absurd (omega arith)
 sum-gap f a (suc n) w h k l e = go (eqb w (a + n)) refl (λ m. sum-gap f a n w (λ v x y. h v x (omega arith)) k m e)
   where
     go : (t : Bool) → eqb w (a + n) ≡ t → (w < a + n → sumTo f a n < n) → f (a + n) + sumTo f a n < suc n
-    go true t ih = let z : f (a + n) ≡ 0 = ap f (sym (eqb-true w (a + n) t)) ∙ e in omega (arith, sum-ones f a n (λ v x y. h v x (omega arith)))
+    go true t ih =
+        let z : f (a + n) ≡ 0 = ap f (sym (eqb-true w (a + n) t)) ∙ e in omega (arith, sum-ones f a n (λ v x y. h v x (omega arith)))
     go false t ih = let z = eqb-false w (a + n) t in omega (arith, h (a + n) (omega arith) (omega arith), ih (omega arith))
