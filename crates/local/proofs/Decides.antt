@@ -1,11 +1,10 @@
 -- The test decides soundness: it passes exactly the sound stores. A record passes its tests exactly if it is right by itself; what a rule
 -- asks of a record's children, the test asks of a record's parents. Assumes nothing.
-use Prim.Native.Nat.{ℕ, _<_, _≤_, max}
+use Prim.Native.Nat.{ℕ, _<_, _≤_}
 use native.Mathlib.Omega.{arith}
 use mathlib.Core.Path.{_≡_, refl, ap, ap₂, sym, _∙_, subst}
 use mathlib.Core.Logic.{_⊎_, inl, inr, _↔_}
 use mathlib.Core.Bool.{Bool, true, false, cond, not, false≢true}
-use mathlib.Core.List.{[]}
 use mathlib.Core.Option.{Option, none, some}
 use lib.ListN.{length, getD}
 use Rattle.terms.specs.Bits.{Bytes, Side, left, right, Place, longer, begins}

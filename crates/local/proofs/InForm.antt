@@ -1,5 +1,4 @@
 -- The test of a record's form passes exactly if it is in form. Assumes nothing.
-use mathlib.Core.List.{[], _∷_}
 use lib.ListN.{length}
 use lib.Dec.{ltb}
 use Rattle.terms.specs.Bits.{Bytes, Byte, Whole32}

@@ -1,9 +1,9 @@
 -- The tests of one record: its life, what its parents say of it, and that they cover its life. Assumes nothing.
-use Prim.Native.Nat.{ℕ, suc, _≤_, max}
+use Prim.Native.Nat.{ℕ, suc, _≤_}
 use native.Mathlib.Omega.{arith}
 use mathlib.Core.Path.{_≡_, refl, subst₂}
 use mathlib.Core.Bool.{true, not, false≢true}
-use mathlib.Core.List.{[], _∷_}
+use mathlib.Core.List.{[]}
 use Rattle.terms.specs.Bits.{Bytes, Side}
 use Rattle.terms.specs.Records.{Child, Body, leafBody, innerBody, Record, Store}
 use Rattle.meaning.specs.Store.{childOn}

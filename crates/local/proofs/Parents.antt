@@ -1,7 +1,7 @@
 -- A record has a parent at each kept version of its life exactly if the lifetimes of its parents add up to its own. The parents at one
 -- place never live together: by induction on its length, since two that do would have one parent, and that names one version. They live
 -- within the life of their child. So if at some version there were none, they would add up to less. Assumes nothing.
-use Prim.Native.Nat.{ℕ, zero, suc, _+_, _-_, _<_, _≤_, max}
+use Prim.Native.Nat.{ℕ, zero, suc, _+_, _-_, _<_, _≤_}
 use native.Mathlib.Omega.{arith}
 use mathlib.Core.Path.{_≡_, refl, ap, sym, _∙_, subst}
 use mathlib.Core.Logic.{_↔_}

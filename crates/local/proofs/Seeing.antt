@@ -1,6 +1,6 @@
 -- In a sound store the records are right one by one. Each record lives at the first kept version of its life and at the last, so it is
 -- seen in the trees of both; what those trees say of its children holds from the first to the last. Assumes nothing.
-use Prim.Native.Nat.{ℕ, suc, _-_, _<_, _≤_, max}
+use Prim.Native.Nat.{ℕ, suc, _-_, _<_, _≤_}
 use native.Mathlib.Omega.{arith}
 use mathlib.Core.Path.{_≡_, refl, ap, sym, _∙_, subst, subst₂}
 use mathlib.Core.Logic.{_⊎_, inl, inr}

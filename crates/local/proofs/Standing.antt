@@ -4,7 +4,7 @@
 use Prim.Native.Nat.{ℕ, zero, suc, _+_, _-_, _≤_}
 use native.Mathlib.Omega.{arith}
 use mathlib.Core.Path.{_≡_, refl, ap, ap₂, sym, _∙_, subst, subst₂}
-use mathlib.Core.Logic.{_⊎_, inl, inr}
+use mathlib.Core.Logic.{inl, inr}
 use mathlib.Core.Bool.{true, false, not}
 use mathlib.Core.List.{[]}
 use lib.ListN.{length}
@@ -18,7 +18,7 @@ use Rattle.meaning.specs.Reading.{bodyHash}
 use Rattle.meaning.specs.Sound.{At, Found, Stands, NodeOf, onlyLeaf, Sound}
 use Rattle.meaning.specs.Local.{Local, Linked, missing, found, BodyFits, childVersion, LoneLeaf}
 use Rattle.meaning.proofs.Finding.{Within, there, go-on, Some, within-node, within-trans, Last, empty, one-more, last}
-use Rattle.local.proofs.Slots.{treeOn, RootCases, kidsFrom, no-version, kid-below, some-body, body-cases, root-cases, same-record, at-find, record-tree, version-tree, root-tree}
+use Rattle.local.proofs.Slots.{treeOn, RootCases, kidsFrom, no-version, kid-below, some-body, body-cases, root-cases, same-record, at-find, record-tree, root-tree}
 use Rattle.local.proofs.Lifetimes.{Living, living-lives, lives-living}
 
 -- the record is a node of the tree t that stands at p
