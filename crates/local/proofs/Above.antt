@@ -12,7 +12,7 @@ use Rattle.terms.specs.Bits.{Side, left, right, Place, longer}
 use Rattle.terms.proofs.Places.{length-longer, longer-inj}
 use Rattle.meaning.specs.Tree.{VTree, vnone, vleaf, vinner, topVersion, kid}
 use Rattle.meaning.specs.Sound.{NodeOf}
-use Rattle.meaning.proofs.Finding.{Within, there, go-on, Some, some-leaf, some-inner}
+use Rattle.meaning.proofs.Finding.{Within, there, go-kid, Some, some-leaf, some-inner}
 
 -- the subtree at a node
 pub record Subtree (w : ℕ) (q : Place) (t : VTree) (p : Place) : Type 0 where
@@ -23,7 +23,7 @@ pub record Subtree (w : ℕ) (q : Place) (t : VTree) (p : Place) : Type 0 where
 
 subtree-below : (b : Side) (w x : ℕ) (q p : Place) (l r : VTree) →
     Subtree w q (kid b (vinner x l r)) (longer b p) → Subtree w q (vinner x l r) p
-subtree-below b w x q p l r s = record { tree = s .tree; within = go-on b (s .within); here = s .here; version = s .version }
+subtree-below b w x q p l r s = record { tree = s .tree; within = go-kid b (s .within); here = s .here; version = s .version }
 
 pub subtree : (w : ℕ) (q : Place) (t : VTree) (p : Place) → NodeOf w q t p → Subtree w q t p
 subtree w q vnone p h = absurd h
@@ -36,12 +36,12 @@ subtree w q (vinner x l r) p (inr (inr h)) = subtree-below right w x q p l r (su
 
 within-length : {u : VTree} {q : Place} {t : VTree} {p : Place} → Within u q t p → length p ≤ length q
 within-length there = omega arith
-within-length (go-on b {p = p} w) = omega (arith, within-length w, length-longer b p)
+within-length (go-kid b {p = p} w) = omega (arith, within-length w, length-longer b p)
 
 -- what stands no deeper than the top is the top
 pub within-top : {u : VTree} {q : Place} {t : VTree} {p : Place} → Within u q t p → length q ≤ length p → (u ≡ t) × (q ≡ p)
 within-top there h = (refl, refl)
-within-top (go-on b {p = p} w) h = absurd (omega (arith, within-length w, length-longer b p))
+within-top (go-kid b {p = p} w) h = absurd (omega (arith, within-length w, length-longer b p))
 
 -- the node above u, which is its child on the side b
 pub record Above (u : VTree) (p : Place) (b : Side) (t : VTree) (s : Place) : Type 0 where
@@ -57,7 +57,7 @@ above-step : (u : VTree) (q : Place) (x : ℕ) (l r : VTree) (s : Place) (c : Si
     (t : Bool) → ltb (length (longer c s)) (length q) ≡ t → Above u p b (vinner x l r) s
 above-step u q x l r s c p b w e f true k =
     let a = f (ltb-true _ _ k) in
-    record { version = a .version; lefts = a .lefts; rights = a .rights; within = go-on c (a .within); child = a .child }
+    record { version = a .version; lefts = a .lefts; rights = a .rights; within = go-kid c (a .within); child = a .child }
 above-step u q x l r s c p b w e f false k =
     let m = within-top w (ltb-false _ _ k) in
     let n = longer-inj s p c b (sym (m .1) ∙ e) in
@@ -67,4 +67,4 @@ above-step u q x l r s c p b w e f false k =
 pub above : {u : VTree} {q : Place} {t : VTree} {s : Place} → Within u q t s → length s < length q →
     (p : Place) (b : Side) → q ≡ longer b p → Above u p b t s
 above there h p b e = absurd (omega arith)
-above {u} {q} (go-on c {w = x} {l = l} {r = r} {p = s} w) h p b e = above-step u q x l r s c p b w e (λ k. above w k p b e) _ refl
+above {u} {q} (go-kid c {w = x} {l = l} {r = r} {p = s} w) h p b e = above-step u q x l r s c p b w e (λ k. above w k p b e) _ refl

@@ -15,7 +15,7 @@ use Rattle.meaning.specs.Store.{treeAtVersion, childOf}
 use Rattle.meaning.specs.Reading.{bodyHash}
 use Rattle.meaning.specs.Sound.{At, Found, Stands, NodeOf, Kept, onlyLeaf, Sound}
 use Rattle.meaning.specs.Local.{Local, Linked, missing, found, BodyFits, endsBefore, childVersion, LoneLeaf}
-use Rattle.meaning.proofs.Finding.{Within, there, go-on, Some, some-leaf, some-inner, within-node, within-trans}
+use Rattle.meaning.proofs.Finding.{Within, there, go-kid, Some, some-leaf, some-inner, within-node, within-trans}
 use Rattle.local.specs.Test.{firstKept}
 use Rattle.local.proofs.Slots.{RootCases, kidsFrom, some-body, found-at, root-cases, same-record, record-tree, root-tree}
 use Rattle.local.proofs.Lifetimes.{Living, EndsKept, ParentAt, living-lives, lives-living, life-ends}
@@ -73,7 +73,7 @@ module _ (leafHash innerHash : Bytes → Bytes → Bytes) where
 
     within-stands : {u : VTree} {q : Place} {t : VTree} {p : Place} → Within u q t p → Standing p t → Standing q u
     within-stands there s = s
-    within-stands (go-on b {w = x} {l = l} {r = r} {p = p} w) s = within-stands w (stands-kid b p x l r s)
+    within-stands (go-kid b {w = x} {l = l} {r = r} {p = p} w) s = within-stands w (stands-kid b p x l r s)
 
     -- the record of a standing node
     record Holder (u : VTree) (q : Place) : Type 0 where
@@ -196,7 +196,7 @@ module _ (leafHash innerHash : Bytes → Bytes → Bytes) where
               Linked leafHash innerHash st r (longer c (r .place)) (childAt (kid c (vinner x l m))) (childAt (kid (not c) (vinner x l m)))
           kid-linked c =
               linked (longer c (r .place)) (kid c (vinner x l m)) (kid c (vinner y l′ m′)) (childAt (kid (not c) (vinner x l m)))
-              (within-trans (go-on c there) w) (within-trans (go-on c there) w′)
+              (within-trans (go-kid c there) w) (within-trans (go-kid c there) w′)
               (sym (kid-version c y l′ m′) ∙ ap (childVersion c) (sym e) ∙ kid-version c x l m)
               (λ k. sibling c x l m (r .place) b (kid c (vinner x l m)) refl k)
 

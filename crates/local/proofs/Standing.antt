@@ -17,7 +17,7 @@ use Rattle.meaning.specs.Store.{childOn, treeBelow, treeFrom, treeAtVersion, ch
 use Rattle.meaning.specs.Reading.{bodyHash}
 use Rattle.meaning.specs.Sound.{At, Found, Stands, NodeOf, onlyLeaf, Sound}
 use Rattle.meaning.specs.Local.{Local, Linked, missing, found, BodyFits, childVersion, LoneLeaf}
-use Rattle.meaning.proofs.Finding.{Within, there, go-on, Some, within-node, within-trans, Last, empty, one-more, last}
+use Rattle.meaning.proofs.Finding.{Within, there, go-kid, Some, within-node, within-trans, Last, empty, one-more, last}
 use Rattle.local.proofs.Slots.{treeOn, RootCases, kidsFrom, no-version, kid-below, some-body, body-cases, root-cases, same-record, at-find, record-tree, root-tree}
 use Rattle.local.proofs.Lifetimes.{Living, living-lives, lives-living}
 
@@ -51,7 +51,7 @@ body-kid : (b : Side) (o : Body) (w x : ℕ) (p : Place) (below : Side → ℕ �
     childVersion b o ≡ w → 1 ≤ w → Within (below b w) (longer b p) (treeBelow x o below) p
 body-kid b (leafBody k y) w x p below e h = absurd (omega arith)
 body-kid b (innerBody l r) w x p below e h =
-    go-on b (subst (λ t. Within (below b w) (longer b p) t (longer b p)) (ap (below b) (sym e) ∙ sym (kid-below b x l r below)) there)
+    go-kid b (subst (λ t. Within (below b w) (longer b p) t (longer b p)) (ap (below b) (sym e) ∙ sym (kid-below b x l r below)) there)
 
 module _ (leafHash innerHash : Bytes → Bytes → Bytes) (st : Store) where
   -- the child on a side is linked

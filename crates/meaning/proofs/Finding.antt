@@ -57,7 +57,7 @@ hits (spoiled x ∷ s) v p = push (spoiled x) s v p _ (λ r u. spoiled-used x r 
 -- u stands at q in the tree t that stands at p
 pub data Within (u : VTree) (q : Place) : VTree → Place → Type 0 where
   there : Within u q u q
-  go-on : (b : Side) {w : ℕ} {l r : VTree} {p : Place} → Within u q (kid b (vinner w l r)) (longer b p) → Within u q (vinner w l r) p
+  go-kid : (b : Side) {w : ℕ} {l r : VTree} {p : Place} → Within u q (kid b (vinner w l r)) (longer b p) → Within u q (vinner w l r) p
 
 -- a tree that is there
 pub data Some : VTree → Type 0 where
@@ -81,11 +81,11 @@ node-cases v w q p l r (inr (inr h)) = inr (right, h)
 
 pub within-node : {u : VTree} {q : Place} {t : VTree} {p : Place} → Some u → Within u q t p → NodeOf (topVersion u) q t p
 within-node {u} {q} s there = top-node u q s
-within-node {u} {q} s (go-on b {w = x} {l = l} {r = r} {p = p} w) = node-below b (topVersion u) x q p l r (within-node s w)
+within-node {u} {q} s (go-kid b {w = x} {l = l} {r = r} {p = p} w) = node-below b (topVersion u) x q p l r (within-node s w)
 
 pub within-trans : {a b : VTree} {x y : Place} {t : VTree} {p : Place} → Within a x b y → Within b y t p → Within a x t p
 within-trans w there = w
-within-trans w (go-on b v) = go-on b (within-trans w v)
+within-trans w (go-kid b v) = go-kid b (within-trans w v)
 
 -- a place is empty, or one bit longer than another
 pub data Last : Place → Type 0 where
