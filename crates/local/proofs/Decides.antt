@@ -16,7 +16,7 @@ use Rattle.meaning.specs.Local.{Local, Linked, missing, found, BodyFits, childV
 use Rattle.meaning.proofs.Finding.{isNode-eq, isNode-refl}
 use Rattle.local.specs.Test.{firstKept, isSame, holders, isFound, childTest, bodyTest, names, isParent, headTest, linkTest, recordTest, slotTest, slotsTest, formTest, localTest}
 use Rattle.local.proofs.Slots.{found-at, same-record, at-find}
-use Rattle.local.proofs.Lifetimes.{Lifetime}
+use Rattle.local.proofs.Lifetimes.{Lifetime, life-ends}
 use Rattle.local.proofs.Standing.{linked-on}
 use Rattle.local.proofs.LocalIsGlobal.{local-is-global}
 use Rattle.local.proofs.Scans.{every-at, at-every}
@@ -181,7 +181,9 @@ module _ (leafHash innerHash : Bytes → Bytes → Bytes) (st : Store) where
     unique = passed-unique formed passed;
     versions = λ i r a. (formed i r a .versioned .0, passed i r a .latest);
     lifetimes = λ i r a. passed i r a .life;
-    roots = λ i r a. passed i r a .covered .0;
+    roots = λ i r a e.
+        let alone = passed i r a .covered .0 e in
+        (omega (arith, life-ends st r (header .0) (passed i r a .latest) (passed i r a .life)), alone);
     bodies = λ i r a. passed-bodies formed passed i r a (r .body) refl (passed i r a .body);
     parents = named-is-summed st (passed-kin formed passed (header .0)) .1 (λ i r a. passed i r a .covered .1);
   }
@@ -226,7 +228,7 @@ module _ (leafHash innerHash : Bytes → Bytes → Bytes) (st : Store) where
       unique = ok .unique;
       versions = ok .versions;
       lifetimes = ok .lifetimes;
-      roots = ok .roots;
+      roots = λ i r a e. ok .roots i r a e .1;
       outlives = outlives (λ i r a. ok .versions i r a .0) local-links;
     }
 
@@ -237,7 +239,7 @@ module _ (leafHash innerHash : Bytes → Bytes → Bytes) (st : Store) where
       once = held-once i r a;
       body = bodies-found r (r .body) (ok .bodies i r a);
       links = local-links i r a;
-      covered = (ok .roots i r a, named-is-summed st local-kin .0 (ok .parents) i r a);
+      covered = (λ e. ok .roots i r a e .1, named-is-summed st local-kin .0 (ok .parents) i r a);
     }
 
   -- Of a store with a right size and header, whose records are in form, the slots pass exactly if it is sound.

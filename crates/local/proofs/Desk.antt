@@ -34,8 +34,8 @@ altered i f st = record { oldest = st .oldest; latest = st .latest; slots = set 
 abbrev with-body : Body → Record → Slot
 with-body o r = used (record { place = r .place; version = r .version; retired = r .retired; body = o })
 
-abbrev one-more : ℕ → Slot → Store → Store
-one-more i y st = record { oldest = st .oldest; latest = st .latest; slots = set (st .slots) i y }
+abbrev put : ℕ → Slot → Store → Store
+put i y st = record { oldest = st .oldest; latest = st .latest; slots = set (st .slots) i y }
 
 abbrev numbered : ℕ → ℕ → Store → Store
 numbered o l st = record { oldest = o; latest = l; slots = st .slots }
@@ -73,6 +73,32 @@ lonely = record {
   slots = leafOf (false ∷ []) 1 k0 ∷ innerOf [] 1 (child 1 (toyLeaf k0 k0)) (child 0 zeros) ∷ [];
 }
 
+-- a leaf whose key doesn't begin with its place
+abbrev misplaced : Store
+misplaced = record {
+  oldest = 0;
+  latest = 1;
+  slots = leafOf (false ∷ []) 1 k0 ∷ leafOf (true ∷ []) 1 k1 ∷ innerOf [] 1 (child 1 (toyLeaf k0 k0)) (child 1 (toyLeaf k1 k1)) ∷ [];
+}
+
+-- a leaf of version 2 below a node that lives at 1 too
+abbrev late : Store
+late = altered 3 (λ r. used (marked 2 r)) (record {
+  oldest = 0;
+  latest = 2;
+  slots =
+      leafOf (false ∷ false ∷ []) 2 k0
+      ∷ leafOf (false ∷ true ∷ []) 1 k1
+      ∷ innerOf (false ∷ []) 1 (child 2 (toyLeaf k0 k0)) (child 1 (toyLeaf k1 k1))
+      ∷ innerOf [] 1 (child 1 (toyInner (toyLeaf k0 k0) (toyLeaf k1 k1))) (child 0 zeros)
+      ∷ innerOf [] 2 (child 1 (toyInner (toyLeaf k0 k0) (toyLeaf k1 k1))) (child 0 zeros)
+      ∷ [];
+})
+
+-- a root record that is not retired and not of the latest version
+abbrev lingering : Store
+lingering = record { oldest = 0; latest = 2; slots = leafOf [] 1 k0 ∷ [] }
+
 abbrev good : List Store
 good =
     s₁ toyLeaf toyInner
@@ -89,21 +115,24 @@ good =
     ∷ numbered 0 top32 (formatted 3)
     ∷ []
 
--- In turn: a leaf that lives on after its parents, one that ends before its parent, a child gone, another value, another hash beside it,
--- a node twice, a root that lives on, a root gone, a lone leaf, a slot that is not in form, a version above latest, a root below oldest,
--- oldest above latest.
+-- In turn: a leaf that lives on after its parents, one that ends before its parent, one that begins after it, a child gone, another
+-- value, another hash beside it, a node twice, a root that lives on, one that does so alone, a root gone, a lone leaf, a leaf in a wrong
+-- place, a slot that is not in form, a version above latest, a root below oldest, oldest above latest.
 abbrev damaged : List Store
 damaged =
     altered 0 (λ r. used (marked 0 r)) M2
     ∷ altered 2 (λ r. used (marked 2 r)) M2
+    ∷ late
     ∷ altered 2 (λ r. free) M2
     ∷ altered 2 (with-body (leafBody k0 k1)) M2
     ∷ altered 8 (with-body (innerBody (child 1 k1) (child 2 k1))) M2
-    ∷ one-more 12 (getD (M2 .slots) 2 free) M2
+    ∷ put 12 (getD (M2 .slots) 2 free) M2
     ∷ altered 6 (λ r. used (marked 0 r)) M2
+    ∷ lingering
     ∷ altered 6 (λ r. free) M2
     ∷ lonely
-    ∷ one-more 15 (spoiled []) M2
+    ∷ misplaced
+    ∷ put 15 (spoiled []) M2
     ∷ numbered 0 1 M2
     ∷ numbered 2 2 M2
     ∷ numbered 3 2 M2
@@ -123,7 +152,8 @@ good-passes = (refl, (refl, (refl, (refl, (refl, (refl, (refl, (refl, (refl, (re
 damaged-fails : All Fails damaged
 unfolding computed endsBefore allOf isSame holders lifeTest childTest names keptLife isParent lifeAbove lifeCovered whole32Test
     childFormTest formTest headTest linkTest recordTest slotsTest localTest
-damaged-fails = (refl, (refl, (refl, (refl, (refl, (refl, (refl, (refl, (refl, (refl, (refl, (refl, (refl, tt)))))))))))))
+damaged-fails =
+    (refl, (refl, (refl, (refl, (refl, (refl, (refl, (refl, (refl, (refl, (refl, (refl, (refl, (refl, (refl, (refl, tt))))))))))))))))
 
 pub desk-stores-sound : All (Sound toyLeaf toyInner) good
 desk-stores-sound = all-map Passes (Sound toyLeaf toyInner) good (λ st h. test-decides-sound toyLeaf toyInner st .0 h) good-passes

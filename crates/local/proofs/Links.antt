@@ -11,7 +11,7 @@ use Rattle.meaning.specs.Reading.{bodyHash}
 use Rattle.meaning.specs.Local.{endsBefore, LoneLeaf}
 use Rattle.local.specs.Test.{total, byRecord, firstKept, names, loneLeaf, linkOn, linkTest, lifeTest, lifeCovered, keptLife, lifeAbove}
 use Rattle.local.proofs.Lifetimes.{Lifetime}
-use Rattle.local.proofs.Says.{Says, says, itself, equal, at-most, less, both, either, neither, asked, branch, same, same-place-says, on-sides, done, next}
+use Rattle.local.proofs.Says.{Says, says, itself, equal, at-most, less, either, neither, asked, branch, same, same-place-says, on-sides, done, next}
 use Rattle.local.proofs.Parents.{AddsUp}
 
 pub life-says : (st : Store) (r : Record) → Says (lifeTest st r) (Lifetime st r)
@@ -25,13 +25,13 @@ life-says st r =
 -- a root lives at its own version alone; the lifetimes of another record's parents add up to its own
 abbrev pub Covered : Store → Record → Type 0
 Covered st r =
-    (r .place ≡ [] → (st .oldest ≤ r .version) × (endsBefore st r ≡ suc (r .version))) × ((r .place ≡ [] → ⊥) → AddsUp st r)
+    (r .place ≡ [] → endsBefore st r ≡ suc (r .version)) × ((r .place ≡ [] → ⊥) → AddsUp st r)
 
 pub covered-says : (st : Store) (r : Record) → Says (lifeCovered st r) (Covered st r)
 unfolding lifeCovered
 covered-says st r =
     branch (same-place-says (r .place) [])
-    (both (at-most (st .oldest) (r .version)) (equal (endsBefore st r) (suc (r .version))))
+    (equal (endsBefore st r) (suc (r .version)))
     (at-most (keptLife st r) (total (byRecord 0 (lifeAbove st r)) (st .slots)))
 
 lone-says : (d : Child) (o : Body) → Says (loneLeaf d o) (LoneLeaf d o)

@@ -27,7 +27,7 @@ pub record Kin (st : Store) : Type 0 where
   pub unique : (i j : ℕ) (r q : Record) → At st i r → At st j q → r .version ≡ q .version → r .place ≡ q .place → i ≡ j
   pub versions : (i : ℕ) (r : Record) → At st i r → (1 ≤ r .version) × (r .version ≤ st .latest)
   pub lifetimes : (i : ℕ) (r : Record) → At st i r → Lifetime st r
-  pub roots : (i : ℕ) (r : Record) → At st i r → r .place ≡ [] → (st .oldest ≤ r .version) × (endsBefore st r ≡ suc (r .version))
+  pub roots : (i : ℕ) (r : Record) → At st i r → r .place ≡ [] → endsBefore st r ≡ suc (r .version)
   pub outlives : (i j : ℕ) (r q : Record) → At st i r → At st j q → isParent r q ≡ true →
       (r .version ≤ firstKept st q) × (endsBefore st q ≤ endsBefore st r)
 
