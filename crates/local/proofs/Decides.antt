@@ -20,7 +20,8 @@ use Rattle.local.proofs.Lifetimes.{Lifetime, life-ends}
 use Rattle.local.proofs.Standing.{linked-on}
 use Rattle.local.proofs.LocalIsGlobal.{local-is-global}
 use Rattle.local.proofs.Scans.{every-at, at-every}
-use Rattle.local.proofs.Records.{slot-elim, each-record, record-total, one-record, record-one, names-eq, eq-names, parent-names, names-inner}
+use Rattle.local.proofs.Records.{slot-elim, each-record, record-total, one-record, record-one}
+use Rattle.local.proofs.Naming.{names-eq, eq-names, parent-names, names-inner}
 use Rattle.local.proofs.Parents.{Kin, named-is-summed}
 use Rattle.local.proofs.Says.{Says, says, itself, equal, at-most, both, either, done, next}
 use Rattle.local.proofs.InForm.{form-says}

@@ -19,7 +19,8 @@ use Rattle.local.proofs.Slots.{same-slot}
 use Rattle.local.proofs.Lifetimes.{Living, ParentAt, Lifetime, life-ends}
 use Rattle.local.proofs.Scans.{total-le}
 use Rattle.local.proofs.Sums.{sumTo, inside, inside-is, is-inside, inside-one, sum-inside, sum-none, sum-swap, sum-full, sum-gap}
-use Rattle.local.proofs.Records.{slot-elim, record-total, total-record, record-one, names-eq, eq-names, names-parent, parent-names}
+use Rattle.local.proofs.Records.{slot-elim, record-total, total-record, record-one}
+use Rattle.local.proofs.Naming.{names-eq, eq-names, names-parent, parent-names}
 
 -- what is known of records and their parents before lifetimes are added up
 pub record Kin (st : Store) : Type 0 where
