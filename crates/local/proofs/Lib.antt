@@ -12,6 +12,6 @@ pub mod Records
 pub mod Naming
 pub mod Parents
 pub mod InForm
-pub mod Links
+pub mod Tests
 pub mod Decides
 pub mod DeskSound

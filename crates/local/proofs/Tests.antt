@@ -1,18 +1,25 @@
--- The tests of one record: its life, what its parents say of it, and that they cover its life. Assumes nothing.
+-- What the tests of one record say: that it stands once, its life and its children, what its parents say of it, and that they cover its
+-- life. Assumes nothing.
 use Prim.Native.Nat.{ℕ, suc, _≤_}
 use native.Mathlib.Omega.{arith}
 use mathlib.Core.Path.{_≡_, refl, subst₂}
-use mathlib.Core.Bool.{true, not, false≢true}
+use mathlib.Core.Logic.{_⊎_}
+use mathlib.Core.Bool.{Bool, true, false, cond, not, false≢true}
 use mathlib.Core.List.{[]}
-use Rattle.terms.specs.Bits.{Bytes, Side}
+use mathlib.Core.Option.{Option, none, some}
+use lib.ListN.{length}
+use Rattle.terms.specs.Bits.{Bytes, Side, left, right, Place, longer, begins}
 use Rattle.terms.specs.Records.{Child, Body, leafBody, innerBody, Record, Store}
-use Rattle.meaning.specs.Store.{childOn}
+use Rattle.terms.specs.Form.{top32}
+use Rattle.meaning.specs.Store.{childOn, find, isNode}
 use Rattle.meaning.specs.Reading.{bodyHash}
+use Rattle.meaning.specs.Sound.{mostSlots}
 use Rattle.meaning.specs.Local.{endsBefore, LoneLeaf}
-use Rattle.local.specs.Test.{total, byRecord, firstKept, names, loneLeaf, linkOn, linkTest, lifeTest, lifeCovered, keptLife, lifeAbove}
+use Rattle.meaning.proofs.Finding.{isNode-eq, isNode-refl}
+use Rattle.local.specs.Test.{total, byRecord, firstKept, names, loneLeaf, linkOn, linkTest, lifeTest, lifeCovered, keptLife, lifeAbove, isSame, isFound, childTest, bodyTest, headTest}
 use Rattle.local.proofs.Lifetimes.{Lifetime}
-use Rattle.local.proofs.Says.{Says, says, itself, equal, at-most, less, either, neither, asked, branch, same, same-place-says, on-sides, done, next}
 use Rattle.local.proofs.Parents.{AddsUp}
+use Rattle.local.proofs.Says.{Says, says, itself, equal, at-most, less, either, neither, asked, branch, same, same-place-says, on-sides, done, next, both}
 
 pub life-says : (st : Store) (r : Record) → Says (lifeTest st r) (Lifetime st r)
 unfolding lifeTest
@@ -33,6 +40,53 @@ covered-says st r =
     branch (same-place-says (r .place) [])
     (equal (endsBefore st r) (suc (r .version)))
     (at-most (keptLife st r) (total (byRecord 0 (lifeAbove st r)) (st .slots)))
+
+-- a record's node, counted
+pub node-counted : (r q : Record) → 1 ≤ isSame r q → (q .version ≡ r .version) × (q .place ≡ r .place)
+unfolding isSame
+node-counted r q h = go (isNode (r .version) (r .place) q) refl h
+  where
+    go : (t : Bool) → isNode (r .version) (r .place) q ≡ t → 1 ≤ cond t 1 0 → (q .version ≡ r .version) × (q .place ≡ r .place)
+    go true e k = isNode-eq (r .version) (r .place) q e
+    go false e k = absurd (omega arith)
+
+pub counted-node : (r q : Record) → q .version ≡ r .version → q .place ≡ r .place → isSame r q ≡ 1
+unfolding isSame
+counted-node r q e f = rw (← e, ← f, isNode-refl q)
+
+pub counted-once : (r q : Record) → isSame r q ≤ 1
+unfolding isSame
+counted-once r q = elim (isNode (r .version) (r .place) q) as (λ t. cond t 1 0 ≤ 1) [ true ↦ omega arith | false ↦ omega arith ]
+
+found-says : (o : Option Record) → Says (isFound o) ((r : Record) × (o ≡ some r))
+found-says none = record { passed = λ h. absurd (false≢true h); passes = λ h. let z : _≡_ {A = ℕ} 0 1 = cc (h .1) in absurd (omega arith) }
+found-says (some r) = record { passed = λ h. (r, refl); passes = λ h. refl }
+
+module _ (st : Store) where
+  -- a child is missing or found
+  abbrev pub ChildFound : Place → Child → Type 0
+  ChildFound p c = (c .version ≡ 0) ⊎ ((r : Record) × (find (c .version) p (st .slots) ≡ some r))
+
+  child-says : (p : Place) (c : Child) → Says (childTest st p c) (ChildFound p c)
+  unfolding childTest
+  child-says p c = either (equal (c .version) 0) (found-says (find (c .version) p (st .slots)))
+
+  -- a leaf's key begins with its place; the children of an inner record are missing or found
+  abbrev pub BodyFound : Place → Body → Type 0
+  BodyFound p (leafBody k x) = begins p k ≡ true
+  BodyFound p (innerBody l r) = ChildFound (longer left p) l × ChildFound (longer right p) r
+
+  pub body-says : (p : Place) (o : Body) → Says (bodyTest st p o) (BodyFound p o)
+  body-says p (leafBody k x) = itself (begins p k)
+  body-says p (innerBody l r) = both (child-says (longer left p) l) (child-says (longer right p) r)
+
+  pub head-says : Says (headTest st)
+      (((1 ≤ length (st .slots)) × (length (st .slots) ≤ mostSlots)) × ((st .oldest ≤ st .latest) × (st .latest ≤ top32)))
+  unfolding headTest
+  head-says =
+      says (next (at-most 1 (length (st .slots))) (next (at-most (length (st .slots)) mostSlots)
+      (next (at-most (st .oldest) (st .latest)) (next (at-most (st .latest) top32) done))) .all)
+      (λ h. ((h .0, h .1 .0), (h .1 .1 .0, h .1 .1 .1 .0))) (λ f. (f .0 .0, (f .0 .1, (f .1 .0, (f .1 .1, tt)))))
 
 lone-says : (d : Child) (o : Body) → Says (loneLeaf d o) (LoneLeaf d o)
 lone-says d (leafBody k x) = equal (d .version) 0
