@@ -1,0 +1,17 @@
+pub mod Desk
+pub mod Slots
+pub mod Lifetimes
+pub mod Standing
+pub mod Above
+pub mod Seeing
+pub mod LocalIsGlobal
+pub mod Says
+pub mod Scans
+pub mod Sums
+pub mod Records
+pub mod Naming
+pub mod Parents
+pub mod InForm
+pub mod Tests
+pub mod Decides
+pub mod DeskSound
