@@ -12,7 +12,7 @@ use Rattle.terms.proofs.Members.{In}
 use Rattle.meaning.specs.Tree.{Tree, none, leaf, inner, hash, VTree, vnone, vleaf, vinner, unversioned, grantsIn, topVersion}
 use Rattle.meaning.specs.Store.{childOf}
 use Rattle.meaning.specs.Sound.{NodeOf, Hashes32}
-use Rattle.meaning.proofs.Finding.{Within, there, go-left, go-right, Some, some-leaf, some-inner, within-node, within-trans}
+use Rattle.meaning.proofs.Finding.{Within, there, go-kid, Some, some-leaf, some-inner, within-node, within-trans}
 use Rattle.meaning.proofs.Shaped.{Shaped}
 use Rattle.histories.proofs.Nodes.{bodyOf, recordsAt, Origin, origin, origin-node}
 use Rattle.histories.proofs.Trees.{within-shaped}
@@ -54,8 +54,8 @@ module _ (leafHash innerHash : Bytes → Bytes → Bytes) (lh : Hashes32 leafHas
         let k = within-shaped w s in (omega (arith, prefix-length q (bits (g .key)) (k .0), length-bits (g .key), k .1 .0 .0), k .1)
     body-form (vinner v l r) q o w =
         let k = within-shaped w s in
-        let a : Within l (longer left q) t [] = within-trans (go-left there) w in
-        let b : Within r (longer right q) t [] = within-trans (go-right there) w in
+        let a : Within l (longer left q) t [] = within-trans (go-kid left there) w in
+        let b : Within r (longer right q) t [] = within-trans (go-kid right there) w in
         let present : topVersion l ≡ 0 → topVersion r ≡ 0 → ⊥ =
         λ e f. two-missing l r (top-number l _ a .1 e) (top-number r _ b .1 f) (k .1) in
         (k .0, (child-form l (longer left q) a, child-form r (longer right q) b, present))

@@ -17,7 +17,7 @@ use Rattle.terms.proofs.Members.{In, in-left, in-right, in-append, in-filter, f
 use Rattle.meaning.specs.Tree.{VTree, vnone, vleaf, vinner, topVersion, kid}
 use Rattle.meaning.specs.Store.{isNode, hasNode, childOf, recordAt, recordsBelow, recordsOf, newRecords}
 use Rattle.meaning.specs.Sound.{NodeOf}
-use Rattle.meaning.proofs.Finding.{Within, there, go-left, go-right, go-kid, Some, some-leaf, some-inner, within-node, isNode-eq}
+use Rattle.meaning.proofs.Finding.{Within, there, go-kid, Some, some-leaf, some-inner, within-node, isNode-eq}
 use Rattle.histories.proofs.Slots.{is-node, not-node}
 use Rattle.histories.proofs.Writing.{Not, Distinct, New}
 
@@ -32,8 +32,7 @@ sides-apart p q h k = false≢true (sym (prefix-longer left p q h .1) ∙ prefix
 
 within-prefix : {u : VTree} {q : Place} {t : VTree} {p : Place} → Within u q t p → prefix p q ≡ true
 within-prefix {q = q} there = prefix-self q
-within-prefix {q = q} (go-left {p = p} w) = prefix-longer left p q (within-prefix w) .0
-within-prefix {q = q} (go-right {p = p} w) = prefix-longer right p q (within-prefix w) .0
+within-prefix {q = q} (go-kid b {p = p} w) = prefix-longer b p q (within-prefix w) .0
 
 -- hasNode is a search by version and place
 

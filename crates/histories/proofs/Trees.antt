@@ -11,15 +11,14 @@ use Rattle.meaning.specs.Tree.{hash, VTree, vnone, vleaf, vinner, unversioned, 
 use Rattle.meaning.specs.Store.{find, rootOf, treeAtVersion, childOf}
 use Rattle.meaning.specs.Sound.{Kept, Found, NodeOf, Stands}
 use Rattle.meaning.specs.Reading.{bodyHash, rootHash}
-use Rattle.meaning.proofs.Finding.{Within, there, go-left, go-right}
-use Rattle.meaning.proofs.Shaped.{Shaped, two-grants-below}
+use Rattle.meaning.proofs.Finding.{Within, there, go-kid}
+use Rattle.meaning.proofs.Shaped.{Shaped, kid-shaped, two-grants-below}
 use Rattle.histories.proofs.Standing.{found-record, inner-short, root-some, root-none}
 use Rattle.histories.proofs.Whole.{Whole}
 
 pub within-shaped : {u : VTree} {q : Place} {t : VTree} {p : Place} → Within u q t p → Shaped p (unversioned t) → Shaped q (unversioned u)
 within-shaped there s = s
-within-shaped (go-left w) s = within-shaped w (s .2)
-within-shaped (go-right w) s = within-shaped w (s .3)
+within-shaped (go-kid b {w = v} {l = l} {r = r} {p = p} w) s = within-shaped w (kid-shaped b p (vinner v l r) s)
 
 module _ (leafHash innerHash : Bytes → Bytes → Bytes) (st : Store) (w : Whole leafHash innerHash st) where
   found-form : (v : ℕ) (p : Place) (b : Body) → Found st v p b → BodyForm b

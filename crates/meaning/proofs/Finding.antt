@@ -59,10 +59,6 @@ pub data Within (u : VTree) (q : Place) : VTree → Place → Type 0 where
   there : Within u q u q
   go-kid : (b : Side) {w : ℕ} {l r : VTree} {p : Place} → Within u q (kid b (vinner w l r)) (longer b p) → Within u q (vinner w l r) p
 
-pub go-kid : (b : Side) {u : VTree} {q : Place} {w : ℕ} {l r : VTree} {p : Place} → Within u q (kid b (vinner w l r)) (longer b p) → Within u q (vinner w l r) p
-go-kid false w = go-left w
-go-kid true w = go-right w
-
 -- a tree that is there
 pub data Some : VTree → Type 0 where
   some-leaf : {w : ℕ} {g : Grant} → Some (vleaf w g)
