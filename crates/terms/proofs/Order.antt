@@ -9,7 +9,7 @@ use mathlib.Core.List.{List, [], _∷_, _++_, append-assoc}
 use lib.ListN.{length, getD}
 use lib.Dec.{ltb, eqb}
 use borrow.Author.Tests.{ltb-true, ltb-false, eqb-true, eqb-false, lt-ltb, le-ltb, eq-eqb, ne-eqb}
-use Rattle.terms.specs.Bits.{Bytes, Byte, Side, Place, All, bits, byteBits, odd, prefix, before}
+use Rattle.terms.specs.Bits.{Bytes, Byte, Side, left, right, Place, longer, All, bits, byteBits, odd, prefix, before}
 use Rattle.terms.proofs.Tests.{is-false}
 
 -- the order of bit strings
@@ -115,6 +115,23 @@ lex-whole (true ∷ p) (false ∷ as′) (b ∷ bs) u w x y l = false≢true u
 lex-whole (false ∷ p) (false ∷ as′) (false ∷ bs) u w x y l = lex-whole p as′ bs u w (omega arith) (omega arith) l
 lex-whole (false ∷ p) (false ∷ as′) (true ∷ bs) u w x y l = false≢true w
 lex-whole (false ∷ p) (true ∷ as′) (b ∷ bs) u w x y l = false≢true u
+
+-- of two strings that begin with p, one that goes on with 0 comes before one that goes on with 1
+pub lex-sides : (p : Place) (as′ bs : List Bool) → prefix (longer left p) as′ ≡ true → prefix (longer right p) bs ≡ true → lex as′ bs ≡ true
+unfolding longer
+lex-sides [] [] bs h k = absurd (false≢true h)
+lex-sides [] (true ∷ as′) bs h k = absurd (false≢true h)
+lex-sides [] (false ∷ as′) [] h k = absurd (false≢true k)
+lex-sides [] (false ∷ as′) (true ∷ bs) h k = refl
+lex-sides [] (false ∷ as′) (false ∷ bs) h k = absurd (false≢true k)
+lex-sides (x ∷ p) [] bs h k = absurd (false≢true h)
+lex-sides (x ∷ p) (a ∷ as′) [] h k = absurd (false≢true k)
+lex-sides (true ∷ p) (true ∷ as′) (true ∷ bs) h k = lex-sides p as′ bs h k
+lex-sides (true ∷ p) (true ∷ as′) (false ∷ bs) h k = absurd (false≢true k)
+lex-sides (true ∷ p) (false ∷ as′) (b ∷ bs) h k = absurd (false≢true h)
+lex-sides (false ∷ p) (false ∷ as′) (false ∷ bs) h k = lex-sides p as′ bs h k
+lex-sides (false ∷ p) (false ∷ as′) (true ∷ bs) h k = absurd (false≢true k)
+lex-sides (false ∷ p) (true ∷ as′) (b ∷ bs) h k = absurd (false≢true h)
 
 -- the first byte decides, or the rest does
 Split : ℕ → ℕ → Bytes → Bytes → Type 0
