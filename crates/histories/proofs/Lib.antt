@@ -1,0 +1,5 @@
+pub mod Slots
+pub mod Writing
+pub mod Standing
+pub mod Whole
+pub mod Pruning
