@@ -225,6 +225,9 @@ pub others-not-own : (g h : Grant) (hs : List Grant) (asks : List Ask) → other
 others-not-own g h hs asks e i =
     nil≢cons (sym (others-filter (g .key) asks ∙ ap (filter (keyElse (g .key))) i ∙ ap (λ b. cond (not b) (g ∷ []) []) (bytes-same (g .key))) ∙ e)
 
+pub others-some : (k : Bytes) (h : Grant) (hs : List Grant) (asks : List Ask) → otherInserts k asks ≡ h ∷ hs → inserts asks ≡ [] → ⊥
+others-some k h hs asks e i = nil≢cons (sym (others-filter k asks ∙ ap (filter (keyElse k)) i) ∙ e)
+
 -- where the run asks for the key and inserts nothing else, its only insert, if any, is for the key
 pub own-alone : (k : Bytes) (b : Ask) (asks : List Ask) → Rising asks → ownAsk k asks ≡ some b → otherInserts k asks ≡ [] →
     (askKey b ≡ k) × (inserts asks ≡ inserts (b ∷ []))

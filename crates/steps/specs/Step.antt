@@ -106,18 +106,19 @@ abbrev pub stepChild : Step → Step
 stepChild node p t [] = outcome unchanged t
 stepChild node p t (a ∷ asks) = node p t (a ∷ asks)
 
-module _ (leafHash innerHash : Bytes → Bytes → Bytes) (new : ℕ) where
+module _ (leafHash innerHash : Bytes → Bytes → Bytes) where
   -- A child that was updated is placed.
   abbrev pub placesAt : Change → Place → VTree → List Record
   placesAt updated p t = recordAt leafHash innerHash p t
   placesAt deleted p t = []
   placesAt unchanged p t = []
 
+module _ (leafHash innerHash : Bytes → Bytes → Bytes) (new : ℕ) where
   -- A new inner node above two children, the left one placed before the right one.
   abbrev pub fork : Place → Outcome → Outcome → List Node → Outcome
   fork p a b ending =
       above updated (vinner new (a .node) (b .node)) a b
-      (placesAt (a .change) (longer left p) (a .node) ++ placesAt (b .change) (longer right p) (b .node))
+      (placesAt leafHash innerHash (a .change) (longer left p) (a .node) ++ placesAt leafHash innerHash (b .change) (longer right p) (b .node))
       ending
 
   abbrev pub growBy : Place → List Grant → (Side → Outcome) → Outcome
