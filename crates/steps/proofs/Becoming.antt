@@ -59,7 +59,7 @@ module _ (leafHash innerHash : Bytes → Bytes → Bytes) (new : ℕ) where
   older-at p (vleaf v g) o = let l = o v p (refl, refl) in rw (ne-eqb v new (omega arith))
   older-at p (vinner v l r) o = let l = o v p (inl (refl, refl)) in rw (ne-eqb v new (omega arith))
 
-  older-below : (p : Place) (t : VTree) → Older new p t → filter (isNew new) (recordsBelow leafHash innerHash p t) ≡ []
+  pub older-below : (p : Place) (t : VTree) → Older new p t → filter (isNew new) (recordsBelow leafHash innerHash p t) ≡ []
   older-below p vnone o = refl
   older-below p (vleaf v g) o = refl
   older-below p (vinner v l r) o =

@@ -4,4 +4,5 @@ pub mod Becoming
 pub mod Fitting
 pub mod Growing
 pub mod Leaf
+pub mod Inner
 pub mod Desk
