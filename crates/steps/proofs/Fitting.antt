@@ -68,13 +68,13 @@ batch-begun p [] gs h g = g
 batch-begun p (a ∷ asks) gs h g = batch-begun p asks (withAsk a gs) (h .1) (ask-begun p a gs (h .0) g)
 
 module _ (n : ℕ) (p : Place) (gs : List Grant) (asks : List Ask) (e : length p + n ≡ 256) (f : Fits p gs asks) where
-  fits-form : All GrantForm (withBatch asks gs)
+  pub fits-form : All GrantForm (withBatch asks gs)
   fits-form = batch-form asks gs (f .asks-form) (f .grants-form)
 
   fits-ascending : Ascending (withBatch asks gs)
   fits-ascending = ascending-batch asks gs (f .ascending)
 
-  fits-begun : All (Begun p) (withBatch asks gs)
+  pub fits-begun : All (Begun p) (withBatch asks gs)
   fits-begun = batch-begun p asks gs (f .asks-at) (f .begun)
 
   pub fits-radix : Radix n (length p) (withBatch asks gs)

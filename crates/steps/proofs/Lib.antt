@@ -5,4 +5,5 @@ pub mod Fitting
 pub mod Growing
 pub mod Leaf
 pub mod Inner
+pub mod Steps
 pub mod Desk
