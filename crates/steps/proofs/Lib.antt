@@ -6,4 +6,5 @@ pub mod Growing
 pub mod Leaf
 pub mod Inner
 pub mod Steps
+pub mod Root
 pub mod Desk

@@ -175,16 +175,18 @@ module _ (leafHash innerHash : Bytes → Bytes → Bytes) (new : ℕ) where
   stepNode zero p t asks = nodeBy zero (λ p v l r asks. outcome unchanged (vinner v l r)) p t asks
   stepNode (suc n) p t asks = nodeBy (suc n) (stepInner (stepChild (stepNode n))) p t asks
 
-  -- The root: the old one ends, and the new one, if any, has the new version and is placed last.
+  -- At the root: the old one ends, and the new one, if any, has the new version and is placed last.
+  abbrev pub atRoot : VTree → Outcome → Outcome
+  atRoot old o = record {
+    change = o .change;
+    node = newRoot new (o .node);
+    fresh = o .fresh ++ recordAt leafHash innerHash [] (newRoot new (o .node));
+    retired = o .retired ++ nodeAt [] old;
+  }
+
+  -- A batch on a whole tree.
   unfoldable pub stepRoot : VTree → List Ask → Outcome
-  stepRoot old batch =
-      let o = stepNode 256 [] old batch in
-      record {
-        change = o .change;
-        node = newRoot new (o .node);
-        fresh = o .fresh ++ recordAt leafHash innerHash [] (newRoot new (o .node));
-        retired = o .retired ++ nodeAt [] old;
-      }
+  stepRoot old batch = atRoot old (stepNode 256 [] old batch)
 
 -- A record's node is among those of a list.
 abbrev pub isAmong : Record → List Node → Bool
