@@ -7,4 +7,5 @@ pub mod Leaf
 pub mod Inner
 pub mod Steps
 pub mod Root
+pub mod Idle
 pub mod Desk
