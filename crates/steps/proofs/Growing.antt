@@ -93,9 +93,9 @@ module _ (leafHash innerHash : Bytes → Bytes → Bytes) (new : ℕ) where
     change-is = sym (changed-some (grants A ++ grants B) h);
     fresh-is = fork-fresh leafHash innerHash new p vnone vnone A B a b x y;
     retired-is = λ v q. (
-        λ k. absurd (both v q (simp append-nil at k)),
-        λ k. absurd (k .0),
-      );
+      λ k. absurd (both v q (simp append-nil at k)),
+      λ k. absurd (k .0),
+    );
   }
     where
       both : (v : ℕ) (q : Place) → Among v q (a .retired ++ b .retired) → ⊥
@@ -115,6 +115,7 @@ module _ (leafHash innerHash : Bytes → Bytes → Bytes) (new : ℕ) where
   -- growing gives the tree of what the run makes of the leaf that stays
   pub grow-gives : (n : ℕ) (p : Place) (stays : Option Grant) (asks : List Ask) → length p + n ≡ 256 → Fits p (staying stays) asks → Stays stays asks →
       Gives leafHash innerHash new p vnone (treeBy n (length p) (withBatch asks (staying stays))) (grow leafHash innerHash new n p stays asks)
+  unfolding grow
   grow-gives zero p stays asks e f u =
       let ws : List Grant = withBatch asks (staying stays) in
       grow-by p (toGrow stays asks) ws (λ b. outcome unchanged vnone) (λ b. none) (grows-alike stays asks (f .rising) u)

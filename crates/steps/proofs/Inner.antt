@@ -175,19 +175,28 @@ module _ (leafHash innerHash : Bytes → Bytes → Bytes) (new : ℕ) where
           let onRight = y .gives .retired-is w q in
           let new-top : NodeOf w q (vinner v l r) p → w ≡ new → ⊥ = λ n e. let o = old w q n in omega arith in (
             λ h. elim (five-cases w q (a .retired) (b .retired) el er own h) [
-              | inl k ↦ let m = onLeft .0 k in (inr (inl (m .0)), λ n. elim n [
-                | inl d ↦ new-top (inr (inl (m .0))) (sym (d .0))
-                | inr i ↦ elim i [ inl j ↦ m .1 j | inr j ↦ sides-apart w q l (b .node) p (m .0) j ]
-              ])
+              | inl k ↦ let m = onLeft .0 k in (
+                inr (inl (m .0)),
+                λ n. elim n [
+                  | inl d ↦ new-top (inr (inl (m .0))) (sym (d .0))
+                  | inr i ↦ elim i [ inl j ↦ m .1 j | inr j ↦ sides-apart w q l (b .node) p (m .0) j ]
+                ],
+              )
               | inr k ↦ elim k [
-                | inl i ↦ let m = onRight .0 i in (inr (inr (m .0)), λ n. elim n [
-                  | inl d ↦ new-top (inr (inr (m .0))) (sym (d .0))
-                  | inr j ↦ elim j [ inl j′ ↦ sides-apart w q (a .node) r p j′ (m .0) | inr j′ ↦ m .1 j′ ]
-                ])
+                | inl i ↦ let m = onRight .0 i in (
+                  inr (inr (m .0)),
+                  λ n. elim n [
+                    | inl d ↦ new-top (inr (inr (m .0))) (sym (d .0))
+                    | inr j ↦ elim j [ inl j′ ↦ sides-apart w q (a .node) r p j′ (m .0) | inr j′ ↦ m .1 j′ ]
+                  ],
+                )
                 | inr i ↦
-                  let n = at-node w q (vinner v l r) p i in (n .0, λ k′.
-                  let t = node-top w (vinner new (a .node) (b .node)) p (subst (λ u. NodeOf w u (vinner new (a .node) (b .node)) p) (sym (n .1)) k′) .1 in
-                  new-top (n .0) (sym t))
+                    let n = at-node w q (vinner v l r) p i in (
+                      n .0,
+                      λ k′.
+                          let t = node-top w (vinner new (a .node) (b .node)) p (subst (λ u. NodeOf w u (vinner new (a .node) (b .node)) p) (sym (n .1)) k′) .1 in
+                          new-top (n .0) (sym t),
+                    )
               ]
             ],
             λ n. elim (n .0) [
@@ -221,17 +230,17 @@ module _ (leafHash innerHash : Bytes → Bytes → Bytes) (new : ℕ) where
               (y .gives .fresh-is ∙ ap (λ u. filter (isNew new) (recordsBelow leafHash innerHash (longer right p) u)) br ∙ older-below leafHash innerHash new (longer right p) r (y .older))
               ∙ sym (older-below leafHash innerHash new p (vinner v l r) old);
           retired-is = λ w q. (
-              λ h. absurd (elim (five-cases w q (a .retired) (b .retired) [] [] [] h) [
-                | inl k ↦ let m = x .gives .retired-is w q .0 (among-left w q (a .retired) (endsAt (a .change) (longer left p) l) (simp append-nil at k)) in
+            λ h. absurd (elim (five-cases w q (a .retired) (b .retired) [] [] [] h) [
+              | inl k ↦ let m = x .gives .retired-is w q .0 (among-left w q (a .retired) (endsAt (a .change) (longer left p) l) (simp append-nil at k)) in
                   m .1 (subst (λ t. NodeOf w q t (longer left p)) (sym al) (m .0))
-                | inr k ↦ elim k [
-                  | inl i ↦ let m = y .gives .retired-is w q .0 (among-left w q (b .retired) (endsAt (b .change) (longer right p) r) (simp append-nil at i)) in
+              | inr k ↦ elim k [
+                | inl i ↦ let m = y .gives .retired-is w q .0 (among-left w q (b .retired) (endsAt (b .change) (longer right p) r) (simp append-nil at i)) in
                     m .1 (subst (λ t. NodeOf w q t (longer right p)) (sym br) (m .0))
-                  | inr i ↦ i
-                ]
-              ]),
-              λ h. absurd (h .1 (h .0)),
-            );
+                | inr i ↦ i
+              ]
+            ]),
+            λ h. absurd (h .1 (h .0)),
+          );
         })
 
     -- the step at an inner node

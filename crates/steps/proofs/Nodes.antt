@@ -44,7 +44,7 @@ node-top v (vinner w l r) p (inr (inr n)) = let d = node-deeper right v p r p n 
 pub sides-apart : (v : ℕ) (q : Place) (t u : VTree) (p : Place) → NodeOf v q t (longer left p) → NodeOf v q u (longer right p) → ⊥
 sides-apart v q t u p n m =
     false≢true (
-      sym (prefix-longer left p q (node-prefix v q t (longer left p) n) .1) ∙ prefix-longer right p q (node-prefix v q u (longer right p) m) .1
+    sym (prefix-longer left p q (node-prefix v q t (longer left p) n) .1) ∙ prefix-longer right p q (node-prefix v q u (longer right p) m) .1
     )
 
 -- lists put together

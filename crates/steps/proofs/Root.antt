@@ -16,11 +16,12 @@ use Rattle.terms.proofs.Lists.{filter-append, all-always}
 use Rattle.meaning.specs.Tree.{Tree, VTree, vnone, vleaf, vinner, unversioned, versioned, newRoot, treeOf, nextTree, withBatch, grantsIn}
 use Rattle.meaning.specs.Store.{placed, isNode, hasNode, onRecord, retireIn, retire, marked, recordAt, recordsBelow, recordsOf, newRecords, settled, treeAtVersion}
 use Rattle.meaning.specs.Sound.{NodeOf}
-use Rattle.meaning.specs.Calls.{ascending}
+use Rattle.meaning.specs.Calls.{ascending, publish, applyAs}
 use Rattle.meaning.proofs.Finding.{isNode-eq, isNode-refl}
 use Rattle.meaning.proofs.Versions.{same-test}
 use Rattle.meaning.proofs.Shaped.{Shaped}
-use Rattle.steps.specs.Step.{Change, updated, deleted, unchanged, Node, Outcome, nodeAt, endsAt, atRoot, stepNode, stepRoot, isAmong, markIn, mark, stepped}
+use Rattle.steps.specs.Step.{Change, updated, deleted, unchanged, Node, Outcome, nodeAt, endsAt, atRoot, stepNode, stepRoot}
+use Rattle.steps.specs.Apply.{isAmong, markIn, mark, stepped, applySteps}
 use Rattle.steps.specs.Given.{Among, Older, isNew, Gives}
 use Rattle.steps.proofs.Nodes.{node-top, node-deeper, among-left, among-right, among-append, at-node, five-cases, five-first, five-second, five-own}
 use Rattle.steps.proofs.Steps.{step-is-definition}
@@ -121,7 +122,7 @@ module _ (leafHash innerHash : Bytes → Bytes → Bytes) where
   below-nodes : (p : Place) (v : ℕ) (l r : VTree) →
       map nodeOf (recordsBelow leafHash innerHash p (vinner v l r))
       ≡ map nodeOf (recordsBelow leafHash innerHash (longer left p) l) ++ map nodeOf (recordsBelow leafHash innerHash (longer right p) r)
-        ++ (nodeAt (longer left p) l ++ nodeAt (longer right p) r)
+      ++ (nodeAt (longer left p) l ++ nodeAt (longer right p) r)
   below-nodes p v l r =
       let bl = recordsBelow leafHash innerHash (longer left p) l in
       let br = recordsBelow leafHash innerHash (longer right p) r in
@@ -193,13 +194,15 @@ module _ (leafHash innerHash : Bytes → Bytes → Bytes) where
     root-retired v q = rw (← root-node) (
       λ h. elim (among-append v q (o .retired) (nodeAt [] old) h) [
         | inl k ↦
-          let m = given .retired-is v q .0 (among-left v q (o .retired) (endsAt (o .change) [] old) k) in
-          (m .0, λ i. elim (root-nodes new v q (o .node) [] i) [ inl e ↦ let l = older v q (m .0) in omega arith | inr j ↦ m .1 j ])
+            let m = given .retired-is v q .0 (among-left v q (o .retired) (endsAt (o .change) [] old) k) in
+            (m .0, λ i. elim (root-nodes new v q (o .node) [] i) [ inl e ↦ let l = older v q (m .0) in omega arith | inr j ↦ m .1 j ])
         | inr k ↦
-          let m = at-node v q old [] k in
-          (m .0, λ i.
-          let l = older v q (m .0) in
-          let e = top-new new v (o .node) [] (subst (λ u. NodeOf v u (newRoot new (o .node)) []) (sym (m .1)) i) in omega arith)
+            let m = at-node v q old [] k in (
+              m .0,
+              λ i.
+                  let l = older v q (m .0) in
+                  let e = top-new new v (o .node) [] (subst (λ u. NodeOf v u (newRoot new (o .node)) []) (sym (m .1)) i) in omega arith,
+            )
       ],
       λ n. among-end (n .0) (elim (top-or-deeper v q old [] (n .0)) [
         | inl e ↦ inl e
@@ -283,3 +286,12 @@ module _ (leafHash innerHash : Bytes → Bytes → Bytes) where
       let old = treeAtVersion st (st .latest) in
       ap₂ (λ rs slots. record { oldest = st .oldest; latest = new; slots = placed rs slots })
       (step-places-new-records new old batch s o form up) (step-marks-what-retires new old batch s o form up (st .slots))
+
+  -- apply by steps is apply
+  pub apply-by-steps : (new : ℕ) (batch : List Ask) (st : Store) → Shaped [] (unversioned (treeAtVersion st (st .latest))) →
+      Older new [] (treeAtVersion st (st .latest)) → All AskForm batch → ascending batch ≡ true →
+      applySteps leafHash innerHash new batch st ≡ applyAs leafHash innerHash new batch st
+  unfolding applySteps applyAs publish
+  apply-by-steps new batch st s o form up =
+      let old = treeAtVersion st (st .latest) in
+      rw (step-makes-next-tree new old batch s o form up, step-places-new-records new old batch s o form up, steps-settle new batch st s o form up)

@@ -49,7 +49,7 @@ module _ (leafHash innerHash : Bytes → Bytes → Bytes) (new : ℕ) where
       side (length p) b gs ≡ grantsIn u → Shaped (longer b p) (unversioned u) → Older new (longer b p) u → Fits p gs asks →
       Shaped (longer b p) (treeBy n (suc (length p)) (side (length p) b (withBatch asks gs)))
       × Made leafHash innerHash new (longer b p) u (treeBy n (suc (length p)) (side (length p) b (withBatch asks gs)))
-        (stepChild (stepNode leafHash innerHash new n) (longer b p) u (run (length p) b asks))
+      (stepChild (stepNode leafHash innerHash new n) (longer b p) u (run (length p) b asks))
   side-made n step b p gs u asks e on s o f =
       let i = length p in
       let q = longer b p in
@@ -61,12 +61,12 @@ module _ (leafHash innerHash : Bytes → Bytes → Bytes) (new : ℕ) where
       let shaped = fits-shaped n q (grantsIn u) (run i b asks) k fit in (
         subst (Shaped q) is shaped,
         subst (λ t. Made leafHash innerHash new q u t (stepChild (stepNode leafHash innerHash new n) q u (run i b asks))) is
-          (made leafHash innerHash new n q u (after n q u (run i b asks)) (stepChild (stepNode leafHash innerHash new n) q u (run i b asks)) k s shaped o
-          (child-gives n step q u (run i b asks) k s o fit)),
+            (made leafHash innerHash new n q u (after n q u (run i b asks)) (stepChild (stepNode leafHash innerHash new n) q u (run i b asks)) k s shaped o
+            (child-gives n step q u (run i b asks) k s o fit)),
       )
 
   pub step-gives : (n : ℕ) → StepGives n
-  unfolding stepInner
+  unfolding stepInner stepNode
   step-gives zero p vnone asks e s o f = grow-gives leafHash innerHash new zero p none asks e f tt
   step-gives zero p (vleaf v g) asks e s o f = leaf-gives leafHash innerHash new p v g o zero asks e f
   step-gives zero p (vinner v l r) asks e s o f = absurd (omega arith)

@@ -1,3 +1,4 @@
 pub mod Step
 pub mod Given
+pub mod Apply
 pub mod Desk

@@ -1,15 +1,15 @@
 -- Document 01, 'The tree of a set of grants': the algorithm of source document 000, on trees. 'The step at a node, the step at an inner node
 -- and the step at a child call each other. Each child is handed its own run of the batch.' Assumes nothing.
 use Prim.Native.Nat.{ℕ, zero, suc}
-use mathlib.Core.Bool.{Bool, true, false, cond, not, _&&_, _||_, Bool·beq}
-use mathlib.Core.List.{List, [], _∷_, _++_, map}
+use mathlib.Core.Bool.{Bool, true, false, cond, not, _&&_, Bool·beq}
+use mathlib.Core.List.{List, [], _∷_, _++_}
 use mathlib.Core.Option.{Option, none, some}
 use lib.ListN.{length}
 use Rattle.terms.specs.Bits.{Bytes, Side, left, right, Place, longer, filter, bit, sameBytes}
-use Rattle.terms.specs.Records.{Grant, grant, Ask, insert, delete, askKey, Record, Slot, used, Store}
+use Rattle.terms.specs.Records.{Grant, grant, Ask, insert, delete, askKey, Record}
 use Rattle.meaning.specs.Tree.{VTree, vnone, vleaf, vinner, newRoot}
 use Rattle.meaning.specs.Runs.{run}
-use Rattle.meaning.specs.Store.{isNode, marked, onRecord, placed, recordAt, treeAtVersion}
+use Rattle.meaning.specs.Store.{recordAt}
 
 -- 'Its outcome is updated, deleted or unchanged.'
 pub data Change : Type 0 where
@@ -128,7 +128,7 @@ module _ (leafHash innerHash : Bytes → Bytes → Bytes) (new : ℕ) where
 
   -- 'A run of inserts with no node there grows a subtree; at a leaf, with the leaf if it stays.' The place is n bits short of a key; where
   -- n is 0, no two keys begin with it.
-  abbrev pub grow : ℕ → Place → Option Grant → List Ask → Outcome
+  unfoldable pub grow : ℕ → Place → Option Grant → List Ask → Outcome
   grow zero p stays asks = growBy p (toGrow stays asks) (λ b. outcome unchanged vnone)
   grow (suc n) p stays asks =
       growBy p (toGrow stays asks) (λ b. grow n (longer b p) (leafOn (length p) b stays) (run (length p) b asks))
@@ -171,7 +171,7 @@ module _ (leafHash innerHash : Bytes → Bytes → Bytes) (new : ℕ) where
   nodeBy n inner p (vinner v l r) asks = inner p v l r asks
 
   -- The step at a node, at a place that is n bits short of a key; no inner node stands at the place of a whole key.
-  abbrev pub stepNode : ℕ → Step
+  unfoldable pub stepNode : ℕ → Step
   stepNode zero p t asks = nodeBy zero (λ p v l r asks. outcome unchanged (vinner v l r)) p t asks
   stepNode (suc n) p t asks = nodeBy (suc n) (stepInner (stepChild (stepNode n))) p t asks
 
@@ -187,22 +187,3 @@ module _ (leafHash innerHash : Bytes → Bytes → Bytes) (new : ℕ) where
   -- A batch on a whole tree.
   unfoldable pub stepRoot : VTree → List Ask → Outcome
   stepRoot old batch = atRoot old (stepNode 256 [] old batch)
-
--- A record's node is among those of a list.
-abbrev pub isAmong : Record → List Node → Bool
-isAmong r [] = false
-isAmong r (x ∷ xs) = isNode (x .version) (x .place) r || isAmong r xs
-
-unfoldable pub markIn : ℕ → List Node → Record → Slot
-markIn new nodes r = used (cond (isAmong r nodes) (marked new r) r)
-
--- The nodes of a list marked retired since the new version.
-abbrev pub mark : ℕ → List Node → List Slot → List Slot
-mark new nodes s = map (onRecord (markIn new nodes)) s
-
-module _ (leafHash innerHash : Bytes → Bytes → Bytes) where
-  -- The store with version `new`, by the step at the root of the latest tree.
-  unfoldable pub stepped : ℕ → List Ask → Store → Store
-  stepped new batch st =
-      let o = stepRoot leafHash innerHash new (treeAtVersion st (st .latest)) batch in
-      record { oldest = st .oldest; latest = new; slots = placed (o .fresh) (mark new (o .retired) (st .slots)) }
