@@ -1,18 +1,19 @@
 -- A formatted store is sound: it has no record. A pruned store is sound with the trees it had: what is freed lives at no version that is
 -- still kept, so all that their trees name is found as before. Assumes nothing.
-use Prim.Native.Nat.{ℕ, zero, suc, _<_, _≤_}
+use Prim.Native.Nat.{ℕ, zero, suc, _≤_}
 use native.Mathlib.Omega.{arith}
-use mathlib.Core.Path.{_≡_, refl, ap, sym, _∙_, subst₂}
-use mathlib.Core.Logic.{_⊎_, inl, inr}
+use mathlib.Core.Path.{_≡_, ap, sym, subst₂}
+use mathlib.Core.Logic.{inl, inr}
 use mathlib.Core.List.{[]}
-use lib.ListN.{length, replicate, length-replicate, length-map}
+use lib.ListN.{replicate, length-replicate, length-map}
 use Rattle.terms.specs.Bits.{Bytes, Place}
 use Rattle.terms.specs.Records.{Record, Slot, free, used, spoiled, Store}
 use Rattle.terms.proofs.Members.{In}
 use Rattle.meaning.specs.Tree.{vnone}
-use Rattle.meaning.specs.Store.{formatted, find, treeAtVersion, onRecord, retiredBy, pruneRecord, pruned}
+use Rattle.meaning.specs.Store.{formatted, find, treeAtVersion, onRecord, pruneRecord, pruned}
 use Rattle.meaning.specs.Sound.{mostSlots, Kept, NodeOf}
-use Rattle.histories.proofs.Slots.{Has, find-has, none-find, Unique}
+use Rattle.meaning.proofs.Finding.{free-used}
+use Rattle.histories.proofs.Slots.{Has, free-spoiled, find-has, none-find, Unique}
 use Rattle.histories.proofs.Writing.{contents, has-pruned, spoiled-pruned, find-pruned, none-pruned, unique-pruned}
 use Rattle.histories.proofs.Standing.{Formed, root-none, Alike, stands-alike, carried}
 use Rattle.histories.proofs.Whole.{Lifetime, retired-later, not-retired, Whole}
@@ -25,10 +26,10 @@ free-only (suc n) x (inl e) = sym e
 free-only (suc n) x (inr h) = free-only n x h
 
 no-record : {A : Type 0} (n : ℕ) (r : Record) → Has r (replicate n free) → A
-no-record n r h = let e = free-only n (used r) h in let z : _≡_ {A = ℕ} 0 1 = cc in absurd (omega arith)
+no-record n r h = free-used r (sym (free-only n (used r) h))
 
 no-spoiled : (n : ℕ) (x : Bytes) → In (spoiled x) (replicate n free) → ⊥
-no-spoiled n x h = let e = free-only n (spoiled x) h in let z : _≡_ {A = ℕ} 0 1 = cc in omega arith
+no-spoiled n x h = free-spoiled x (sym (free-only n (spoiled x) h))
 
 unique-free : (n : ℕ) → Unique (replicate n free)
 unique-free zero = tt
@@ -38,7 +39,8 @@ pub formatted-tree : (n v : ℕ) → treeAtVersion (formatted n) v ≡ vnone
 unfolding formatted
 formatted-tree n v = root-none (formatted n) v (none-find v [] (replicate n free) (λ r h k. no-record n r h))
 
-pub formatted-whole : (leafHash innerHash : Bytes → Bytes → Bytes) (n : ℕ) → (1 ≤ n) × (n ≤ mostSlots) → Whole leafHash innerHash (formatted n)
+pub formatted-whole : (leafHash innerHash : Bytes → Bytes → Bytes) (n : ℕ) → (1 ≤ n) × (n ≤ mostSlots) →
+    Whole leafHash innerHash (formatted n)
 unfolding formatted
 formatted-whole leafHash innerHash n h = record {
   size = rw (length-replicate n free) h;
@@ -59,7 +61,8 @@ cut n st = record { oldest = n; latest = st .latest; slots = pruned n (st .slots
 
 module _ (leafHash innerHash : Bytes → Bytes → Bytes) (st : Store) (w : Whole leafHash innerHash st) (n : ℕ) (k : Kept st n) where
   -- a node of a tree that is still kept is not freed
-  stays : (v : ℕ) → Kept (cut n st) v → (x : ℕ) (p : Place) → NodeOf x p (treeAtVersion st v) [] → find x p (pruned n (st .slots)) ≡ find x p (st .slots)
+  stays : (v : ℕ) → Kept (cut n st) v → (x : ℕ) (p : Place) → NodeOf x p (treeAtVersion st v) [] →
+      find x p (pruned n (st .slots)) ≡ find x p (st .slots)
   unfolding cut
   stays v l x p node = find-pruned x p n (st .slots) (λ r e.
       let f = find-has x p (st .slots) r e in

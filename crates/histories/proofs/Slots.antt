@@ -3,27 +3,29 @@
 use Prim.Native.Nat.{ℕ, zero, suc, _<_}
 use native.Mathlib.Omega.{arith}
 use mathlib.Core.Path.{_≡_, refl, ap, sym, _∙_, subst₂}
-use mathlib.Core.Logic.{_⊎_, inl, inr}
-use mathlib.Core.Bool.{Bool, true, false, true≢false}
+use mathlib.Core.Bool.{true, false, true≢false}
 use mathlib.Core.List.{List, [], _∷_}
-use mathlib.Core.Option.{Option, none, some}
+use mathlib.Core.Option.{Option, none, some, Option·none-ne-some, Option·some-ne-none}
 use lib.ListN.{length, getD}
-use Rattle.terms.specs.Bits.{Place}
+use Rattle.terms.specs.Bits.{Bytes, Place}
 use Rattle.terms.specs.Records.{Record, Slot, free, used, spoiled}
 use Rattle.terms.proofs.Tests.{is-false}
 use Rattle.terms.proofs.Members.{In, getD-in, in-getD}
 use Rattle.meaning.specs.Store.{find, isNode}
-use Rattle.meaning.proofs.Finding.{Hit, miss, hit, hits, isNode-eq, isNode-refl, used-eq}
+use Rattle.meaning.proofs.Finding.{Hit, miss, hit, hits, isNode-eq, isNode-refl, free-used, spoiled-used, used-eq}
 
 -- a record stands in a slot
 abbrev pub Has : Record → List Slot → Type 0
 Has r s = In (used r) s
 
+pub free-spoiled : {A : Type 0} (x : Bytes) → free ≡ spoiled x → A
+free-spoiled x e = let z : _≡_ {A = ℕ} 0 1 = cc in absurd (omega arith)
+
 pub find-has : (v : ℕ) (p : Place) (s : List Slot) (r : Record) → find v p s ≡ some r → Has r s × (r .version ≡ v) × (r .place ≡ p)
 find-has v p s r e = go _ (hits s v p) e
   where
     go : (o : Option Record) → Hit s v p o → o ≡ some r → Has r s × (r .version ≡ v) × (r .place ≡ p)
-    go none (miss f) k = let z : _≡_ {A = ℕ} 0 1 = cc in absurd (omega arith)
+    go none (miss f) k = absurd (Option·none-ne-some r k)
     go (some q) (hit i q′ l g n) k =
         let m : q′ ≡ r = cc in
         let w = isNode-eq v p q′ n in
@@ -34,7 +36,7 @@ find-none v p s e r h = go _ (hits s v p) e
   where
     go : (o : Option Record) → Hit s v p o → o ≡ none → isNode v p r ≡ false
     go none (miss f) k = let m = in-getD s free (used r) h in f (m .0) r (m .1) (m .2)
-    go (some q) (hit i q′ l g n) k = let z : _≡_ {A = ℕ} 0 1 = cc in absurd (omega arith)
+    go (some q) (hit i q′ l g n) k = absurd (Option·some-ne-none q k)
 
 pub none-find : (v : ℕ) (p : Place) (s : List Slot) → ((r : Record) → Has r s → isNode v p r ≡ true → ⊥) → find v p s ≡ none
 none-find v p s f = go _ (hits s v p)
@@ -80,11 +82,11 @@ at-unique (spoiled x ∷ s) h = at-unique s (at-tail (spoiled x) s h)
 
 unique-head : (x : Slot) (s : List Slot) → Unique (x ∷ s) →
     (r q : Record) → x ≡ used r → Has q s → r .version ≡ q .version → r .place ≡ q .place → ⊥
-unique-head free s h r q e k f g = let z : _≡_ {A = ℕ} 0 1 = cc in omega arith
+unique-head free s h r q e k f g = free-used r e
 unique-head (used y) s h r q e k f g =
     let m : y ≡ r = used-eq y r e in
     true≢false (sym (is-node r q f g) ∙ find-none (r .version) (r .place) s (ap (λ u. find (u .version) (u .place) s) (sym m) ∙ h .0) q k)
-unique-head (spoiled x) s h r q e k f g = let z : _≡_ {A = ℕ} 0 1 = cc in omega arith
+unique-head (spoiled x) s h r q e k f g = spoiled-used x r e
 
 unique-tail : (x : Slot) (s : List Slot) → Unique (x ∷ s) → Unique s
 unique-tail free s h = h

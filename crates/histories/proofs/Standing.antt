@@ -6,9 +6,8 @@ use mathlib.Core.Path.{_≡_, refl, ap, ap₂, sym, _∙_, subst, subst₂}
 use mathlib.Core.Logic.{inl, inr}
 use mathlib.Core.Bool.{true, false}
 use mathlib.Core.List.{List, [], _∷_}
-use mathlib.Core.Option.{Option, none, some}
+use mathlib.Core.Option.{Option, none, some, Option·none-ne-some}
 use lib.ListN.{length}
-use lib.Dec.{eqb}
 use borrow.Author.Tests.{ne-eqb}
 use Rattle.terms.specs.Bits.{Bytes, Side, left, right, Place, longer}
 use Rattle.terms.specs.Records.{grant, Body, leafBody, innerBody, Record, Slot, Store}
@@ -26,7 +25,7 @@ abbrev pub Formed : List Slot → Type 0
 Formed s = (r : Record) → Has r s → RecordForm r
 
 contents-some : (o : Option Record) (r : Record) → contents o ≡ contents (some r) → (q : Record) × (o ≡ some q) × (q .body ≡ r .body)
-contents-some none r e = let z : _≡_ {A = ℕ} 0 1 = cc in absurd (omega arith)
+contents-some none r e = absurd (Option·none-ne-some (r .version, r .body) e)
 contents-some (some q) r e = let p : _≡_ {A = ℕ × Body} (q .version, q .body) (r .version, r .body) = cc in (q, refl, ap (λ x. x .1) p)
 
 -- a node of a standing tree's side is a node of the tree
@@ -46,7 +45,8 @@ below-top w v (innerBody c d) below p e = (inl (e, refl), e)
 abbrev onwards : Store → Side → ℕ → VTree
 onwards st b w = treeFrom 255 (st .slots) w (b ∷ [])
 
-pub root-some : (st : Store) (v : ℕ) (r : Record) → find v [] (st .slots) ≡ some r → NodeOf v [] (treeAtVersion st v) [] × (topVersion (treeAtVersion st v) ≡ v)
+pub root-some : (st : Store) (v : ℕ) (r : Record) → find v [] (st .slots) ≡ some r →
+    NodeOf v [] (treeAtVersion st v) [] × (topVersion (treeAtVersion st v) ≡ v)
 unfolding treeAtVersion rootOf
 root-some st v r e =
     subst (λ o. NodeOf v [] (treeFound o (onwards st)) [] × (topVersion (treeFound o (onwards st)) ≡ v)) (sym e)
@@ -66,7 +66,8 @@ read-found : (n : ℕ) (s : List Slot) (v : ℕ) (p : Place) (r : Record) → fi
 read-found n s v p r e h =
     rw (ne-eqb v 0 (λ z. omega arith), e) (ap (λ w. treeBelow w (r .body) (λ b u. treeFrom n s u (longer b p))) (find-has v p s r e .1))
 
-read-leaf : (n : ℕ) (s : List Slot) (v : ℕ) (p : Place) (r : Record) (k x : Bytes) → find v p s ≡ some r → 1 ≤ v → r .body ≡ leafBody k x →
+read-leaf : (n : ℕ) (s : List Slot) (v : ℕ) (p : Place) (r : Record) (k x : Bytes) → find v p s ≡ some r → 1 ≤ v →
+    r .body ≡ leafBody k x →
     treeFrom n s v p ≡ vleaf v (grant k x)
 read-leaf zero s v p r k x e h f =
     rw (ne-eqb v 0 (λ z. omega arith), e) (ap₂ (λ w c. treeBelow w c (λ b u. vnone)) (find-has v p s r e .1) f)
@@ -117,7 +118,8 @@ module _ (leafHash innerHash : Bytes → Bytes → Bytes) where
       ∙ ap₂ (vinner v) (reads st z n (longer left p) l (omega (arith, length-longer left p)) (s .2))
       (reads st z n (longer right p) r (omega (arith, length-longer right p)) (s .3))
 
-  stands-version : (st : Store) → Formed (st .slots) → (p : Place) (t : VTree) → Stands leafHash innerHash st p t → topVersion t ≡ 0 → t ≡ vnone
+  stands-version : (st : Store) → Formed (st .slots) → (p : Place) (t : VTree) → Stands leafHash innerHash st p t → topVersion t ≡ 0 →
+      t ≡ vnone
   stands-version st z p vnone s e = refl
   stands-version st z p (vleaf v g) s e = absurd (omega (arith, found-version st z v p _ (s .0)))
   stands-version st z p (vinner v l r) s e = absurd (omega (arith, found-version st z v p _ (s .0)))
@@ -135,7 +137,8 @@ module _ (leafHash innerHash : Bytes → Bytes → Bytes) where
   unfolding Found
   found-alike st st′ v p b e (r, f, g) = let q = contents-some _ r (e ∙ ap contents f) in (q .0, q .1, q .2 ∙ g)
 
-  pub stands-alike : (st st′ : Store) (p : Place) (t : VTree) → Alike st st′ t p → Stands leafHash innerHash st p t → Stands leafHash innerHash st′ p t
+  pub stands-alike : (st st′ : Store) (p : Place) (t : VTree) → Alike st st′ t p → Stands leafHash innerHash st p t →
+      Stands leafHash innerHash st′ p t
   unfolding Alike
   stands-alike st st′ p vnone a s = tt
   stands-alike st st′ p (vleaf v g) a s = (found-alike st st′ v p _ (a v p (refl, refl)) (s .0), s .1)
@@ -167,7 +170,8 @@ module _ (leafHash innerHash : Bytes → Bytes → Bytes) where
   node-found st w q p (vinner v l r) s (inr (inr n)) = node-found st w q (longer right p) r (s .3) n
 
   -- what stands at a child
-  pub kid-stands : (b : Side) (st : Store) (p : Place) (t : VTree) → Stands leafHash innerHash st p t → Stands leafHash innerHash st (longer b p) (kid b t)
+  pub kid-stands : (b : Side) (st : Store) (p : Place) (t : VTree) → Stands leafHash innerHash st p t →
+      Stands leafHash innerHash st (longer b p) (kid b t)
   kid-stands b st p vnone s = tt
   kid-stands b st p (vleaf v g) s = tt
   kid-stands false st p (vinner v l r) s = s .2

@@ -50,7 +50,8 @@ module _ (leafHash innerHash : Bytes → Bytes → Bytes) where
     pub versions : (r : Record) → Has r (st .slots) → (1 ≤ r .version) × (r .version ≤ st .latest)
     pub lifetimes : (r : Record) → Has r (st .slots) → Lifetime (st .oldest) (st .latest) r
     pub stands : (v : ℕ) → Kept st v → Stands leafHash innerHash st [] (treeAtVersion st v)
-    pub exact : (v : ℕ) → Kept st v → (r : Record) → Has r (st .slots) → NodeOf (r .version) (r .place) (treeAtVersion st v) [] ↔ Lives v r
+    pub exact : (v : ℕ) → Kept st v → (r : Record) → Has r (st .slots) →
+        NodeOf (r .version) (r .place) (treeAtVersion st v) [] ↔ Lives v r
 
   pub sound-whole : (st : Store) → Sound leafHash innerHash st → Whole st
   unfolding At

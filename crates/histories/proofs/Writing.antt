@@ -6,28 +6,29 @@ use mathlib.Core.Path.{_≡_, refl, ap, ap₂, sym, _∙_, subst}
 use mathlib.Core.Logic.{_⊎_, inl, inr}
 use mathlib.Core.Bool.{Bool, true, false, cond, not, _&&_, true≢false}
 use mathlib.Core.List.{List, [], _∷_, map}
-use mathlib.Core.Option.{Option, none, some}
-use lib.ListN.{length}
+use mathlib.Core.Option.{Option, none, some, Option·none-ne-some, Option·some-ne-none}
+use lib.ListN.{length, length-map}
 use Rattle.terms.specs.Bits.{Bytes, Place, All}
 use Rattle.terms.specs.Records.{Body, Record, Slot, free, used, spoiled}
 use Rattle.terms.proofs.Lists.{all-map}
 use Rattle.terms.proofs.Members.{In}
 use Rattle.meaning.specs.Store.{find, isNode, freeSlots, placed, marked, onRecord, hasNode, retireIn, retire, retiredBy, pruneRecord, pruned}
-use Rattle.meaning.proofs.Finding.{used-eq}
-use Rattle.histories.proofs.Slots.{Has, none-find, not-node, Unique}
+use Rattle.meaning.proofs.Finding.{free-used, spoiled-used, used-eq}
+use Rattle.histories.proofs.Slots.{Has, free-spoiled, none-find, not-node, Unique}
 
 -- records changed one by one
 
 pub has-changed : (f : Record → Slot) (r : Record) (s : List Slot) → Has r (map (onRecord f) s) → (q : Record) × Has q s × (f q ≡ used r)
 has-changed f r [] h = absurd h
-has-changed f r (free ∷ s) (inl e) = let z : _≡_ {A = ℕ} 0 1 = cc in absurd (omega arith)
+has-changed f r (free ∷ s) (inl e) = free-used r e
 has-changed f r (free ∷ s) (inr h) = let k = has-changed f r s h in (k .0, inr (k .1), k .2)
 has-changed f r (used q ∷ s) (inl e) = (q, inl refl, e)
 has-changed f r (used q ∷ s) (inr h) = let k = has-changed f r s h in (k .0, inr (k .1), k .2)
-has-changed f r (spoiled x ∷ s) (inl e) = let z : _≡_ {A = ℕ} 0 1 = cc in absurd (omega arith)
+has-changed f r (spoiled x ∷ s) (inl e) = spoiled-used x r e
 has-changed f r (spoiled x ∷ s) (inr h) = let k = has-changed f r s h in (k .0, inr (k .1), k .2)
 
-spoiled-changed : (f : Record → Slot) (x : Bytes) → ((q : Record) → f q ≡ spoiled x → ⊥) → (s : List Slot) → In (spoiled x) (map (onRecord f) s) → In (spoiled x) s
+spoiled-changed : (f : Record → Slot) (x : Bytes) → ((q : Record) → f q ≡ spoiled x → ⊥) → (s : List Slot) →
+    In (spoiled x) (map (onRecord f) s) → In (spoiled x) s
 spoiled-changed f x k [] h = absurd h
 spoiled-changed f x k (free ∷ s) (inl e) = inl e
 spoiled-changed f x k (free ∷ s) (inr h) = inr (spoiled-changed f x k s h)
@@ -45,25 +46,27 @@ contents (some r) = some (r .version, r .body)
 
 pub contents-none : (o : Option Record) → contents o ≡ none → o ≡ none
 contents-none none e = refl
-contents-none (some r) e = let z : _≡_ {A = ℕ} 0 1 = cc in absurd (omega arith)
+contents-none (some r) e = absurd (Option·some-ne-none (r .version, r .body) e)
 
 -- a record of the old tree alone is marked, any other stays
 abbrev pub turned : ℕ → List Record → List Record → Record → Record
 turned n old now r = cond (hasNode r old && not (hasNode r now)) (marked n r) r
 
-pub turned-node : (n : ℕ) (old now : List Record) (r : Record) → (turned n old now r .version ≡ r .version) × (turned n old now r .place ≡ r .place)
+pub turned-node : (n : ℕ) (old now : List Record) (r : Record) →
+    (turned n old now r .version ≡ r .version) × (turned n old now r .place ≡ r .place)
 unfolding marked
 turned-node n old now r =
     elim (hasNode r old && not (hasNode r now)) as (λ b. (cond b (marked n r) r .version ≡ r .version) × (cond b (marked n r) r .place ≡ r .place))
     [ true ↦ (refl, refl) | false ↦ (refl, refl) ]
 
-pub has-retire : (r : Record) (n : ℕ) (old now : List Record) (s : List Slot) → Has r (retire n old now s) → (q : Record) × Has q s × (turned n old now q ≡ r)
+pub has-retire : (r : Record) (n : ℕ) (old now : List Record) (s : List Slot) → Has r (retire n old now s) →
+    (q : Record) × Has q s × (turned n old now q ≡ r)
 unfolding retireIn
 has-retire r n old now s h = let k = has-changed (retireIn n old now) r s h in (k .0, k .1, used-eq _ _ (k .2))
 
 pub spoiled-retire : (x : Bytes) (n : ℕ) (old now : List Record) (s : List Slot) → In (spoiled x) (retire n old now s) → In (spoiled x) s
 unfolding retireIn
-spoiled-retire x n old now s h = spoiled-changed (retireIn n old now) x (λ q e. let z : _≡_ {A = ℕ} 0 1 = cc in omega arith) s h
+spoiled-retire x n old now s h = spoiled-changed (retireIn n old now) x (λ q e. spoiled-used x _ (sym e)) s h
 
 contents-turned : (b : Bool) (n v : ℕ) (p : Place) (r : Record) (x y : Option Record) → contents x ≡ contents y →
     contents (cond (isNode v p (cond b (marked n r) r)) (some (cond b (marked n r) r)) x) ≡ contents (cond (isNode v p r) (some r) y)
@@ -73,7 +76,8 @@ contents-turned true n v p r x y e =
 contents-turned false n v p r x y e =
     elim (isNode v p r) as (λ k. contents (cond k (some r) x) ≡ contents (cond k (some r) y)) [ true ↦ refl | false ↦ e ]
 
-pub find-retire : (n v : ℕ) (p : Place) (old now : List Record) (s : List Slot) → contents (find v p (retire n old now s)) ≡ contents (find v p s)
+pub find-retire : (n v : ℕ) (p : Place) (old now : List Record) (s : List Slot) →
+    contents (find v p (retire n old now s)) ≡ contents (find v p s)
 unfolding retireIn
 find-retire n v p old now [] = refl
 find-retire n v p old now (free ∷ s) = find-retire n v p old now s
@@ -122,7 +126,7 @@ spoiled-placed x rs s h = go (in-placed (spoiled x) rs s h)
   where
     go : (In (spoiled x) s ⊎ ((q : Record) × In q rs × (spoiled x ≡ used q))) → In (spoiled x) s
     go (inl k) = k
-    go (inr k) = let q = k .0 in let e : spoiled x ≡ used q = k .2 in let z : _≡_ {A = ℕ} 0 1 = cc in absurd (omega arith)
+    go (inr k) = spoiled-used x (k .0) (k .2)
 
 -- with room, all are placed, and as many slots fewer are free
 pub placed-has : (r : Record) (rs : List Record) (s : List Slot) → In r rs → length rs ≤ freeSlots s → Has r (placed rs s)
@@ -134,7 +138,7 @@ placed-has r (q ∷ rs) (free ∷ s) (inr h) l = inr (placed-has r rs s h (omega
 placed-has r rs (used y ∷ s) h l = inr (placed-has r rs s h l)
 placed-has r rs (spoiled y ∷ s) h l = inr (placed-has r rs s h l)
 
-pub free-placed : (rs : List Record) (s : List Slot) → length rs ≤ freeSlots s → freeSlots (placed rs s) + length rs ≡ freeSlots s
+free-placed : (rs : List Record) (s : List Slot) → length rs ≤ freeSlots s → freeSlots (placed rs s) + length rs ≡ freeSlots s
 free-placed [] [] l = refl
 free-placed (r ∷ rs) [] l = absurd (omega arith)
 free-placed [] (free ∷ s) l = omega arith
@@ -142,12 +146,22 @@ free-placed (r ∷ rs) (free ∷ s) l = omega (arith, free-placed rs s (omega ar
 free-placed rs (used y ∷ s) l = free-placed rs s l
 free-placed rs (spoiled y ∷ s) l = free-placed rs s l
 
-pub length-placed : (rs : List Record) (s : List Slot) → length (placed rs s) ≡ length s
+length-placed : (rs : List Record) (s : List Slot) → length (placed rs s) ≡ length s
 length-placed rs [] = refl
 length-placed [] (free ∷ s) = refl
 length-placed (r ∷ rs) (free ∷ s) = ap suc (length-placed rs s)
 length-placed rs (used y ∷ s) = ap suc (length-placed rs s)
 length-placed rs (spoiled y ∷ s) = ap suc (length-placed rs s)
+
+-- placing after retiring
+pub free-written : (rs : List Record) (n : ℕ) (old now : List Record) (s : List Slot) → length rs ≤ freeSlots s →
+    freeSlots s ≡ freeSlots (placed rs (retire n old now s)) + length rs
+free-written rs n old now s l =
+    let e = free-retire n old now s in omega (arith, e, free-placed rs (retire n old now s) (omega (arith, e)))
+
+pub length-written : (rs : List Record) (n : ℕ) (old now : List Record) (s : List Slot) →
+    length (placed rs (retire n old now s)) ≡ length s
+length-written rs n old now s = length-placed rs (retire n old now s) ∙ length-map s (onRecord (retireIn n old now))
 
 abbrev pub Not : ℕ → Place → Record → Type 0
 Not v p r = isNode v p r ≡ false
@@ -166,7 +180,8 @@ New new r = r .version ≡ new
 abbrev pub Older : ℕ → List Slot → Type 0
 Older new s = (q : Record) → Has q s → q .version < new
 
-pub find-older : (new v : ℕ) (p : Place) (rs : List Record) (s : List Slot) → v < new → All (New new) rs → find v p (placed rs s) ≡ find v p s
+pub find-older : (new v : ℕ) (p : Place) (rs : List Record) (s : List Slot) → v < new → All (New new) rs →
+    find v p (placed rs s) ≡ find v p s
 find-older new v p rs s l h = find-placed v p rs s (all-map (New new) (Not v p) rs (λ r e. not-node v p r (λ a b. omega arith)) h)
 
 -- no two of the new records share version and place
@@ -180,7 +195,8 @@ none-older new r s b e = none-find (r .version) (r .place) s (λ q k n. go q (b 
     go : (q : Record) → q .version < new → isNode (r .version) (r .place) q ≡ true → ⊥
     go q l n = true≢false (sym n ∙ not-node (r .version) (r .place) q (λ a c. omega arith))
 
-pub unique-placed : (new : ℕ) (rs : List Record) (s : List Slot) → Unique s → Older new s → All (New new) rs → Distinct rs → Unique (placed rs s)
+pub unique-placed : (new : ℕ) (rs : List Record) (s : List Slot) → Unique s → Older new s → All (New new) rs → Distinct rs →
+    Unique (placed rs s)
 unique-placed new rs [] h b n d = tt
 unique-placed new [] (free ∷ s) h b n d = h
 unique-placed new (r ∷ rs) (free ∷ s) h b n d = (
@@ -198,7 +214,7 @@ unfolding pruneRecord
 has-pruned r n s h = let k = has-changed (pruneRecord n) r s h in go (k .0) (k .1) (retiredBy n (k .0)) refl (k .2)
   where
     go : (q : Record) → Has q s → (b : Bool) → retiredBy n q ≡ b → cond b free (used q) ≡ used r → Has r s × (retiredBy n r ≡ false)
-    go q k true e f = let z : _≡_ {A = ℕ} 0 1 = cc in absurd (omega arith)
+    go q k true e f = free-used r f
     go q k false e f = let m = used-eq q r f in (subst (λ x. Has x s) m k, ap (retiredBy n) (sym m) ∙ e)
 
 pub spoiled-pruned : (x : Bytes) (n : ℕ) (s : List Slot) → In (spoiled x) (pruned n s) → In (spoiled x) s
@@ -206,11 +222,12 @@ unfolding pruneRecord
 spoiled-pruned x n s h = spoiled-changed (pruneRecord n) x (λ q e. go q (retiredBy n q) e) s h
   where
     go : (q : Record) (b : Bool) → cond b free (used q) ≡ spoiled x → ⊥
-    go q true e = let z : _≡_ {A = ℕ} 0 1 = cc in omega arith
-    go q false e = let z : _≡_ {A = ℕ} 0 1 = cc in omega arith
+    go q true e = free-spoiled x e
+    go q false e = spoiled-used x q (sym e)
 
 -- what is not freed is found as before
-pub find-pruned : (v : ℕ) (p : Place) (n : ℕ) (s : List Slot) → ((r : Record) → find v p s ≡ some r → retiredBy n r ≡ false) → find v p (pruned n s) ≡ find v p s
+pub find-pruned : (v : ℕ) (p : Place) (n : ℕ) (s : List Slot) → ((r : Record) → find v p s ≡ some r → retiredBy n r ≡ false) →
+    find v p (pruned n s) ≡ find v p s
 unfolding pruneRecord
 find-pruned v p n [] h = refl
 find-pruned v p n (free ∷ s) h = find-pruned v p n s h
@@ -228,7 +245,7 @@ find-pruned v p n (spoiled x ∷ s) h = find-pruned v p n s h
 
 -- what was not found is not found
 pub none-pruned : (v : ℕ) (p : Place) (n : ℕ) (s : List Slot) → find v p s ≡ none → find v p (pruned n s) ≡ none
-none-pruned v p n s e = find-pruned v p n s (λ r f. let z : _≡_ {A = ℕ} 0 1 = cc in absurd (omega arith)) ∙ e
+none-pruned v p n s e = find-pruned v p n s (λ r f. absurd (Option·none-ne-some r (sym e ∙ f))) ∙ e
 
 pub unique-pruned : (n : ℕ) (s : List Slot) → Unique s → Unique (pruned n s)
 unfolding pruneRecord

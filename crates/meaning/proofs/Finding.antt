@@ -13,7 +13,7 @@ use borrow.Author.Tests.{eqb-true, eq-eqb}
 use Rattle.terms.specs.Bits.{Bytes, Side, left, right, Place, longer, samePlace}
 use Rattle.terms.specs.Records.{Grant, Record, Slot, free, used, spoiled}
 use Rattle.terms.proofs.Tests.{and-left, and-right, same-place, place-same}
-use Rattle.meaning.specs.Tree.{VTree, vnone, vleaf, vinner, topVersion}
+use Rattle.meaning.specs.Tree.{VTree, vnone, vleaf, vinner, topVersion, kid}
 use Rattle.meaning.specs.Store.{find, isNode}
 use Rattle.meaning.specs.Sound.{NodeOf}
 
@@ -26,7 +26,7 @@ pub isNode-refl : (r : Record) → isNode (r .version) (r .place) r ≡ true
 unfolding isNode
 isNode-refl r = rw (eq-eqb (r .version) (r .version) refl, place-same (r .place))
 
--- what find finds stands in a slot, and is the node withAsk for
+-- what find finds stands in a slot, and is the node asked for
 pub data Hit (s : List Slot) (v : ℕ) (p : Place) : Option Record → Type 0 where
   miss : ((i : ℕ) (r : Record) → i < length s → getD s i free ≡ used r → isNode v p r ≡ false) → Hit s v p none
   hit : (i : ℕ) (r : Record) → i < length s → getD s i free ≡ used r → isNode v p r ≡ true → Hit s v p (some r)
@@ -35,10 +35,10 @@ push : (y : Slot) (s : List Slot) (v : ℕ) (p : Place) (o : Option Record) → 
 push y s v p none k (miss f) = miss (λ i. elim i [ zero ↦ λ r l e. k r e | suc j ↦ λ r l e. f j r (le-of-suc-le-suc l) e ])
 push y s v p (some q) k (hit i r l e n) = hit (suc i) r (omega arith) e n
 
-free-used : {A : Type 0} (r : Record) → free ≡ used r → A
+pub free-used : {A : Type 0} (r : Record) → free ≡ used r → A
 free-used r e = let z : _≡_ {A = ℕ} 0 1 = cc in absurd (omega arith)
 
-spoiled-used : {A : Type 0} (x : Bytes) (r : Record) → spoiled x ≡ used r → A
+pub spoiled-used : {A : Type 0} (x : Bytes) (r : Record) → spoiled x ≡ used r → A
 spoiled-used x r e = let z : _≡_ {A = ℕ} 0 1 = cc in absurd (omega arith)
 
 pub used-eq : (r q : Record) → used r ≡ used q → r ≡ q
@@ -59,6 +59,10 @@ pub data Within (u : VTree) (q : Place) : VTree → Place → Type 0 where
   there : Within u q u q
   go-left : {w : ℕ} {l r : VTree} {p : Place} → Within u q l (longer left p) → Within u q (vinner w l r) p
   go-right : {w : ℕ} {l r : VTree} {p : Place} → Within u q r (longer right p) → Within u q (vinner w l r) p
+
+pub go-kid : (b : Side) {u : VTree} {q : Place} {w : ℕ} {l r : VTree} {p : Place} → Within u q (kid b (vinner w l r)) (longer b p) → Within u q (vinner w l r) p
+go-kid false w = go-left w
+go-kid true w = go-right w
 
 -- a tree that is there
 pub data Some : VTree → Type 0 where

@@ -3,16 +3,17 @@
 use Prim.Native.Nat.{ℕ, zero, suc, _+_, _<_, _≤_}
 use native.Mathlib.Omega.{arith}
 use mathlib.Core.Path.{_≡_, refl, ap, ap₂, sym, _∙_, subst}
-use mathlib.Core.Bool.{Bool, true, false, cond, Bool·beq}
+use mathlib.Core.Bool.{Bool, true, false, cond, Bool·beq, true≢false}
 use mathlib.Core.List.{List, [], _∷_, _++_, append-nil}
-use lib.ListN.{length}
+use lib.ListN.{length, length-append}
 use Rattle.terms.specs.Bits.{Side, left, right, Place, longer, All, filter, bits, bit, begins}
 use Rattle.terms.specs.Records.{Grant}
 use Rattle.terms.specs.Form.{GrantForm}
 use Rattle.terms.proofs.Lists.{filter-all, filter-none, all-filter, all-map, all-map₂, all-append, all-always}
 use Rattle.terms.proofs.Places.{length-bits, length-longer, prefix-longer}
 use Rattle.terms.proofs.Order.{before-lex, lex-sides}
-use Rattle.meaning.specs.Tree.{Tree, none, leaf, inner, byCount, grantsAt, treeOf, grants, VTree, vnone, vleaf, vinner, unversioned, kid}
+use Rattle.meaning.specs.Tree.{Tree, none, leaf, inner, byCount, grantsAt, treeOf, grants, VTree, vnone, vleaf, vinner, unversioned, grantsIn, topVersion, kid}
+use Rattle.meaning.specs.Sound.{onlyLeaf}
 use Rattle.meaning.proofs.Sides.{goes, side, treeBy, treeBy-none, treeBy-one, Radix, Long, treeAt-by, grants-treeBy, Sorted, Above, Begun, sorted-radix, sorted-filter, begun-snoc, grants-treeOf}
 use Rattle.meaning.proofs.Runs.{side-append, Ascending, Ahead, ascending-append}
 
@@ -73,7 +74,8 @@ shaped-ascending p (inner l r) s =
     (shaped-form (longer left p) l (s .2)) (shaped-form (longer right p) r (s .3)))
 
 -- of grants that go on with b, all or none are on side c
-side-of : (p : Place) (b : Side) (gs : List Grant) → All (Begun (longer b p)) gs → (c : Side) → side (length p) c gs ≡ cond (Bool·beq c b) gs []
+side-of : (p : Place) (b : Side) (gs : List Grant) → All (Begun (longer b p)) gs → (c : Side) →
+    side (length p) c gs ≡ cond (Bool·beq c b) gs []
 unfolding side bit
 side-of p b gs h c = pick (Bool·beq c b) refl
   where
@@ -168,3 +170,23 @@ kid-shaped b p vnone s = tt
 kid-shaped b p (vleaf v g) s = tt
 kid-shaped false p (vinner v l r) s = s .2
 kid-shaped true p (vinner v l r) s = s .3
+
+-- two grants or more are below an inner node exactly if it has a child, and that not a lone leaf
+pub two-grants-below : (l r : VTree) (p q : Place) → (topVersion l ≡ 0 → topVersion r ≡ 0 → ⊥) → onlyLeaf l r ≡ false →
+    Shaped p (unversioned l) → Shaped q (unversioned r) → 1 < length (grantsIn l ++ grantsIn r)
+two-grants-below vnone vnone p q c h a b = absurd (c refl refl)
+two-grants-below vnone (vleaf v g) p q c h a b = absurd (true≢false h)
+two-grants-below vnone (vinner v l r) p q c h a b = b .1
+two-grants-below (vleaf v g) vnone p q c h a b = absurd (true≢false h)
+two-grants-below (vleaf v g) (vleaf w k) p q c h a b = omega arith
+two-grants-below (vleaf v g) (vinner w l r) p q c h a b = omega (arith, b .1)
+two-grants-below (vinner v l r) t p q c h a b = simp (length-append (grantsIn l ++ grantsIn r) (grantsIn t)) (omega (arith, a .1))
+
+pub no-lone-leaf : (l r : VTree) → 1 < length (grantsIn l ++ grantsIn r) → onlyLeaf l r ≡ false
+no-lone-leaf vnone vnone h = refl
+no-lone-leaf vnone (vleaf v g) h = absurd (omega arith)
+no-lone-leaf vnone (vinner v l r) h = refl
+no-lone-leaf (vleaf v g) vnone h = absurd (omega arith)
+no-lone-leaf (vleaf v g) (vleaf w k) h = refl
+no-lone-leaf (vleaf v g) (vinner w l r) h = refl
+no-lone-leaf (vinner v l r) t h = refl
