@@ -23,8 +23,7 @@ use Rattle.meaning.proofs.Versions.{sameGrants-refl, versioned-same}
 use Rattle.meaning.proofs.Shaped.{Shaped, shaped-treeBy, shaped-ascending}
 use Rattle.steps.specs.Step.{Change, unchanged, Node, Outcome, outcome, endsAt, stepNode, atRoot, stepRoot}
 use Rattle.steps.specs.Given.{Among, Older, changeBy, isNew, Idle, Gives}
-use Rattle.steps.proofs.Nodes.{among-left}
-use Rattle.steps.proofs.Becoming.{older-below}
+use Rattle.steps.proofs.Becoming.{gives-unchanged}
 use Rattle.steps.proofs.Steps.{step-gives, shaped-fits}
 use Rattle.steps.proofs.Root.{step-makes-next-tree}
 
@@ -84,22 +83,7 @@ pub idle-batch : (batch : List Ask) (gs : List Grant) → Ascending gs → All (
 idle-batch [] gs s h = refl
 idle-batch (a ∷ batch) gs s h = ap (withBatch batch) (idle-ask a gs s (h .0)) ∙ idle-batch batch gs s (h .1)
 
-no-nodes : (xs : List Node) → ((v : ℕ) (q : Place) → Among v q xs → ⊥) → xs ≡ []
-no-nodes [] f = refl
-no-nodes (x ∷ xs) f = absurd (f (x .version) (x .place) (inl (refl, refl)))
-
 module _ (leafHash innerHash : Bytes → Bytes → Bytes) (new : ℕ) where
-  -- where the same tree is given, nothing is new and nothing ends
-  same-tree : (p : Place) (t : VTree) (o : Outcome) → Older new p t → Gives leafHash innerHash new p t (unversioned t) o → o ≡ outcome unchanged t
-  same-tree p t o old g =
-      let node : o .node ≡ t = g .node-is ∙ versioned-same new t in
-      let change : o .change ≡ unchanged = g .change-is ∙ ap (λ b. changeBy b (grantsIn t)) (sameGrants-refl (grantsIn t)) in
-      let fresh : o .fresh ≡ [] = g .fresh-is ∙ ap (λ u. filter (isNew new) (recordsBelow leafHash innerHash p u)) node ∙ older-below leafHash innerHash new p t old in
-      let retired : o .retired ≡ [] =
-      no-nodes (o .retired) (λ v q h.
-      let m = g .retired-is v q .0 (among-left v q (o .retired) (endsAt (o .change) p t) h) in m .1 (subst (λ u. NodeOf v q u p) (sym node) (m .0))) in
-      λ j. record { change = change j; node = node j; fresh = fresh j; retired = retired j }
-
   -- a run that is no change leaves the node as without a run
   pub idle-run-is-unchanged : (n : ℕ) (p : Place) (t : VTree) (asks : List Ask) → length p + n ≡ 256 →
       Shaped p (unversioned t) → Older new p t → All AskForm asks → All (λ a. begins p (askKey a) ≡ true) asks → ascending asks ≡ true →
@@ -107,7 +91,7 @@ module _ (leafHash innerHash : Bytes → Bytes → Bytes) (new : ℕ) where
   idle-run-is-unchanged n p t asks e s o form at up idle =
       let same : treeBy n (length p) (withBatch asks (grantsIn t)) ≡ unversioned t =
       ap (treeBy n (length p)) (idle-batch asks (grantsIn t) (shaped-ascending p (unversioned t) s) idle) ∙ sym (shaped-treeBy n p (unversioned t) e s) in
-      same-tree p t (stepNode leafHash innerHash new n p t asks) o
+      gives-unchanged leafHash innerHash new p t (stepNode leafHash innerHash new n p t asks) o
       (subst (λ u. Gives leafHash innerHash new p t u (stepNode leafHash innerHash new n p t asks)) same
       (step-gives leafHash innerHash new n p t asks e s o (shaped-fits p (unversioned t) asks s form at up)))
 

@@ -13,16 +13,17 @@ use Rattle.terms.specs.Records.{Grant, grant, Ask, insert, delete}
 use Rattle.terms.proofs.Tests.{is-false, same-bytes, bytes-same}
 use Rattle.meaning.specs.Tree.{Tree, none, leaf, inner, grants, withBatch, VTree, vnone, vleaf, vinner, sameGrants, nodeVersion, versioned}
 use Rattle.meaning.specs.Sound.{NodeOf}
+use Rattle.meaning.proofs.Nodes.{node-top}
 use Rattle.meaning.proofs.Sides.{treeBy, treeBy-none, treeBy-one}
 use Rattle.meaning.proofs.Versions.{sameGrants-eq}
 use Rattle.meaning.proofs.Shaped.{Shaped}
 use Rattle.steps.specs.Step.{Change, updated, deleted, unchanged, Outcome, outcome, nodeAt, endsAt, inserts, ownAsk, otherInserts, grow, leafBy, stepLeaf}
 use Rattle.steps.specs.Given.{Among, Older, changeBy, changeOf, Gives}
 use Rattle.steps.proofs.Inserts.{Rising, Unasked, own-none, Amid, batch-of-nothing, batch-beside, batch-over, others-all, others-not-own, others-some, own-alone}
-use Rattle.steps.proofs.Nodes.{among-left, among-right, among-append, node-top}
+use Rattle.steps.proofs.Among.{among-left, among-right, among-append}
 use Rattle.steps.proofs.Becoming.{differing, Became, renewed, became, unchanged-gives}
 use Rattle.steps.proofs.Fitting.{Fits, fits-shaped, fits-grants}
-use Rattle.steps.proofs.Growing.{Stays, new-some, grow-gives}
+use Rattle.steps.proofs.Growing.{some-new, grow-gives}
 
 -- what stands amid nothing is alone; amid something it is not
 amid-none : (g : Grant) (ws : List Grant) → Amid g [] ws → ws ≡ g ∷ []
@@ -90,7 +91,7 @@ module _ (leafHash innerHash : Bytes → Bytes → Bytes) (new : ℕ) (p : Place
   unfolding nodeVersion
   split-versions none s d = refl
   split-versions (leaf h) s d = rw d
-  split-versions (inner l r) s d = rw (d, new-some new (grants l ++ grants r) (s .1))
+  split-versions (inner l r) s d = rw (d, some-new (grants l ++ grants r) (s .1))
 
   grown-changes : (now : List Grant) → (now ≡ [] → ⊥) → sameGrants (g ∷ []) now ≡ false → (changeOf [] now ≡ updated) × (changeOf (g ∷ []) now ≡ updated)
   grown-changes [] f d = absurd (f refl)

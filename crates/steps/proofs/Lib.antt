@@ -1,5 +1,5 @@
 pub mod Inserts
-pub mod Nodes
+pub mod Among
 pub mod Becoming
 pub mod Fitting
 pub mod Growing

@@ -17,13 +17,14 @@ use Rattle.meaning.specs.Tree.{Tree, VTree, vnone, vleaf, vinner, unversioned, 
 use Rattle.meaning.specs.Store.{placed, isNode, hasNode, onRecord, retireIn, retire, marked, recordAt, recordsBelow, recordsOf, newRecords, settled, treeAtVersion}
 use Rattle.meaning.specs.Sound.{NodeOf}
 use Rattle.meaning.specs.Calls.{ascending, publish, applyAs}
+use Rattle.meaning.proofs.Nodes.{node-top, top-or-deeper}
 use Rattle.meaning.proofs.Finding.{isNode-eq, isNode-refl}
 use Rattle.meaning.proofs.Versions.{same-test}
 use Rattle.meaning.proofs.Shaped.{Shaped}
 use Rattle.steps.specs.Step.{Change, updated, deleted, unchanged, Node, Outcome, nodeAt, endsAt, atRoot, stepNode, stepRoot}
 use Rattle.steps.specs.Apply.{isAmong, markIn, mark, stepped, applySteps}
 use Rattle.steps.specs.Given.{Among, Older, isNew, Gives}
-use Rattle.steps.proofs.Nodes.{node-top, node-deeper, among-left, among-right, among-append, at-node, five-cases, five-first, five-second, five-own}
+use Rattle.steps.proofs.Among.{among-left, among-right, among-append, at-node, ends-at, top-at, family-cases, family-left, family-right, family-own}
 use Rattle.steps.proofs.Steps.{step-is-definition}
 
 -- the nodes of records
@@ -89,28 +90,10 @@ deeper-root new v q (vleaf w g) p d n = let e = ap length (n .1) in absurd (omeg
 deeper-root new v q (vinner w l r) p d (inl n) = let e = ap length (n .1) in absurd (omega arith)
 deeper-root new v q (vinner w l r) p d (inr n) = inr n
 
--- a node stands at the top or deeper
-top-or-deeper : (v : ℕ) (q : Place) (t : VTree) (p : Place) → NodeOf v q t p → (p ≡ q) ⊎ (length p < length q)
-top-or-deeper v q vnone p n = absurd n
-top-or-deeper v q (vleaf w g) p n = inl (n .1)
-top-or-deeper v q (vinner w l r) p (inl n) = inl (n .1)
-top-or-deeper v q (vinner w l r) p (inr (inl n)) = inr (node-deeper left v q l p n)
-top-or-deeper v q (vinner w l r) p (inr (inr n)) = inr (node-deeper right v q r p n)
-
 top-new : (new v : ℕ) (t : VTree) (p : Place) → NodeOf v p (newRoot new t) p → v ≡ new
 top-new new v vnone p n = absurd n
 top-new new v (vleaf w g) p n = sym (n .0)
 top-new new v (vinner w l r) p n = sym (node-top v (vinner new l r) p n .1)
-
-top-at : (v : ℕ) (t : VTree) (p : Place) → NodeOf v p t p → Among v p (nodeAt p t)
-top-at v vnone p n = absurd n
-top-at v (vleaf w g) p n = inl n
-top-at v (vinner w l r) p n = inl (node-top v (vinner w l r) p n .1, refl)
-
-ends-at : (c : Change) (v : ℕ) (q p : Place) (t : VTree) → Among v q (endsAt c p t) → Among v q (nodeAt p t)
-ends-at updated v q p t h = h
-ends-at deleted v q p t h = h
-ends-at unchanged v q p t h = absurd h
 
 module _ (leafHash innerHash : Bytes → Bytes → Bytes) where
   at-nodes : (p : Place) (t : VTree) → map nodeOf (recordAt leafHash innerHash p t) ≡ nodeAt p t
@@ -147,13 +130,13 @@ module _ (leafHash innerHash : Bytes → Bytes → Bytes) where
       let onLeft = nodes-are v q (longer left p) l in
       let onRight = nodes-are v q (longer right p) r in
       rw (below-nodes p w l r) (
-        λ h. elim (five-cases v q bl br nl nr own h) [
+        λ h. elim (family-cases v q bl br nl nr own h) [
           | inl k ↦ inr (inl (onLeft .0 k))
           | inr k ↦ elim k [ inl i ↦ inr (inr (onRight .0 i)) | inr i ↦ at-node v q (vinner w l r) p i .0 ]
         ],
         λ n. elim n [
-          | inl d ↦ five-own v q bl br nl nr own (inl d)
-          | inr k ↦ elim k [ inl i ↦ five-first v q bl br nl nr own (onLeft .1 i) | inr i ↦ five-second v q bl br nl nr own (onRight .1 i) ]
+          | inl d ↦ family-own v q bl br nl nr own (inl d)
+          | inr k ↦ elim k [ inl i ↦ family-left v q bl br nl nr own (onLeft .1 i) | inr i ↦ family-right v q bl br nl nr own (onRight .1 i) ]
         ],
       )
 
@@ -214,7 +197,7 @@ module _ (leafHash innerHash : Bytes → Bytes → Bytes) where
         among-end n (inl e) = among-right v q (o .retired) (nodeAt [] old) (subst (λ u. Among v u (nodeAt [] old)) e (top-at v old [] (subst (λ u. NodeOf v u old []) (sym e) n)))
         among-end n (inr f) = elim (among-append v q (o .retired) (endsAt (o .change) [] old) (given .retired-is v q .1 (n, f))) [
           | inl k ↦ among-left v q (o .retired) (nodeAt [] old) k
-          | inr k ↦ among-right v q (o .retired) (nodeAt [] old) (ends-at (o .change) v q [] old k)
+          | inr k ↦ among-right v q (o .retired) (nodeAt [] old) (ends-at v q (o .change) [] old k)
         ]
 
     -- what is marked is what `retire` marks
