@@ -1,5 +1,5 @@
--- A run and grants that fit a place: keys of 32 bytes that begin with it, in order. What the run makes of the grants is then in order too, and
--- each side of both fits the child's place. Assumes nothing.
+-- A run and grants that fit a place: keys of 32 bytes that begin with it, in order. What the run makes of the grants is then in order too,
+-- and each side of both fits the child's place. Assumes nothing.
 use Prim.Native.Nat.{ℕ, zero, suc, _+_, _*_, _<_}
 use native.Mathlib.Omega.{arith}
 use mathlib.Core.Path.{_≡_, refl, ap, sym, _∙_}
@@ -34,12 +34,15 @@ key-form (insert k x) f = f .0
 key-form (delete k) f = f
 
 -- on a side
-asks-on : (b : Side) (p : Place) (asks : List Ask) → length p < 256 → All AskForm asks → All (AsksAt p) asks → All (AsksAt (longer b p)) (run (length p) b asks)
+asks-on : (b : Side) (p : Place) (asks : List Ask) → length p < 256 → All AskForm asks → All (AsksAt p) asks →
+    All (AsksAt (longer b p)) (run (length p) b asks)
 asks-on b p asks l f h =
-    all-map₂ (λ a. AskForm a × AsksAt p a) (λ a. asksFor (length p) b a ≡ true) (AsksAt (longer b p)) (run (length p) b asks)
+    let here : Ask → Type 0 = λ a. AskForm a × AsksAt p a in
+    let on : Ask → Bool = asksFor (length p) b in
+    all-map₂ here (λ a. on a ≡ true) (AsksAt (longer b p)) (run (length p) b asks)
     (λ a r e. rw (begins-longer b p (askKey a) (omega (arith, key-form a (r .0) .0)), r .1, e))
-    (all-filter (λ a. AskForm a × AsksAt p a) (asksFor (length p) b) asks (all-map₂ AskForm (AsksAt p) (λ a. AskForm a × AsksAt p a) asks (λ a x y. (x, y)) f h))
-    (filter-passed (asksFor (length p) b) asks)
+    (all-filter here on asks (all-map₂ AskForm (AsksAt p) here asks (λ a x y. (x, y)) f h))
+    (filter-passed on asks)
 
 side-form : (i : ℕ) (b : Side) (gs : List Grant) → All GrantForm gs → All GrantForm (side i b gs)
 unfolding side
@@ -61,27 +64,31 @@ ask-begun : (p : Place) (a : Ask) (gs : List Grant) → AsksAt p a → All (Begu
 unfolding smaller greater begins
 ask-begun p (insert k x) gs h g =
     all-append (Begun p) (smaller k gs) (grant k x ∷ greater k gs) (all-filter (Begun p) _ gs g) (h, all-filter (Begun p) _ gs g)
-ask-begun p (delete k) gs h g = all-append (Begun p) (smaller k gs) (greater k gs) (all-filter (Begun p) _ gs g) (all-filter (Begun p) _ gs g)
+ask-begun p (delete k) gs h g =
+    all-append (Begun p) (smaller k gs) (greater k gs) (all-filter (Begun p) _ gs g) (all-filter (Begun p) _ gs g)
 
 batch-begun : (p : Place) (asks : List Ask) (gs : List Grant) → All (AsksAt p) asks → All (Begun p) gs → All (Begun p) (withBatch asks gs)
 batch-begun p [] gs h g = g
 batch-begun p (a ∷ asks) gs h g = batch-begun p asks (withAsk a gs) (h .1) (ask-begun p a gs (h .0) g)
 
 module _ (n : ℕ) (p : Place) (gs : List Grant) (asks : List Ask) (e : length p + n ≡ 256) (f : Fits p gs asks) where
-  pub fits-form : All GrantForm (withBatch asks gs)
+  abbrev after : List Grant
+  after = withBatch asks gs
+
+  pub fits-form : All GrantForm after
   fits-form = batch-form asks gs (f .asks-form) (f .grants-form)
 
-  fits-ascending : Ascending (withBatch asks gs)
+  fits-ascending : Ascending after
   fits-ascending = ascending-batch asks gs (f .ascending)
 
-  pub fits-begun : All (Begun p) (withBatch asks gs)
+  pub fits-begun : All (Begun p) after
   fits-begun = batch-begun p asks gs (f .asks-at) (f .begun)
 
-  pub fits-radix : Radix n (length p) (withBatch asks gs)
-  fits-radix = sorted-radix n p (withBatch asks gs) e (ascending-sorted (withBatch asks gs) fits-form fits-ascending) (long-form (withBatch asks gs) fits-form) fits-begun
+  pub fits-radix : Radix n (length p) after
+  fits-radix = sorted-radix n p after e (ascending-sorted after fits-form fits-ascending) (long-form after fits-form) fits-begun
 
-  pub fits-shaped : Shaped p (treeBy n (length p) (withBatch asks gs))
-  fits-shaped = ascending-shaped n p (withBatch asks gs) e fits-ascending fits-form fits-begun
+  pub fits-shaped : Shaped p (treeBy n (length p) after)
+  fits-shaped = ascending-shaped n p after e fits-ascending fits-form fits-begun
 
-  pub fits-grants : grants (treeBy n (length p) (withBatch asks gs)) ≡ withBatch asks gs
-  fits-grants = grants-treeBy n (length p) (withBatch asks gs) fits-radix
+  pub fits-grants : grants (treeBy n (length p) after) ≡ after
+  fits-grants = grants-treeBy n (length p) after fits-radix

@@ -1,5 +1,5 @@
--- What a run makes of no grant and of one: keys ascend, so each insert comes after those before it; a grant whose key is asked for gives way,
--- any other stands amid the inserts. Assumes nothing.
+-- What a run makes of no grant and of one: keys ascend, so each insert comes after those before it; a grant whose key is asked for gives
+-- way, any other stands amid the inserts. Assumes nothing.
 use mathlib.Core.Path.{_≡_, refl, ap, sym, _∙_}
 use mathlib.Core.Logic.{_⊎_, inl, inr}
 use mathlib.Core.Bool.{Bool, true, false, cond, not, _&&_, true≢false, false≢true}
@@ -76,7 +76,8 @@ under-later : (a : Ask) (asks : List Ask) → All (Later a) asks → All (Under 
 under-later (insert k x) asks l = all-map (Later (insert k x)) (Under (grant k x ∷ [])) asks (λ b h. (h, tt)) l
 under-later (delete k) asks l = all-always (Under []) asks (λ b. tt)
 
-first-ask : (a : Ask) (asks : List Ask) (gs : List Grant) → All (Later a) asks → withBatch asks (inserts (a ∷ []) ++ gs) ≡ inserts (a ∷ []) ++ withBatch asks gs
+first-ask : (a : Ask) (asks : List Ask) (gs : List Grant) → All (Later a) asks →
+    withBatch asks (inserts (a ∷ []) ++ gs) ≡ inserts (a ∷ []) ++ withBatch asks gs
 first-ask a asks gs l = batch-after asks (inserts (a ∷ [])) gs (under-later a asks l)
 
 -- a run with no grants there makes its inserts
@@ -140,9 +141,15 @@ pub own-none : (k : Bytes) (asks : List Ask) → ownAsk k asks ≡ none → Unas
 own-none k [] h = tt
 own-none k (a ∷ asks) h = go (sameBytes (askKey a) k) refl h (λ i. own-none k asks i)
   where
-    go : (b : Bool) → sameBytes (askKey a) k ≡ b → cond b (some a) (ownAsk k asks) ≡ none → (ownAsk k asks ≡ none → Unasked k asks) → Unasked k (a ∷ asks)
+    go : (b : Bool) → sameBytes (askKey a) k ≡ b → cond b (some a) (ownAsk k asks) ≡ none →
+        (ownAsk k asks ≡ none → Unasked k asks) → Unasked k (a ∷ asks)
     go true e i f = absurd (let z : _≡_ {A = Bool} true false = cc in true≢false z)
     go false e i f = (e, f i)
+
+-- a key before that of the first ask is before all keys of the run
+beyond : (a : Ask) (asks : List Ask) (k : Bytes) → before k (askKey a) ≡ true → All (Later a) asks →
+    All (λ b. before k (askKey b) ≡ true) (a ∷ asks)
+beyond a asks k l s = (l, all-map (Later a) _ asks (λ b h. before-trans k (askKey a) (askKey b) l h) s)
 
 -- hs with g put amid them
 pub record Amid (g : Grant) (hs ws : List Grant) : Type 0 where
@@ -156,7 +163,8 @@ pub batch-beside : (g : Grant) (asks : List Ask) → Rising asks → Unasked (g 
 batch-beside g [] s u = record { front = []; rest = []; others = refl; whole = refl }
 batch-beside g (a ∷ asks) s u = go (compared (askKey a) (g .key)) (batch-beside g asks (s .1) (u .1))
   where
-    go : Compared (askKey a) (g .key) → Amid g (inserts asks) (withBatch asks (g ∷ [])) → Amid g (inserts (a ∷ asks)) (withBatch (a ∷ asks) (g ∷ []))
+    go : Compared (askKey a) (g .key) → Amid g (inserts asks) (withBatch asks (g ∷ [])) →
+        Amid g (inserts (a ∷ asks)) (withBatch (a ∷ asks) (g ∷ []))
     go (less l) r = record {
       front = inserts (a ∷ []) ++ r .front;
       rest = r .rest;
@@ -173,7 +181,7 @@ batch-beside g (a ∷ asks) s u = go (compared (askKey a) (g .key)) (batch-besid
       rest = inserts (a ∷ asks);
       others = refl;
       whole =
-          batch-after (a ∷ asks) (g ∷ []) [] ((l, tt), all-map (Later a) (Under (g ∷ [])) asks (λ b h. (before-trans (g .key) (askKey a) (askKey b) l h, tt)) (s .0))
+          batch-after (a ∷ asks) (g ∷ []) [] (all-map _ (Under (g ∷ [])) (a ∷ asks) (λ b h. (h, tt)) (beyond a asks (g .key) l (s .0)))
           ∙ ap (g ∷_) (batch-of-nothing (a ∷ asks) s);
     }
 
@@ -185,14 +193,16 @@ unasked-own k [] u = refl
 unasked-own k (a ∷ asks) u = rw (u .0) (unasked-own k asks (u .1))
 
 -- a grant whose key is asked for gives way
-pub batch-over : (g : Grant) (b : Ask) (asks : List Ask) → Rising asks → ownAsk (g .key) asks ≡ some b → withBatch asks (g ∷ []) ≡ withBatch asks []
+pub batch-over : (g : Grant) (b : Ask) (asks : List Ask) → Rising asks → ownAsk (g .key) asks ≡ some b →
+    withBatch asks (g ∷ []) ≡ withBatch asks []
 batch-over g b [] s o = none-some b o
 batch-over g b (a ∷ asks) s o = go (compared (askKey a) (g .key)) (λ i. batch-over g b asks (s .1) i)
   where
     go : Compared (askKey a) (g .key) → (ownAsk (g .key) asks ≡ some b → withBatch asks (g ∷ []) ≡ withBatch asks []) →
         withBatch (a ∷ asks) (g ∷ []) ≡ withBatch (a ∷ asks) []
     go (less l) f =
-        let i : ownAsk (g .key) asks ≡ some b = sym (ap (λ t. cond t (some a) (ownAsk (g .key) asks)) (less-differs (askKey a) (g .key) l)) ∙ o in
+        let i : ownAsk (g .key) asks ≡ some b =
+        sym (ap (λ t. cond t (some a) (ownAsk (g .key) asks)) (less-differs (askKey a) (g .key) l)) ∙ o in
         ap (withBatch asks) (ask-before a g l)
         ∙ first-ask a asks (g ∷ []) (s .0)
         ∙ ap (inserts (a ∷ []) ++_) (f i)
@@ -200,7 +210,8 @@ batch-over g b (a ∷ asks) s o = go (compared (askKey a) (g .key)) (λ i. batch
         ∙ ap (withBatch asks) (append-nil (inserts (a ∷ [])) ∙ sym (ask-nothing a))
     go (equal e) f = ap (withBatch asks) (ask-same a g e ∙ sym (ask-nothing a))
     go (more l) f =
-        let far : Unasked (g .key) (a ∷ asks) = (more-differs (g .key) (askKey a) l, all-map (Later a) _ asks (λ c h. more-differs (g .key) (askKey c) (before-trans (g .key) (askKey a) (askKey c) l h)) (s .0)) in
+        let far : Unasked (g .key) (a ∷ asks) =
+        all-map _ _ (a ∷ asks) (λ c h. more-differs (g .key) (askKey c) h) (beyond a asks (g .key) l (s .0)) in
         none-some b (sym (unasked-own (g .key) (a ∷ asks) far) ∙ o)
 
 -- the inserts for other keys are those of the inserts that have another key
@@ -209,12 +220,19 @@ keyElse k g = not (sameBytes (g .key) k)
 
 others-filter : (k : Bytes) (asks : List Ask) → otherInserts k asks ≡ filter (keyElse k) (inserts asks)
 others-filter k [] = refl
-others-filter k (insert l x ∷ asks) =
-    elim (sameBytes l k) as (λ b. inserts (cond (not b) (insert l x ∷ filter (asksElse k) asks) (filter (asksElse k) asks)) ≡ cond (not b) (grant l x ∷ filter (keyElse k) (inserts asks)) (filter (keyElse k) (inserts asks)))
-    [ true ↦ others-filter k asks | false ↦ ap (grant l x ∷_) (others-filter k asks) ]
-others-filter k (delete l ∷ asks) =
-    elim (sameBytes l k) as (λ b. inserts (cond (not b) (delete l ∷ filter (asksElse k) asks) (filter (asksElse k) asks)) ≡ filter (keyElse k) (inserts asks))
-    [ true ↦ others-filter k asks | false ↦ others-filter k asks ]
+others-filter k (insert l x ∷ asks) = go (sameBytes l k) (others-filter k asks)
+  where
+    go : (b : Bool) → otherInserts k asks ≡ filter (keyElse k) (inserts asks) →
+        inserts (cond (not b) (insert l x ∷ filter (asksElse k) asks) (filter (asksElse k) asks))
+        ≡ cond (not b) (grant l x ∷ filter (keyElse k) (inserts asks)) (filter (keyElse k) (inserts asks))
+    go true e = e
+    go false e = ap (grant l x ∷_) e
+others-filter k (delete l ∷ asks) = go (sameBytes l k) (others-filter k asks)
+  where
+    go : (b : Bool) → otherInserts k asks ≡ filter (keyElse k) (inserts asks) →
+        inserts (cond (not b) (delete l ∷ filter (asksElse k) asks) (filter (asksElse k) asks)) ≡ filter (keyElse k) (inserts asks)
+    go true e = e
+    go false e = e
 
 -- where nothing is asked for the key, all inserts are for other keys
 pub others-all : (k : Bytes) (asks : List Ask) → Unasked k asks → otherInserts k asks ≡ inserts asks
@@ -223,7 +241,9 @@ others-all k asks u = ap inserts (filter-all (asksElse k) asks (all-map _ _ asks
 -- inserts for other keys are more than one for the key
 pub others-not-own : (g h : Grant) (hs : List Grant) (asks : List Ask) → otherInserts (g .key) asks ≡ h ∷ hs → inserts asks ≡ g ∷ [] → ⊥
 others-not-own g h hs asks e i =
-    nil≢cons (sym (others-filter (g .key) asks ∙ ap (filter (keyElse (g .key))) i ∙ ap (λ b. cond (not b) (g ∷ []) []) (bytes-same (g .key))) ∙ e)
+    let none-else : otherInserts (g .key) asks ≡ [] =
+    others-filter (g .key) asks ∙ ap (filter (keyElse (g .key))) i ∙ ap (λ b. cond (not b) (g ∷ []) []) (bytes-same (g .key)) in
+    nil≢cons (sym none-else ∙ e)
 
 pub others-some : (k : Bytes) (h : Grant) (hs : List Grant) (asks : List Ask) → otherInserts k asks ≡ h ∷ hs → inserts asks ≡ [] → ⊥
 others-some k h hs asks e i = nil≢cons (sym (others-filter k asks ∙ ap (filter (keyElse k)) i) ∙ e)
