@@ -84,7 +84,7 @@ module _ (leafHash innerHash : Bytes → Bytes → Bytes) (new : ℕ) where
       let or : Older new (longer right p) r = λ w q n. o w q (inr (inr n)) in
       below-inner p v l r
       ∙ ap₂ _++_ (ap₂ _++_ (older-below (longer left p) l ol) (older-below (longer right p) r or))
-        (ap₂ _++_ (older-at (longer left p) l ol) (older-at (longer right p) r or))
+      (ap₂ _++_ (older-at (longer left p) l ol) (older-at (longer right p) r or))
 
   -- the new record at a place is that of an updated node
   places-new : (p : Place) (t now : VTree) (c : Change) → Older new p t → Became new t now c → placesAt leafHash innerHash c p now ≡ newAt p now
@@ -146,7 +146,7 @@ module _ (leafHash innerHash : Bytes → Bytes → Bytes) (new : ℕ) where
     fresh-is =
         ap₂ _++_ (ap₂ _++_ (x .gives .fresh-is) (y .gives .fresh-is))
         (ap₂ _++_ (places-new (longer left p) (kid left t) (a .node) (a .change) (x .older) (x .became))
-          (places-new (longer right p) (kid right t) (b .node) (b .change) (y .older) (y .became)))
+        (places-new (longer right p) (kid right t) (b .node) (b .change) (y .older) (y .became)))
         ∙ sym (below-inner p new (a .node) (b .node));
     retired-is = ends;
   }

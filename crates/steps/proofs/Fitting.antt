@@ -1,12 +1,12 @@
 -- A run and grants that fit a place: keys of 32 bytes that begin with it, in order. What the run makes of the grants is then in order too,
 -- and each side of both fits the child's place. Assumes nothing.
-use Prim.Native.Nat.{ℕ, zero, suc, _+_, _*_, _<_}
+use Prim.Native.Nat.{ℕ, _+_, _<_}
 use native.Mathlib.Omega.{arith}
-use mathlib.Core.Path.{_≡_, refl, ap, sym, _∙_}
-use mathlib.Core.Bool.{Bool, true, false, _&&_, Bool·beq}
-use mathlib.Core.List.{List, [], _∷_, _++_}
+use mathlib.Core.Path.{_≡_}
+use mathlib.Core.Bool.{Bool, true}
+use mathlib.Core.List.{List, [], _∷_}
 use lib.ListN.{length}
-use Rattle.terms.specs.Bits.{Bytes, Whole32, Side, Place, longer, All, filter, bit, begins}
+use Rattle.terms.specs.Bits.{Whole32, Side, Place, longer, All, begins}
 use Rattle.terms.specs.Records.{Grant, grant, Ask, insert, delete, askKey}
 use Rattle.terms.specs.Form.{GrantForm, AskForm}
 use Rattle.terms.proofs.Lists.{all-filter, all-map₂, all-append, filter-passed}

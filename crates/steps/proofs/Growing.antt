@@ -12,7 +12,7 @@ use Rattle.terms.specs.Bits.{Bytes, Side, left, right, Place, longer, bit}
 use Rattle.terms.specs.Records.{Grant, Ask}
 use Rattle.terms.proofs.Lists.{all-filter}
 use Rattle.terms.proofs.Places.{length-longer}
-use Rattle.meaning.specs.Tree.{Tree, none, byCount, grants, withBatch, VTree, vnone, sameGrants, nodeVersion}
+use Rattle.meaning.specs.Tree.{Tree, none, byCount, grants, withBatch, vnone, sameGrants, nodeVersion}
 use Rattle.meaning.specs.Runs.{asksFor, run}
 use Rattle.meaning.proofs.Sides.{side, treeBy, Radix}
 use Rattle.meaning.proofs.Runs.{side-batch}

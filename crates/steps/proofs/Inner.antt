@@ -172,19 +172,25 @@ module _ (leafHash innerHash : Bytes → Bytes → Bytes) (new : ℕ) where
         let onRight = y .gives .retired-is w q in
         let not-new : NodeOf w q (vinner v l r) p → w ≡ new → ⊥ = λ n e. let o = old w q n in omega arith in (
           λ h. elim (family-cases w q (a .retired) (b .retired) el er own h) [
-            | inl k ↦ let m = onLeft .0 k in (inr (inl (m .0)), λ n. elim n [
-              | inl d ↦ not-new (inr (inl (m .0))) (sym (d .0))
-              | inr i ↦ elim i [ inl j ↦ m .1 j | inr j ↦ sides-apart w q l (b .node) p (m .0) j ]
-            ])
+            | inl k ↦ let m = onLeft .0 k in (
+              inr (inl (m .0)),
+              λ n. elim n [
+                | inl d ↦ not-new (inr (inl (m .0))) (sym (d .0))
+                | inr i ↦ elim i [ inl j ↦ m .1 j | inr j ↦ sides-apart w q l (b .node) p (m .0) j ]
+              ],
+            )
             | inr k ↦ elim k [
-              | inl i ↦ let m = onRight .0 i in (inr (inr (m .0)), λ n. elim n [
-                | inl d ↦ not-new (inr (inr (m .0))) (sym (d .0))
-                | inr j ↦ elim j [ inl j′ ↦ sides-apart w q (a .node) r p j′ (m .0) | inr j′ ↦ m .1 j′ ]
-              ])
+              | inl i ↦ let m = onRight .0 i in (
+                inr (inr (m .0)),
+                λ n. elim n [
+                  | inl d ↦ not-new (inr (inr (m .0))) (sym (d .0))
+                  | inr j ↦ elim j [ inl j′ ↦ sides-apart w q (a .node) r p j′ (m .0) | inr j′ ↦ m .1 j′ ]
+                ],
+              )
               | inr i ↦
-                let m = at-node w q (vinner v l r) p i in
-                let now : VTree = vinner new (a .node) (b .node) in
-                (m .0, λ n. not-new (m .0) (sym (node-top w now p (subst (λ u. NodeOf w u now p) (sym (m .1)) n) .1)))
+                  let m = at-node w q (vinner v l r) p i in
+                  let now : VTree = vinner new (a .node) (b .node) in
+                  (m .0, λ n. not-new (m .0) (sym (node-top w now p (subst (λ u. NodeOf w u now p) (sym (m .1)) n) .1)))
             ]
           ],
           λ n. elim (n .0) [

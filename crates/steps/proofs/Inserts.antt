@@ -1,14 +1,13 @@
 -- What a run makes of no grant and of one: keys ascend, so each insert comes after those before it; a grant whose key is asked for gives
 -- way, any other stands amid the inserts. Assumes nothing.
 use mathlib.Core.Path.{_≡_, refl, ap, sym, _∙_}
-use mathlib.Core.Logic.{_⊎_, inl, inr}
-use mathlib.Core.Bool.{Bool, true, false, cond, not, _&&_, true≢false, false≢true}
+use mathlib.Core.Bool.{Bool, true, false, cond, not, true≢false}
 use mathlib.Core.List.{List, [], _∷_, _++_, append-assoc, append-nil, nil≢cons, cons≢nil}
-use mathlib.Core.Option.{Option, none, some}
+use mathlib.Core.Option.{none, some}
 use Rattle.terms.specs.Bits.{Bytes, All, filter, before, sameBytes}
 use Rattle.terms.specs.Records.{Grant, grant, Ask, insert, delete, askKey}
 use Rattle.terms.proofs.Tests.{and-left, and-right, is-false, same-bytes, bytes-same}
-use Rattle.terms.proofs.Lists.{filter-append, filter-all, filter-none, all-filter, all-map, all-map₂, all-always}
+use Rattle.terms.proofs.Lists.{filter-append, filter-all, filter-none, all-filter, all-map, all-always}
 use Rattle.terms.proofs.Order.{before-trans, before-irrefl, before-asym, before-total}
 use Rattle.meaning.specs.Tree.{withAsk, withBatch, smaller, greater}
 use Rattle.meaning.specs.Calls.{ascending}

@@ -6,6 +6,7 @@ pub mod Growing
 pub mod Leaf
 pub mod Inner
 pub mod Steps
+pub mod Marking
 pub mod Root
 pub mod Idle
 pub mod Desk

@@ -72,7 +72,7 @@ module _ (leafHash innerHash : Bytes → Bytes → Bytes) (new : ℕ) where
       let shaped = fits-shaped n q (grantsIn u) asks′ k fit in (
         subst (Shaped q) is shaped,
         subst (λ t. Made leafHash innerHash new q u t (child n q u asks′)) is
-          (made leafHash innerHash new n q u (after n q u asks′) (child n q u asks′) k s shaped o (child-gives n step q u asks′ k s o fit)),
+            (made leafHash innerHash new n q u (after n q u asks′) (child n q u asks′) k s shaped o (child-gives n step q u asks′ k s o fit)),
       )
 
   pub step-gives : (n : ℕ) → StepGives n (node n)

@@ -2,7 +2,6 @@
 use Prim.Native.Nat.{_+_}
 use mathlib.Core.Path.{_≡_}
 use Rattle.terms.specs.Bits.{Bytes}
-use Rattle.terms.specs.Records.{Store}
 use Rattle.meaning.specs.Desk.{Row, applies, prunes}
 use Rattle.steps.specs.Apply.{applySteps}
 

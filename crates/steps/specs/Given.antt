@@ -48,4 +48,5 @@ module _ (leafHash innerHash : Bytes → Bytes → Bytes) where
     -- the new records strictly below it, in the order of placing
     pub fresh-is : o .fresh ≡ filter (isNew new) (recordsBelow leafHash innerHash p (o .node))
     -- what ends, with the node itself as its parent says it: the nodes of t that the node that now stands there hasn't
-    pub retired-is : (v : ℕ) (q : Place) → Among v q (o .retired ++ endsAt (o .change) p t) ↔ (NodeOf v q t p × (NodeOf v q (o .node) p → ⊥))
+    pub retired-is : (v : ℕ) (q : Place) →
+        Among v q (o .retired ++ endsAt (o .change) p t) ↔ (NodeOf v q t p × (NodeOf v q (o .node) p → ⊥))
