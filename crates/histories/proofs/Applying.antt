@@ -13,14 +13,15 @@ use borrow.Author.Tests.{leb-true, leb-false}
 use Rattle.terms.specs.Bits.{Bytes, left, right, Place, longer, All}
 use Rattle.terms.specs.Records.{Record, Slot, Store}
 use Rattle.terms.specs.Form.{top32, RecordForm}
+use Rattle.terms.proofs.Tests.{is-false}
 use Rattle.terms.proofs.Members.{In, all-in}
 use Rattle.meaning.specs.Tree.{VTree, vnone, vinner, unversioned, topVersion}
 use Rattle.meaning.specs.Store.{find, treeAtVersion, freeSlots, marked, hasNode, retire, retiredBy, recordsOf, newRecords, settled}
-use Rattle.meaning.specs.Sound.{Kept, Found, NodeOf, Lives, Hashes32, Stands}
+use Rattle.meaning.specs.Sound.{At, Kept, Found, NodeOf, Lives, Hashes32, Stands}
 use Rattle.meaning.proofs.Finding.{isNode-eq, some-inner}
 use Rattle.meaning.proofs.Shaped.{Shaped, no-lone-leaf}
 use Rattle.histories.proofs.Slots.{Has, none-find, Unique, unique-find}
-use Rattle.histories.proofs.Writing.{contents, contents-none, turned-node, has-retire, spoiled-retire, find-retire, unique-retire, free-retire, has-placed, spoiled-placed, placed-has, length-written, New, Older, find-older, unique-placed}
+use Rattle.histories.proofs.Writing.{contents, contents-none, turned, turned-node, retire-at, placed-at, has-retire, spoiled-retire, find-retire, unique-retire, free-retire, has-placed, spoiled-placed, placed-has, length-written, New, Older, find-older, unique-placed}
 use Rattle.histories.proofs.Standing.{Formed, Top, top-none, top-some, reads-top, Alike, stands-alike, carried, node-found, kid-stands}
 use Rattle.histories.proofs.Whole.{Lifetime, retired-later, not-retired, Whole}
 use Rattle.histories.proofs.Nodes.{recordsAt, top-record, kid-records, Origin, origin, origin-node, hasNode-node, node-hasNode, new-distinct, new-in, in-new}
@@ -48,12 +49,14 @@ module _ (leafHash innerHash : Bytes → Bytes → Bytes) where
       let h = top-record leafHash innerHash p (vinner new l r) some-inner in (
         (h .0, ap₂ (λ x y. find x y (st .slots)) (sym (h .2)) (sym (h .3)) ∙ f (h .0) (h .1) (h .2), h .4),
         no-lone-leaf l r (k .1),
-        grows-stands st new (longer left p) a (kid-stands leafHash innerHash left st p old s) (k .2) (λ x i n. f x (kid-records leafHash innerHash left x p new l r i) n),
-        grows-stands st new (longer right p) b (kid-stands leafHash innerHash right st p old s) (k .3) (λ x i n. f x (kid-records leafHash innerHash right x p new l r i) n),
+        grows-stands st new (longer left p) a (kid-stands leafHash innerHash left st p old s) (k .2)
+            (λ x i n. f x (kid-records leafHash innerHash left x p new l r i) n),
+        grows-stands st new (longer right p) b (kid-stands leafHash innerHash right st p old s) (k .3)
+            (λ x i n. f x (kid-records leafHash innerHash right x p new l r i) n),
       )
 
-  module _ (lh : Hashes32 leafHash) (ih : Hashes32 innerHash) (st : Store) (w : Whole leafHash innerHash st) (new : ℕ) (fresh-is : new ≡ suc (st .latest))
-      (small : new ≤ top32) (now : VTree) (g : Grown new (treeAtVersion st (st .latest)) now)
+  module _ (lh : Hashes32 leafHash) (ih : Hashes32 innerHash) (st : Store) (w : Whole leafHash innerHash st)
+      (new : ℕ) (fresh-is : new ≡ suc (st .latest)) (small : new ≤ top32) (now : VTree) (g : Grown new (treeAtVersion st (st .latest)) now)
       (room : length (newRecords leafHash innerHash new now) ≤ freeSlots (st .slots)) where
     abbrev old : VTree
     old = treeAtVersion st (st .latest)
@@ -89,7 +92,9 @@ module _ (leafHash innerHash : Bytes → Bytes → Bytes) where
 
     unique′ : Unique (st′ .slots)
     unfolding settled
-    unique′ = unique-placed new news mid (unique-retire new _ _ (st .slots) (w .unique)) older all-new (new-distinct leafHash innerHash new now)
+    unique′ =
+        unique-placed new news mid (unique-retire new before after (st .slots) (w .unique)) older all-new
+        (new-distinct leafHash innerHash new now)
 
     find-old : (v : ℕ) (p : Place) → v < new → contents (find v p (st′ .slots)) ≡ contents (find v p (st .slots))
     unfolding settled
@@ -124,6 +129,30 @@ module _ (leafHash innerHash : Bytes → Bytes → Bytes) where
         go (inl k) = let m = has-retire r new _ _ (st .slots) k in came-old (m .0) r (m .1) _ _ refl refl (m .2)
         go (inr k) = let m = new-in leafHash innerHash new now r k in fresh (m .0) (m .1)
 
+    -- an old record stays in its slot; if it is a node of the old tree alone, it is marked
+    turned-at : (i : ℕ) (r : Record) → At st i r → At st′ i (turned new before after r)
+    unfolding At settled
+    turned-at i r (l, e) = (
+      rw (length-written news new before after (st .slots)) l,
+      placed-at news mid i (turned new before after r) (retire-at new before after (st .slots) i r e),
+    )
+
+    pub ends-at : (i : ℕ) (r : Record) → At st i r → NodeOf (r .version) (r .place) old [] → (NodeOf (r .version) (r .place) now [] → ⊥) →
+        At st′ i (marked new r)
+    ends-at i r a n m =
+        let gone : hasNode r after ≡ false = is-false _ (λ e. m (hasNode-node leafHash innerHash r now e)) in
+        subst (At st′ i) (ap₂ (λ x y. cond (x && not y) (marked new r) r) (node-hasNode leafHash innerHash r old n) gone) (turned-at i r a)
+
+    pub stays-at : (i : ℕ) (r : Record) → At st i r → (NodeOf (r .version) (r .place) old [] → NodeOf (r .version) (r .place) now []) →
+        At st′ i r
+    stays-at i r a f = go (hasNode r before) refl
+      where
+        go : (b : Bool) → hasNode r before ≡ b → At st′ i r
+        go true e =
+            let there : hasNode r after ≡ true = node-hasNode leafHash innerHash r now (f (hasNode-node leafHash innerHash r old e)) in
+            subst (At st′ i) (ap₂ (λ x y. cond (x && not y) (marked new r) r) e there) (turned-at i r a)
+        go false e = subst (At st′ i) (ap (λ x. cond (x && not (hasNode r after)) (marked new r) r) e) (turned-at i r a)
+
     -- the nodes of the kept trees have versions from 1 to latest, those of the new tree from 1 to the new version
     old-number : (v : ℕ) → Kept st v → (x : ℕ) (q : Place) → NodeOf x q (treeAtVersion st v) [] → (1 ≤ x) × (x < new)
     old-number v k x q n =
@@ -142,13 +171,16 @@ module _ (leafHash innerHash : Bytes → Bytes → Bytes) where
       where
         go : Came r → RecordForm r
         go (stayed h f) = w .formed r h
-        go (ended q h e a b) = let f = w .formed q h in subst RecordForm e (record { short = f .short; versioned = f .versioned; number = small; body = f .body })
+        go (ended q h e a b) =
+            let f = w .formed q h in
+            subst RecordForm e (record { short = f .short; versioned = f .versioned; number = small; body = f .body })
         go (fresh h e) = record-form leafHash innerHash lh ih now (g .shaped) new-number r h
 
     versions′ : (r : Record) → Came r → (1 ≤ r .version) × (r .version ≤ new)
     unfolding marked
     versions′ r (stayed h f) = let v = w .versions r h in (v .0, omega (arith, v .1))
-    versions′ r (ended q h e a b) = let v = w .versions q h in subst (λ x. (1 ≤ x .version) × (x .version ≤ new)) e (v .0, omega (arith, v .1))
+    versions′ r (ended q h e a b) =
+        let v = w .versions q h in subst (λ x. (1 ≤ x .version) × (x .version ≤ new)) e (v .0, omega (arith, v .1))
     versions′ r (fresh h e) = (omega arith, omega arith)
 
     lifetimes′ : (r : Record) → Came r → Lifetime (st .oldest) new r
@@ -169,11 +201,13 @@ module _ (leafHash innerHash : Bytes → Bytes → Bytes) where
     -- the older versions have their trees
     pub tree-old : (v : ℕ) → Kept st v → treeAtVersion st′ v ≡ treeAtVersion st v
     tree-old v k =
-        carried leafHash innerHash st st′ v formed′ (w .stands v k) (alike v k) (λ e. contents-none _ (find-old v [] (omega arith) ∙ ap contents e))
+        carried leafHash innerHash st st′ v formed′ (w .stands v k) (alike v k)
+        (λ e. contents-none _ (find-old v [] (omega arith) ∙ ap contents e))
 
     stands-now : Stands leafHash innerHash st′ [] now
     stands-now =
-        grows-stands st′ new [] (g .grows) (stands-old (st .latest) last-kept) (g .shaped) (λ x h e. find-fresh x (in-new leafHash innerHash new now x h e))
+        grows-stands st′ new [] (g .grows) (stands-old (st .latest) last-kept) (g .shaped)
+        (λ x h e. find-fresh x (in-new leafHash innerHash new now x h e))
 
     no-root : now ≡ vnone → find new [] (st′ .slots) ≡ none
     unfolding marked
@@ -202,7 +236,8 @@ module _ (leafHash innerHash : Bytes → Bytes → Bytes) where
           λ n. (w .exact v k q h .0 n .0, not-retired v (marked new q) (λ o. omega arith)),
           λ z. w .exact v k q h .1 (z .0, not-retired v q (λ o. omega (arith, retired-later (st .latest) q (there .1) o))),
         )
-    exact-old v k r (fresh h e) = (λ n. absurd (omega (arith, old-number v k (r .version) (r .place) n .1)), λ z. absurd (omega (arith, z .0)))
+    exact-old v k r (fresh h e) =
+        (λ n. absurd (omega (arith, old-number v k (r .version) (r .place) n .1)), λ z. absurd (omega (arith, z .0)))
 
     -- at the new version live those that stayed in the tree, and the fresh ones
     exact-now : (r : Record) → Came r → NodeOf (r .version) (r .place) now [] ↔ Lives new r
@@ -212,15 +247,21 @@ module _ (leafHash innerHash : Bytes → Bytes → Bytes) where
         alive : NodeOf (r .version) (r .place) old [] → retiredBy new r ≡ false
         alive n =
             let l = w .exact (st .latest) last-kept r h .0 n in
-            not-retired new r (λ o. elim (w .lifetimes r h) [ inl e ↦ absurd (omega arith) | inr e ↦ absurd (omega (arith, e .2, retired-later (st .latest) r (l .1) o)) ])
+            not-retired new r (λ o. elim (w .lifetimes r h) [
+              | inl e ↦ absurd (omega arith)
+              | inr e ↦ absurd (omega (arith, e .2, retired-later (st .latest) r (l .1) o))
+            ])
 
         there : NodeOf (r .version) (r .place) now [] → Lives new r
         there n =
             let v = w .versions r h in
-            (omega (arith, v .1), elim (grows-node new (r .version) (r .place) [] (g .grows) n) [ inl e ↦ absurd (omega (arith, v .1)) | inr m ↦ alive m ])
+            let from = grows-node new (r .version) (r .place) [] (g .grows) n in
+            (omega (arith, v .1), elim from [ inl e ↦ absurd (omega (arith, v .1)) | inr m ↦ alive m ])
 
         back : Lives new r → NodeOf (r .version) (r .place) now []
-        back z = f (w .exact (st .latest) last-kept r h .1 (w .versions r h .1, not-retired (st .latest) r (λ o. omega (arith, retired-later new r (z .1) o))))
+        back z =
+            let lived = not-retired (st .latest) r (λ o. omega (arith, retired-later new r (z .1) o)) in
+            f (w .exact (st .latest) last-kept r h .1 (w .versions r h .1, lived))
     exact-now r (ended q h e a b) =
         subst (λ x. NodeOf (x .version) (x .place) now [] ↔ Lives new x) e
         (λ n. absurd (b n), λ z. absurd (omega (arith, retired-later new (marked new q) (z .1) (omega arith))))
@@ -250,5 +291,6 @@ module _ (leafHash innerHash : Bytes → Bytes → Bytes) where
       lifetimes = λ r h. lifetimes′ r (came r h);
       stands = λ v k. each (λ v t. Stands leafHash innerHash st′ [] t) stands-old stands-now v (k .0) (k .1);
       exact = λ v k r h.
-          each (λ v t. NodeOf (r .version) (r .place) t [] ↔ Lives v r) (λ v l. exact-old v l r (came r h)) (exact-now r (came r h)) v (k .0) (k .1);
+          each (λ v t. NodeOf (r .version) (r .place) t [] ↔ Lives v r) (λ v l. exact-old v l r (came r h)) (exact-now r (came r h))
+          v (k .0) (k .1);
     }

@@ -15,7 +15,7 @@ use Rattle.meaning.specs.Sound.{NodeOf, Hashes32}
 use Rattle.meaning.proofs.Finding.{Within, there, go-left, go-right, Some, some-leaf, some-inner, within-node, within-trans}
 use Rattle.meaning.proofs.Shaped.{Shaped}
 use Rattle.histories.proofs.Nodes.{bodyOf, recordsAt, Origin, origin, origin-node}
-use Rattle.histories.proofs.Meaning.{within-shaped}
+use Rattle.histories.proofs.Trees.{within-shaped}
 
 zeros32 : Whole32 zeros
 unfolding zeros
@@ -24,6 +24,9 @@ zeros32 = (refl, all-zero 32)
     all-zero : (n : ℕ) → All Byte (replicate n 0)
     all-zero zero = tt
     all-zero (suc n) = (omega arith, all-zero n)
+
+two-missing : (l r : VTree) → l ≡ vnone → r ≡ vnone → 1 < length (grantsIn l ++ grantsIn r) → ⊥
+two-missing l r e f h = let k : 1 < 0 = subst₂ (λ x y. 1 < length (grantsIn x ++ grantsIn y)) e f h in omega arith
 
 module _ (leafHash innerHash : Bytes → Bytes → Bytes) (lh : Hashes32 leafHash) (ih : Hashes32 innerHash) where
   hash32 : (t : Tree) → Whole32 (hash leafHash innerHash t)
@@ -44,9 +47,6 @@ module _ (leafHash innerHash : Bytes → Bytes → Bytes) (lh : Hashes32 leafHas
         let n = top-number u q w in
         record { number = n .0; hash32 = hash32 (unversioned u); missing = λ e. ap (λ x. hash leafHash innerHash (unversioned x)) (n .1 e) }
 
-    two-missing : (l r : VTree) → l ≡ vnone → r ≡ vnone → 1 < length (grantsIn l ++ grantsIn r) → ⊥
-    two-missing l r e f h = let k : 1 < 0 = subst₂ (λ x y. 1 < length (grantsIn x ++ grantsIn y)) e f h in omega arith
-
     body-form : (u : VTree) (q : Place) → Some u → Within u q t [] →
         (length q ≤ placeLimit (bodyOf leafHash innerHash u)) × BodyForm (bodyOf leafHash innerHash u)
     unfolding begins childOf
@@ -56,10 +56,19 @@ module _ (leafHash innerHash : Bytes → Bytes → Bytes) (lh : Hashes32 leafHas
         let k = within-shaped w s in
         let a : Within l (longer left q) t [] = within-trans (go-left there) w in
         let b : Within r (longer right q) t [] = within-trans (go-right there) w in
-        (k .0, (child-form l (longer left q) a, child-form r (longer right q) b, λ e f. two-missing l r (top-number l _ a .1 e) (top-number r _ b .1 f) (k .1)))
+        let present : topVersion l ≡ 0 → topVersion r ≡ 0 → ⊥ =
+        λ e f. two-missing l r (top-number l _ a .1 e) (top-number r _ b .1 f) (k .1) in
+        (k .0, (child-form l (longer left q) a, child-form r (longer right q) b, present))
 
     pub record-form : (x : Record) → In x (recordsAt leafHash innerHash [] t) → RecordForm x
     record-form x h =
         let o : Origin leafHash innerHash x t [] = origin leafHash innerHash x [] t h in
-        let b = subst₂ (λ p c. (length p ≤ placeLimit c) × BodyForm c) (sym (o .is .place)) (sym (o .is .body)) (body-form (o .tree) (o .place) (o .is .some) (o .within)) in
-        record { short = b .0; versioned = numbers (x .version) (x .place) (origin-node leafHash innerHash x [] t o); number = omega (arith, o .is .retired); body = b .1 }
+        let b =
+        subst₂ (λ p c. (length p ≤ placeLimit c) × BodyForm c) (sym (o .is .place)) (sym (o .is .body))
+        (body-form (o .tree) (o .place) (o .is .some) (o .within)) in
+        record {
+          short = b .0;
+          versioned = numbers (x .version) (x .place) (origin-node leafHash innerHash x [] t o);
+          number = omega (arith, o .is .retired);
+          body = b .1;
+        }

@@ -21,7 +21,7 @@ use Rattle.meaning.proofs.Shaped.{shaped-treeOf}
 use Rattle.histories.specs.Claims.{AfterApply, AfterPrune}
 use Rattle.histories.proofs.Whole.{sound-whole, whole-sound}
 use Rattle.histories.proofs.Pruning.{formatted-tree, formatted-whole}
-use Rattle.histories.proofs.Meaning.{kept-shaped}
+use Rattle.histories.proofs.Trees.{kept-shaped}
 use Rattle.histories.proofs.Applying.{last-or}
 use Rattle.histories.proofs.Calls.{prune-cases, cut-after, apply-cases, settled-after}
 use Rattle.histories.proofs.Ledger.{grants-here, grants-there, kept-first, grants-kept, grants-dropped}
@@ -147,8 +147,11 @@ module _ (leafHash innerHash : Bytes → Bytes → Bytes) where
           grantsOf v (newest st′ ∷ es) ≡ some (holding st′ v)
       gives-at v l (inl h) =
           let kept : Kept st v = (omega (arith, a .oldest), h) in
-          grants-there v (newest st′) es (λ z. omega (arith, a .latest)) ∙ k .gives v kept ∙ ap (λ t. some (grantsIn t)) (sym (a .older v kept))
-      gives-at v l (inr h) = let e : st′ .latest ≡ v = a .latest ∙ sym h in grants-here v (newest st′) es e ∙ ap (λ x. some (holding st′ x)) e
+          grants-there v (newest st′) es (λ z. omega (arith, a .latest))
+          ∙ k .gives v kept
+          ∙ ap (λ t. some (grantsIn t)) (sym (a .older v kept))
+      gives-at v l (inr h) =
+          let e : st′ .latest ≡ v = a .latest ∙ sym h in grants-here v (newest st′) es e ∙ ap (λ x. some (holding st′ x)) e
 
   module _ (lh : Hashes32 leafHash) (ih : Hashes32 innerHash) where
     keeps-call : (c : Call) (st : Store) (es : List Entry) → CallForm c → Keeps st es →
@@ -157,8 +160,10 @@ module _ (leafHash innerHash : Bytes → Bytes → Bytes) where
     keeps-call formatting st es f k = keeps-formatted (length (st .slots)) (k .sound .size)
     keeps-call (applying none) st es f k = k
     keeps-call (applying (some batch)) st es f k =
-        apply-cases leafHash innerHash (λ o. Keeps (o .store) (cond (isAccepted (o .answer)) (noted (applying (some batch)) es) es)) batch st
-        (λ e. k) (λ e. k) (λ e. k) (λ m room. keeps-applied batch st _ es k (settled-after leafHash innerHash lh ih batch st (k .sound) f m room))
+        apply-cases leafHash innerHash
+        (λ o. Keeps (o .store) (cond (isAccepted (o .answer)) (noted (applying (some batch)) es) es)) batch st
+        (λ e. k) (λ o e. k) (λ o m e. k)
+        (λ o m room. keeps-applied batch st _ es k (settled-after leafHash innerHash lh ih batch st (k .sound) f m room))
     keeps-call (pruning n) st es f k =
         prune-cases (λ o. Keeps (o .store) (cond (isAccepted (o .answer)) (noted (pruning n) es) es)) n st
         (λ h. k) (λ h. keeps-pruned n st _ es k h (cut-after leafHash innerHash n st (k .sound) h))

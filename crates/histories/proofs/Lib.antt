@@ -5,7 +5,7 @@ pub mod Whole
 pub mod Pruning
 pub mod Nodes
 pub mod Growing
-pub mod Meaning
+pub mod Trees
 pub mod Forms
 pub mod Applying
 pub mod Unchanged
@@ -13,4 +13,3 @@ pub mod Calls
 pub mod Ledger
 pub mod Histories
 pub mod Theorems
-pub mod DeskHistory

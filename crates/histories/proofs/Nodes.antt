@@ -65,7 +65,8 @@ Apart xs ys = (x y : Record) → In x xs → In y ys → x .place ≡ y .place �
 distinct-append : (xs ys : List Record) → Distinct xs → Distinct ys → Apart xs ys → Distinct (xs ++ ys)
 distinct-append [] ys a b f = b
 distinct-append (x ∷ xs) ys a b f = (
-  all-append (Not (x .version) (x .place)) xs ys (a .0) (all-in _ ys (λ y h. not-node (x .version) (x .place) y (λ e g. f x y (inl refl) h (sym g)))),
+  all-append (Not (x .version) (x .place)) xs ys (a .0)
+      (all-in _ ys (λ y h. not-node (x .version) (x .place) y (λ e g. f x y (inl refl) h (sym g)))),
   distinct-append xs ys (a .1) b (λ u y h k. f u y (inr h) k),
 )
 
@@ -185,13 +186,15 @@ module _ (leafHash innerHash : Bytes → Bytes → Bytes) where
       on b o = record { place = o .place; tree = o .tree; within = go-kid b (o .within); is = o .is }
 
       kids : (b : Side) → In x (recordsAt (longer b p) (kid b (vinner v l r))) →
-          (In x (recordsAt (longer left p) l) → Origin x l (longer left p)) → (In x (recordsAt (longer right p) r) → Origin x r (longer right p)) →
+          (In x (recordsAt (longer left p) l) → Origin x l (longer left p)) →
+          (In x (recordsAt (longer right p) r) → Origin x r (longer right p)) →
           Origin x (vinner v l r) p
       kids false k f g = on left (f k)
       kids true k f g = on right (g k)
 
       go : In x (recordsBelow leafHash innerHash p (vinner v l r)) ⊎ In x (recordAt leafHash innerHash p (vinner v l r)) →
-          (In x (recordsAt (longer left p) l) → Origin x l (longer left p)) → (In x (recordsAt (longer right p) r) → Origin x r (longer right p)) →
+          (In x (recordsAt (longer left p) l) → Origin x l (longer left p)) →
+          (In x (recordsAt (longer right p) r) → Origin x r (longer right p)) →
           Origin x (vinner v l r) p
       go (inl k) f g = let c = below-cases p v l r x k in kids (c .0) (c .1) f g
       go (inr k) f g = record { place = p; tree = vinner v l r; within = there; is = at-is x p (vinner v l r) k }
@@ -220,7 +223,8 @@ module _ (leafHash innerHash : Bytes → Bytes → Bytes) where
   below-deeper x p (vleaf v g) h = absurd h
   below-deeper x p (vinner v l r) h =
       let c = below-cases p v l r x h in
-      omega (arith, prefix-length (longer (c .0) p) (x .place) (records-prefix x (longer (c .0) p) (kid (c .0) (vinner v l r)) (c .1)), length-longer (c .0) p)
+      let b = c .0 in
+      omega (arith, prefix-length (longer b p) (x .place) (records-prefix x (longer b p) (kid b (vinner v l r)) (c .1)), length-longer b p)
 
   distinct-at : (p : Place) (t : VTree) → Distinct (recordAt leafHash innerHash p t)
   distinct-at p vnone = tt
@@ -286,13 +290,15 @@ module _ (leafHash innerHash : Bytes → Bytes → Bytes) where
 
   pub node-hasNode : (r : Record) (t : VTree) → NodeOf (r .version) (r .place) t [] → hasNode r (recordsOf leafHash innerHash t) ≡ true
   unfolding recordsOf
-  node-hasNode r t n = let m = node-record (r .version) (r .place) t [] n in has-node r (m .0) (recordsAt [] t) (m .1) (sym (m .2)) (sym (m .3))
+  node-hasNode r t n =
+      let m = node-record (r .version) (r .place) t [] n in has-node r (m .0) (recordsAt [] t) (m .1) (sym (m .2)) (sym (m .3))
 
   pub new-distinct : (new : ℕ) (t : VTree) → Distinct (newRecords leafHash innerHash new t)
   unfolding newRecords recordsOf
   new-distinct new t =
       distinct-filter _ (recordsAt [] t)
-      (distinct-append (recordsBelow leafHash innerHash [] t) (recordAt leafHash innerHash [] t) (distinct-below [] t) (distinct-at [] t) (below-apart [] t))
+      (distinct-append (recordsBelow leafHash innerHash [] t) (recordAt leafHash innerHash [] t)
+      (distinct-below [] t) (distinct-at [] t) (below-apart [] t))
 
   pub new-in : (new : ℕ) (t : VTree) (x : Record) → In x (newRecords leafHash innerHash new t) → In x (recordsAt [] t) × New new x
   unfolding newRecords recordsOf

@@ -1,13 +1,13 @@
 -- What retiring, placing and pruning do to the slots: which records stand there afterwards, what is found, and how many slots are free.
 -- Each goes through the slots one by one, and so does each proof. Assumes nothing.
-use Prim.Native.Nat.{ℕ, suc, _+_, _<_, _≤_}
+use Prim.Native.Nat.{ℕ, zero, suc, _+_, _<_, _≤_}
 use native.Mathlib.Omega.{arith}
 use mathlib.Core.Path.{_≡_, refl, ap, ap₂, sym, _∙_, subst}
 use mathlib.Core.Logic.{_⊎_, inl, inr}
 use mathlib.Core.Bool.{Bool, true, false, cond, not, _&&_, true≢false}
 use mathlib.Core.List.{List, [], _∷_, map}
 use mathlib.Core.Option.{Option, none, some, Option·none-ne-some, Option·some-ne-none}
-use lib.ListN.{length, length-map}
+use lib.ListN.{length, getD, length-map}
 use Rattle.terms.specs.Bits.{Bytes, Place, All}
 use Rattle.terms.specs.Records.{Body, Record, Slot, free, used, spoiled}
 use Rattle.terms.proofs.Lists.{all-map}
@@ -56,13 +56,21 @@ pub turned-node : (n : ℕ) (old now : List Record) (r : Record) →
     (turned n old now r .version ≡ r .version) × (turned n old now r .place ≡ r .place)
 unfolding marked
 turned-node n old now r =
-    elim (hasNode r old && not (hasNode r now)) as (λ b. (cond b (marked n r) r .version ≡ r .version) × (cond b (marked n r) r .place ≡ r .place))
+    elim (hasNode r old && not (hasNode r now))
+    as (λ b. (cond b (marked n r) r .version ≡ r .version) × (cond b (marked n r) r .place ≡ r .place))
     [ true ↦ (refl, refl) | false ↦ (refl, refl) ]
 
 pub has-retire : (r : Record) (n : ℕ) (old now : List Record) (s : List Slot) → Has r (retire n old now s) →
     (q : Record) × Has q s × (turned n old now q ≡ r)
 unfolding retireIn
 has-retire r n old now s h = let k = has-changed (retireIn n old now) r s h in (k .0, k .1, used-eq _ _ (k .2))
+
+pub retire-at : (n : ℕ) (old now : List Record) (s : List Slot) (i : ℕ) (r : Record) → getD s i free ≡ used r →
+    getD (retire n old now s) i free ≡ used (turned n old now r)
+unfolding retireIn
+retire-at n old now [] i r e = free-used r e
+retire-at n old now (x ∷ s) zero r e = ap (onRecord (retireIn n old now)) e
+retire-at n old now (x ∷ s) (suc i) r e = retire-at n old now s i r e
 
 pub spoiled-retire : (x : Bytes) (n : ℕ) (old now : List Record) (s : List Slot) → In (spoiled x) (retire n old now s) → In (spoiled x) s
 unfolding retireIn
@@ -127,6 +135,17 @@ spoiled-placed x rs s h = go (in-placed (spoiled x) rs s h)
     go : (In (spoiled x) s ⊎ ((q : Record) × In q rs × (spoiled x ≡ used q))) → In (spoiled x) s
     go (inl k) = k
     go (inr k) = spoiled-used x (k .0) (k .2)
+
+-- a record stays where it is
+pub placed-at : (rs : List Record) (s : List Slot) (i : ℕ) (r : Record) → getD s i free ≡ used r → getD (placed rs s) i free ≡ used r
+placed-at rs [] i r e = e
+placed-at [] (free ∷ s) i r e = e
+placed-at (q ∷ rs) (free ∷ s) zero r e = free-used r e
+placed-at (q ∷ rs) (free ∷ s) (suc i) r e = placed-at rs s i r e
+placed-at rs (used y ∷ s) zero r e = e
+placed-at rs (used y ∷ s) (suc i) r e = placed-at rs s i r e
+placed-at rs (spoiled y ∷ s) zero r e = e
+placed-at rs (spoiled y ∷ s) (suc i) r e = placed-at rs s i r e
 
 -- with room, all are placed, and as many slots fewer are free
 pub placed-has : (r : Record) (rs : List Record) (s : List Slot) → In r rs → length rs ≤ freeSlots s → Has r (placed rs s)

@@ -79,11 +79,12 @@ side-of : (p : Place) (b : Side) (gs : List Grant) → All (Begun (longer b p)) 
 unfolding side bit
 side-of p b gs h c = pick (Bool·beq c b) refl
   where
+    each : (t : Bool) → Bool·beq c b ≡ t → All (λ g. goes (length p) c g ≡ t) gs
+    each t e = all-map (Begun (longer b p)) _ gs (λ g a. ap (Bool·beq c) (prefix-longer b p (bits (g .key)) a .1) ∙ e) h
+
     pick : (t : Bool) → Bool·beq c b ≡ t → filter (goes (length p) c) gs ≡ cond t gs []
-    pick true e =
-        filter-all (goes (length p) c) gs (all-map (Begun (longer b p)) _ gs (λ g a. ap (Bool·beq c) (prefix-longer b p (bits (g .key)) a .1) ∙ e) h)
-    pick false e =
-        filter-none (goes (length p) c) gs (all-map (Begun (longer b p)) _ gs (λ g a. ap (Bool·beq c) (prefix-longer b p (bits (g .key)) a .1) ∙ e) h)
+    pick true e = filter-all (goes (length p) c) gs (each true e)
+    pick false e = filter-none (goes (length p) c) gs (each false e)
 
 -- the grants of two children, by their side
 pub sides-of : (p : Place) (xs ys : List Grant) → All (Begun (longer left p)) xs → All (Begun (longer right p)) ys →
@@ -107,8 +108,10 @@ shaped-treeBy (suc n) p (inner l r) e s =
     let both =
     sides-of p (grants l) (grants r) (shaped-begun (longer left p) l (s .2)) (shaped-begun (longer right p) r (s .3)) in
     ap₂ inner
-    (shaped-treeBy n (longer left p) l (omega (arith, length-longer left p)) (s .2) ∙ ap₂ (treeBy n) (length-longer left p) (sym (both .0)))
-    (shaped-treeBy n (longer right p) r (omega (arith, length-longer right p)) (s .3) ∙ ap₂ (treeBy n) (length-longer right p) (sym (both .1)))
+    (shaped-treeBy n (longer left p) l (omega (arith, length-longer left p)) (s .2)
+    ∙ ap₂ (treeBy n) (length-longer left p) (sym (both .0)))
+    (shaped-treeBy n (longer right p) r (omega (arith, length-longer right p)) (s .3)
+    ∙ ap₂ (treeBy n) (length-longer right p) (sym (both .1)))
     ∙ sym (by-two (grants l ++ grants r) (λ b. treeBy n (suc (length p)) (side (length p) b (grants l ++ grants r))) (s .1))
 
 -- two such trees at one place with the same grants are one
@@ -121,7 +124,8 @@ two-grants : (n i : ℕ) (g g′ : Grant) (gs : List Grant) → Radix (suc n) i 
 two-grants n i g g′ gs x = rw (ap₂ _++_ (grants-treeBy n (suc i) _ (x .1)) (grants-treeBy n (suc i) _ (x .2)) ∙ x .0) (omega arith)
 
 shaped-kid : (n : ℕ) (p : Place) (b : Side) (gs : List Grant) → length p + suc n ≡ 256 → Sorted gs → All GrantForm gs → All (Begun p) gs →
-    ((q : Place) (hs : List Grant) → length q + n ≡ 256 → Sorted hs → All GrantForm hs → All (Begun q) hs → Shaped q (treeBy n (length q) hs)) →
+    ((q : Place) (hs : List Grant) → length q + n ≡ 256 → Sorted hs → All GrantForm hs → All (Begun q) hs →
+    Shaped q (treeBy n (length q) hs)) →
     Shaped (longer b p) (treeBy n (suc (length p)) (side (length p) b gs))
 unfolding side
 shaped-kid n p b gs e s k u ih =

@@ -41,7 +41,8 @@ module _ {A : Type 0} where
   filter-in a f [] h t = absurd h
   filter-in a f (x ∷ xs) (inl e) t = rw (ap f e ∙ t) (inl e)
   filter-in a f (x ∷ xs) (inr h) t =
-      elim (f x) as (λ b. In a (cond b (x ∷ filter f xs) (filter f xs))) [ true ↦ inr (filter-in a f xs h t) | false ↦ filter-in a f xs h t ]
+      elim (f x) as (λ b. In a (cond b (x ∷ filter f xs) (filter f xs)))
+      [ true ↦ inr (filter-in a f xs h t) | false ↦ filter-in a f xs h t ]
 
   pub all-in : (P : A → Type 0) (xs : List A) → ((a : A) → In a xs → P a) → All P xs
   all-in P [] f = tt

@@ -32,20 +32,25 @@ module _ (leafHash innerHash : Bytes → Bytes → Bytes) (st : Store) (w : Whol
   stands-shaped p (vinner v l r) s =
       let a : Shaped (longer left p) (unversioned l) = stands-shaped (longer left p) l (s .2) in
       let b : Shaped (longer right p) (unversioned r) = stands-shaped (longer right p) r (s .3) in
-      (inner-short st (w .formed) v p _ (s .0), two-grants-below l r (longer left p) (longer right p) (found-form v p _ (s .0) .2) (s .1) a b, a, b)
+      let two = two-grants-below l r (longer left p) (longer right p) (found-form v p _ (s .0) .2) (s .1) a b in
+      (inner-short st (w .formed) v p _ (s .0), two, a, b)
 
   pub kept-shaped : (v : ℕ) → Kept st v → Shaped [] (unversioned (treeAtVersion st v))
   kept-shaped v k = stands-shaped [] (treeAtVersion st v) (w .stands v k)
 
+  -- what is found has the body that was said
+  found-body : (v x : ℕ) (r : Record) (b : Body) → x ≡ v → find v [] (st .slots) ≡ some r → Found st x [] b → r .body ≡ b
+  unfolding Found
+  found-body v x r b e f g =
+      ap (λ y. y .body) (Option·some-injective r (g .0) (sym f ∙ ap (λ y. find y [] (st .slots)) (sym e) ∙ g .1)) ∙ g .2
+
   -- the hash of a root record alone is the hash of its version's tree
   record-hash : (v : ℕ) (t : VTree) → Stands leafHash innerHash st [] t → NodeOf v [] t [] → topVersion t ≡ v →
       (r : Record) → find v [] (st .slots) ≡ some r → bodyHash leafHash innerHash (r .body) ≡ hash leafHash innerHash (unversioned t)
-  unfolding Found childOf
+  unfolding childOf
   record-hash v vnone s n e r f = absurd n
-  record-hash v (vleaf x g) s n e r f =
-      ap (bodyHash leafHash innerHash) (ap (λ y. y .body) (Option·some-injective _ _ (sym f ∙ ap (λ y. find y [] (st .slots)) (sym e) ∙ s .0 .1)) ∙ s .0 .2)
-  record-hash v (vinner x a b) s n e r f =
-      ap (bodyHash leafHash innerHash) (ap (λ y. y .body) (Option·some-injective _ _ (sym f ∙ ap (λ y. find y [] (st .slots)) (sym e) ∙ s .0 .1)) ∙ s .0 .2)
+  record-hash v (vleaf x g) s n e r f = ap (bodyHash leafHash innerHash) (found-body v x r _ e f (s .0))
+  record-hash v (vinner x a b) s n e r f = ap (bodyHash leafHash innerHash) (found-body v x r _ e f (s .0))
 
   pub root-hash : (v : ℕ) → Kept st v →
       rootHash leafHash innerHash (rootOf st v) ≡ hash leafHash innerHash (unversioned (treeAtVersion st v))
