@@ -4,7 +4,8 @@ use Rattle.terms.specs.Bits.{Bytes, All}
 use Rattle.meaning.specs.Computed.{computed}
 use Rattle.meaning.specs.Desk.{table}
 use Rattle.steps.specs.Step.{grow, stepLeaf, innerBy, stepInner, stepNode, stepRoot}
-use Rattle.steps.specs.Apply.{markIn, stepped, applySteps}
+use Rattle.steps.specs.Writing.{markIn}
+use Rattle.steps.specs.Apply.{stepped, applySteps}
 use Rattle.steps.specs.Desk.{RowSteps}
 
 pub desk-by-steps : (leafHash innerHash : Bytes → Bytes → Bytes) → All (RowSteps leafHash innerHash) (table leafHash innerHash)

@@ -248,7 +248,8 @@ module _ (leafHash innerHash : Bytes → Bytes → Bytes) (new : ℕ) where
     pub inner-gives : (n : ℕ) → length p + suc n ≡ 256 → GivesHere (join A B) (innerBy leafHash innerHash new p v l r a b)
     unfolding innerBy
     inner-gives n e =
-        let test : isUnchanged (a .change) && isUnchanged (b .change) ≡ sameGrants (grantsIn l) (grants A) && sameGrants (grantsIn r) (grants B) =
+        let test : isUnchanged (a .change) && isUnchanged (b .change)
+        ≡ sameGrants (grantsIn l) (grants A) && sameGrants (grantsIn r) (grants B) =
         ap₂ _&&_ (ap isUnchanged (x .gives .change-is) ∙ unchanged-test (grantsIn l) (grants A))
         (ap isUnchanged (y .gives .change-is) ∙ unchanged-test (grantsIn r) (grants B)) in
         rw test (go (sameGrants (grantsIn l) (grants A)) (sameGrants (grantsIn r) (grants B)) refl refl)

@@ -156,7 +156,8 @@ module _ (leafHash innerHash : Bytes → Bytes → Bytes) (new : ℕ) (p : Place
         h : Grant
         h = grant (g .key) x
 
-        go : (b : Bool) → sameBytes x (g .value) ≡ b → GivesLeaf (leaf h) (cond b (outcome unchanged (vleaf v g)) (outcome updated (vleaf new h)))
+        go : (b : Bool) → sameBytes x (g .value) ≡ b →
+            GivesLeaf (leaf h) (cond b (outcome unchanged (vleaf v g)) (outcome updated (vleaf new h)))
         go true t = same-leaf h (ap (grant (g .key)) (same-bytes x (g .value) t))
         go false t =
             let d : sameBytes (g .value) x ≡ false =
@@ -166,7 +167,8 @@ module _ (leafHash innerHash : Bytes → Bytes → Bytes) (new : ℕ) (p : Place
 
     -- something else is inserted: a subtree grows
     other-gives : (own : Option Ask) (h : Grant) (hs : List Grant) → ownAsk (g .key) asks ≡ own → otherInserts (g .key) asks ≡ h ∷ hs →
-        GivesLeaf (treeBy n (length p) ws) (leafBy leafHash innerHash new v g own (h ∷ hs) (λ stays. grow leafHash innerHash new n p stays asks))
+        GivesLeaf (treeBy n (length p) ws)
+        (leafBy leafHash innerHash new v g own (h ∷ hs) (λ stays. grow leafHash innerHash new n p stays asks))
     unfolding ws
     other-gives none h hs o i =
         let u : Unasked (g .key) asks = own-none (g .key) asks o in

@@ -7,6 +7,7 @@ pub mod Leaf
 pub mod Inner
 pub mod Steps
 pub mod Marking
+pub mod Writing
 pub mod Root
 pub mod Idle
 pub mod Desk

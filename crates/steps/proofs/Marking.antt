@@ -13,7 +13,7 @@ use Rattle.meaning.specs.Sound.{NodeOf}
 use Rattle.meaning.proofs.Finding.{isNode-eq, isNode-refl}
 use Rattle.steps.specs.Step.{Node, nodeAt}
 use Rattle.steps.specs.Given.{Among}
-use Rattle.steps.specs.Apply.{isAmong}
+use Rattle.steps.specs.Writing.{isAmong}
 use Rattle.steps.proofs.Among.{at-node, family-cases, family-left, family-right, family-own}
 
 is-same : (r : Record) (v : ℕ) (q : Place) → r .version ≡ v → r .place ≡ q → isNode v q r ≡ true

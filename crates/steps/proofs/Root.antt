@@ -22,7 +22,8 @@ use Rattle.meaning.proofs.Versions.{same-test}
 use Rattle.meaning.proofs.Shaped.{Shaped}
 use Rattle.steps.specs.Step.{Outcome, nodeAt, endsAt, atRoot, stepNode, stepRoot}
 use Rattle.steps.specs.Given.{Among, Older, isNew, Gives}
-use Rattle.steps.specs.Apply.{isAmong, markIn, mark, stepped, applySteps}
+use Rattle.steps.specs.Writing.{isAmong, markIn, mark}
+use Rattle.steps.specs.Apply.{stepped, applySteps}
 use Rattle.steps.proofs.Among.{among-left, among-right, among-append, at-node, ends-at, top-at}
 use Rattle.steps.proofs.Marking.{among-test, tree-test}
 use Rattle.steps.proofs.Steps.{step-is-definition}

@@ -84,8 +84,9 @@ module _ (leafHash innerHash : Bytes → Bytes → Bytes) (new : ℕ) where
   step-gives (suc n) p (vleaf v g) asks e s o f = leaf-gives leafHash innerHash new p v g o (suc n) asks e f
   step-gives (suc n) p (vinner v l r) asks e s o f =
       let gs : List Grant = grantsIn (vinner v l r) in
-      let on =
-      sides-of p (grantsIn l) (grantsIn r) (shaped-begun (longer left p) (unversioned l) (s .2)) (shaped-begun (longer right p) (unversioned r) (s .3)) in
+      let bl = shaped-begun (longer left p) (unversioned l) (s .2) in
+      let br = shaped-begun (longer right p) (unversioned r) (s .3) in
+      let on = sides-of p (grantsIn l) (grantsIn r) bl br in
       let x = side-made n (step-gives n) left p gs l asks e (on .0) (s .2) (λ w q k. o w q (inr (inl k))) f in
       let y = side-made n (step-gives n) right p gs r asks e (on .1) (s .3) (λ w q k. o w q (inr (inr k))) f in
       subst (λ t. GivesAt p (vinner v l r) t (node (suc n)) asks)
@@ -107,8 +108,8 @@ shaped-fits p t asks s form at up = record {
 }
 
 -- Step is definition.
-pub step-is-definition : (leafHash innerHash : Bytes → Bytes → Bytes) (new n : ℕ) (p : Place) (t : VTree) (asks : List Ask) → length p + n ≡ 256 →
-    Shaped p (unversioned t) → Older new p t → All AskForm asks → All (λ a. begins p (askKey a) ≡ true) asks → ascending asks ≡ true →
+pub step-is-definition : (leafHash innerHash : Bytes → Bytes → Bytes) (new n : ℕ) (p : Place) (t : VTree) (asks : List Ask) →
+    length p + n ≡ 256 → Shaped p (unversioned t) → Older new p t → All AskForm asks → All (λ a. begins p (askKey a) ≡ true) asks → ascending asks ≡ true →
     Gives leafHash innerHash new p t (treeAt n p (withBatch asks (grantsIn t))) (stepNode leafHash innerHash new n p t asks)
 unfolding grantsAt begins
 step-is-definition leafHash innerHash new n p t asks e s o form at up =

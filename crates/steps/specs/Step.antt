@@ -1,5 +1,5 @@
--- Document 01, 'The tree of a set of grants': the algorithm of source document 000, on trees. 'The step at a node, the step at an inner node
--- and the step at a child call each other. Each child is handed its own run of the batch.' Assumes nothing.
+-- Document 01, 'The tree of a set of grants': the algorithm of source document 000, on trees. 'The step at a node, the step at an inner
+-- node and the step at a child call each other. Each child is handed its own run of the batch.' Assumes nothing.
 use Prim.Native.Nat.{ℕ, zero, suc}
 use mathlib.Core.Bool.{Bool, true, false, cond, not, _&&_, Bool·beq}
 use mathlib.Core.List.{List, [], _∷_, _++_}
@@ -70,6 +70,7 @@ abbrev pub ownAsk : Bytes → List Ask → Option Ask
 ownAsk k [] = none
 ownAsk k (a ∷ asks) = cond (sameBytes (askKey a) k) (some a) (ownAsk k asks)
 
+-- An ask for another key.
 abbrev pub asksElse : Bytes → Ask → Bool
 asksElse k a = not (sameBytes (askKey a) k)
 
@@ -101,7 +102,7 @@ byChildren (vinner v l r) t nothing lone both = both
 abbrev pub Step : Type 0
 Step = Place → VTree → List Ask → Outcome
 
--- The step at a child: without a run it is unchanged, and not looked into.
+-- The step at a child: without a run it is unchanged, and not looked into; with one it is the step at the node, which grows where none is.
 abbrev pub stepChild : Step → Step
 stepChild node p t [] = outcome unchanged t
 stepChild node p t (a ∷ asks) = node p t (a ∷ asks)
@@ -121,6 +122,7 @@ module _ (leafHash innerHash : Bytes → Bytes → Bytes) (new : ℕ) where
       (placesAt leafHash innerHash (a .change) (longer left p) (a .node) ++ placesAt leafHash innerHash (b .change) (longer right p) (b .node))
       ending
 
+  -- By the grants that are to grow: none, no node; one, a leaf; two or more, an inner node.
   abbrev pub growBy : Place → List Grant → (Side → Outcome) → Outcome
   growBy p [] child = outcome unchanged vnone
   growBy p (g ∷ []) child = outcome updated (vleaf new g)
@@ -165,6 +167,7 @@ module _ (leafHash innerHash : Bytes → Bytes → Bytes) (new : ℕ) where
       (child (longer left p) l (run (length p) left asks))
       (child (longer right p) r (run (length p) right asks))
 
+  -- By the old node there.
   abbrev pub nodeBy : ℕ → (Place → ℕ → VTree → VTree → List Ask → Outcome) → Step
   nodeBy n inner p vnone asks = grow n p none asks
   nodeBy n inner p (vleaf v g) asks = stepLeaf n p v g asks
