@@ -39,14 +39,16 @@ big-low zero y z = refl
 big-low (suc n) y z =
     rw (shifted y n, mul-add-div-right (pow-pos (n * 8)) (y * 256) z, mul-add-mod-self-right y 256 (z / 2 ^ (n * 8)), big-low n (y * 256) z)
 
+-- The first bytes and the last.
+pub big-split : (m n x : ℕ) → big (m + n) x ≡ big m (x / 2 ^ (n * 8)) ++ big n x
+big-split zero n x = rw (zero-add n)
+big-split (suc m) n x =
+    let top : x / 2 ^ ((m + n) * 8) ≡ x / 2 ^ (n * 8) / 2 ^ (m * 8) =
+    ap (λ (k : ℕ). x / 2 ^ k) (add-mul m n 8 ∙ add-comm (m * 8) (n * 8)) ∙ sym (shr-shr x (n * 8) (m * 8)) in
+    rw (suc-add m n, top, big-split m n x)
+
 pub big-join : (m n x y : ℕ) → y < 2 ^ (n * 8) → big (m + n) (x * 2 ^ (n * 8) + y) ≡ big m x ++ big n y
-big-join zero n x y h = rw (zero-add n) (big-low n x y)
-big-join (suc m) n x y h =
-    let top : (x * 2 ^ (n * 8) + y) / 2 ^ ((m + n) * 8) ≡ x / 2 ^ (m * 8) =
-    ap (λ (k : ℕ). (x * 2 ^ (n * 8) + y) / 2 ^ k) (add-mul m n 8 ∙ add-comm (m * 8) (n * 8))
-    ∙ sym (shr-shr (x * 2 ^ (n * 8) + y) (n * 8) (m * 8))
-    ∙ ap (λ (k : ℕ). k / 2 ^ (m * 8)) (high x (n * 8) h) in
-    rw (suc-add m n, top, big-join m n x y h)
+big-join m n x y h = rw (big-split m n (x * 2 ^ (n * 8) + y), high x (n * 8) h, big-low n x y)
 
 number-below : (l : Bytes) → All Byte l → number l < 2 ^ (length l * 8)
 number-below [] h = omega arith
@@ -85,3 +87,6 @@ word-number l p h =
 pub all-bytes : (l : Bytes) → ((i : ℕ) → getD l i 0 < 256) → All Byte l
 all-bytes [] h = tt
 all-bytes (x ∷ l) h = (h 0, all-bytes l (λ i. h (suc i)))
+
+pub word-big : (x : ℕ) → wordAt (big 4 x) 0 ≡ x % 2 ^ 32
+word-big x = word-number (big 4 x) 0 (omega arith) ∙ number-big 4 x

@@ -55,16 +55,21 @@ in-eights x e =
     rest : (n : ℕ) → take 8 (drop n x) ++ drop (n + 8) x ≡ drop n x
     rest n = rw (← drop-drop 8 n x) (take-append-drop 8 (drop n x))
 
+pub hash-in-parts : (h : Hash) {p q r s : Bytes} → big 8 (h .a) ≡ p → big 8 (h .b) ≡ q → big 8 (h .c) ≡ r → big 8 (h .d) ≡ s
+    → hashBytes h ≡ p ++ (q ++ (r ++ s))
+unfolding hashBytes
+hash-in-parts h = joined
+  where
+    joined : {p q r s p′ q′ r′ s′ : Bytes} → p ≡ p′ → q ≡ q′ → r ≡ r′ → s ≡ s′ → p ++ (q ++ (r ++ s)) ≡ p′ ++ (q′ ++ (r′ ++ s′))
+    joined hp hq hr hs = rw (hp, hq, hr, hs)
+
 pub bytes-of-hash : (x : Bytes) → Whole32 x → hashBytes (hashOf x) ≡ x
-unfolding hashBytes hashOf
+unfolding hashOf
 bytes-of-hash x (e, h) =
-    ends (part 0 (omega arith)) (part 8 (omega arith)) (part 16 (omega arith)) (part 24 (omega arith)) ∙ in-eights x e
+    hash-in-parts (hashOf x) (part 0 (omega arith)) (part 8 (omega arith)) (part 16 (omega arith)) (part 24 (omega arith)) ∙ in-eights x e
   where
     part : (n : ℕ) → n + 8 ≤ 32 → big 8 (number (take 8 (drop n x))) ≡ take 8 (drop n x)
     part n f = eight (take 8 (drop n x)) (simp (length-take, length-drop) (omega arith)) (all-take 8 (drop n x) (all-drop n x h))
-
-    ends : {p q r s p′ q′ r′ s′ : Bytes} → p ≡ p′ → q ≡ q′ → r ≡ r′ → s ≡ s′ → p ++ (q ++ (r ++ s)) ≡ p′ ++ (q′ ++ (r′ ++ s′))
-    ends hp hq hr hs = rw (hp, hq, hr, hs)
 
 own : (x : ℕ) → x < 2 ^ 64 → number (big 8 x) ≡ x
 own x h = number-big 8 x ∙ mod-eq-of-lt h

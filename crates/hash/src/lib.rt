@@ -15,7 +15,7 @@ pub struct Hash {
     pub d: u64,
 }
 
-fn wide(x: u8) -> u32
+pub fn wide(x: u8) -> u32
     ensures { λ r. ⌜ (r ≡ x) × (r < 256) ⌝ }
 {
     x as u32
@@ -45,6 +45,7 @@ pub fn word_at(s: &[u8], at: usize) -> u32
 // Two words as one number.
 pub fn join(x: u32, y: u32) -> u64
     ensures { λ r. ⌜ r ≡ x * 4294967296 + y ⌝ }
+    ensures { λ r. ⌜ big 8 r ≡ big 4 x ++ big 4 y ⌝ }
 {
     x as u64 * 0x1_0000_0000 + y as u64
 }

@@ -20,7 +20,7 @@ join-requires c κs = search needs
 returns : tie.Need-returns
 returns c =
     let a = c .before .before .before .before .args in
-    rw (c .join .ensures, c .before .word-at2 .ensures, c .before .before .word-at .ensures) (number-of-words (a .s .now) (a .at) (search needs))
+    rw (c .join .ensures .0, c .before .word-at2 .ensures, c .before .before .word-at .ensures) (number-of-words (a .s .now) (a .at) (search needs))
 
 pub number-at-spec : {M : Type 1} → statement M
 number-at-spec =
