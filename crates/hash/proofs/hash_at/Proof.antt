@@ -6,7 +6,6 @@ use Rattle.hash.proofs.Laws.{hash-of-numbers, whole-part, bytes-of-hash
 use borrow.Author.Needs.{needs}
 use Rattle.hash.proofs.hash_at.Statement.{statement}
 use Rattle.hash.proofs.hash_at.Tie as tie
-use Rattle.hash.proofs.number_at.Reads as number-at-reads
 
 number-at-requires : tie.Need-number-at-requires
 number-at-requires c κs = search needs

@@ -2,7 +2,6 @@ use Rattle.hash.proofs.Laws.{hash-in-parts}
 use borrow.Author.Needs.{needs}
 use Rattle.sha256.proofs.to_hash.Statement.{statement}
 use Rattle.sha256.proofs.to_hash.Tie as tie
-use Rattle.hash.proofs.join.Reads as join-reads
 
 join-requires : tie.Need-join-requires
 join-requires c κs = search needs

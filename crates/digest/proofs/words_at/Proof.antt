@@ -1,8 +1,7 @@
 use Rattle.sha256.proofs.Blocks.{block-of-words}
 use borrow.Author.Needs.{needs}
-use Rattle.sha256.proofs.words_at.Statement.{statement}
-use Rattle.sha256.proofs.words_at.Tie as tie
-use Rattle.hash.proofs.word_at.Reads as word-at-reads
+use Rattle.digest.proofs.words_at.Statement.{statement}
+use Rattle.digest.proofs.words_at.Tie as tie
 
 word-at-requires : tie.Need-word-at-requires
 word-at-requires c κs = search needs

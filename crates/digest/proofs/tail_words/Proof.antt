@@ -1,8 +1,7 @@
 use Rattle.sha256.proofs.Blocks.{block-of-words}
 use borrow.Author.Needs.{needs}
-use Rattle.sha256.proofs.tail_words.Statement.{statement}
-use Rattle.sha256.proofs.tail_words.Tie as tie
-use Rattle.sha256.proofs.tail_word.Reads as tail-word-reads
+use Rattle.digest.proofs.tail_words.Statement.{statement}
+use Rattle.digest.proofs.tail_words.Tie as tie
 
 tail-word-requires : tie.Need-tail-word-requires
 tail-word-requires c κs = search needs

@@ -2,11 +2,10 @@ use mathlib.Core.Path.{_∙_, sym}
 use mathlib.Core.List.{[]}
 use native.Mathlib.Omega.{arith}
 use lib.Seq.{getD-at}
-use Rattle.sha256.proofs.Blocks.{tail-inside, tail-past}
+use Rattle.digest.proofs.Padding.{tail-inside, tail-past}
 use borrow.Author.Needs.{needs}
-use Rattle.sha256.proofs.tail_byte.Statement.{statement}
-use Rattle.sha256.proofs.tail_byte.Tie as tie
-use Rattle.hash.proofs.wide.Reads as wide-reads
+use Rattle.digest.proofs.tail_byte.Statement.{statement}
+use Rattle.digest.proofs.tail_byte.Tie as tie
 
 shared-slice-read-wide : tie.Need-shared-slice-read-wide
 shared-slice-read-wide c = search needs

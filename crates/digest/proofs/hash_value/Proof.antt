@@ -1,11 +1,7 @@
-use Rattle.sha256.proofs.Blocks.{one-block-end, two-blocks-end}
+use Rattle.digest.proofs.Padding.{one-block-end, two-blocks-end}
 use borrow.Author.Needs.{needs}
-use Rattle.sha256.proofs.hash_value.Statement.{statement}
-use Rattle.sha256.proofs.hash_value.Tie as tie
-use Rattle.sha256.proofs.compress.Reads as compress-reads
-use Rattle.sha256.proofs.last_words.Reads as last-words-reads
-use Rattle.sha256.proofs.tail_words.Reads as tail-words-reads
-use Rattle.sha256.proofs.whole_blocks.Reads as whole-blocks-reads
+use Rattle.digest.proofs.hash_value.Statement.{statement}
+use Rattle.digest.proofs.hash_value.Tie as tie
 
 mul-at : tie.Need-mul-at
 mul-at c = search needs

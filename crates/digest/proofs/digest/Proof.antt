@@ -1,10 +1,8 @@
 use mathlib.Core.Path.{ap, _∙_}
 use Rattle.sha256.specs.Sha256.{stateBytes, sha256}
 use borrow.Author.Needs.{needs}
-use Rattle.sha256.proofs.digest.Statement.{statement}
-use Rattle.sha256.proofs.digest.Tie as tie
-use Rattle.sha256.proofs.hash_value.Reads as hash-value-reads
-use Rattle.sha256.proofs.to_hash.Reads as to-hash-reads
+use Rattle.digest.proofs.digest.Statement.{statement}
+use Rattle.digest.proofs.digest.Tie as tie
 
 hash-value-requires : tie.Need-hash-value-requires
 hash-value-requires c κs = search needs

@@ -2,14 +2,11 @@ use Prim.Native.Nat.{_-_, _/_, _≤_}
 use mathlib.Core.Path.{_≡_}
 use native.Mathlib.Omega.{arith}
 use lib.ListN.{length}
 use Rattle.sha256.specs.Sha256.{hashValue, padded}
-use Rattle.sha256.proofs.Blocks.{whole-next}
+use Rattle.digest.proofs.Padding.{whole-next}
 use borrow.Author.Needs.{needs}
-use Rattle.sha256.proofs.whole_blocks.Statement.{statement}
-use Rattle.sha256.proofs.whole_blocks.Tie as tie
-use Rattle.sha256.proofs.compress.Reads as compress-reads
-use Rattle.sha256.proofs.start.Reads as start-reads
-use Rattle.sha256.proofs.words_at.Reads as words-at-reads
+use Rattle.digest.proofs.whole_blocks.Statement.{statement}
+use Rattle.digest.proofs.whole_blocks.Tie as tie
 
 abbrev Inv-loop : tie.InvT-loop
 Inv-loop b n s₀ i₀ s i = (i ≤ length b / 64) × (s ≡ hashValue (padded b) i)

@@ -2,13 +2,10 @@ use mathlib.Core.Path.{_∙_, sym}
 use mathlib.Core.List.{[], _∷_}
 use native.Mathlib.Omega.{arith}
 use Rattle.hash.specs.BigEndian.{wordAt}
-use Rattle.sha256.proofs.Blocks.{word-append, word-past}
+use Rattle.digest.proofs.Padding.{word-append, word-past}
 use borrow.Author.Needs.{needs}
-use Rattle.sha256.proofs.tail_word.Statement.{statement}
-use Rattle.sha256.proofs.tail_word.Tie as tie
-use Rattle.hash.proofs.pack.Reads as pack-reads
-use Rattle.hash.proofs.word_at.Reads as word-at-reads
-use Rattle.sha256.proofs.tail_byte.Reads as tail-byte-reads
+use Rattle.digest.proofs.tail_word.Statement.{statement}
+use Rattle.digest.proofs.tail_word.Tie as tie
 
 add-if1 : tie.Need-add-if1
 add-if1 c = search needs
