@@ -1,3 +1,5 @@
+-- The bytes of the last hash value.
+-- Assumes nothing.
 use mathlib.Core.Path.{ap, _∙_}
 use Rattle.sha256.specs.Sha256.{stateBytes, sha256}
 use borrow.Author.Needs.{needs}

@@ -1,3 +1,5 @@
+-- The blocks that are left, one or two, are the last of the padded message.
+-- Assumes nothing.
 use Rattle.digest.proofs.Padding.{one-block-end, two-blocks-end}
 use borrow.Author.Needs.{needs}
 use Rattle.digest.proofs.hash_value.Statement.{statement}

@@ -1,3 +1,5 @@
+-- The message's own byte, or 128 at its end, or past it.
+-- Assumes nothing.
 use mathlib.Core.Path.{_∙_, sym}
 use mathlib.Core.List.{[]}
 use native.Mathlib.Omega.{arith}

@@ -1,3 +1,5 @@
+-- A word within the message is the message's own, one past its end is zero, and the one between is read byte by byte.
+-- Assumes nothing.
 use mathlib.Core.Path.{_∙_, sym}
 use mathlib.Core.List.{[], _∷_}
 use native.Mathlib.Omega.{arith}

@@ -1,3 +1,5 @@
+-- Sixteen words read one after the other are the block.
+-- Assumes nothing.
 use Rattle.sha256.proofs.Blocks.{block-of-words}
 use borrow.Author.Needs.{needs}
 use Rattle.digest.proofs.tail_words.Statement.{statement}

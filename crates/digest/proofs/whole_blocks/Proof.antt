@@ -1,3 +1,5 @@
+-- After i turns the state is the hash value H(i): a block that the message fills is a block of the padded message.
+-- Assumes nothing.
 use Prim.Native.Nat.{_-_, _/_, _≤_}
 use mathlib.Core.Path.{_≡_}
 use native.Mathlib.Omega.{arith}

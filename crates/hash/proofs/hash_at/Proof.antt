@@ -1,3 +1,5 @@
+-- Four numbers read one after the other are the hash of their 32 bytes, which are bytes since the slice holds them.
+-- Assumes nothing.
 use mathlib.Core.Path.{ap, _∙_}
 use native.Mathlib.Omega.{arith}
 use lib.ListN.{take, drop}

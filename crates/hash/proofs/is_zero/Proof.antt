@@ -1,3 +1,5 @@
+-- The comparison's contract, with the 32 zero bytes in place of the second hash's.
+-- Assumes nothing.
 use borrow.Author.Needs.{needs}
 use Rattle.hash.proofs.is_zero.Statement.{statement}
 use Rattle.hash.proofs.is_zero.Tie as tie

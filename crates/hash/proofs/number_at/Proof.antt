@@ -1,3 +1,5 @@
+-- Two words one after the other spell the number of their eight bytes.
+-- Assumes nothing.
 use Rattle.hash.proofs.Laws.{number-of-words}
 use borrow.Author.Needs.{needs}
 use Rattle.hash.proofs.number_at.Statement.{statement}

@@ -1,3 +1,5 @@
+-- Four numbers written one after the other are the bytes of the hash.
+-- Assumes nothing.
 use Rattle.hash.proofs.Laws.{four-puts}
 use borrow.Author.Needs.{needs}
 use Rattle.hash.proofs.put_hash.Statement.{statement}

@@ -1,3 +1,5 @@
+-- The four bytes read, packed as the definition packs them.
+-- Assumes nothing.
 use Rattle.hash.specs.BigEndian.{wordAt}
 use borrow.Author.Needs.{needs}
 use Rattle.hash.proofs.word_at.Statement.{statement}

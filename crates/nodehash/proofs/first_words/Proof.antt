@@ -1,3 +1,5 @@
+-- The sixteen words are those of the message's first block.
+-- Assumes nothing.
 use Rattle.nodehash.proofs.Blocks.{first-block}
 use borrow.Author.Needs.{needs}
 use Rattle.nodehash.proofs.first_words.Statement.{statement}

@@ -1,3 +1,5 @@
+-- The node's hash with the byte 0.
+-- Assumes nothing.
 use Rattle.nodehash.specs.Node.{innerHash}
 use borrow.Author.Needs.{needs}
 use Rattle.nodehash.proofs.inner_hash.Statement.{statement}

@@ -1,3 +1,5 @@
+-- The two hashes that are read have the bytes of the key and of the value.
+-- Assumes nothing.
 use mathlib.Core.Path.{_∙_}
 use native.Mathlib.Omega.{arith}
 use lib.ListN.{drop, length-drop}

@@ -1,3 +1,5 @@
+-- The message of 65 bytes has two blocks, and the words are theirs.
+-- Assumes nothing.
 use mathlib.Core.Path.{ap, _∙_}
 use Rattle.hash.specs.Hash.{hashBytes}
 use Rattle.sha256.specs.Sha256.{padded, stateBytes, sha256}

@@ -1,3 +1,5 @@
+-- Eight sums, as the definition has them.
+-- Assumes nothing.
 use Rattle.sha256.specs.Sha256.{added}
 use borrow.Author.Needs.{needs}
 use Rattle.sha256.proofs.add_state.Statement.{statement}

@@ -1,3 +1,5 @@
+-- Three rotations, as the definition has them.
+-- Assumes nothing.
 use Rattle.sha256.specs.Sha256.{Σ₀}
 use borrow.Author.Needs.{needs}
 use Rattle.sha256.proofs.big_sigma0.Statement.{statement}

@@ -1,3 +1,5 @@
+-- Three rotations, as the definition has them.
+-- Assumes nothing.
 use Rattle.sha256.specs.Sha256.{Σ₁}
 use borrow.Author.Needs.{needs}
 use Rattle.sha256.proofs.big_sigma1.Statement.{statement}

@@ -1,3 +1,5 @@
+-- The 64 rounds, added to the hash value before them.
+-- Assumes nothing.
 use mathlib.Core.Path.{ap, _∙_}
 use Rattle.sha256.specs.declared.State.{State}
 use Rattle.sha256.specs.Sha256.{added}

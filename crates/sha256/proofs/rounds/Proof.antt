@@ -1,3 +1,5 @@
+-- Four times sixteen rounds are 64.
+-- Assumes nothing.
 use Rattle.sha256.proofs.Rolling.{four-times}
 use borrow.Author.Needs.{needs}
 use Rattle.sha256.proofs.rounds.Statement.{statement}

@@ -1,3 +1,5 @@
+-- Sixteen rounds, each from the one before it; the constants are those of the table, by computing.
+-- Assumes nothing.
 use Rattle.sha256.specs.Sha256.{K}
 use Rattle.sha256.proofs.Rolling.{sixteen-rounds}
 use borrow.Author.Needs.{needs}

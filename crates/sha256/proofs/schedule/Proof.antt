@@ -1,3 +1,5 @@
+-- The sums in FIPS's order.
+-- Assumes nothing.
 use Rattle.sha256.specs.Sha256.{scheduled}
 use borrow.Author.Needs.{needs}
 use Rattle.sha256.proofs.schedule.Statement.{statement}

@@ -1,3 +1,5 @@
+-- Two rotations and a shift, as the definition has them.
+-- Assumes nothing.
 use Rattle.sha256.specs.Sha256.{σ₀}
 use borrow.Author.Needs.{needs}
 use Rattle.sha256.proofs.sigma0.Statement.{statement}

@@ -1,3 +1,5 @@
+-- T1 and T2 in FIPS's order of sums.
+-- Assumes nothing.
 use Rattle.sha256.specs.Sha256.{round}
 use borrow.Author.Needs.{needs}
 use Rattle.sha256.proofs.step.Statement.{statement}

@@ -1,3 +1,5 @@
+-- Two words joined have the bytes of the one and then of the other.
+-- Assumes nothing.
 use Rattle.hash.proofs.Laws.{hash-in-parts}
 use borrow.Author.Needs.{needs}
 use Rattle.sha256.proofs.to_hash.Statement.{statement}

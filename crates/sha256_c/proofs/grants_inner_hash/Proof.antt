@@ -1,3 +1,5 @@
+-- The hash is written over all 32 bytes; the two hashes that are read have the children's bytes.
+-- Assumes nothing.
 use mathlib.Core.Path.{refl, _∙_}
 use Rattle.hash.proofs.Laws.{put-over}
 use lib.Seq.{take-all}

@@ -1,3 +1,5 @@
+-- The hash is written over all 32 bytes.
+-- Assumes nothing.
 use mathlib.Core.Path.{refl, _∙_}
 use Rattle.hash.proofs.Laws.{put-over}
 use borrow.Author.Needs.{needs}
