@@ -5,7 +5,7 @@ use native.Mathlib.Numerals.{add-one}
 use mathlib.Core.Path.{_≡_, ap, ap₂, sym, _∙_}
 use mathlib.Core.List.{[], _∷_, _++_, append-assoc, append-nil}
 use lib.ListN.{length, getD, take, drop, set, length-append, length-take, length-drop, drop-of-length-le}
-use lib.Seq.{sets, sets-eq, set-at, drop-cons, take-suc, append-snoc, take-all, length-take-le}
+use lib.Seq.{sets, sets-eq, set-at, drop-cons, take-suc, append-snoc, take-all, length-take-le, take-at, drop-at}
 use Rattle.terms.specs.Bits.{Bytes}
 use Rattle.fields.specs.Written.{written}
 
@@ -27,6 +27,15 @@ set-four s i a b c d h =
 pub length-written : (i : ℕ) (f s : Bytes) → i + length f ≤ length s → length (written i f s) ≡ length s
 unfolding written
 length-written i f s h = simp (length-append, length-take, length-drop) (omega arith)
+
+-- writing over q
+pub written-between : (p q s f : Bytes) (i : ℕ) → length p ≡ i → length f ≡ length q → written i f (p ++ (q ++ s)) ≡ p ++ (f ++ s)
+unfolding written
+written-between p q s f i e h =
+    let d : drop (i + length f) (p ++ (q ++ s)) ≡ s =
+    rw (← append-assoc p q s) (drop-at (p ++ q) s (i + length f) (simp length-append (omega arith)))
+    in
+    rw (take-at p (q ++ s) i e, d)
 
 -- a part that is being filled with f from its front: s, where it was s₀ before, has i new bytes
 pub record Filling (f s₀ s : Bytes) (i : ℕ) : Type 0 where

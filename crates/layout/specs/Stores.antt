@@ -1,7 +1,7 @@
 -- Document 01, 'Bytes': a store is its header and its slots, one after the other; the store is 24 + 120n bytes. Assumes nothing.
 use Prim.Native.Nat.{ℕ, zero, suc, _≤_}
 use mathlib.Core.List.{List, [], _∷_, _++_}
-use lib.ListN.{length, take, drop}
+use lib.ListN.{length, take, drop, set}
 use Rattle.terms.specs.Bits.{Bytes, All}
 use Rattle.terms.specs.Fields.{field}
 use Rattle.terms.specs.Records.{Slot, Store}
@@ -34,3 +34,11 @@ pub record StoreForm (st : Store) : Type 0 where
   pub ordered : st .oldest ≤ st .latest
   pub number : st .latest ≤ top32
   pub each : All SlotForm (st .slots)
+
+-- The store with another slot at i.
+unfoldable pub putSlot : ℕ → Slot → Store → Store
+putSlot i x st = record { oldest = st .oldest; latest = st .latest; slots = set (st .slots) i x }
+
+-- The store with another oldest and latest.
+unfoldable pub putBounds : ℕ → ℕ → Store → Store
+putBounds oldest latest st = record { oldest = oldest; latest = latest; slots = st .slots }

@@ -5,7 +5,7 @@ use mathlib.Core.Path.{_≡_, refl, ap, ap₂, sym, _∙_}
 use mathlib.Core.Bool.{Bool, true, false, _&&_}
 use mathlib.Core.List.{List, [], _∷_, _++_, append-assoc, append-nil}
 use lib.ListN.{length, take, drop, replicate, take-append-drop, drop-of-length-le, length-append, length-take, length-drop, length-replicate}
-use lib.Seq.{drop-drop, take-at, drop-at}
+use lib.Seq.{drop-drop, take-add, take-at, drop-at}
 use lib.Dec.{eqb}
 use native.Mathlib.Nat.{pow-suc}
 use borrow.Author.Tests.{eqb-true, eq-eqb}
@@ -85,6 +85,12 @@ total (n ∷ ns) = n + total ns
 pub flat-cuts : (ns : List ℕ) (i : ℕ) (s : Bytes) → i + total ns ≡ length s → flat (cuts ns i s) ≡ drop i s
 flat-cuts [] i s h = sym (drop-of-length-le s {i = i} (omega arith))
 flat-cuts (n ∷ ns) i s h = ap (slice i n s ++_) (flat-cuts ns (i + n) s (omega arith)) ∙ sym (slice-rest i n s)
+
+-- the fields at the front of a string
+pub flat-front : (ns : List ℕ) (i : ℕ) (s : Bytes) → flat (cuts ns i s) ≡ take (total ns) (drop i s)
+unfolding slice
+flat-front [] i s = refl
+flat-front (n ∷ ns) i s = rw (flat-front ns (i + n) s, take-add n (total ns) (drop i s), drop-drop n i s)
 
 pub all-of-tests : (ts : List Bool) → allOf ts ≡ true → All (λ t. t ≡ true) ts
 unfolding allOf
