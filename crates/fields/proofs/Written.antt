@@ -1,12 +1,15 @@
 -- Laws of `written`: what stores leave, how long the memory stays, and writing one field after the other. Assumes nothing.
 use Prim.Native.Nat.{ℕ, suc, _+_, _<_, _≤_}
 use native.Mathlib.Omega.{arith}
+use native.Mathlib.Nat.{add-zero}
 use native.Mathlib.Numerals.{add-one}
 use mathlib.Core.Path.{_≡_, ap, ap₂, sym, _∙_}
-use mathlib.Core.List.{[], _∷_, _++_, append-assoc, append-nil}
-use lib.ListN.{length, getD, take, drop, set, length-append, length-take, length-drop, drop-of-length-le}
-use lib.Seq.{sets, sets-eq, set-at, drop-cons, take-suc, append-snoc, take-all, length-take-le, take-at, drop-at}
+use mathlib.Core.List.{List, [], _∷_, _++_, append-assoc, append-nil}
+use lib.ListN.{length, getD, take, drop, set, length-append, length-take, length-drop, drop-of-length-le, take-append-drop}
+use lib.Seq.{sets, sets-eq, set-at, drop-cons, take-suc, append-snoc, take-all, length-take-le, take-at, drop-at, drop-append-add, drop-drop}
 use Rattle.terms.specs.Bits.{Bytes}
+use Rattle.terms.specs.Fields.{flat}
+use Rattle.terms.proofs.Fields.{Sized, total}
 use Rattle.fields.specs.Written.{written}
 
 -- stores one after the other
@@ -36,6 +39,42 @@ written-between p q s f i e h =
     rw (← append-assoc p q s) (drop-at (p ++ q) s (i + length f) (simp length-append (omega arith)))
     in
     rw (take-at p (q ++ s) i e, d)
+
+-- two fields, one after the other
+written-next : (i j : ℕ) (f g s : Bytes) → i + length f ≡ j → j ≤ length s → written j g (written i f s) ≡ written i (f ++ g) s
+unfolding written
+written-next i j f g s e h =
+    let rest = drop (i + length f) s in
+    let m : length (take i s ++ f) ≡ j = simp (length-append, length-take) (omega arith) in
+    let t : take j (take i s ++ (f ++ rest)) ≡ take i s ++ f = rw (← append-assoc (take i s) f rest) (take-at (take i s ++ f) rest j m) in
+    let n : i + length f + length g ≡ i + length (f ++ g) = simp length-append (omega arith) in
+    let d : drop (j + length g) (take i s ++ (f ++ rest)) ≡ drop (i + length (f ++ g)) s =
+    ap (drop (j + length g)) (sym (append-assoc (take i s) f rest))
+    ∙ ap (λ k. drop (k + length g) ((take i s ++ f) ++ rest)) (sym m)
+    ∙ drop-append-add (take i s ++ f) rest (length g)
+    ∙ drop-drop (length g) (i + length f) s
+    ∙ ap (λ k. drop k s) n
+    in
+    rw (t, d, append-assoc (take i s) f (g ++ drop (i + length (f ++ g)) s), append-assoc f g (drop (i + length (f ++ g)) s))
+
+-- fields of given sizes, written one after the other from i on
+abbrev pub fieldsWritten : List ℕ → ℕ → List Bytes → Bytes → Bytes
+fieldsWritten [] i fs s = s
+fieldsWritten (n ∷ ns) i [] s = s
+fieldsWritten (n ∷ ns) i (f ∷ fs) s = fieldsWritten ns (i + n) fs (written i f s)
+
+nothing-written : (i : ℕ) (s : Bytes) → s ≡ written i [] s
+unfolding written
+nothing-written i s = rw (add-zero i) (sym (take-append-drop i s))
+
+pub fields-written : (ns : List ℕ) (i : ℕ) (fs : List Bytes) (s : Bytes) → Sized ns fs → i + total ns ≤ length s → fieldsWritten ns i fs s ≡ written i (flat fs) s
+fields-written [] i [] s h l = nothing-written i s
+fields-written [] i (f ∷ fs) s h l = absurd h
+fields-written (n ∷ ns) i [] s h l = absurd h
+fields-written (n ∷ ns) i (f ∷ fs) s h l =
+    let e : length f ≡ n = h .0 in
+    fields-written ns (i + n) fs (written i f s) (h .1) (omega (arith, length-written i f s (omega arith)))
+    ∙ written-next i (i + n) f (flat fs) s (omega arith) (omega arith)
 
 -- a part that is being filled with f from its front: s, where it was s₀ before, has i new bytes
 pub record Filling (f s₀ s : Bytes) (i : ℕ) : Type 0 where
