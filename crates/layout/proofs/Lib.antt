@@ -1,3 +1,3 @@
 pub mod Slots
-pub mod Header
+pub mod Headers
 pub mod Stores

@@ -16,11 +16,11 @@ use Rattle.terms.proofs.Fields.{field-below}
 use Rattle.fields.specs.Written.{written}
 use Rattle.fields.proofs.Written.{written-between}
 use Rattle.layout.specs.Sizes.{roomOf}
-use Rattle.layout.specs.Header.{header, headerOf, headerBytes}
+use Rattle.layout.specs.Headers.{header, headerOf, headerBytes}
 use Rattle.layout.specs.Slots.{slotOf, slotBytes, SlotForm}
 use Rattle.layout.specs.Stores.{slotsOf, slotsBytes, storeOf, storeBytes, StoreForm, putSlot, putBounds}
 use Rattle.layout.proofs.Slots.{slot-said, slot-back, slot-form, length-slot}
-use Rattle.layout.proofs.Header.{room-of, length-header, header-said, Accepted, accepted, header-back}
+use Rattle.layout.proofs.Headers.{room-of, length-header, header-said, Accepted, accepted, header-back}
 
 pub length-slots-bytes : (xs : List Slot) → All SlotForm xs → length (slotsBytes xs) ≡ 120 * length xs
 length-slots-bytes [] h = refl

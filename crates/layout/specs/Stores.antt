@@ -7,7 +7,7 @@ use Rattle.terms.specs.Fields.{field}
 use Rattle.terms.specs.Records.{Slot, Store}
 use Rattle.terms.specs.Form.{top32}
 use Rattle.layout.specs.Sizes.{headerSize, slotSize, mostSlots, oldestAt, latestAt, roomOf}
-use Rattle.layout.specs.Header.{headerBytes}
+use Rattle.layout.specs.Headers.{headerBytes}
 use Rattle.layout.specs.Slots.{slotOf, slotBytes, SlotForm}
 
 -- The n slots that bytes hold, 120 bytes each.

@@ -11,7 +11,7 @@ use native.Mathlib.Nat.{pow-suc}
 use borrow.Author.Tests.{eqb-true, eq-eqb}
 use Rattle.terms.specs.Bits.{Bytes, Byte, All}
 use Rattle.terms.specs.Fields.{le, num, slice, field, zeroBytes, allZero, flat, allOf}
-use Rattle.terms.proofs.Tests.{and-left, and-right}
+use Rattle.terms.proofs.Tests.{and-left, and-right, and-true}
 use Rattle.terms.proofs.Lists.{all-take, all-drop}
 
 pub le-num : (bs : Bytes) → All Byte bs → le (length bs) (num bs) ≡ bs
@@ -105,6 +105,10 @@ test-passed ts e = rw e
 pub test-failed : {t : Bool} (ts : List Bool) → t ≡ false → allOf (t ∷ ts) ≡ false
 unfolding allOf
 test-failed ts e = rw e
+
+pub test-last : (t : Bool) → allOf (t ∷ []) ≡ t
+unfolding allOf
+test-last t = and-true t
 
 pub tests-all : (ts : List Bool) → All (λ t. t ≡ true) ts → allOf ts ≡ true
 unfolding allOf

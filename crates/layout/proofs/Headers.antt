@@ -1,6 +1,6 @@
 -- Headers there and back: the bytes of a header are read as what they were made of, and a header that is accepted is its own bytes. The
 -- length fixes the number of slots. Assumes nothing.
-use Prim.Native.Nat.{ℕ, _+_, _*_, _-_, _<_, _≤_, _/_}
+use Prim.Native.Nat.{ℕ, _+_, _*_, _-_, _<_, _≤_, _/_, _%_}
 use native.Mathlib.Omega.{arith}
 use mathlib.Core.Path.{_≡_, refl, ap, sym, _∙_}
 use mathlib.Core.Bool.{Bool, true, false, cond}
@@ -8,11 +8,12 @@ use mathlib.Core.List.{List, [], _∷_, _++_}
 use lib.ListN.{length, getD, take, drop, length-append, length-take}
 use lib.Seq.{take-append-le, take-all}
 use lib.Dec.{eqb, leb}
-use borrow.Author.Tests.{eqb-true, eq-eqb, leb-true, le-leb}
+use borrow.Author.Tests.{eqb-true, eqb-false, eq-eqb, leb-true, le-leb}
 use Rattle.terms.specs.Bits.{Bytes, Byte, All}
 use Rattle.terms.specs.Fields.{le, num, field, slice, zeroBytes, allZero, flat, allOf}
 use Rattle.terms.specs.Form.{top32}
 use Rattle.terms.proofs.Lists.{all-take}
+use Rattle.terms.proofs.Tests.{not-both}
 use Rattle.terms.proofs.Fields.{
   num-le,
   length-le,
@@ -31,13 +32,24 @@ use Rattle.terms.proofs.Fields.{
   length-flat,
   length-zero-bytes,
 }
+use Rattle.fields.specs.Written.{written}
+use Rattle.fields.proofs.Written.{fields-written}
 use Rattle.layout.specs.Sizes.{roomOf}
-use Rattle.layout.specs.Header.{Headed, refusal, header, sizeRight, headerRight, headerOf, headerBytes}
+use Rattle.layout.specs.Headers.{Headed, refusal, header, sizeRight, headerRight, headerOf, headerBytes}
 
 -- a store of 24 + 120n bytes has n slots
 pub room-of : (m n : ℕ) → m ≡ 24 + 120 * n → roomOf m ≡ n
 unfolding roomOf
 room-of m n e = omega arith
+
+size-right-of : (m n : ℕ) → m ≡ 24 + 120 * n → 1 ≤ n → n ≤ 16384 → sizeRight m ≡ true
+unfolding sizeRight
+size-right-of m n e some fits =
+    let r = room-of m n e in
+    tests-all _ (
+      eq-eqb m (24 + 120 * roomOf m) (rw r e),
+      (le-leb 1 (roomOf m) (rw r some), (le-leb (roomOf m) 16384 (rw r fits), tt)),
+    )
 
 abbrev sizes : List ℕ
 sizes = 4 ∷ 2 ∷ 2 ∷ 4 ∷ 4 ∷ 4 ∷ 4 ∷ []
@@ -48,9 +60,23 @@ fields n o l = le 4 24 ∷ le 2 1 ∷ zeroBytes 2 ∷ le 4 n ∷ le 4 o ∷ le 4
 sized : (n o l : ℕ) → Sized sizes (fields n o l)
 sized n o l = (length-le 4 _, (length-le 2 _, (length-zero-bytes 2, (length-le 4 n, (length-le 4 o, (length-le 4 l, (length-zero-bytes 4, tt)))))))
 
+zero-two : le 2 0 ≡ zeroBytes 2
+unfolding le zeroBytes
+zero-two = refl
+
+zero-four : le 4 0 ≡ zeroBytes 4
+unfolding le zeroBytes
+zero-four = refl
+
 pub length-header : (n o l : ℕ) → length (headerBytes n o l) ≡ 24
 unfolding headerBytes
 length-header n o l = length-flat sizes (fields n o l) (sized n o l)
+
+-- the header's fields, written one after the other
+pub header-put : {a b c d e f g : Bytes} (n o l : ℕ) (s : Bytes) → 24 ≤ length s → a ≡ written 0 (le 4 24) s → b ≡ written 4 (le 2 1) a → c ≡ written 6 (le 2 0) b →
+    d ≡ written 8 (le 4 n) c → e ≡ written 12 (le 4 o) d → f ≡ written 16 (le 4 l) e → g ≡ written 20 (le 4 0) f → g ≡ written 0 (headerBytes n o l) s
+unfolding headerBytes
+header-put n o l s h p q r t u v w = rw (w, v, u, t, r, q, p, zero-two, zero-four) (fields-written sizes 0 (fields n o l) s (sized n o l) h)
 
 -- bytes that begin with those of a header, and are as many as it says
 module _ (s : Bytes) (n o l : ℕ) (xs : Bytes) (is : s ≡ headerBytes n o l ++ xs) (long : length xs ≡ 120 * n) where
@@ -70,15 +96,6 @@ module _ (s : Bytes) (n o l : ℕ) (xs : Bytes) (is : s ≡ headerBytes n o l ++
   kind-is = ap num (cut 1) ∙ num-le 2 1 (omega arith)
 
   module _ (some : 1 ≤ n) (fits : n ≤ 16384) (ordered : o ≤ l) (number : l ≤ top32) where
-    size-right : sizeRight (length s) ≡ true
-    unfolding sizeRight
-    size-right =
-        let r = room-of (length s) n size-is in
-        tests-all _ (
-          eq-eqb (length s) (24 + 120 * roomOf (length s)) (rw r size-is),
-          (le-leb 1 (roomOf (length s)) (rw r some), (le-leb (roomOf (length s)) 16384 (rw r fits), tt)),
-        )
-
     capacity-is : field 8 4 s ≡ n
     capacity-is = number-is 8 n (omega arith) (cut 3)
 
@@ -111,7 +128,7 @@ module _ (s : Bytes) (n o l : ℕ) (xs : Bytes) (is : s ≡ headerBytes n o l ++
     -- they are accepted, with what the header was made of
     pub header-said : headerOf s ≡ header n o l
     unfolding headerOf
-    header-said = rw (size-right, header-right, capacity-is, oldest-is, latest-is)
+    header-said = rw (size-right-of (length s) n size-is some fits, header-right, capacity-is, oldest-is, latest-is)
 
 -- what an accepted header says of its bytes
 pub record Accepted (s : Bytes) (n o l : ℕ) : Type 0 where
@@ -127,6 +144,26 @@ pub record Accepted (s : Bytes) (n o l : ℕ) : Type 0 where
 size-says : (m : ℕ) → sizeRight m ≡ true → (m ≡ 24 + 120 * roomOf m) × (1 ≤ roomOf m) × (roomOf m ≤ 16384)
 unfolding sizeRight
 size-says m e = let t = all-of-tests _ e in (eqb-true m (24 + 120 * roomOf m) (t .0), leb-true 1 (roomOf m) (t .1 .0), leb-true (roomOf m) 16384 (t .1 .1 .0))
+
+pub size-least : (m : ℕ) → sizeRight m ≡ true → 144 ≤ m
+size-least m e = let t = size-says m e in omega arith
+
+-- the same, as the code tests it
+pub size-low : (m : ℕ) → m < 144 → false ≡ sizeRight m
+size-low m h = sym (not-both (sizeRight m) (λ e. let t = size-says m e in omega arith))
+
+pub size-high : (m : ℕ) → 1966104 < m → false ≡ sizeRight m
+size-high m h = sym (not-both (sizeRight m) (λ e. let t = size-says m e in omega arith))
+
+pub size-whole : (m : ℕ) → 144 ≤ m → m ≤ 1966104 → eqb ((m - 24) % 120) 0 ≡ sizeRight m
+size-whole m h k = go (eqb ((m - 24) % 120) 0) refl
+  where
+    go : (t : Bool) → eqb ((m - 24) % 120) 0 ≡ t → t ≡ sizeRight m
+    go true e =
+        let z = eqb-true ((m - 24) % 120) 0 e in
+        let w : m ≡ 24 + 120 * ((m - 24) / 120) = omega arith in
+        sym (size-right-of m ((m - 24) / 120) w (omega arith) (omega arith))
+    go false e = sym (not-both (sizeRight m) (λ d. let t = size-says m d in eqb-false ((m - 24) % 120) 0 e (omega arith)))
 
 bounds-say : (s : Bytes) → headerRight s ≡ true → (field 8 4 s ≡ roomOf (length s)) × (field 12 4 s ≤ field 16 4 s)
 unfolding headerRight
