@@ -34,7 +34,7 @@ use Rattle.terms.proofs.Fields.{
   length-flat,
   length-zero-bytes,
 }
-use Rattle.layout.specs.Slots.{lengthOf, kindOf, countIn, placeIn, leafIn, childIn, innerIn, recordIn, headRight, isLeaf, childRight, someChild, isInner, slotOf, bodyFields, recordBytes, slotBytes, SlotForm}
+use Rattle.layout.specs.Slots.{lengthOf, kindOf, countIn, placeIn, leafIn, childIn, innerIn, recordOf, recordIn, headRight, isLeaf, childRight, someChild, isInner, slotOf, headFields, bodyFields, recordBytes, slotBytes, SlotForm}
 
 -- a record's fields have these sizes
 abbrev bodySizes : Body → List ℕ
@@ -45,14 +45,7 @@ abbrev sizes : Body → List ℕ
 sizes b = 4 ∷ 2 ∷ 2 ∷ 32 ∷ 4 ∷ 4 ∷ bodySizes b
 
 abbrev fields : Record → List Bytes
-fields r =
-    le 4 (lengthOf (r .body))
-    ∷ le 2 (kindOf (r .body))
-    ∷ le 2 (length (r .place))
-    ∷ pack 32 (r .place)
-    ∷ le 4 (r .version)
-    ∷ le 4 (r .retired)
-    ∷ bodyFields (r .body)
+fields r = headFields (lengthOf (r .body)) (kindOf (r .body)) (r .place) (r .version) (r .retired) ++ bodyFields (r .body)
 
 body-sized : (b : Body) → BodyForm b → Sized (bodySizes b) (bodyFields b)
 body-sized (leafBody k x) h = (h .0 .0, (h .1 .0, (length-zero-bytes 8, tt)))
@@ -153,58 +146,55 @@ some-child l r f = go (leb 1 (l .version)) (leb 1 (r .version)) refl refl
     go false true d e = refl
     go false false d e = absurd (f (omega (arith, leb-false 1 (l .version) d)) (omega (arith, leb-false 1 (r .version) e)))
 
-abbrev made : Place → ℕ → ℕ → Body → Record
-made p v n b = record { place = p; version = v; retired = n; body = b }
-
 not-free : (r : Record) → allZero (recordBytes r) ≡ false
 unfolding recordBytes le
 not-free r = go (r .body)
   where
-    go : (b : Body) → allZero (flat (le 4 (lengthOf b) ∷ le 2 (kindOf b) ∷ le 2 (length (r .place)) ∷ pack 32 (r .place) ∷ le 4 (r .version) ∷ le 4 (r .retired) ∷ bodyFields b)) ≡ false
+    go : (b : Body) → allZero (flat (headFields (lengthOf b) (kindOf b) (r .place) (r .version) (r .retired) ++ bodyFields b)) ≡ false
     go (leafBody k x) = refl
     go (innerBody a b) = refl
 
 -- a leaf in form is read as it was written
-module _ (p : Place) (v n : ℕ) (k x : Bytes) (h : RecordForm (made p v n (leafBody k x))) where
-  leaf-body : leafIn (recordBytes (made p v n (leafBody k x))) ≡ leafBody k x
+module _ (p : Place) (v n : ℕ) (k x : Bytes) (h : RecordForm (recordOf p v n (leafBody k x))) where
+  leaf-body : leafIn (recordBytes (recordOf p v n (leafBody k x))) ≡ leafBody k x
   unfolding leafIn
-  leaf-body = ap₂ leafBody (cut (made p v n (leafBody k x)) h 6) (cut (made p v n (leafBody k x)) h 7)
+  leaf-body = ap₂ leafBody (cut (recordOf p v n (leafBody k x)) h 6) (cut (recordOf p v n (leafBody k x)) h 7)
 
-  is-leaf : isLeaf (recordBytes (made p v n (leafBody k x))) ≡ true
+  is-leaf : isLeaf (recordBytes (recordOf p v n (leafBody k x))) ≡ true
   unfolding isLeaf
   is-leaf =
       tests-all _ (
-        rw leaf-body (head-says (made p v n (leafBody k x)) h),
-        (ap allZero (cut (made p v n (leafBody k x)) h 8) ∙ all-zero 8, tt),
+        rw leaf-body (head-says (recordOf p v n (leafBody k x)) h),
+        (ap allZero (cut (recordOf p v n (leafBody k x)) h 8) ∙ all-zero 8, tt),
       )
 
-  leaf-said : slotOf (recordBytes (made p v n (leafBody k x))) ≡ used (made p v n (leafBody k x))
+  leaf-said : slotOf (recordBytes (recordOf p v n (leafBody k x))) ≡ used (recordOf p v n (leafBody k x))
   unfolding slotOf
-  leaf-said = rw (not-free (made p v n (leafBody k x)), is-leaf, leaf-body, record-says (made p v n (leafBody k x)) h)
+  leaf-said = rw (not-free (recordOf p v n (leafBody k x)), is-leaf, leaf-body, record-says (recordOf p v n (leafBody k x)) h)
 
 -- and so is an inner record
-module _ (p : Place) (v n : ℕ) (l r : Child) (h : RecordForm (made p v n (innerBody l r))) where
-  left-child : childIn 48 (recordBytes (made p v n (innerBody l r))) ≡ l
+module _ (p : Place) (v n : ℕ) (l r : Child) (h : RecordForm (recordOf p v n (innerBody l r))) where
+  left-child : childIn 48 (recordBytes (recordOf p v n (innerBody l r))) ≡ l
   unfolding childIn field
-  left-child = ap₂ child (ap num (cut (made p v n (innerBody l r)) h 6) ∙ num-le 4 (l .version) (omega (arith, h .body .0 .number))) (cut (made p v n (innerBody l r)) h 7)
+  left-child = ap₂ child (ap num (cut (recordOf p v n (innerBody l r)) h 6) ∙ num-le 4 (l .version) (omega (arith, h .body .0 .number))) (cut (recordOf p v n (innerBody l r)) h 7)
 
-  right-child : childIn 84 (recordBytes (made p v n (innerBody l r))) ≡ r
+  right-child : childIn 84 (recordBytes (recordOf p v n (innerBody l r))) ≡ r
   unfolding childIn field
-  right-child = ap₂ child (ap num (cut (made p v n (innerBody l r)) h 8) ∙ num-le 4 (r .version) (omega (arith, h .body .1 .number))) (cut (made p v n (innerBody l r)) h 9)
+  right-child = ap₂ child (ap num (cut (recordOf p v n (innerBody l r)) h 8) ∙ num-le 4 (r .version) (omega (arith, h .body .1 .number))) (cut (recordOf p v n (innerBody l r)) h 9)
 
-  inner-body : innerIn (recordBytes (made p v n (innerBody l r))) ≡ innerBody l r
+  inner-body : innerIn (recordBytes (recordOf p v n (innerBody l r))) ≡ innerBody l r
   unfolding innerIn
   inner-body = ap₂ innerBody left-child right-child
 
-  is-no-leaf : isLeaf (recordBytes (made p v n (innerBody l r))) ≡ false
+  is-no-leaf : isLeaf (recordBytes (recordOf p v n (innerBody l r))) ≡ false
   unfolding isLeaf headRight leafIn
-  is-no-leaf = test-failed _ (test-failed _ (ne-eqb (field 0 4 (recordBytes (made p v n (innerBody l r)))) 112 (λ e. omega (arith, length-says (made p v n (innerBody l r)) h))))
+  is-no-leaf = test-failed _ (test-failed _ (ne-eqb (field 0 4 (recordBytes (recordOf p v n (innerBody l r)))) 112 (λ e. omega (arith, length-says (recordOf p v n (innerBody l r)) h))))
 
-  is-inner : isInner (recordBytes (made p v n (innerBody l r))) ≡ true
+  is-inner : isInner (recordBytes (recordOf p v n (innerBody l r))) ≡ true
   unfolding isInner
   is-inner =
       tests-all _ (
-        rw inner-body (head-says (made p v n (innerBody l r)) h),
+        rw inner-body (head-says (recordOf p v n (innerBody l r)) h),
         (
           ap childRight left-child ∙ child-right l (h .body .0),
           (
@@ -214,15 +204,15 @@ module _ (p : Place) (v n : ℕ) (l r : Child) (h : RecordForm (made p v n (inne
         ),
       )
 
-  inner-said : slotOf (recordBytes (made p v n (innerBody l r))) ≡ used (made p v n (innerBody l r))
+  inner-said : slotOf (recordBytes (recordOf p v n (innerBody l r))) ≡ used (recordOf p v n (innerBody l r))
   unfolding slotOf
-  inner-said = rw (not-free (made p v n (innerBody l r)), is-no-leaf, is-inner, inner-body, record-says (made p v n (innerBody l r)) h)
+  inner-said = rw (not-free (recordOf p v n (innerBody l r)), is-no-leaf, is-inner, inner-body, record-says (recordOf p v n (innerBody l r)) h)
 
 -- a record in form is read as it was written
 pub record-said : (r : Record) → RecordForm r → slotOf (recordBytes r) ≡ used r
 record-said r = go (r .place) (r .version) (r .retired) (r .body)
   where
-    go : (p : Place) (v n : ℕ) (b : Body) → RecordForm (made p v n b) → slotOf (recordBytes (made p v n b)) ≡ used (made p v n b)
+    go : (p : Place) (v n : ℕ) (b : Body) → RecordForm (recordOf p v n b) → slotOf (recordBytes (recordOf p v n b)) ≡ used (recordOf p v n b)
     go p v n (leafBody k x) h = leaf-said p v n k x h
     go p v n (innerBody l r) h = inner-said p v n l r h
 

@@ -18,7 +18,7 @@ use Rattle.fields.proofs.Written.{written-between}
 use Rattle.layout.specs.Sizes.{roomOf}
 use Rattle.layout.specs.Headers.{header, headerOf, headerBytes}
 use Rattle.layout.specs.Slots.{slotOf, slotBytes, SlotForm}
-use Rattle.layout.specs.Stores.{slotsOf, slotsBytes, storeOf, storeBytes, StoreForm, putSlot, putBounds}
+use Rattle.layout.specs.Stores.{slotIn, slotsOf, slotsBytes, storeOf, storeBytes, StoreForm, putSlot, putBounds}
 use Rattle.layout.proofs.Slots.{slot-said, slot-back, slot-form, length-slot}
 use Rattle.layout.proofs.Headers.{room-of, length-header, header-said, Accepted, accepted, header-back}
 
@@ -113,8 +113,8 @@ module _ (s : Bytes) (n o l : ℕ) (h : All Byte s) (a : Accepted s n o l) where
       }
 
 -- slot i of bytes is what its 120 bytes are read as
-pub slot-at : (s : Bytes) (i : ℕ) → i < roomOf (length s) → getD (storeOf s .slots) i free ≡ slotOf (slice (24 + 120 * i) 120 s)
-unfolding storeOf slice
+pub slot-at : (s : Bytes) (i : ℕ) → i < roomOf (length s) → getD (storeOf s .slots) i free ≡ slotOf (slotIn i s)
+unfolding storeOf slotIn slice
 slot-at s i h = slots-at (roomOf (length s)) (drop 24 s) i h ∙ ap (λ r. slotOf (take 120 r)) (drop-drop (120 * i) 24 s)
 
 slots-append : (xs ys : List Slot) → slotsBytes (xs ++ ys) ≡ slotsBytes xs ++ slotsBytes ys

@@ -3,12 +3,16 @@ use Prim.Native.Nat.{ℕ, zero, suc, _≤_}
 use mathlib.Core.List.{List, [], _∷_, _++_}
 use lib.ListN.{length, take, drop, set}
 use Rattle.terms.specs.Bits.{Bytes, All}
-use Rattle.terms.specs.Fields.{field}
+use Rattle.terms.specs.Fields.{field, slice}
 use Rattle.terms.specs.Records.{Slot, Store}
 use Rattle.terms.specs.Form.{top32}
-use Rattle.layout.specs.Sizes.{headerSize, slotSize, mostSlots, oldestAt, latestAt, roomOf}
+use Rattle.layout.specs.Sizes.{headerSize, slotSize, mostSlots, oldestAt, latestAt, roomOf, slotAt}
 use Rattle.layout.specs.Headers.{headerBytes}
 use Rattle.layout.specs.Slots.{slotOf, slotBytes, SlotForm}
+
+-- The 120 bytes of slot i.
+unfoldable pub slotIn : ℕ → Bytes → Bytes
+slotIn i s = slice (slotAt i) slotSize s
 
 -- The n slots that bytes hold, 120 bytes each.
 abbrev pub slotsOf : ℕ → Bytes → List Slot
