@@ -13,7 +13,7 @@ use Rattle.terms.specs.Bits.{Bytes, Byte, All}
 use Rattle.terms.specs.Fields.{le, num, field, slice, zeroBytes, allZero, flat, allOf}
 use Rattle.terms.specs.Form.{top32}
 use Rattle.terms.proofs.Lists.{all-take}
-use Rattle.terms.proofs.Tests.{not-both}
+use Rattle.terms.proofs.Tests.{is-false}
 use Rattle.terms.proofs.Fields.{
   num-le,
   length-le,
@@ -141,7 +141,7 @@ pub record Accepted (s : Bytes) (n o l : ℕ) : Type 0 where
   pub oldest : field 12 4 s ≡ o
   pub latest : field 16 4 s ≡ l
 
-size-says : (m : ℕ) → sizeRight m ≡ true → (m ≡ 24 + 120 * roomOf m) × (1 ≤ roomOf m) × (roomOf m ≤ 16384)
+pub size-says : (m : ℕ) → sizeRight m ≡ true → (m ≡ 24 + 120 * roomOf m) × (1 ≤ roomOf m) × (roomOf m ≤ 16384)
 unfolding sizeRight
 size-says m e = let t = all-of-tests _ e in (eqb-true m (24 + 120 * roomOf m) (t .0), leb-true 1 (roomOf m) (t .1 .0), leb-true (roomOf m) 16384 (t .1 .1 .0))
 
@@ -150,10 +150,10 @@ size-least m e = let t = size-says m e in omega arith
 
 -- the same, as the code tests it
 pub size-low : (m : ℕ) → m < 144 → false ≡ sizeRight m
-size-low m h = sym (not-both (sizeRight m) (λ e. let t = size-says m e in omega arith))
+size-low m h = sym (is-false (sizeRight m) (λ e. let t = size-says m e in omega arith))
 
 pub size-high : (m : ℕ) → 1966104 < m → false ≡ sizeRight m
-size-high m h = sym (not-both (sizeRight m) (λ e. let t = size-says m e in omega arith))
+size-high m h = sym (is-false (sizeRight m) (λ e. let t = size-says m e in omega arith))
 
 pub size-whole : (m : ℕ) → 144 ≤ m → m ≤ 1966104 → eqb ((m - 24) % 120) 0 ≡ sizeRight m
 size-whole m h k = go (eqb ((m - 24) % 120) 0) refl
@@ -163,7 +163,7 @@ size-whole m h k = go (eqb ((m - 24) % 120) 0) refl
         let z = eqb-true ((m - 24) % 120) 0 e in
         let w : m ≡ 24 + 120 * ((m - 24) / 120) = omega arith in
         sym (size-right-of m ((m - 24) / 120) w (omega arith) (omega arith))
-    go false e = sym (not-both (sizeRight m) (λ d. let t = size-says m d in eqb-false ((m - 24) % 120) 0 e (omega arith)))
+    go false e = sym (is-false (sizeRight m) (λ d. let t = size-says m d in eqb-false ((m - 24) % 120) 0 e (omega arith)))
 
 bounds-say : (s : Bytes) → headerRight s ≡ true → (field 8 4 s ≡ roomOf (length s)) × (field 12 4 s ≤ field 16 4 s)
 unfolding headerRight

@@ -31,7 +31,7 @@ pub enum Header {
 }
 
 // Whether a store of n bytes has a header and 1 to 16,384 slots, no byte over.
-fn size_right(n: usize) -> bool
+pub fn size_right(n: usize) -> bool
     ensures { λ r. ⌜ r ≡ sizeRight n ⌝ }
 {
     if n < HEADER_SIZE + SLOT_SIZE {
