@@ -73,14 +73,16 @@ childRight c = leb 1 (c .version) || allZero (c .hash)
 unfoldable pub someChild : Child → Child → Bool
 someChild l r = leb 1 (l .version) || leb 1 (r .version)
 
-unfoldable pub isInner : Bytes → Bool
-isInner x =
-    allOf
-    (headRight (innerIn x) x
+abbrev pub innerTests : Bytes → List Bool
+innerTests x =
+    headRight (innerIn x) x
     ∷ childRight (childIn leftAt x)
     ∷ childRight (childIn rightAt x)
     ∷ someChild (childIn leftAt x) (childIn rightAt x)
-    ∷ [])
+    ∷ []
+
+unfoldable pub isInner : Bytes → Bool
+isInner x = allOf (innerTests x)
 
 -- Free: all zero. A leaf, or an inner record, in form. Else the bytes are all that can be said.
 unfoldable pub slotOf : Bytes → Slot

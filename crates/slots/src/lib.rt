@@ -1,0 +1,172 @@
+// Slots in lent memory, document 01, 'Bytes': reading any 120 bytes, and writing a record. A leaf and an inner record share their head.
+use fields::all_zero;
+use fields::clear;
+use fields::copy;
+use fields::get_u16;
+use fields::get_u32;
+use fields::put_u16;
+use fields::put_u32;
+use hash::Hash;
+use hash::hash_at;
+use hash::put_hash;
+use place::Place;
+use place::place_at;
+use place::unused_zero;
+ghost use mathlib.Core.Path.{_≡_};
+ghost use mathlib.Core.Bool.{true};
+ghost use mathlib.Core.List.{_++_};
+ghost use Prim.Native.Nat.{_+_, _*_, _≤_};
+ghost use lib.ListN.{length, drop};
+ghost use Rattle.terms.specs.Bits.{bits, noneSet};
+ghost use Rattle.terms.specs.Fields.{le, field, slice, flat, allOf};
+ghost use Rattle.terms.specs.Records.{used, free, innerBody};
+ghost use Rattle.fields.specs.Written.{written};
+ghost use Rattle.hash.specs.Hash.{hashBytes};
+ghost use Rattle.place.specs.Place.{placeOf, Proper, Stands};
+ghost use Rattle.layout.specs.Sizes.{slotAt};
+ghost use Rattle.layout.specs.Slots.{countIn, placeIn, childIn, recordOf, headTests, isLeaf, childRight, isInner, headFields, slotBytes};
+ghost use Rattle.layout.specs.Stores.{slotIn};
+ghost use Rattle.slots.specs.Answer.{childSays, Made, Held, Read, grantBody};
+
+// What an inner record says of a child; version 0: there is no child.
+pub struct Child {
+    pub version: u32,
+    pub hash: Hash,
+}
+
+pub enum Kind {
+    Free,
+    // Its key and value stay in the slot's bytes.
+    Leaf,
+    Inner { left: Child, right: Child },
+    Spoiled,
+}
+
+// What 120 bytes hold; of a free or spoiled slot the kind is all that counts.
+pub struct Slot {
+    pub kind: Kind,
+    pub place: Place,
+    pub version: u32,
+    pub retired: u32,
+}
+
+// Whether the head of a record is in form: its length and kind, a bit count up to a limit, unused bits zero, version at least 1.
+fn head_right(s: &[u8], len: u32, kind: u16, limit: u16) -> bool
+    requires { ⌜ length (now s) ≡ 120 ⌝ }
+    ensures { λ r. ⌜ r ≡ allOf (headTests len kind limit (now (s .entry))) ⌝ }
+{
+    if get_u32(s, 0) != len {
+        return false;
+    }
+    if get_u16(s, 4) != kind {
+        return false;
+    }
+    let count = get_u16(s, 6);
+    if limit < count {
+        return false;
+    }
+    if !unused_zero(&s[8..40], count as usize) {
+        return false;
+    }
+    1 <= get_u32(s, 40)
+}
+
+fn is_leaf(s: &[u8]) -> bool
+    requires { ⌜ length (now s) ≡ 120 ⌝ }
+    ensures { λ r. ⌜ r ≡ isLeaf (now (s .entry)) ⌝ }
+{
+    if !head_right(s, 112, 2, 256) {
+        return false;
+    }
+    all_zero(&s[112..120])
+}
+
+// Whether a child that is missing has no hash.
+fn child_right(s: &[u8], at: usize) -> bool
+    requires { ⌜ at + 36 ≤ length (now s) ⌝ }
+    ensures { λ r. ⌜ r ≡ childRight (childIn at (now (s .entry))) ⌝ }
+{
+    if 1 <= get_u32(s, at) {
+        return true;
+    }
+    let hash = at + 4;
+    let end = hash + 32;
+    all_zero(&s[hash..end])
+}
+
+fn is_inner(s: &[u8]) -> bool
+    requires { ⌜ length (now s) ≡ 120 ⌝ }
+    ensures { λ r. ⌜ r ≡ isInner (now (s .entry)) ⌝ }
+{
+    if !head_right(s, 120, 3, 255) {
+        return false;
+    }
+    if !child_right(s, 48) {
+        return false;
+    }
+    if !child_right(s, 84) {
+        return false;
+    }
+    if 1 <= get_u32(s, 48) {
+        return true;
+    }
+    1 <= get_u32(s, 84)
+}
+
+fn child_at(s: &[u8], at: usize) -> Child
+    requires { ⌜ at + 36 ≤ length (now s) ⌝ }
+    ensures { λ r. ⌜ childSays r ≡ childIn at (now (s .entry)) ⌝ }
+{
+    let version = get_u32(s, at);
+    let hash = hash_at(s, at + 4);
+    Child { version, hash }
+}
+
+// A slot of a kind that says nothing else.
+fn bare(kind: Kind) -> Slot
+    ensures { λ r. ⌜ Made kind r ⌝ }
+{
+    let place = Place::top();
+    Slot {
+        kind,
+        place,
+        version: 0,
+        retired: 0,
+    }
+}
+
+// A slot of a kind with place, version and retired-since as the bytes have them.
+fn held(s: &[u8], kind: Kind) -> Slot
+    requires { ⌜ (length (now s) ≡ 120) × (countIn (now s) ≤ 256) × (noneSet (drop (countIn (now s)) (bits (slice 8 32 (now s)))) ≡ true) ⌝ }
+    ensures { λ r. ⌜ Held kind (now (s .entry)) r ⌝ }
+{
+    let count = get_u16(s, 6);
+    let place = place_at(&s[8..40], count as usize);
+    let version = get_u32(s, 40);
+    let retired = get_u32(s, 44);
+    Slot {
+        kind,
+        place,
+        version,
+        retired,
+    }
+}
+
+// Reads the 120 bytes of a slot.
+pub fn read_slot(s: &[u8]) -> Slot
+    requires { ⌜ length (now s) ≡ 120 ⌝ }
+    ensures { λ r. ⌜ Read (now (s .entry)) r ⌝ }
+{
+    if all_zero(s) {
+        return bare(Kind::Free);
+    }
+    if is_leaf(s) {
+        return held(s, Kind::Leaf);
+    }
+    if is_inner(s) {
+        let left = child_at(s, 48);
+        let right = child_at(s, 84);
+        return held(s, Kind::Inner { left, right });
+    }
+    bare(Kind::Spoiled)
+}
