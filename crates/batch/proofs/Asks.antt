@@ -13,8 +13,9 @@ use Rattle.terms.specs.Bits.{Bytes, Byte, All, Whole32}
 use Rattle.terms.specs.Fields.{le, num, field, slice, zeroBytes, allZero, flat, allOf}
 use Rattle.terms.specs.Records.{Ask, insert, delete, askKey, zeros}
 use Rattle.terms.specs.Form.{AskForm}
-use Rattle.terms.proofs.Tests.{and-left, and-right}
-use Rattle.terms.proofs.Fields.{num-le, length-le, le-bytes, le-field, length-slice, all-slice, zero-bytes, all-zero, length-zero-bytes, cuts, flat-cuts, all-of-tests, tests-all, test-failed, Sized, cuts-flat, length-flat}
+use Rattle.terms.proofs.Tests.{and-left, and-right, and-true}
+use Rattle.terms.proofs.Fields.{num-le, length-le, le-bytes, le-field, length-slice, all-slice, zero-bytes, all-zero, length-zero-bytes, cuts, flat-cuts, all-of-tests, tests-all, test-passed, test-failed, Sized, cuts-flat, length-flat}
+use Rattle.batch.specs.Sizes.{recordSize, insertLength, insertKind, deleteLength, deleteKind, kindAt, zeroAt, keyAt, valueAt}
 use Rattle.batch.specs.Batch.{lengthOf, kindOf, askValue, inserts, askBytes, headIs, isInsert, isDelete, askForm, ask, askOf}
 
 -- a record's fields, and their sizes
@@ -36,7 +37,7 @@ value-length (delete k) h = refl
 sized : (a : Ask) → AskForm a → Sized sizes (fields a)
 sized a h = (length-le 4 (lengthOf a), (length-le 2 (kindOf a), (length-le 2 0, (key-whole a h .0, (value-length a h, tt)))))
 
-pub length-ask : (a : Ask) → AskForm a → length (askBytes a) ≡ 72
+pub length-ask : (a : Ask) → AskForm a → length (askBytes a) ≡ recordSize
 unfolding askBytes
 length-ask a h = length-flat sizes (fields a) (sized a h)
 
@@ -66,20 +67,29 @@ module _ (a : Ask) (h : AskForm a) where
         (eq-eqb _ _ (ap num (cut a h 1) ∙ num-le 2 (kindOf a) (kind-small a)), (eq-eqb _ _ (ap num (cut a h 2) ∙ num-le 2 0 (omega arith)), tt)),
       )
 
-  key-says : slice 8 32 (askBytes a) ≡ askKey a
+  key-says : slice keyAt 32 (askBytes a) ≡ askKey a
   key-says = cut a h 3
 
-  value-says : slice 40 32 (askBytes a) ≡ askValue a
+  value-says : slice valueAt 32 (askBytes a) ≡ askValue a
   value-says = cut a h 4
 
-head-off : (n k : ℕ) (x : Bytes) → (field 0 4 x ≡ n → ⊥) → headIs n k x ≡ false
+-- the head of a record, test by test
+pub head-length-off : (n k : ℕ) (x : Bytes) → (field 0 4 x ≡ n → ⊥) → headIs n k x ≡ false
 unfolding headIs
-head-off n k x f = test-failed _ (ne-eqb (field 0 4 x) n f)
+head-length-off n k x f = test-failed _ (ne-eqb (field 0 4 x) n f)
+
+pub head-kind-off : (n k : ℕ) (x : Bytes) → field 0 4 x ≡ n → (field kindAt 2 x ≡ k → ⊥) → headIs n k x ≡ false
+unfolding headIs
+head-kind-off n k x e f = test-passed _ (eq-eqb (field 0 4 x) n e) ∙ test-failed _ (ne-eqb (field kindAt 2 x) k f)
+
+pub head-zero : (n k : ℕ) (x : Bytes) → field 0 4 x ≡ n → field kindAt 2 x ≡ k → headIs n k x ≡ eqb (field zeroAt 2 x) 0
+unfolding headIs allOf
+head-zero n k x e f = rw (eq-eqb (field 0 4 x) n e, eq-eqb (field kindAt 2 x) k f) (and-true (eqb (field zeroAt 2 x) 0))
 
 pub insert-form : (a : Ask) → AskForm a → isInsert (askBytes a) ≡ inserts a
 unfolding isInsert
 insert-form (insert k x) h = head-says (insert k x) h
-insert-form (delete k) h = head-off 72 1 (askBytes (delete k)) (λ e. omega (arith, length-says (delete k) h))
+insert-form (delete k) h = head-length-off insertLength insertKind (askBytes (delete k)) (λ e. omega (arith, length-says (delete k) h))
 
 pub ask-form : (a : Ask) → AskForm a → askForm (askBytes a) ≡ true
 unfolding askForm isDelete zeros
@@ -97,13 +107,13 @@ unfolding askOf
 ask-of-bytes a h = rw (ask-form a h, ask-says a h)
 
 -- what a record's head says, as bytes
-head-bytes : (n k : ℕ) (x : Bytes) → All Byte x → length x ≡ 72 → headIs n k x ≡ true → flat (le 4 n ∷ le 2 k ∷ le 2 0 ∷ slice 8 32 x ∷ slice 40 32 x ∷ []) ≡ x
+head-bytes : (n k : ℕ) (x : Bytes) → All Byte x → length x ≡ recordSize → headIs n k x ≡ true → flat (le 4 n ∷ le 2 k ∷ le 2 0 ∷ slice keyAt 32 x ∷ slice valueAt 32 x ∷ []) ≡ x
 unfolding headIs
 head-bytes n k x h l e =
     let t = all-of-tests _ e in
     let u : le 4 n ≡ slice 0 4 x = ap (le 4) (sym (eqb-true _ _ (t .0))) ∙ le-field 0 4 x (omega arith) h in
-    let v : le 2 k ≡ slice 4 2 x = ap (le 2) (sym (eqb-true _ _ (t .1 .0))) ∙ le-field 4 2 x (omega arith) h in
-    let w : le 2 0 ≡ slice 6 2 x = ap (le 2) (sym (eqb-true _ _ (t .1 .1 .0))) ∙ le-field 6 2 x (omega arith) h in
+    let v : le 2 k ≡ slice 4 2 x = ap (le 2) (sym (eqb-true _ _ (t .1 .0))) ∙ le-field kindAt 2 x (omega arith) h in
+    let w : le 2 0 ≡ slice 6 2 x = ap (le 2) (sym (eqb-true _ _ (t .1 .1 .0))) ∙ le-field zeroAt 2 x (omega arith) h in
     rw (u, v, w) (flat-cuts sizes 0 x (omega arith))
 
 zeros-are : zeroBytes 32 ≡ zeros
@@ -111,31 +121,37 @@ unfolding zeros zeroBytes
 zeros-are = refl
 
 -- a record in form is the bytes of what it asks for
-pub form-bytes : (x : Bytes) → All Byte x → length x ≡ 72 → askForm x ≡ true → askBytes (ask x) ≡ x
+pub form-bytes : (x : Bytes) → All Byte x → length x ≡ recordSize → askForm x ≡ true → askBytes (ask x) ≡ x
 unfolding askBytes ask askForm isInsert isDelete
-form-bytes x h l e = go (headIs 72 1 x) refl e
+form-bytes x h l e = go (headIs insertLength insertKind x) refl e
   where
-    go : (t : Bool) → headIs 72 1 x ≡ t → t || (headIs 40 2 x && allZero (slice 40 32 x)) ≡ true → askBytes (cond t (insert (slice 8 32 x) (slice 40 32 x)) (delete (slice 8 32 x))) ≡ x
-    go true d f = head-bytes 72 1 x h l d
+    go : (t : Bool) → headIs insertLength insertKind x ≡ t → t || (headIs deleteLength deleteKind x && allZero (slice valueAt 32 x)) ≡ true → askBytes (cond t (insert (slice keyAt 32 x) (slice valueAt 32 x)) (delete (slice keyAt 32 x))) ≡ x
+    go true d f = head-bytes insertLength insertKind x h l d
     go false d f =
         let z : slice 40 32 x ≡ zeros =
         zero-bytes (slice 40 32 x) (and-right (headIs 40 2 x) _ f) ∙ ap zeroBytes (length-slice 40 32 x (omega arith)) ∙ zeros-are in
         rw (← z) (head-bytes 40 2 x h l (and-left (headIs 40 2 x) _ f))
+        let z : slice valueAt 32 x ≡ zeros =
+        zero-bytes (slice valueAt 32 x) (and-right (headIs deleteLength deleteKind x) _ f) ∙ ap zeroBytes (length-slice valueAt 32 x (omega arith)) ∙ zeros-are in
+        rw (← z) (head-bytes deleteLength deleteKind x h l (and-left (headIs deleteLength deleteKind x) _ f))
 
 -- what is read is in form
-pub ask-whole : (x : Bytes) → All Byte x → length x ≡ 72 → AskForm (ask x)
+pub ask-whole : (x : Bytes) → All Byte x → length x ≡ recordSize → AskForm (ask x)
 unfolding ask
 ask-whole x h l = go (isInsert x)
   where
-    part : (i : ℕ) → i + 32 ≤ 72 → Whole32 (slice i 32 x)
+    part : (i : ℕ) → i + 32 ≤ recordSize → Whole32 (slice i 32 x)
     part i m = (length-slice i 32 x (omega arith), all-slice i 32 x h)
 
     go : (t : Bool) → AskForm (cond t (insert (slice 8 32 x) (slice 40 32 x)) (delete (slice 8 32 x)))
     go true = (part 8 (omega arith), part 40 (omega arith))
     go false = part 8 (omega arith)
+    go : (t : Bool) → AskForm (cond t (insert (slice keyAt 32 x) (slice valueAt 32 x)) (delete (slice keyAt 32 x)))
+    go true = (part keyAt (omega arith), part valueAt (omega arith))
+    go false = part keyAt (omega arith)
 
 -- 72 bytes, to an ask and back
-pub ask-of-back : (x : Bytes) (a : Ask) → All Byte x → length x ≡ 72 → askOf x ≡ some a → (askBytes a ≡ x) × AskForm a
+pub ask-of-back : (x : Bytes) (a : Ask) → All Byte x → length x ≡ recordSize → askOf x ≡ some a → (askBytes a ≡ x) × AskForm a
 unfolding askOf
 ask-of-back x a h l e = go (askForm x) refl e
   where
@@ -144,11 +160,11 @@ ask-of-back x a h l e = go (askForm x) refl e
     go false f d = let z : _≡_ {A = ℕ} 0 1 = cc in absurd (omega arith)
 
 -- the key of a record, and whether it is an insert
-pub key-is : (x : Bytes) → askKey (ask x) ≡ slice 8 32 x
+pub key-is : (x : Bytes) → askKey (ask x) ≡ slice keyAt 32 x
 unfolding ask
 key-is x = go (isInsert x)
   where
-    go : (t : Bool) → askKey (cond t (insert (slice 8 32 x) (slice 40 32 x)) (delete (slice 8 32 x))) ≡ slice 8 32 x
+    go : (t : Bool) → askKey (cond t (insert (slice keyAt 32 x) (slice valueAt 32 x)) (delete (slice keyAt 32 x))) ≡ slice keyAt 32 x
     go true = refl
     go false = refl
 
@@ -156,10 +172,10 @@ pub insert-is : (x : Bytes) → inserts (ask x) ≡ isInsert x
 unfolding ask
 insert-is x = go (isInsert x)
   where
-    go : (t : Bool) → inserts (cond t (insert (slice 8 32 x) (slice 40 32 x)) (delete (slice 8 32 x))) ≡ t
+    go : (t : Bool) → inserts (cond t (insert (slice keyAt 32 x) (slice valueAt 32 x)) (delete (slice keyAt 32 x))) ≡ t
     go true = refl
     go false = refl
 
-pub value-is : (x : Bytes) → isInsert x ≡ true → askValue (ask x) ≡ slice 40 32 x
+pub value-is : (x : Bytes) → isInsert x ≡ true → askValue (ask x) ≡ slice valueAt 32 x
 unfolding ask
 value-is x e = rw e

@@ -6,17 +6,24 @@ use mathlib.Core.Path.{_≡_, refl, ap, sym, _∙_}
 use mathlib.Core.Bool.{Bool, true, false, cond, _&&_, Bool·beq, false≢true, true≢false}
 use mathlib.Core.List.{List, [], _∷_}
 use lib.ListN.{length, getD, take, drop, length-take, length-drop}
+use borrow.Author.Tests.{eqb-true}
 use Rattle.terms.specs.Bits.{Bytes, Byte, All, Side, Place, Whole32, bits, bit, begins, before, prefix, longer, filter}
 use Rattle.terms.specs.Records.{Ask, askKey}
 use Rattle.terms.specs.Form.{AskForm}
 use Rattle.terms.proofs.Tests.{and-left, and-right}
 use Rattle.terms.proofs.Lists.{filter-all, filter-none, filter-passed, all-filter, all-map, all-map₂, all-at}
-use Rattle.terms.proofs.Places.{begins-longer, length-bits}
-use Rattle.terms.proofs.Order.{before-trans, before-lex, lex-mono}
-use Rattle.batch.specs.Batch.{ask, askForm, count, recordsOf, asks, askAt, ascending, precedes}
+use Rattle.terms.proofs.Places.{begins-longer, begins-whole}
+use Rattle.terms.proofs.Order.{before-trans, before-irrefl, before-lex, lex-mono}
+use Rattle.terms.proofs.Fields.{all-of-tests}
+use Rattle.place.specs.declared.Place as declared
+use Rattle.place.specs.Place.{placeOf, Proper, Grown}
+use Rattle.place.proofs.Places.{proper-count}
+use Rattle.batch.specs.Sizes.{recordSize}
+use Rattle.batch.specs.Batch.{ask, askForm, count, recordsOf, asks, askAt, batchForm, ascending, precedes}
 use Rattle.batch.specs.Runs.{Run, RunAt, onSide, lefts, half, runOf}
 use Rattle.batch.proofs.Asks.{key-whole}
-use Rattle.batch.proofs.Records.{all-half, records-half, asks-half, length-asks, asks-at, asks-from, asks-whole}
+use Rattle.batch.proofs.Records.{all-half, records-half, asks-half, length-asks, asks-at, asks-whole}
+use Rattle.batch.proofs.Batches.{every-all}
 
 -- A list in which the entries that go right come after all that go left.
 abbrev Parted : {A : Type 0} → (A → Side) → List A → Type 0
@@ -111,12 +118,11 @@ parted p (a ∷ as′) h k =
     let o = and-right (precedes a as′) (ascending as′) k in
     ((λ r. all-map₂ (Under p) (After a) (λ b. bit (length p) (askKey b) ≡ true) as′ (λ b u e. right-after p a b (h .0) u e r) (h .1) (after-all a as′ (and-left (precedes a as′) (ascending as′) k) o)), parted p as′ (h .1) o)
 
-module _ (p : Place) (run : Bytes) (w : Run p run) where
-  under-all : All (Under p) (asks run)
-  under-all = all-map₂ AskForm (λ a. begins p (askKey a) ≡ true) (Under p) (asks run) (λ a u v. (u, v)) (asks-whole run (w .bytes)) (w .under)
+under-all : (p : Place) (run : Bytes) → Run p run → All (Under p) (asks run)
+under-all p run w = all-map₂ AskForm (λ a. begins p (askKey a) ≡ true) (Under p) (asks run) (λ a u v. (u, v)) (asks-whole run (w .bytes)) (w .under)
 
-  run-parted : Parted (λ a. bit (length p) (askKey a)) (asks run)
-  run-parted = parted p (asks run) under-all (w .order)
+run-parted : (i : ℕ) (run : Bytes) (w : RunAt i run) → Parted (λ a. bit i (askKey a)) (asks run)
+run-parted i run w = rw (w .bits) at (parted (w .place) (asks run) (under-all (w .place) run (w .holds)) (w .holds .order))
 
 length-filter : {A : Type 0} (f : A → Bool) (xs : List A) → length (filter f xs) ≤ length xs
 length-filter f [] = omega arith
@@ -130,48 +136,90 @@ pub lefts-within : (i : ℕ) (run : Bytes) → lefts i run ≤ count run
 unfolding lefts
 lefts-within i run = omega (arith, length-filter (onSide false i) (asks run), length-asks run)
 
-whole-half : (b : Side) (m : ℕ) (run : Bytes) → m ≤ count run → length run % 72 ≡ 0 → length (half b (72 * m) run) % 72 ≡ 0
+whole-half : (b : Side) (m : ℕ) (run : Bytes) → m ≤ count run → length run % recordSize ≡ 0 → length (half b (recordSize * m) run) % recordSize ≡ 0
 whole-half false m run h e = simp length-take (omega arith)
 whole-half true m run h e = simp length-drop (omega arith)
 
-module _ (b : Side) (p : Place) (run : Bytes) (w : Run p run) where
+module _ (b : Side) (i : ℕ) (run : Bytes) (w : RunAt i run) where
   -- a part of a run is exactly the records whose key goes on to its side
-  pub asks-of-part : asks (runOf b (length p) run) ≡ filter (onSide b (length p)) (asks run)
+  pub asks-of-part : asks (runOf b i run) ≡ filter (onSide b i) (asks run)
   unfolding runOf lefts
   asks-of-part =
-      asks-half b (lefts (length p) run) run (lefts-within (length p) run)
-      ∙ sym (parted-halves (λ a. bit (length p) (askKey a)) (asks run) (run-parted p run w) b)
+      asks-half b (lefts i run) run (lefts-within i run) ∙ sym (parted-halves (λ a. bit i (askKey a)) (asks run) (run-parted i run w) b)
 
-  under-longer : length p < 256 → All (λ a. begins (longer b p) (askKey a) ≡ true) (filter (onSide b (length p)) (asks run))
-  under-longer h =
-      all-map₂ (Under p) (λ a. onSide b (length p) a ≡ true) (λ a. begins (longer b p) (askKey a) ≡ true) (filter (onSide b (length p)) (asks run))
-      (λ a u v. begins-longer b p (askKey a) (omega (arith, key-whole a (u .0) .0)) ∙ rw (u .1, v))
-      (all-filter (Under p) (onSide b (length p)) (asks run) (under-all p run w)) (filter-passed (onSide b (length p)) (asks run))
+  under-longer : All (λ a. begins (longer b (w .place)) (askKey a) ≡ true) (filter (onSide b i) (asks run))
+  under-longer =
+      let n = w .bits in
+      let h = w .short in
+      all-map₂ (Under (w .place)) (λ a. onSide b i a ≡ true) (λ a. begins (longer b (w .place)) (askKey a) ≡ true) (filter (onSide b i) (asks run))
+      (λ a u v. begins-longer b (w .place) (askKey a) (omega (arith, key-whole a (u .0) .0)) ∙ rw (u .1, n, v))
+      (all-filter (Under (w .place)) (onSide b i) (asks run) (under-all (w .place) run (w .holds)))
+      (filter-passed (onSide b i) (asks run))
 
   -- and a run at the longer place
-  pub run-of-part : length p < 256 → Run (longer b p) (runOf b (length p) run)
+  pub run-of-part : Run (longer b (w .place)) (runOf b i run)
   unfolding runOf
-  run-of-part h =
-      let m = lefts-within (length p) run in
+  run-of-part =
+      let m = lefts-within i run in
       record {
         bytes = all-half Byte b (72 * lefts (length p) run) run (w .bytes);
         whole = whole-half b (lefts (length p) run) run m (w .whole);
         form = rw (records-half b (lefts (length p) run) run m) (all-half (λ x. askForm x ≡ true) b (lefts (length p) run) (recordsOf run) (w .form));
         order = rw asks-of-part (ascending-filter (onSide b (length p)) (asks run) (w .order));
         under = rw asks-of-part (under-longer h);
+        bytes = all-half Byte b (recordSize * lefts i run) run (w .holds .bytes);
+        whole = whole-half b (lefts i run) run m (w .holds .whole);
+        form = rw (records-half b (lefts i run) run m) (all-half (λ x. askForm x ≡ true) b (lefts i run) (recordsOf run) (w .holds .form));
+        order = rw asks-of-part (ascending-filter (onSide b i) (asks run) (w .holds .order));
+        under = rw asks-of-part under-longer;
       }
 
 -- the next bit of a key tells on which side of the cut its record stands
 module _ (i : ℕ) (run : Bytes) (w : RunAt i run) (j : ℕ) (h : j < count run) where
-  side-at : bit i (askKey (askAt j run)) ≡ bit (length (w .place)) (askKey (getD (asks run) j (ask [])))
-  side-at = rw (asks-at j run (ask []) h, w .bits)
+  side-at : bit i (askKey (askAt j run)) ≡ bit i (askKey (getD (asks run) j (ask [])))
+  side-at = rw (asks-at j run (ask []) h)
 
   pub cut-right : bit i (askKey (askAt j run)) ≡ true → lefts i run ≤ j
   unfolding lefts
   cut-right e =
-      rw (w .bits) at (parted-right (λ a. bit (length (w .place)) (askKey a)) (asks run) (run-parted (w .place) run (w .holds)) j (ask []) (omega (arith, length-asks run)) (sym side-at ∙ e))
+      parted-right (λ a. bit i (askKey a)) (asks run) (run-parted i run w) j (ask []) (omega (arith, length-asks run)) (sym side-at ∙ e)
 
   pub cut-left : bit i (askKey (askAt j run)) ≡ false → j < lefts i run
   unfolding lefts
   cut-left e =
-      rw (w .bits) at (parted-left (λ a. bit (length (w .place)) (askKey a)) (asks run) (run-parted (w .place) run (w .holds)) j (ask []) (omega (arith, length-asks run)) (sym side-at ∙ e))
+      parted-left (λ a. bit i (askKey a)) (asks run) (run-parted i run w) j (ask []) (omega (arith, length-asks run)) (sym side-at ∙ e)
+
+-- the whole batch is the run at the empty place
+pub run-of-batch : (b : Bytes) → All Byte b → batchForm b ≡ true → ascending (asks b) ≡ true → Run [] b
+unfolding batchForm begins
+run-of-batch b h e o =
+    let t = all-of-tests _ e in
+    record {
+      bytes = h;
+      whole = eqb-true (length b % recordSize) 0 (t .0);
+      form = every-all askForm (recordsOf b) (t .1 .1 .0);
+      order = o;
+      under = all-map AskForm (λ a. true ≡ true) (asks b) (λ a k. refl) (asks-whole b h);
+    }
+
+-- at 256 bits no bit is left to tell two keys apart
+pub run-full : (p : Place) (run : Bytes) → Run p run → length p ≡ 256 → count run ≤ 1
+run-full p run w n = rw (length-asks run) at (one (asks run) (under-all p run w) (w .order))
+  where
+    one : (as′ : List Ask) → All (Under p) as′ → ascending as′ ≡ true → length as′ ≤ 1
+    one [] h o = omega arith
+    one (a ∷ []) h o = omega arith
+    one (a ∷ c ∷ as′) h o =
+        let x = key-whole a (h .0 .0) in
+        let y = key-whole c (h .1 .0 .0) in
+        let e = begins-whole p (askKey a) (askKey c) (x .1) (y .1) (omega (arith, x .0)) (x .0 ∙ sym (y .0)) (h .0 .1) (h .1 .0 .1) in
+        let o₁ : before (askKey a) (askKey c) ≡ true = and-left (before (askKey a) (askKey c)) (ascending (c ∷ as′)) o in
+        absurd (before-irrefl (askKey c) (rw e at o₁))
+
+-- a run at a place by value, and its parts at the longer places
+module _ (p : declared.Place) (run : Bytes) (v : Proper p) (h : p .count < 256) (w : Run (placeOf p) run) where
+  abbrev pub run-at : RunAt (p .count) run
+  run-at = record { place = placeOf p; bits = proper-count p v; short = h; holds = w }
+
+  pub run-grown : (b : Side) (r : declared.Place) → Grown b p r → Run (placeOf r) (runOf b (p .count) run)
+  run-grown b r g = rw (g .place) (run-of-part b (p .count) run run-at)

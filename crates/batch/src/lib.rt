@@ -2,10 +2,11 @@
 ghost use mathlib.Core.Path.{_≡_};
 ghost use mathlib.Core.Bool.{true, false};
 ghost use mathlib.Core.List.{_++_};
-ghost use Prim.Native.Nat.{_/_, _<_};
+ghost use Prim.Native.Nat.{_≤_, _<_};
 ghost use lib.ListN.{length};
 ghost use Rattle.terms.specs.Records.{askKey};
-ghost use Rattle.batch.specs.Batch.{headIs, isInsert, isDelete, askForm, recordAt, askAt, askValue, inserts, asks, batchForm, ascending};
+ghost use Rattle.batch.specs.Sizes.{recordSize};
+ghost use Rattle.batch.specs.Batch.{count, headIs, isInsert, isDelete, askForm, recordAt, askAt, askValue, inserts, asks, batchForm, ascending};
 ghost use Rattle.batch.specs.Runs.{RunAt, lefts, runOf};
 
 // Batch record, 72 bytes: length 72 and kind 1 (insert) or length 40 and kind 2 (delete), 2 zero, key 32, value 32 (zero for delete).
@@ -32,7 +33,7 @@ const MOST_RECORDS: usize = 1024;
 
 // Whether a record begins with length n, kind k and 2 zero.
 fn head_is(x: &[u8], n: u32, k: u16) -> bool
-    requires { ⌜ length (now x) ≡ 72 ⌝ }
+    requires { ⌜ length (now x) ≡ recordSize ⌝ }
     ensures { λ r. ⌜ r ≡ headIs n k (now (x .entry)) ⌝ }
 {
     if fields::get_u32(x, 0) != n {
@@ -45,27 +46,25 @@ fn head_is(x: &[u8], n: u32, k: u16) -> bool
 }
 
 fn insert_form(x: &[u8]) -> bool
-    requires { ⌜ length (now x) ≡ 72 ⌝ }
+    requires { ⌜ length (now x) ≡ recordSize ⌝ }
     ensures { λ r. ⌜ r ≡ isInsert (now (x .entry)) ⌝ }
 {
     head_is(x, INSERT_LENGTH, INSERT_KIND)
 }
 
 fn delete_form(x: &[u8]) -> bool
-    requires { ⌜ length (now x) ≡ 72 ⌝ }
+    requires { ⌜ length (now x) ≡ recordSize ⌝ }
     ensures { λ r. ⌜ r ≡ isDelete (now (x .entry)) ⌝ }
 {
     if !head_is(x, DELETE_LENGTH, DELETE_KIND) {
         return false;
     }
-    let at = VALUE_AT;
-    let end = RECORD_SIZE;
-    fields::all_zero(&x[at..end])
+    fields::all_zero(&x[VALUE_AT..RECORD_SIZE])
 }
 
 // Whether a record is in form.
 fn record_form(x: &[u8]) -> bool
-    requires { ⌜ length (now x) ≡ 72 ⌝ }
+    requires { ⌜ length (now x) ≡ recordSize ⌝ }
     ensures { λ r. ⌜ r ≡ askForm (now (x .entry)) ⌝ }
 {
     if insert_form(x) {
@@ -75,9 +74,9 @@ fn record_form(x: &[u8]) -> bool
 }
 
 // Record i of a batch, where it lies.
-fn record(b: &[u8], i: usize) -> &[u8]
-    requires { ⌜ i < length (now b) / 72 ⌝ }
-    ensures { λ r. ⌜ now r ≡ recordAt i (now (b .entry)) ⌝ }
+fn record_at(b: &[u8], i: usize) -> &[u8]
+    requires { ⌜ i < count (now b) ⌝ }
+    ensures { λ r. ⌜ (now r ≡ recordAt i (now (b .entry))) × (length (now r) ≡ recordSize) ⌝ }
 {
     let at = RECORD_SIZE * i;
     let end = at + RECORD_SIZE;
@@ -97,7 +96,7 @@ pub fn batch_form(b: &[u8]) -> bool
     }
     let mut i = 0;
     while i < n {
-        if !record_form(record(b, i)) {
+        if !record_form(record_at(b, i)) {
             return false;
         }
         i += 1;
@@ -107,16 +106,16 @@ pub fn batch_form(b: &[u8]) -> bool
 
 // Whether record i of a batch is an insert.
 pub fn is_insert(b: &[u8], i: usize) -> bool
-    requires { ⌜ i < length (now b) / 72 ⌝ }
+    requires { ⌜ i < count (now b) ⌝ }
     ensures { λ r. ⌜ r ≡ inserts (askAt i (now (b .entry))) ⌝ }
 {
-    insert_form(record(b, i))
+    insert_form(record_at(b, i))
 }
 
 // The key of record i, where it lies.
 pub fn key(b: &[u8], i: usize) -> &[u8]
-    requires { ⌜ i < length (now b) / 72 ⌝ }
-    ensures { λ r. ⌜ now r ≡ askKey (askAt i (now (b .entry))) ⌝ }
+    requires { ⌜ i < count (now b) ⌝ }
+    ensures { λ r. ⌜ (now r ≡ askKey (askAt i (now (b .entry)))) × (length (now r) ≡ 32) ⌝ }
 {
     let at = RECORD_SIZE * i + KEY_AT;
     let end = at + 32;
@@ -125,8 +124,8 @@ pub fn key(b: &[u8], i: usize) -> &[u8]
 
 // The key and the value of an insert, which lie next to each other.
 pub fn grant(b: &[u8], i: usize) -> &[u8]
-    requires { ⌜ (i < length (now b) / 72) × (inserts (askAt i (now b)) ≡ true) ⌝ }
-    ensures { λ r. ⌜ now r ≡ askKey (askAt i (now (b .entry))) ++ askValue (askAt i (now (b .entry))) ⌝ }
+    requires { ⌜ (i < count (now b)) × (inserts (askAt i (now b)) ≡ true) ⌝ }
+    ensures { λ r. ⌜ (now r ≡ askKey (askAt i (now (b .entry))) ++ askValue (askAt i (now (b .entry)))) × (length (now r) ≡ 64) ⌝ }
 {
     let at = RECORD_SIZE * i + KEY_AT;
     let end = at + 64;
@@ -140,7 +139,9 @@ pub fn batch_order(b: &[u8]) -> bool
     let n = b.len() / RECORD_SIZE;
     let mut i = 0;
     while i + 1 < n {
-        if !place::before(key(b, i), key(b, i + 1)) {
+        let x = key(b, i);
+        let y = key(b, i + 1);
+        if !place::before(x, y) {
             return false;
         }
         i += 1;
@@ -151,7 +152,7 @@ pub fn batch_order(b: &[u8]) -> bool
 // How many records of a run go left at bit i, by halving: those that go right come after them.
 fn cut(run: &[u8], i: usize) -> usize
     requires { ⌜ RunAt i (now run) ⌝ }
-    ensures { λ r. ⌜ r ≡ lefts i (now (run .entry)) ⌝ }
+    ensures { λ r. ⌜ (r ≡ lefts i (now (run .entry))) × (r ≤ count (now (run .entry))) ⌝ }
 {
     let mut low = 0;
     let mut high = run.len() / RECORD_SIZE;

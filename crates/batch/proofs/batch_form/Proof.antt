@@ -1,0 +1,68 @@
+-- `batch::batch_form` meets its contract: the first i records are in form, so those from i on decide. The measure is the number of records left.
+-- Assumes nothing.
+use Prim.Native.Nat.{_-_, _≤_}
+use native.Mathlib.Omega.{arith}
+use mathlib.Core.Path.{_≡_, sym, ap, _∙_}
+use lib.ListN.{drop}
+use borrow.Author.Tests.{not-true, not-false}
+use Rattle.batch.specs.Batch.{askForm, recordsOf, every, batchForm}
+use Rattle.batch.proofs.Batches.{form-torn, form-many, form-records, form-next, form-off, form-end}
+use Rattle.batch.proofs.batch_form.Statement.{statement}
+use Rattle.batch.proofs.batch_form.Tie as tie
+
+abbrev Inv-loop : tie.InvT-loop
+Inv-loop b n i₀ i = (i ≤ n) × (batchForm b ≡ every askForm (drop i (recordsOf b)))
+
+abbrev μ-loop : tie.MeasureT-loop
+μ-loop b n i₀ i = n - i
+
+returns : tie.Need-returns Inv-loop μ-loop
+returns c = sym (form-torn (c .before .before .args .b .now) (c .if1 .taken))
+
+returns-2 : tie.Need-returns-2 Inv-loop μ-loop
+returns-2 c = sym (form-many (c .before .before .before .args .b .now) (c .before .if1 .left) (c .if2 .taken))
+
+loop-holds : tie.Need-loop-holds Inv-loop μ-loop
+loop-holds c = (omega arith, form-records (c .before .before .before .args .b .now) (c .before .if1 .left) (c .if2 .left))
+
+record-at-requires : tie.Need-record-at-requires Inv-loop μ-loop
+record-at-requires c κs = omega arith
+
+record-form-requires : tie.Need-record-form-requires Inv-loop μ-loop
+record-form-requires c κs = c .record-at .ensures .1
+
+returns-3 : tie.Need-returns-3 Inv-loop μ-loop
+returns-3 c =
+    let t = c .before .before .before .before in
+    sym (t .loop .inv .1 ∙ form-off (c .before .before .before .before .before .before .before .before .args .b .now) (t .loop .i) (omega arith) (sym (ap askForm (c .before .before .record-at .ensures .0)) ∙ sym (c .before .record-form .ensures) ∙ not-true _ (c .if3 .taken)))
+
+add-i : tie.Need-add-i Inv-loop μ-loop
+add-i c = omega arith
+
+loop-less : tie.Need-loop-less Inv-loop μ-loop
+loop-less c = omega arith
+
+loop-again : tie.Need-loop-again Inv-loop μ-loop
+loop-again c =
+    let t = c .before .before .before .before in
+    (omega arith, t .loop .inv .1 ∙ form-next (c .before .before .before .before .before .before .before .before .args .b .now) (t .loop .i) (omega arith) (sym (ap askForm (c .before .before .record-at .ensures .0)) ∙ sym (c .before .record-form .ensures) ∙ not-false _ (c .if3 .left)))
+
+returns-4 : tie.Need-returns-4 Inv-loop μ-loop
+returns-4 c = sym (c .before .loop .inv .1 ∙ form-end (c .before .before .before .before .before .args .b .now) (c .before .loop .i) (c .loop-test .left))
+
+pub batch-form-spec : {M : Type 1} → statement M
+batch-form-spec =
+    tie.close
+    (tie.spec
+    Inv-loop
+    μ-loop
+    returns
+    returns-2
+    loop-holds
+    record-at-requires
+    record-form-requires
+    returns-3
+    add-i
+    loop-less
+    loop-again
+    returns-4)

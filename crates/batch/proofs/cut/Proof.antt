@@ -1,0 +1,79 @@
+-- `batch::cut` meets its contract: the records before `low` go left and those from `high` on go right. The measure is what lies between.
+-- Assumes nothing.
+use Prim.Native.Nat.{_+_, _-_, _/_, _≤_}
+use native.Mathlib.Omega.{arith}
+use mathlib.Core.Path.{_≡_, sym, ap, _∙_}
+use Rattle.terms.specs.Bits.{bit}
+use Rattle.batch.specs.Batch.{count}
+use Rattle.batch.specs.Runs.{lefts}
+use Rattle.batch.proofs.Runs.{lefts-within, cut-right, cut-left}
+use Rattle.batch.proofs.cut.Statement.{statement}
+use Rattle.batch.proofs.cut.Tie as tie
+
+abbrev Inv-loop : tie.InvT-loop
+Inv-loop run i low₀ high₀ low high = (low ≤ lefts i run) × (lefts i run ≤ high) × (high ≤ count run)
+
+abbrev μ-loop : tie.MeasureT-loop
+μ-loop run i low₀ high₀ low high = high - low
+
+loop-holds : tie.Need-loop-holds Inv-loop μ-loop
+loop-holds c = (omega arith, lefts-within (c .before .args .i) (c .before .args .run .now), omega arith)
+
+sub-middle : tie.Need-sub-middle Inv-loop μ-loop
+sub-middle c = omega arith
+
+add-middle : tie.Need-add-middle Inv-loop μ-loop
+add-middle c = omega arith
+
+key-requires : tie.Need-key-requires Inv-loop μ-loop
+key-requires c κs = omega arith
+
+key-bit-requires : tie.Need-key-bit-requires Inv-loop μ-loop
+key-bit-requires c κs = let h = c .before .before .before .before .pre .short in omega (arith, c .key .ensures .1)
+
+loop-less : tie.Need-loop-less Inv-loop μ-loop
+loop-less c = omega arith
+
+loop-again : tie.Need-loop-again Inv-loop μ-loop
+loop-again c =
+    let t = c .before .before .before .before in
+    let a = t .before .before .args in
+    let l = t .loop .low in
+    let m = l + (t .loop .high - l) / 2 in
+    (t .loop .inv .0, cut-right (a .i) (a .run .now) (t .before .before .pre) m (omega arith) (sym (ap (bit (a .i)) (c .before .before .key .ensures .0)) ∙ sym (c .before .key-bit .ensures) ∙ c .if1 .taken), omega arith)
+
+add-low : tie.Need-add-low Inv-loop μ-loop
+add-low c = omega arith
+
+loop-less-2 : tie.Need-loop-less-2 Inv-loop μ-loop
+loop-less-2 c = omega arith
+
+loop-again-2 : tie.Need-loop-again-2 Inv-loop μ-loop
+loop-again-2 c =
+    let t = c .before .before .before .before in
+    let a = t .before .before .args in
+    let l = t .loop .low in
+    let m = l + (t .loop .high - l) / 2 in
+    let h = cut-left (a .i) (a .run .now) (t .before .before .pre) m (omega arith) (sym (ap (bit (a .i)) (c .before .before .key .ensures .0)) ∙ sym (c .before .key-bit .ensures) ∙ c .if1 .left) in
+    (omega arith, t .loop .inv .1, t .loop .inv .2)
+
+returns : tie.Need-returns Inv-loop μ-loop
+returns c = (omega arith, omega arith)
+
+pub cut-spec : {M : Type 1} → statement M
+cut-spec =
+    tie.close
+    (tie.spec
+    Inv-loop
+    μ-loop
+    loop-holds
+    sub-middle
+    add-middle
+    key-requires
+    key-bit-requires
+    loop-less
+    loop-again
+    add-low
+    loop-less-2
+    loop-again-2
+    returns)

@@ -1,0 +1,38 @@
+-- `batch::head_is` meets its contract: its three tests are those of the head.
+-- Assumes nothing.
+use Prim.Native.Nat.{ℕ}
+use mathlib.Core.Path.{sym, ap, _∙_}
+use lib.Dec.{eqb}
+use Rattle.batch.proofs.Asks.{head-length-off, head-kind-off, head-zero}
+use borrow.Author.Needs.{needs}
+use Rattle.batch.proofs.head_is.Statement.{statement}
+use Rattle.batch.proofs.head_is.Tie as tie
+
+get-u32-requires : tie.Need-get-u32-requires
+get-u32-requires c κs = search needs
+
+returns : tie.Need-returns
+returns c = let a = c .before .before .before .args in sym (head-length-off (a .n) (a .k) (a .x .now) (λ e. c .if1 .taken (c .before .get-u32 .ensures ∙ e)))
+
+get-u16-requires : tie.Need-get-u16-requires
+get-u16-requires c κs = search needs
+
+returns-2 : tie.Need-returns-2
+returns-2 c =
+    let a = c .before .before .before .before .before .args in
+    sym (head-kind-off (a .n) (a .k) (a .x .now) (sym (c .before .before .before .get-u32 .ensures) ∙ c .before .before .if1 .left) (λ e. c .if2 .taken (c .before .get-u16 .ensures ∙ e)))
+
+get-u16-requires-2 : tie.Need-get-u16-requires-2
+get-u16-requires-2 c κs = search needs
+
+returns-3 : tie.Need-returns-3
+returns-3 c =
+    let a = c .before .before .before .before .before .before .args in
+    let n = sym (c .before .before .before .before .get-u32 .ensures) ∙ c .before .before .before .if1 .left in
+    let k = sym (c .before .before .get-u16 .ensures) ∙ c .before .if2 .left in
+    ap (λ (m : ℕ). eqb m 0) (c .get-u162 .ensures) ∙ sym (head-zero (a .n) (a .k) (a .x .now) n k)
+
+pub head-is-spec : {M : Type 1} → statement M
+head-is-spec =
+    tie.close
+    (tie.spec get-u32-requires returns get-u16-requires returns-2 get-u16-requires-2 returns-3)
