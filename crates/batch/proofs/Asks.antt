@@ -128,9 +128,6 @@ form-bytes x h l e = go (headIs insertLength insertKind x) refl e
     go : (t : Bool) → headIs insertLength insertKind x ≡ t → t || (headIs deleteLength deleteKind x && allZero (slice valueAt 32 x)) ≡ true → askBytes (cond t (insert (slice keyAt 32 x) (slice valueAt 32 x)) (delete (slice keyAt 32 x))) ≡ x
     go true d f = head-bytes insertLength insertKind x h l d
     go false d f =
-        let z : slice 40 32 x ≡ zeros =
-        zero-bytes (slice 40 32 x) (and-right (headIs 40 2 x) _ f) ∙ ap zeroBytes (length-slice 40 32 x (omega arith)) ∙ zeros-are in
-        rw (← z) (head-bytes 40 2 x h l (and-left (headIs 40 2 x) _ f))
         let z : slice valueAt 32 x ≡ zeros =
         zero-bytes (slice valueAt 32 x) (and-right (headIs deleteLength deleteKind x) _ f) ∙ ap zeroBytes (length-slice valueAt 32 x (omega arith)) ∙ zeros-are in
         rw (← z) (head-bytes deleteLength deleteKind x h l (and-left (headIs deleteLength deleteKind x) _ f))
@@ -143,9 +140,6 @@ ask-whole x h l = go (isInsert x)
     part : (i : ℕ) → i + 32 ≤ recordSize → Whole32 (slice i 32 x)
     part i m = (length-slice i 32 x (omega arith), all-slice i 32 x h)
 
-    go : (t : Bool) → AskForm (cond t (insert (slice 8 32 x) (slice 40 32 x)) (delete (slice 8 32 x)))
-    go true = (part 8 (omega arith), part 40 (omega arith))
-    go false = part 8 (omega arith)
     go : (t : Bool) → AskForm (cond t (insert (slice keyAt 32 x) (slice valueAt 32 x)) (delete (slice keyAt 32 x)))
     go true = (part keyAt (omega arith), part valueAt (omega arith))
     go false = part keyAt (omega arith)

@@ -162,11 +162,6 @@ module _ (b : Side) (i : ℕ) (run : Bytes) (w : RunAt i run) where
   run-of-part =
       let m = lefts-within i run in
       record {
-        bytes = all-half Byte b (72 * lefts (length p) run) run (w .bytes);
-        whole = whole-half b (lefts (length p) run) run m (w .whole);
-        form = rw (records-half b (lefts (length p) run) run m) (all-half (λ x. askForm x ≡ true) b (lefts (length p) run) (recordsOf run) (w .form));
-        order = rw asks-of-part (ascending-filter (onSide b (length p)) (asks run) (w .order));
-        under = rw asks-of-part (under-longer h);
         bytes = all-half Byte b (recordSize * lefts i run) run (w .holds .bytes);
         whole = whole-half b (lefts i run) run m (w .holds .whole);
         form = rw (records-half b (lefts i run) run m) (all-half (λ x. askForm x ≡ true) b (lefts i run) (recordsOf run) (w .holds .form));
