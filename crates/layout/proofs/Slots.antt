@@ -89,17 +89,20 @@ module _ (r : Record) (h : RecordForm r) where
   unfolding field
   kind-says = ap num (cut r h 1) ∙ num-le 2 _ (kind-small (r .body))
 
-  count-says : countIn (recordBytes r) ≡ length (r .place)
+  pub count-says : countIn (recordBytes r) ≡ length (r .place)
   unfolding countIn field
   count-says = ap num (cut r h 2) ∙ num-le 2 _ (omega (arith, h .short, limit-small (r .body)))
 
-  version-says : field 40 4 (recordBytes r) ≡ r .version
+  pub version-says : field 40 4 (recordBytes r) ≡ r .version
   unfolding field
   version-says = ap num (cut r h 4) ∙ num-le 4 _ (omega (arith, h .versioned .1))
 
   retired-says : field 44 4 (recordBytes r) ≡ r .retired
   unfolding field
   retired-says = ap num (cut r h 5) ∙ num-le 4 _ (omega (arith, h .number))
+
+  pub bits-say : slice 8 32 (recordBytes r) ≡ pack 32 (r .place)
+  bits-say = cut r h 3
 
   place-says : placeIn (recordBytes r) ≡ r .place
   unfolding placeIn

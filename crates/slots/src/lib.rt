@@ -71,7 +71,7 @@ fn head_right(s: &[u8], len: u32, kind: u16, limit: u16) -> bool
     1 <= get_u32(s, 40)
 }
 
-fn is_leaf(s: &[u8]) -> bool
+pub fn is_leaf(s: &[u8]) -> bool
     requires { ⌜ length (now s) ≡ 120 ⌝ }
     ensures { λ r. ⌜ r ≡ isLeaf (now (s .entry)) ⌝ }
 {
@@ -94,7 +94,7 @@ fn child_right(s: &[u8], at: usize) -> bool
     all_zero(&s[hash..end])
 }
 
-fn is_inner(s: &[u8]) -> bool
+pub fn is_inner(s: &[u8]) -> bool
     requires { ⌜ length (now s) ≡ 120 ⌝ }
     ensures { λ r. ⌜ r ≡ isInner (now (s .entry)) ⌝ }
 {
