@@ -3,7 +3,7 @@
 use Prim.Native.Nat.{ℕ, _+_, _<_, _≤_}
 use native.Mathlib.Omega.{arith}
 use mathlib.Core.Path.{_≡_, refl, ap, sym, _∙_}
-use mathlib.Core.Bool.{Bool, true, false, cond, _&&_, _||_, false≢true}
+use mathlib.Core.Bool.{Bool, true, false, cond, _&&_, _||_}
 use mathlib.Core.List.{List, [], _∷_}
 use mathlib.Core.Option.{some, none}
 use lib.ListN.{length, getD}
@@ -14,7 +14,7 @@ use Rattle.terms.specs.Fields.{le, num, field, slice, zeroBytes, allZero, flat,
 use Rattle.terms.specs.Records.{Ask, insert, delete, askKey, zeros}
 use Rattle.terms.specs.Form.{AskForm}
 use Rattle.terms.proofs.Tests.{and-left, and-right, and-true}
-use Rattle.terms.proofs.Fields.{num-le, length-le, le-bytes, le-field, length-slice, all-slice, zero-bytes, all-zero, length-zero-bytes, cuts, flat-cuts, all-of-tests, tests-all, test-passed, test-failed, Sized, cuts-flat, length-flat}
+use Rattle.terms.proofs.Fields.{num-le, length-le, le-field, length-slice, all-slice, zero-bytes, cuts, flat-cuts, all-of-tests, tests-all, test-passed, test-failed, Sized, cuts-flat, length-flat}
 use Rattle.batch.specs.Sizes.{recordSize, insertLength, insertKind, deleteLength, deleteKind, kindAt, zeroAt, keyAt, valueAt}
 use Rattle.batch.specs.Batch.{lengthOf, kindOf, askValue, inserts, askBytes, headIs, isInsert, isDelete, askForm, ask, askOf}
 

@@ -1,6 +1,6 @@
 -- The records of a batch: record i stands at 72 i, and the records of a front or of a rest of whole records are those records.
 -- Assumes nothing.
-use Prim.Native.Nat.{ℕ, zero, suc, _+_, _*_, _-_, _<_, _≤_, _/_, _%_}
+use Prim.Native.Nat.{ℕ, zero, suc, _+_, _*_, _-_, _<_, _≤_, _/_}
 use native.Mathlib.Omega.{arith}
 use native.Mathlib.Nat.{sub-zero, zero-add, add-sub-cancel-left}
 use native.Mathlib.Numerals.{add-one}

@@ -1,13 +1,13 @@
 -- Runs: keys in order that begin with one place have their next bits in order, 0 before 1, so the records that go left are the front of the
 -- run, those that go right the rest, and each part is a run at the longer place. Assumes nothing.
-use Prim.Native.Nat.{ℕ, zero, suc, _+_, _*_, _-_, _<_, _≤_, _/_, _%_}
+use Prim.Native.Nat.{ℕ, zero, suc, _*_, _-_, _<_, _≤_, _%_}
 use native.Mathlib.Omega.{arith}
 use mathlib.Core.Path.{_≡_, refl, ap, sym, _∙_}
-use mathlib.Core.Bool.{Bool, true, false, cond, _&&_, Bool·beq, false≢true, true≢false}
+use mathlib.Core.Bool.{Bool, true, false, cond, Bool·beq, false≢true}
 use mathlib.Core.List.{List, [], _∷_}
-use lib.ListN.{length, getD, take, drop, length-take, length-drop}
+use lib.ListN.{length, getD, length-take, length-drop}
 use borrow.Author.Tests.{eqb-true}
-use Rattle.terms.specs.Bits.{Bytes, Byte, All, Side, Place, Whole32, bits, bit, begins, before, prefix, longer, filter}
+use Rattle.terms.specs.Bits.{Bytes, Byte, All, Side, Place, bits, bit, begins, before, longer, filter}
 use Rattle.terms.specs.Records.{Ask, askKey}
 use Rattle.terms.specs.Form.{AskForm}
 use Rattle.terms.proofs.Tests.{and-left, and-right}

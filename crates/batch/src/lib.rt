@@ -28,6 +28,11 @@ const KEY_AT: usize = 8;
 
 const VALUE_AT: usize = 40;
 
+const KEY_SIZE: usize = 32;
+
+// Key and value.
+const GRANT_SIZE: usize = 64;
+
 // At most 1,024 records.
 const MOST_RECORDS: usize = 1024;
 
@@ -118,7 +123,7 @@ pub fn key(b: &[u8], i: usize) -> &[u8]
     ensures { λ r. ⌜ (now r ≡ askKey (askAt i (now (b .entry)))) × (length (now r) ≡ 32) ⌝ }
 {
     let at = RECORD_SIZE * i + KEY_AT;
-    let end = at + 32;
+    let end = at + KEY_SIZE;
     &b[at..end]
 }
 
@@ -128,7 +133,7 @@ pub fn grant(b: &[u8], i: usize) -> &[u8]
     ensures { λ r. ⌜ (now r ≡ askKey (askAt i (now (b .entry))) ++ askValue (askAt i (now (b .entry)))) × (length (now r) ≡ 64) ⌝ }
 {
     let at = RECORD_SIZE * i + KEY_AT;
-    let end = at + 64;
+    let end = at + GRANT_SIZE;
     &b[at..end]
 }
 

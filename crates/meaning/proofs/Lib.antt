@@ -3,3 +3,4 @@ pub mod Finding
 pub mod Sides
 pub mod Runs
 pub mod Versions
+pub mod Samples

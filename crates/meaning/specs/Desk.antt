@@ -20,37 +20,37 @@ pub data Row : Type 0 where
 abbrev pub keyOf : ℕ → ℕ → Bytes
 keyOf first last = first ∷ replicate 30 0 ++ (last ∷ [])
 
-abbrev A : Bytes
+abbrev pub A : Bytes
 A = keyOf 0 0
 
-abbrev B : Bytes
+abbrev pub B : Bytes
 B = keyOf 0b01000000 0
 
-abbrev C : Bytes
+abbrev pub C : Bytes
 C = keyOf 0b01100000 0
 
-abbrev D : Bytes
+abbrev pub D : Bytes
 D = keyOf 0b10000000 0
 
-abbrev E : Bytes
+abbrev pub E : Bytes
 E = keyOf 0b10000000 1
 
-abbrev F : Bytes
+abbrev pub F : Bytes
 F = keyOf 0b00010000 0
 
-abbrev a : Bytes
+abbrev pub a : Bytes
 a = replicate 32 1
 
-abbrev b : Bytes
+abbrev pub b : Bytes
 b = replicate 32 2
 
-abbrev c : Bytes
+abbrev pub c : Bytes
 c = replicate 32 3
 
-abbrev d : Bytes
+abbrev pub d : Bytes
 d = replicate 32 4
 
-abbrev c′ : Bytes
+abbrev pub c′ : Bytes
 c′ = replicate 32 5
 
 abbrev e : Bytes
@@ -82,13 +82,13 @@ abbrev p011 : Place
 p011 = o ∷ i ∷ i ∷ []
 
 -- place, version, retired since, and the rest
-abbrev lf : Place → ℕ → ℕ → Bytes → Bytes → Slot
+abbrev pub lf : Place → ℕ → ℕ → Bytes → Bytes → Slot
 lf p v r k x = used (record { place = p; version = v; retired = r; body = leafBody k x })
 
-abbrev nd : Place → ℕ → ℕ → ℕ → Bytes → ℕ → Bytes → Slot
+abbrev pub nd : Place → ℕ → ℕ → ℕ → Bytes → ℕ → Bytes → Slot
 nd p v r lv lh rv rh = used (record { place = p; version = v; retired = r; body = innerBody (child lv lh) (child rv rh) })
 
-abbrev store : ℕ → ℕ → List Slot → Store
+abbrev pub store : ℕ → ℕ → List Slot → Store
 store old new s = record { oldest = old; latest = new; slots = s }
 
 abbrev made : ℕ → Bytes → ℕ → Answer Applied
@@ -107,28 +107,28 @@ module _ (leafHash innerHash : Bytes → Bytes → Bytes) where
   RowHolds (applies st batch answer end) = apply leafHash innerHash (some batch) st ≡ record { answer = answer; store = end }
   RowHolds (prunes st n answer end) = prune n st ≡ record { answer = answer; store = end }
 
-  abbrev hA : Bytes
+  abbrev pub hA : Bytes
   hA = leafHash A a
 
-  abbrev hB : Bytes
+  abbrev pub hB : Bytes
   hB = leafHash B b
 
-  abbrev hC : Bytes
+  abbrev pub hC : Bytes
   hC = leafHash C c
 
-  abbrev hD : Bytes
+  abbrev pub hD : Bytes
   hD = leafHash D d
 
   abbrev hC′ : Bytes
   hC′ = leafHash C c′
 
-  abbrev h01 : Bytes
+  abbrev pub h01 : Bytes
   h01 = innerHash hB hC
 
-  abbrev h0 : Bytes
+  abbrev pub h0 : Bytes
   h0 = innerHash hA h01
 
-  abbrev root₁ : Bytes
+  abbrev pub root₁ : Bytes
   root₁ = innerHash h0 hD
 
   abbrev h0′ : Bytes
@@ -182,7 +182,7 @@ module _ (leafHash innerHash : Bytes → Bytes → Bytes) where
   s₈ = store 4 7
       (lf [] 7 0 E e ∷ replicate 4 free ++ lf p1 1 5 D d ∷ replicate 5 free ++ lf p0 4 5 C c′ ∷ nd [] 4 5 4 hC′ 1 hD ∷ lf [] 5 6 C c′ ∷ replicate 6 free)
 
-  abbrev hF : Bytes
+  abbrev pub hF : Bytes
   hF = leafHash F b
 
   abbrev r3 : Bytes

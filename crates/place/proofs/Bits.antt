@@ -15,12 +15,8 @@ use borrow.Author.Tests.{eqb-true, eqb-false, eq-eqb, ne-eqb}
 use Rattle.terms.specs.Bits.{Bytes, Byte, All, bits, byteBits, odd, bit, prefix, noneSet}
 use Rattle.terms.proofs.Tests.{and-assoc, and-true}
 use Rattle.terms.proofs.Lists.{all-at}
-use Rattle.terms.proofs.Places.{bit-at}
+use Rattle.terms.proofs.Places.{length-byteBits, bit-at}
 use Rattle.terms.proofs.Order.{low, byteBits-low}
-
-length-byteBits : (x : ℕ) → length (byteBits x) ≡ 8
-unfolding byteBits
-length-byteBits x = refl
 
 -- bit m of a byte, by a shift
 shifted-bit : (x m : ℕ) → m < 8 → getD (byteBits x) m false ≡ eqb (x / 2 ^ (7 - m) % 2) 1

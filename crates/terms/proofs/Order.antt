@@ -9,7 +9,7 @@ use mathlib.Core.List.{List, [], _∷_, _++_, append-assoc}
 use lib.ListN.{length, getD}
 use lib.Dec.{ltb, eqb}
 use borrow.Author.Tests.{ltb-true, ltb-false, eqb-true, eqb-false, lt-ltb, le-ltb, eq-eqb, ne-eqb}
-use Rattle.terms.specs.Bits.{Bytes, Byte, Side, Place, All, bits, byteBits, odd, prefix, before}
+use Rattle.terms.specs.Bits.{Bytes, Byte, Side, left, right, Place, longer, All, bits, byteBits, odd, prefix, begins, before}
 use Rattle.terms.proofs.Tests.{is-false}
 
 -- the order of bit strings
@@ -116,6 +116,27 @@ lex-whole (true ∷ p) (false ∷ as′) (b ∷ bs) u w x y l = false≢true u
 lex-whole (false ∷ p) (false ∷ as′) (false ∷ bs) u w x y l = lex-whole p as′ bs u w (omega arith) (omega arith) l
 lex-whole (false ∷ p) (false ∷ as′) (true ∷ bs) u w x y l = false≢true w
 lex-whole (false ∷ p) (true ∷ as′) (b ∷ bs) u w x y l = false≢true u
+
+-- two strings that part at a place are in the order of the bits that they go on with
+lex-parted : (p : Place) (as′ bs : List Bool) → prefix (p ++ (false ∷ [])) as′ ≡ true → prefix (p ++ (true ∷ [])) bs ≡ true → lex as′ bs ≡ true
+lex-parted [] [] bs u w = absurd (false≢true u)
+lex-parted [] (a ∷ as′) [] u w = absurd (false≢true w)
+lex-parted [] (true ∷ as′) (b ∷ bs) u w = absurd (false≢true u)
+lex-parted [] (false ∷ as′) (false ∷ bs) u w = absurd (false≢true w)
+lex-parted [] (false ∷ as′) (true ∷ bs) u w = refl
+lex-parted (q ∷ p) [] bs u w = absurd (false≢true u)
+lex-parted (q ∷ p) (a ∷ as′) [] u w = absurd (false≢true w)
+lex-parted (true ∷ p) (true ∷ as′) (true ∷ bs) u w = lex-parted p as′ bs u w
+lex-parted (true ∷ p) (true ∷ as′) (false ∷ bs) u w = absurd (false≢true w)
+lex-parted (true ∷ p) (false ∷ as′) (b ∷ bs) u w = absurd (false≢true u)
+lex-parted (false ∷ p) (false ∷ as′) (false ∷ bs) u w = lex-parted p as′ bs u w
+lex-parted (false ∷ p) (false ∷ as′) (true ∷ bs) u w = absurd (false≢true w)
+lex-parted (false ∷ p) (true ∷ as′) (b ∷ bs) u w = absurd (false≢true u)
+
+-- of two keys that part at a place, the one that goes on to the left comes before the one that goes on to the right
+pub before-parted : (p : Place) (k l : Bytes) → All Byte k → All Byte l → begins (longer left p) k ≡ true → begins (longer right p) l ≡ true → before k l ≡ true
+unfolding begins longer
+before-parted p k l a b u w = before-lex k l a b ∙ lex-parted p (bits k) (bits l) u w
 
 -- the first byte decides, or the rest does
 Split : ℕ → ℕ → Bytes → Bytes → Type 0

@@ -13,7 +13,7 @@ use borrow.Author.Tests.{ltb-true, ltb-false}
 use Rattle.terms.specs.Bits.{Bytes, Byte, Side, Place, All, left, longer, bits, byteBits, odd, bit, prefix, begins, noneSet, digit, packed, pack, samePlace}
 use Rattle.terms.proofs.Tests.{and-true, and-assoc, bothBits, both-bits, same-place}
 
-length-byteBits : (x : ℕ) → length (byteBits x) ≡ 8
+pub length-byteBits : (x : ℕ) → length (byteBits x) ≡ 8
 unfolding byteBits
 length-byteBits x = refl
 

@@ -1,0 +1,239 @@
+-- Reads, proofs and checks of the desk's example, computed: with hashes as names where nothing compares them, with two toy hash functions
+-- where the checker does. What is refused here must be refused. Assumes nothing.
+use Prim.Native.Nat.{ℕ, _+_, _*_, _%_}
+use mathlib.Core.Path.{_≡_, refl}
+use mathlib.Core.Bool.{true, false}
+use mathlib.Core.List.{List, [], _∷_, _++_, map}
+use mathlib.Core.Option.{none, some}
+use lib.ListN.{take, drop, replicate}
+use Rattle.terms.specs.Bits.{Bytes, left, right}
+use Rattle.terms.specs.Records.{Store, Presence, Proof, presence, zeros}
+use Rattle.meaning.specs.Tree.{grantsIn}
+use Rattle.meaning.specs.Store.{treeAtVersion}
+use Rattle.meaning.specs.Calls.{Answer, refused, accepted}
+use Rattle.meaning.specs.Reading.{Verdict, present, absent, readKey, readRoot, rootHash, answerOf}
+use Rattle.meaning.specs.Store.{rootOf}
+use Rattle.meaning.specs.Proving.{step, presenceOf, absenceOf, proof, proofLength, prove}
+use Rattle.meaning.specs.Checking.{checked}
+use Rattle.meaning.specs.Desk.{keyOf, A, B, C, D, E, F, a, b, c, d, c′, lf, nd, store, hA, hB, hC, hD, hF, h01, h0, root₁, s₁, s₂, s₆, s₉}
+use Rattle.meaning.specs.Computed.{computed}
+
+-- a key between B and C, and one right of all
+abbrev G : Bytes
+G = keyOf 0b01000000 7
+
+abbrev H : Bytes
+H = keyOf 255 255
+
+module _ (leafHash innerHash : Bytes → Bytes → Bytes) where
+  abbrev one : Store
+  one = s₁ leafHash innerHash
+
+  abbrev six : Store
+  six = s₆ leafHash innerHash
+
+  abbrev nine : Store
+  nine = s₉ leafHash innerHash
+
+  -- the paths of M1
+  abbrev toA : Presence
+  toA = presenceOf A a (step left (h01 leafHash innerHash) ∷ step left (hD leafHash innerHash) ∷ [])
+
+  abbrev toB : Presence
+  toB = presenceOf B b (step left (hC leafHash innerHash) ∷ step right (hA leafHash innerHash) ∷ step left (hD leafHash innerHash) ∷ [])
+
+  abbrev toC : Presence
+  toC = presenceOf C c (step right (hB leafHash innerHash) ∷ step right (hA leafHash innerHash) ∷ step left (hD leafHash innerHash) ∷ [])
+
+  abbrev toD : Presence
+  toD = presenceOf D d (step right (h0 leafHash innerHash) ∷ [])
+
+  -- C is present; F has A and B beside it, G has B and C; H is right of all
+  pub proofs-of-M1 : map (proof one 1) (C ∷ F ∷ G ∷ H ∷ [])
+      ≡ accepted (presence toC)
+      ∷ accepted (absenceOf F (some toA) (some toB))
+      ∷ accepted (absenceOf G (some toB) (some toC))
+      ∷ accepted (absenceOf H (some toD) none)
+      ∷ []
+  unfolding computed
+  proofs-of-M1 = refl
+
+  -- lone inner children have zero siblings: A is present, and B has A and F on its left, where the walk wanted to go right
+  pub proofs-of-M9 : map (proof nine 1) (A ∷ B ∷ [])
+      ≡ accepted (presence (presenceOf A a
+      (step left (hF leafHash innerHash) ∷ step left zeros ∷ step left zeros ∷ step left zeros ∷ [])))
+      ∷ accepted (absenceOf B (some (presenceOf F b
+      (step right (hA leafHash innerHash) ∷ step left zeros ∷ step left zeros ∷ step left zeros ∷ []))) none)
+      ∷ []
+  unfolding computed
+  proofs-of-M9 = refl
+
+  -- the four flags after M6: neither neighbour in versions 0 and 6, a left one, a right one, and both
+  pub flags-of-M6 : proof six 0 C ∷ proof six 6 C ∷ proof six 5 D ∷ proof six 5 A ∷ proof six 4 D ∷ proof six 3 B ∷ []
+      ≡ accepted (absenceOf C none none)
+      ∷ accepted (absenceOf C none none)
+      ∷ accepted (absenceOf D (some (presenceOf C c′ [])) none)
+      ∷ accepted (absenceOf A none (some (presenceOf C c′ [])))
+      ∷ accepted (presence (presenceOf D d (step right (leafHash C c′) ∷ [])))
+      ∷ accepted (absenceOf B (some (presenceOf A a (step left (leafHash C c′) ∷ step left (hD leafHash innerHash) ∷ [])))
+      (some (presenceOf C c′ (step right (hA leafHash innerHash) ∷ step left (hD leafHash innerHash) ∷ []))))
+      ∷ []
+  unfolding computed
+  flags-of-M6 = refl
+
+  -- a buffer that holds the proof, and one byte less
+  pub rooms-of-M1 : proofLength (presence toC) ∷ proofLength (absenceOf F (some toA) (some toB)) ∷ [] ≡ 171 ∷ 349 ∷ []
+  unfolding computed
+  rooms-of-M1 = refl
+
+  pub room-for-proofs : prove one 1 C 171 ∷ prove one 1 C 170 ∷ prove one 1 F 349 ∷ prove one 1 F 348 ∷ prove one 2 F 0 ∷ []
+      ≡ accepted (presence toC) ∷ refused 9 ∷ accepted (absenceOf F (some toA) (some toB)) ∷ refused 9 ∷ refused 8 ∷ []
+  unfolding computed
+  room-for-proofs = refl
+
+  pub reads-of-M2 : map (λ v. readKey (s₂ leafHash innerHash) v B) (0 ∷ 1 ∷ 2 ∷ 3 ∷ [])
+      ≡ accepted absent ∷ accepted (present b) ∷ accepted absent ∷ refused 8 ∷ []
+  unfolding computed
+  reads-of-M2 = refl
+
+  pub roots-of-M1 : map (readRoot leafHash innerHash one) (0 ∷ 1 ∷ 2 ∷ [])
+      ≡ accepted zeros ∷ accepted (root₁ leafHash innerHash) ∷ refused 8 ∷ []
+  unfolding computed
+  roots-of-M1 = refl
+
+  -- the leaf B is lost: B and the absence of F give 3; F reads as absent, and C is proved
+  abbrev damaged : ℕ → ℕ → Store
+  damaged old new = store old new (drop 1 (one .slots))
+
+  pub reads-of-damaged : map (readKey (damaged 0 1) 1) (B ∷ C ∷ F ∷ []) ≡ refused 3 ∷ accepted (present c) ∷ accepted absent ∷ []
+  unfolding computed
+  reads-of-damaged = refl
+
+  pub proofs-of-damaged : map (proof (damaged 0 1) 1) (B ∷ C ∷ F ∷ []) ≡ refused 3 ∷ accepted (presence toC) ∷ refused 3 ∷ []
+  unfolding computed
+  proofs-of-damaged = refl
+
+  -- 8 comes before 3
+  pub eight-before-three : readKey (damaged 2 2) 1 B ≡ refused 8
+  unfolding computed
+  eight-before-three = refl
+
+  pub eight-before-three-proving : proof (damaged 2 2) 1 B ≡ refused 8
+  unfolding computed
+  eight-before-three-proving = refl
+
+  -- a leaf whose key doesn't begin with its place gives 3 to the walk and to the descent
+  abbrev misplaced : Store
+  misplaced = store 0 1 (lf (false ∷ []) 1 0 D d ∷ lf (true ∷ []) 1 0 E c ∷ nd [] 1 0 1 (hD leafHash innerHash) 1 (leafHash E c) ∷ [])
+
+  pub reads-of-misplaced : map (readKey misplaced 1) (A ∷ E ∷ D ∷ []) ≡ refused 3 ∷ accepted (present c) ∷ accepted absent ∷ []
+  unfolding computed
+  reads-of-misplaced = refl
+
+  pub proofs-of-misplaced : proof misplaced 1 D ≡ refused 3
+  unfolding computed
+  proofs-of-misplaced = refl
+
+-- Toy hash functions, which forget the last byte of a key and of a hash: what they don't see, the checker must.
+abbrev mix : ℕ → Bytes → ℕ
+mix m [] = m
+mix m (x ∷ xs) = mix ((m * 31 + x) % 251) xs
+
+abbrev toyLeaf : Bytes → Bytes → Bytes
+toyLeaf k x = 1 ∷ mix 1 (take 31 k ++ x) ∷ replicate 30 0
+
+abbrev toyInner : Bytes → Bytes → Bytes
+toyInner l r = 2 ∷ mix 2 (take 31 l ++ take 31 r) ∷ replicate 30 0
+
+-- The checker's answer to what the prover gives, against the root that is read.
+abbrev checkGiven : Bytes → Bytes → Answer Proof → Answer Verdict
+checkGiven root k (refused n) = refused n
+checkGiven root k (accepted p) = checked toyLeaf toyInner root k p
+
+abbrev shownOf : Store → ℕ → Bytes → Answer Verdict
+shownOf st v k = checkGiven (rootHash toyLeaf toyInner (rootOf st v)) k (proof st v k)
+
+abbrev saidOf : Store → ℕ → Bytes → Answer Verdict
+saidOf st v k = accepted (answerOf k (grantsIn (treeAtVersion st v)))
+
+abbrev keys : List Bytes
+keys = A ∷ B ∷ C ∷ D ∷ E ∷ F ∷ G ∷ H ∷ []
+
+-- eight keys in each version after M6, and after M9
+pub proofs-accepted : map (λ v. map (shownOf (s₆ toyLeaf toyInner) v) keys) (0 ∷ 1 ∷ 2 ∷ 3 ∷ 4 ∷ 5 ∷ 6 ∷ [])
+    ≡ map (λ v. map (saidOf (s₆ toyLeaf toyInner) v) keys) (0 ∷ 1 ∷ 2 ∷ 3 ∷ 4 ∷ 5 ∷ 6 ∷ [])
+unfolding computed
+proofs-accepted = refl
+
+pub proofs-of-M9-accepted : map (shownOf (s₉ toyLeaf toyInner) 1) keys ≡ map (saidOf (s₉ toyLeaf toyInner) 1) keys
+unfolding computed
+proofs-of-M9-accepted = refl
+
+-- The checker against M1's root, with the toy hash functions.
+abbrev root : Bytes
+root = root₁ toyLeaf toyInner
+
+abbrev check : Bytes → Proof → Answer Verdict
+check k p = checked toyLeaf toyInner root k p
+
+abbrev pA : Presence
+pA = toA toyLeaf toyInner
+
+abbrev pB : Presence
+pB = toB toyLeaf toyInner
+
+abbrev pC : Presence
+pC = toC toyLeaf toyInner
+
+abbrev pD : Presence
+pD = toD toyLeaf toyInner
+
+-- presence: another key, another value, another root, a step left out, a side turned
+pub presence-refused : check A (presence pA) ∷ check F (presence pA) ∷ check A (presence (presenceOf A b (pA .steps)))
+    ∷ checked toyLeaf toyInner zeros A (presence pA) ∷ check A (presence (presenceOf A a (drop 1 (pA .steps))))
+    ∷ check A (presence (presenceOf A a (step right (h01 toyLeaf toyInner) ∷ step left (hD toyLeaf toyInner) ∷ []))) ∷ []
+    ≡ accepted (present a) ∷ refused 11 ∷ refused 11 ∷ refused 11 ∷ refused 11 ∷ refused 11 ∷ []
+unfolding computed
+presence-refused = refl
+
+-- absence of F: another key in the proof, a neighbour left out, both, the two exchanged; and neighbours that are not next to each other
+pub absence-refused : check F (absenceOf F (some pA) (some pB)) ∷ check F (absenceOf G (some pA) (some pB))
+    ∷ check F (absenceOf F (some pA) none) ∷ check F (absenceOf F none (some pB)) ∷ check F (absenceOf F none none)
+    ∷ check F (absenceOf F (some pB) (some pA)) ∷ check F (absenceOf F (some pA) (some pC)) ∷ check G
+    (absenceOf G (some pB) (some pD)) ∷ []
+    ≡ accepted absent ∷ refused 11 ∷ refused 11 ∷ refused 11 ∷ refused 11 ∷ refused 11 ∷ refused 11 ∷ refused 11 ∷ []
+unfolding computed
+absence-refused = refl
+
+-- a key is not absent beside itself
+pub equal-keys-refused : check A (absenceOf A (some pA) (some pB)) ∷ check B (absenceOf B (some pA) (some pB))
+    ∷ check D (absenceOf D (some pD) none) ∷ check A (absenceOf A none (some pA)) ∷ []
+    ≡ refused 11 ∷ refused 11 ∷ refused 11 ∷ refused 11 ∷ []
+unfolding computed
+equal-keys-refused = refl
+
+-- steps that agree in their side and not in their sibling are not equal: B's path with another last byte of D's hash leads to the root, too
+abbrev pB′ : Presence
+pB′ =
+    presenceOf B b (step left (hC toyLeaf toyInner) ∷ step right (hA toyLeaf toyInner) ∷ step left
+    (take 31 (hD toyLeaf toyInner) ++ (7 ∷ [])) ∷ [])
+
+pub unequal-steps-refused : check B (presence pB′) ∷ check F (absenceOf F (some pA) (some pB′)) ∷ []
+    ≡ accepted (present b) ∷ refused 11 ∷ []
+unfolding computed
+unequal-steps-refused = refl
+
+-- a step must remain in each path: with D's path twice, the second time for a key that differs in the byte the toy forgets
+abbrev pD′ : Presence
+pD′ = presenceOf (keyOf 0b10000000 2) d (pD .steps)
+
+pub equal-paths-refused : check (keyOf 0b10000000 2) (presence pD′) ∷ check E (absenceOf E (some pD) (some pD′)) ∷ []
+    ≡ accepted (present d) ∷ refused 11 ∷ []
+unfolding computed
+equal-paths-refused = refl
+
+-- an empty version has the zero root, and no other
+pub flags-0 : checked toyLeaf toyInner zeros A (absenceOf A none none) ∷ check A (absenceOf A none none) ∷ []
+    ≡ accepted absent ∷ refused 11 ∷ []
+unfolding computed
+flags-0 = refl

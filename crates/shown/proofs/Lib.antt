@@ -1,0 +1,16 @@
+pub mod Paths
+pub mod Views
+pub mod Walks
+pub mod Descent
+pub mod Searches
+pub mod Flanks
+pub mod Trees
+pub mod Standing
+pub mod Lengths
+pub mod Verdicts
+pub mod Neighbours
+pub mod Theorems
+pub mod SeenAt
+pub mod Loops
+pub mod Grants
+pub mod Longest
