@@ -13,7 +13,7 @@ use borrow.Author.Tests.{eqb-true, eq-eqb}
 use Rattle.terms.specs.Bits.{Bytes, Side, left, right, Place, longer, samePlace}
 use Rattle.terms.specs.Records.{Grant, Record, Slot, free, used, spoiled}
 use Rattle.terms.proofs.Tests.{and-left, and-right, same-place, place-same}
-use Rattle.meaning.specs.Tree.{VTree, vnone, vleaf, vinner, topVersion}
+use Rattle.meaning.specs.Tree.{VTree, vnone, vleaf, vinner, topVersion, kid}
 use Rattle.meaning.specs.Store.{find, isNode}
 use Rattle.meaning.specs.Sound.{NodeOf}
 
@@ -26,7 +26,7 @@ pub isNode-refl : (r : Record) → isNode (r .version) (r .place) r ≡ true
 unfolding isNode
 isNode-refl r = rw (eq-eqb (r .version) (r .version) refl, place-same (r .place))
 
--- what find finds stands in a slot, and is the node withAsk for
+-- what find finds stands in a slot, and is the node asked for
 pub data Hit (s : List Slot) (v : ℕ) (p : Place) : Option Record → Type 0 where
   miss : ((i : ℕ) (r : Record) → i < length s → getD s i free ≡ used r → isNode v p r ≡ false) → Hit s v p none
   hit : (i : ℕ) (r : Record) → i < length s → getD s i free ≡ used r → isNode v p r ≡ true → Hit s v p (some r)
@@ -57,8 +57,7 @@ hits (spoiled x ∷ s) v p = push (spoiled x) s v p _ (λ r u. spoiled-used x r 
 -- u stands at q in the tree t that stands at p
 pub data Within (u : VTree) (q : Place) : VTree → Place → Type 0 where
   there : Within u q u q
-  go-left : {w : ℕ} {l r : VTree} {p : Place} → Within u q l (longer left p) → Within u q (vinner w l r) p
-  go-right : {w : ℕ} {l r : VTree} {p : Place} → Within u q r (longer right p) → Within u q (vinner w l r) p
+  go-kid : (b : Side) {w : ℕ} {l r : VTree} {p : Place} → Within u q (kid b (vinner w l r)) (longer b p) → Within u q (vinner w l r) p
 
 -- a tree that is there
 pub data Some : VTree → Type 0 where
@@ -69,15 +68,24 @@ top-node : (u : VTree) (q : Place) → Some u → NodeOf (topVersion u) q u q
 top-node (vleaf w g) q some-leaf = (refl, refl)
 top-node (vinner w l r) q some-inner = inl (refl, refl)
 
+-- a node of a tree is at its top or on a side
+pub node-below : (b : Side) (v w : ℕ) (q p : Place) (l r : VTree) → NodeOf v q (kid b (vinner w l r)) (longer b p) → NodeOf v q (vinner w l r) p
+node-below false v w q p l r h = inr (inl h)
+node-below true v w q p l r h = inr (inr h)
+
+pub node-cases : (v w : ℕ) (q p : Place) (l r : VTree) →
+    NodeOf v q (vinner w l r) p → ((w ≡ v) × (p ≡ q)) ⊎ ((b : Side) × NodeOf v q (kid b (vinner w l r)) (longer b p))
+node-cases v w q p l r (inl h) = inl h
+node-cases v w q p l r (inr (inl h)) = inr (left, h)
+node-cases v w q p l r (inr (inr h)) = inr (right, h)
+
 pub within-node : {u : VTree} {q : Place} {t : VTree} {p : Place} → Some u → Within u q t p → NodeOf (topVersion u) q t p
 within-node {u} {q} s there = top-node u q s
-within-node s (go-left w) = inr (inl (within-node s w))
-within-node s (go-right w) = inr (inr (within-node s w))
+within-node {u} {q} s (go-kid b {w = x} {l = l} {r = r} {p = p} w) = node-below b (topVersion u) x q p l r (within-node s w)
 
 pub within-trans : {a b : VTree} {x y : Place} {t : VTree} {p : Place} → Within a x b y → Within b y t p → Within a x t p
 within-trans w there = w
-within-trans w (go-left v) = go-left (within-trans w v)
-within-trans w (go-right v) = go-right (within-trans w v)
+within-trans w (go-kid b v) = go-kid b (within-trans w v)
 
 -- a place is empty, or one bit longer than another
 pub data Last : Place → Type 0 where

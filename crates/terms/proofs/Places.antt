@@ -41,6 +41,15 @@ pub length-longer : (b : Side) (p : Place) → length (longer b p) ≡ suc (leng
 unfolding longer
 length-longer b p = simp length-append (omega arith)
 
+-- the shorter place and the last bit are those of the longer one
+pub longer-inj : (p q : Place) (a b : Side) → longer a p ≡ longer b q → (p ≡ q) × (a ≡ b)
+unfolding longer
+longer-inj [] [] a b e = (refl, cc)
+longer-inj [] (y ∷ q) a b e = absurd (omega (arith, ap length e, length-longer b q))
+longer-inj (x ∷ p) [] a b e = absurd (omega (arith, ap length e, length-longer a p))
+longer-inj (x ∷ p) (y ∷ q) a b e =
+    let h : x ≡ y = cc in let t : longer a p ≡ longer b q = cc in let u = longer-inj p q a b t in (ap₂ _∷_ h (u .0), u .1)
+
 -- a place one bit longer
 pub prefix-snoc : (p : Place) (b : Bool) (bs : List Bool) → length p < length bs → prefix (p ++ (b ∷ [])) bs ≡ prefix p bs && Bool·beq b (getD bs (length p) false)
 prefix-snoc [] b [] h = absurd (not-suc-le-zero h)

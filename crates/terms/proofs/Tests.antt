@@ -1,7 +1,8 @@
 -- Laws of Bool tests: what `&&` says, and that the tests of byte strings and places decide equality. Assumes nothing.
 use Prim.Native.Nat.{ℕ}
 use mathlib.Core.Path.{_≡_, refl, ap, ap₂, sym, _∙_}
-use mathlib.Core.Bool.{Bool, true, false, _&&_, Bool·beq, false≢true}
+use mathlib.Core.Logic.{_⊎_, inl, inr}
+use mathlib.Core.Bool.{Bool, true, false, not, _&&_, _||_, Bool·beq, false≢true}
 use mathlib.Core.List.{List, [], _∷_}
 use lib.Dec.{eqb}
 use borrow.Author.Tests.{eqb-true, eq-eqb}
@@ -36,6 +37,19 @@ is-false false h = refl
 pub is-true : (b : Bool) → (b ≡ false → ⊥) → b ≡ true
 is-true true h = refl
 is-true false h = absurd (h refl)
+
+pub or-cases : (a b : Bool) → a || b ≡ true → (a ≡ true) ⊎ (b ≡ true)
+or-cases true b h = inl refl
+or-cases false b h = inr h
+
+-- a test that is asked only where another passes
+pub where-passed : (a b : Bool) → not a || b ≡ true → a ≡ true → b ≡ true
+where-passed true b h e = h
+where-passed false b h e = absurd (false≢true e)
+
+pub passed-where : (a b : Bool) → (a ≡ true → b ≡ true) → not a || b ≡ true
+passed-where true b h = h refl
+passed-where false b h = refl
 
 -- A Bool test of both bits, and what it says of one: for facts about bits that are computed.
 abbrev pub bothBits : (Side → Bool) → Bool

@@ -1,0 +1,134 @@
+-- The desk's stores are sound, and so are some odd ones; damaged in one place they are not. By running the test, with two hash functions
+-- that only tell apart what these stores hold. Assumes nothing.
+use Prim.Native.Nat.{ℕ}
+use mathlib.Core.Path.{_≡_, refl, sym, _∙_}
+use mathlib.Core.Bool.{true, false, true≢false}
+use mathlib.Core.List.{List, [], _∷_, _++_}
+use lib.ListN.{getD, take, replicate, set}
+use Rattle.terms.specs.Bits.{Bytes, Place, All}
+use Rattle.terms.specs.Records.{Child, child, Body, leafBody, innerBody, Record, Slot, free, used, spoiled, Store, zeros}
+use Rattle.terms.specs.Form.{top32}
+use Rattle.terms.specs.Fields.{allOf}
+use Rattle.terms.proofs.Lists.{all-map}
+use Rattle.meaning.specs.Store.{formatted, marked, onRecord}
+use Rattle.meaning.specs.Sound.{Sound}
+use Rattle.meaning.specs.Local.{endsBefore}
+use Rattle.meaning.specs.Computed.{computed}
+use Rattle.meaning.specs.Desk.{s₁, s₂, s₃, s₄, s₅, s₆, s₇, s₈, s₉, s₁₂}
+use Rattle.local.specs.Test.{isSame, holders, lifeTest, childTest, names, keptLife, isParent, lifeAbove, lifeCovered, whole32Test, childFormTest, formTest, headTest, linkTest, recordTest, slotsTest, localTest}
+use Rattle.local.proofs.Decides.{test-decides-sound}
+
+abbrev toyLeaf : Bytes → Bytes → Bytes
+toyLeaf k x = take 31 k ++ take 1 x
+
+abbrev toyInner : Bytes → Bytes → Bytes
+toyInner a b = 9 ∷ take 15 a ++ take 16 b
+
+abbrev M2 : Store
+M2 = s₂ toyLeaf toyInner
+
+-- slot i of a store, where it is a record, put in another way
+abbrev altered : ℕ → (Record → Slot) → Store → Store
+altered i f st = record { oldest = st .oldest; latest = st .latest; slots = set (st .slots) i (onRecord f (getD (st .slots) i free)) }
+
+abbrev with-body : Body → Record → Slot
+with-body o r = used (record { place = r .place; version = r .version; retired = r .retired; body = o })
+
+abbrev one-more : ℕ → Slot → Store → Store
+one-more i y st = record { oldest = st .oldest; latest = st .latest; slots = set (st .slots) i y }
+
+abbrev numbered : ℕ → ℕ → Store → Store
+numbered o l st = record { oldest = o; latest = l; slots = st .slots }
+
+abbrev leafOf : Place → ℕ → Bytes → Slot
+leafOf p v k = used (record { place = p; version = v; retired = 0; body = leafBody k k })
+
+abbrev innerOf : Place → ℕ → Child → Child → Slot
+innerOf p v l r = used (record { place = p; version = v; retired = 0; body = innerBody l r })
+
+abbrev k0 : Bytes
+k0 = replicate 32 0
+
+abbrev k1 : Bytes
+k1 = 0b01000000 ∷ replicate 31 0
+
+-- a child newer than its parent: oldest and latest are 5, the node 0 has version 1 and its child 00 version 3
+abbrev newer : Store
+newer = record {
+  oldest = 5;
+  latest = 5;
+  slots =
+      leafOf (false ∷ false ∷ []) 3 k0
+      ∷ leafOf (false ∷ true ∷ []) 1 k1
+      ∷ innerOf (false ∷ []) 1 (child 3 (toyLeaf k0 k0)) (child 1 (toyLeaf k1 k1))
+      ∷ innerOf [] 5 (child 1 (toyInner (toyLeaf k0 k0) (toyLeaf k1 k1))) (child 0 zeros)
+      ∷ [];
+}
+
+-- a leaf that is an inner node's only child
+abbrev lonely : Store
+lonely = record {
+  oldest = 0;
+  latest = 1;
+  slots = leafOf (false ∷ []) 1 k0 ∷ innerOf [] 1 (child 1 (toyLeaf k0 k0)) (child 0 zeros) ∷ [];
+}
+
+abbrev good : List Store
+good =
+    s₁ toyLeaf toyInner
+    ∷ M2
+    ∷ s₃ toyLeaf toyInner
+    ∷ s₄ toyLeaf toyInner
+    ∷ s₅ toyLeaf toyInner
+    ∷ s₆ toyLeaf toyInner
+    ∷ s₇ toyLeaf toyInner
+    ∷ s₈ toyLeaf toyInner
+    ∷ s₉ toyLeaf toyInner
+    ∷ s₁₂ toyLeaf toyInner
+    ∷ newer
+    ∷ numbered 0 top32 (formatted 3)
+    ∷ []
+
+-- In turn: a leaf that lives on after its parents, one that ends before its parent, a child gone, another value, another hash beside it,
+-- a node twice, a root that lives on, a root gone, a lone leaf, a slot that is not in form, a version above latest, a root below oldest,
+-- oldest above latest.
+abbrev damaged : List Store
+damaged =
+    altered 0 (λ r. used (marked 0 r)) M2
+    ∷ altered 2 (λ r. used (marked 2 r)) M2
+    ∷ altered 2 (λ r. free) M2
+    ∷ altered 2 (with-body (leafBody k0 k1)) M2
+    ∷ altered 8 (with-body (innerBody (child 1 k1) (child 2 k1))) M2
+    ∷ one-more 12 (getD (M2 .slots) 2 free) M2
+    ∷ altered 6 (λ r. used (marked 0 r)) M2
+    ∷ altered 6 (λ r. free) M2
+    ∷ lonely
+    ∷ one-more 15 (spoiled []) M2
+    ∷ numbered 0 1 M2
+    ∷ numbered 2 2 M2
+    ∷ numbered 3 2 M2
+    ∷ []
+
+abbrev Passes : Store → Type 0
+Passes st = localTest toyLeaf toyInner st ≡ true
+
+abbrev Fails : Store → Type 0
+Fails st = localTest toyLeaf toyInner st ≡ false
+
+good-passes : All Passes good
+unfolding computed endsBefore allOf isSame holders lifeTest childTest names keptLife isParent lifeAbove lifeCovered whole32Test
+    childFormTest formTest headTest linkTest recordTest slotsTest localTest
+good-passes = (refl, (refl, (refl, (refl, (refl, (refl, (refl, (refl, (refl, (refl, (refl, (refl, tt))))))))))))
+
+damaged-fails : All Fails damaged
+unfolding computed endsBefore allOf isSame holders lifeTest childTest names keptLife isParent lifeAbove lifeCovered whole32Test
+    childFormTest formTest headTest linkTest recordTest slotsTest localTest
+damaged-fails = (refl, (refl, (refl, (refl, (refl, (refl, (refl, (refl, (refl, (refl, (refl, (refl, (refl, tt)))))))))))))
+
+pub desk-stores-sound : All (Sound toyLeaf toyInner) good
+desk-stores-sound = all-map Passes (Sound toyLeaf toyInner) good (λ st h. test-decides-sound toyLeaf toyInner st .0 h) good-passes
+
+pub damaged-not-sound : All (λ st. Sound toyLeaf toyInner st → ⊥) damaged
+damaged-not-sound =
+    all-map Fails (λ st. Sound toyLeaf toyInner st → ⊥) damaged
+    (λ st h s. true≢false (sym (test-decides-sound toyLeaf toyInner st .1 s) ∙ h)) damaged-fails

@@ -1,0 +1,15 @@
+pub mod Slots
+pub mod Lifetimes
+pub mod Standing
+pub mod Above
+pub mod Seeing
+pub mod LocalIsGlobal
+pub mod Scans
+pub mod Sums
+pub mod Records
+pub mod Parents
+pub mod Says
+pub mod InForm
+pub mod Links
+pub mod Decides
+pub mod Desk
