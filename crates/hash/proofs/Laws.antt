@@ -3,10 +3,10 @@
 use Prim.Native.Nat.{ℕ, zero, suc, _+_, _*_, _-_, _/_, _%_, _^_, _≤_, _<_}
 use mathlib.Core.Path.{_≡_, refl, ap, _∙_, sym}
 use mathlib.Core.Bool.{Bool, true, false}
-use mathlib.Core.List.{List, [], _∷_, _++_, append-assoc}
+use mathlib.Core.List.{List, [], _∷_, _++_, append-assoc, append-nil}
 use native.Mathlib.Omega.{arith}
 use native.Mathlib.Nat.{mod-eq-of-lt, div-one}
-use lib.ListN.{length, take, drop, getD, set, length-take, length-drop, take-append-drop}
+use lib.ListN.{length, take, drop, getD, set, length-take, length-drop, take-append-drop, drop-of-length-le}
 use native.Mathlib.Numerals.{add-one, add-two, add-three, add-four, add-five, add-six, add-seven}
 use lib.Seq.{drop-drop, take-all, take-take, take-add, drop-at, sets-eq}
 use Rattle.terms.specs.Bits.{Bytes, Byte, All, Whole32, sameBytes}
@@ -127,3 +127,7 @@ hash-of-numbers s at h ea eb ec ed =
 
 pub whole-part : (s : Bytes) (at : ℕ) → at + 32 ≤ length s → ((i : ℕ) → getD s i 0 < 256) → Whole32 (take 32 (drop at s))
 whole-part s at h b = (simp (length-take, length-drop) (omega arith), all-take 32 (drop at s) (all-drop at s (all-bytes s b)))
+
+-- A hash written over 32 bytes is all that is there.
+pub put-over : (h : Hash) (s s′ : Bytes) → length s ≡ 32 → s′ ≡ hashBytes h ++ drop 32 s → s′ ≡ hashBytes h
+put-over h s s′ f e = e ∙ rw (drop-of-length-le s {i = 32} (omega arith)) (append-nil (hashBytes h))
