@@ -24,7 +24,7 @@ ghost use Rattle.fields.specs.Written.{written};
 ghost use Rattle.hash.specs.Hash.{hashBytes};
 ghost use Rattle.place.specs.Place.{placeOf, Proper, Stands};
 ghost use Rattle.layout.specs.Sizes.{slotAt};
-ghost use Rattle.layout.specs.Slots.{countIn, placeIn, childIn, recordOf, headTests, isLeaf, childRight, isInner, headFields, slotBytes};
+ghost use Rattle.layout.specs.Slots.{countIn, placeIn, childIn, recordOf, headTests, isLeaf, childRight, isInner, headFields, childFields, slotBytes};
 ghost use Rattle.layout.specs.Stores.{slotIn};
 ghost use Rattle.slots.specs.Answer.{childSays, Made, Held, Read, grantBody};
 
@@ -169,4 +169,65 @@ pub fn read_slot(s: &[u8]) -> Slot
         return held(s, Kind::Inner { left, right });
     }
     bare(Kind::Spoiled)
+}
+
+// Writes the head of a record: length, kind, bit count, bits, version, retired-since.
+fn put_head(s: &mut [u8], len: u32, kind: u16, place: Place, version: u32, retired: u32)
+    requires { ⌜ (length (now s) ≡ 120) × Proper place ⌝ }
+    ensures { λ _. ⌜ now (s .exit) ≡ written 0 (flat (headFields len kind (placeOf place) version retired)) (now (s .entry)) ⌝ }
+{
+    let count = place.count as u16;
+    let bits = place.bits;
+    put_u32(s, 0, len);
+    put_u16(s, 4, kind);
+    put_u16(s, 6, count);
+    copy(&mut s[8..40], &bits);
+    put_u32(s, 40, version);
+    put_u32(s, 44, retired);
+}
+
+fn put_child(s: &mut [u8], at: usize, c: Child)
+    requires { ⌜ at + 36 ≤ length (now s) ⌝ }
+    ensures { λ _. ⌜ now (s .exit) ≡ written at (flat (childFields (childSays c))) (now (s .entry)) ⌝ }
+{
+    let hash = at + 4;
+    let end = hash + 32;
+    put_u32(s, at, c.version);
+    put_hash(&mut s[hash..end], c.hash);
+}
+
+// Writes a leaf over the 120 bytes of a slot; the grant is key and value.
+pub fn put_leaf(s: &mut [u8], place: Place, version: u32, retired: u32, grant: &[u8])
+    requires { ⌜ (length (now s) ≡ 120) × Proper place × (length (now grant) ≡ 64) ⌝ }
+    ensures { λ _. ⌜ now (s .exit) ≡ slotBytes (used (recordOf (placeOf place) version retired (grantBody (now (grant .entry))))) ⌝ }
+{
+    put_head(s, 112, 2, place, version, retired);
+    copy(&mut s[48..112], grant);
+    clear(&mut s[112..120]);
+}
+
+// Writes an inner record over the 120 bytes of a slot.
+pub fn put_inner(s: &mut [u8], place: Place, version: u32, retired: u32, left: Child, right: Child)
+    requires { ⌜ (length (now s) ≡ 120) × Proper place ⌝ }
+    ensures { λ _. ⌜ now (s .exit) ≡ slotBytes (used (recordOf (placeOf place) version retired (innerBody (childSays left) (childSays right)))) ⌝ }
+{
+    put_head(s, 120, 3, place, version, retired);
+    put_child(s, 48, left);
+    put_child(s, 84, right);
+}
+
+// Frees the 120 bytes of a slot.
+pub fn clear_slot(s: &mut [u8])
+    requires { ⌜ length (now s) ≡ 120 ⌝ }
+    ensures { λ _. ⌜ now (s .exit) ≡ slotBytes free ⌝ }
+{
+    clear(s);
+}
+
+// Writes the retired-since of a record, and nothing else.
+pub fn put_retired(s: &mut [u8], since: u32)
+    requires { ⌜ length (now s) ≡ 120 ⌝ }
+    ensures { λ _. ⌜ now (s .exit) ≡ written 44 (le 4 since) (now (s .entry)) ⌝ }
+{
+    put_u32(s, 44, since);
 }

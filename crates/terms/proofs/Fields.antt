@@ -149,6 +149,10 @@ length-flat [] (f ∷ fs) h = absurd h
 length-flat (n ∷ ns) [] h = absurd h
 length-flat (n ∷ ns) (f ∷ fs) h = let l = h .0 in simp length-append (omega (arith, length-flat ns fs (h .1)))
 
+pub flat-append : (fs gs : List Bytes) → flat (fs ++ gs) ≡ flat fs ++ flat gs
+flat-append [] gs = refl
+flat-append (f ∷ fs) gs = rw (flat-append fs gs) (sym (append-assoc f (flat fs) (flat gs)))
+
 pub length-zero-bytes : (n : ℕ) → length (zeroBytes n) ≡ n
 unfolding zeroBytes
 length-zero-bytes n = length-replicate n 0
