@@ -15,17 +15,15 @@ use place::unused_zero;
 ghost use mathlib.Core.Path.{_≡_};
 ghost use mathlib.Core.Bool.{true};
 ghost use mathlib.Core.List.{_++_};
-ghost use Prim.Native.Nat.{_+_, _*_, _≤_};
+ghost use Prim.Native.Nat.{_+_, _≤_};
 ghost use lib.ListN.{length, drop};
 ghost use Rattle.terms.specs.Bits.{bits, noneSet};
-ghost use Rattle.terms.specs.Fields.{le, field, slice, flat, allOf};
+ghost use Rattle.terms.specs.Fields.{le, slice, flat, allOf};
 ghost use Rattle.terms.specs.Records.{used, free, innerBody};
 ghost use Rattle.fields.specs.Written.{written};
 ghost use Rattle.hash.specs.Hash.{hashBytes};
 ghost use Rattle.place.specs.Place.{placeOf, Proper, Stands};
-ghost use Rattle.layout.specs.Sizes.{slotAt};
 ghost use Rattle.layout.specs.Slots.{countIn, placeIn, childIn, recordOf, headTests, isLeaf, childRight, isInner, headFields, childFields, slotBytes};
-ghost use Rattle.layout.specs.Stores.{slotIn};
 ghost use Rattle.slots.specs.Answer.{childSays, Made, Held, Read, grantBody};
 
 // What an inner record says of a child; version 0: there is no child.
@@ -230,4 +228,26 @@ pub fn put_retired(s: &mut [u8], since: u32)
     ensures { λ _. ⌜ now (s .exit) ≡ written 44 (le 4 since) (now (s .entry)) ⌝ }
 {
     put_u32(s, 44, since);
+}
+
+// The grant of a leaf, in the slot's own bytes: key and value.
+pub fn grant_of(s: &[u8]) -> &[u8]
+    requires { ⌜ length (now s) ≡ 120 ⌝ }
+    ensures { λ r. ⌜ now r ≡ slice 48 64 (now (s .entry)) ⌝ }
+{
+    &s[48..112]
+}
+
+pub fn key_of(s: &[u8]) -> &[u8]
+    requires { ⌜ length (now s) ≡ 120 ⌝ }
+    ensures { λ r. ⌜ now r ≡ slice 48 32 (now (s .entry)) ⌝ }
+{
+    &s[48..80]
+}
+
+pub fn value_of(s: &[u8]) -> &[u8]
+    requires { ⌜ length (now s) ≡ 120 ⌝ }
+    ensures { λ r. ⌜ now r ≡ slice 80 32 (now (s .entry)) ⌝ }
+{
+    &s[80..112]
 }
