@@ -9,6 +9,23 @@ use fields::put_u32;
 use hash::Hash;
 use hash::hash_at;
 use hash::put_hash;
+use layout::sizes::BITS_AT;
+use layout::sizes::COUNT_AT;
+use layout::sizes::INNER_BITS;
+use layout::sizes::INNER_KIND;
+use layout::sizes::INNER_LENGTH;
+use layout::sizes::KEY_AT;
+use layout::sizes::KIND_AT;
+use layout::sizes::LEAF_BITS;
+use layout::sizes::LEAF_KIND;
+use layout::sizes::LEAF_LENGTH;
+use layout::sizes::LEFT_AT;
+use layout::sizes::RETIRED_AT;
+use layout::sizes::RIGHT_AT;
+use layout::sizes::SLOT_SIZE;
+use layout::sizes::TAIL_AT;
+use layout::sizes::VALUE_AT;
+use layout::sizes::VERSION_AT;
 use place::Place;
 use place::place_at;
 use place::unused_zero;
@@ -56,27 +73,27 @@ fn head_right(s: &[u8], len: u32, kind: u16, limit: u16) -> bool
     if get_u32(s, 0) != len {
         return false;
     }
-    if get_u16(s, 4) != kind {
+    if get_u16(s, KIND_AT) != kind {
         return false;
     }
-    let count = get_u16(s, 6);
+    let count = get_u16(s, COUNT_AT);
     if limit < count {
         return false;
     }
-    if !unused_zero(&s[8..40], count as usize) {
+    if !unused_zero(&s[BITS_AT..VERSION_AT], count as usize) {
         return false;
     }
-    1 <= get_u32(s, 40)
+    1 <= get_u32(s, VERSION_AT)
 }
 
 fn is_leaf(s: &[u8]) -> bool
     requires { ⌜ length (now s) ≡ 120 ⌝ }
     ensures { λ r. ⌜ r ≡ isLeaf (now (s .entry)) ⌝ }
 {
-    if !head_right(s, 112, 2, 256) {
+    if !head_right(s, LEAF_LENGTH, LEAF_KIND, LEAF_BITS) {
         return false;
     }
-    all_zero(&s[112..120])
+    all_zero(&s[TAIL_AT..SLOT_SIZE])
 }
 
 // Whether a child that is missing has no hash.
@@ -96,19 +113,19 @@ fn is_inner(s: &[u8]) -> bool
     requires { ⌜ length (now s) ≡ 120 ⌝ }
     ensures { λ r. ⌜ r ≡ isInner (now (s .entry)) ⌝ }
 {
-    if !head_right(s, 120, 3, 255) {
+    if !head_right(s, INNER_LENGTH, INNER_KIND, INNER_BITS) {
         return false;
     }
-    if !child_right(s, 48) {
+    if !child_right(s, LEFT_AT) {
         return false;
     }
-    if !child_right(s, 84) {
+    if !child_right(s, RIGHT_AT) {
         return false;
     }
-    if 1 <= get_u32(s, 48) {
+    if 1 <= get_u32(s, LEFT_AT) {
         return true;
     }
-    1 <= get_u32(s, 84)
+    1 <= get_u32(s, RIGHT_AT)
 }
 
 fn child_at(s: &[u8], at: usize) -> Child
@@ -138,10 +155,10 @@ fn held(s: &[u8], kind: Kind) -> Slot
     requires { ⌜ (length (now s) ≡ 120) × (countIn (now s) ≤ 256) × (noneSet (drop (countIn (now s)) (bits (slice 8 32 (now s)))) ≡ true) ⌝ }
     ensures { λ r. ⌜ Held kind (now (s .entry)) r ⌝ }
 {
-    let count = get_u16(s, 6);
-    let place = place_at(&s[8..40], count as usize);
-    let version = get_u32(s, 40);
-    let retired = get_u32(s, 44);
+    let count = get_u16(s, COUNT_AT);
+    let place = place_at(&s[BITS_AT..VERSION_AT], count as usize);
+    let version = get_u32(s, VERSION_AT);
+    let retired = get_u32(s, RETIRED_AT);
     Slot {
         kind,
         place,
@@ -162,8 +179,8 @@ pub fn read_slot(s: &[u8]) -> Slot
         return held(s, Kind::Leaf);
     }
     if is_inner(s) {
-        let left = child_at(s, 48);
-        let right = child_at(s, 84);
+        let left = child_at(s, LEFT_AT);
+        let right = child_at(s, RIGHT_AT);
         return held(s, Kind::Inner { left, right });
     }
     bare(Kind::Spoiled)
@@ -177,11 +194,11 @@ fn put_head(s: &mut [u8], len: u32, kind: u16, place: Place, version: u32, retir
     let count = place.count as u16;
     let bits = place.bits;
     put_u32(s, 0, len);
-    put_u16(s, 4, kind);
-    put_u16(s, 6, count);
-    copy(&mut s[8..40], &bits);
-    put_u32(s, 40, version);
-    put_u32(s, 44, retired);
+    put_u16(s, KIND_AT, kind);
+    put_u16(s, COUNT_AT, count);
+    copy(&mut s[BITS_AT..VERSION_AT], &bits);
+    put_u32(s, VERSION_AT, version);
+    put_u32(s, RETIRED_AT, retired);
 }
 
 fn put_child(s: &mut [u8], at: usize, c: Child)
@@ -199,9 +216,9 @@ pub fn put_leaf(s: &mut [u8], place: Place, version: u32, retired: u32, grant: &
     requires { ⌜ (length (now s) ≡ 120) × Proper place × (length (now grant) ≡ 64) ⌝ }
     ensures { λ _. ⌜ now (s .exit) ≡ slotBytes (used (recordOf (placeOf place) version retired (grantBody (now (grant .entry))))) ⌝ }
 {
-    put_head(s, 112, 2, place, version, retired);
-    copy(&mut s[48..112], grant);
-    clear(&mut s[112..120]);
+    put_head(s, LEAF_LENGTH, LEAF_KIND, place, version, retired);
+    copy(&mut s[KEY_AT..TAIL_AT], grant);
+    clear(&mut s[TAIL_AT..SLOT_SIZE]);
 }
 
 // Writes an inner record over the 120 bytes of a slot.
@@ -209,9 +226,9 @@ pub fn put_inner(s: &mut [u8], place: Place, version: u32, retired: u32, left: C
     requires { ⌜ (length (now s) ≡ 120) × Proper place ⌝ }
     ensures { λ _. ⌜ now (s .exit) ≡ slotBytes (used (recordOf (placeOf place) version retired (innerBody (childSays left) (childSays right)))) ⌝ }
 {
-    put_head(s, 120, 3, place, version, retired);
-    put_child(s, 48, left);
-    put_child(s, 84, right);
+    put_head(s, INNER_LENGTH, INNER_KIND, place, version, retired);
+    put_child(s, LEFT_AT, left);
+    put_child(s, RIGHT_AT, right);
 }
 
 // Frees the 120 bytes of a slot.
@@ -227,7 +244,7 @@ pub fn put_retired(s: &mut [u8], since: u32)
     requires { ⌜ length (now s) ≡ 120 ⌝ }
     ensures { λ _. ⌜ now (s .exit) ≡ written 44 (le 4 since) (now (s .entry)) ⌝ }
 {
-    put_u32(s, 44, since);
+    put_u32(s, RETIRED_AT, since);
 }
 
 // The grant of a leaf, in the slot's own bytes: key and value.
@@ -235,19 +252,19 @@ pub fn grant_of(s: &[u8]) -> &[u8]
     requires { ⌜ length (now s) ≡ 120 ⌝ }
     ensures { λ r. ⌜ now r ≡ slice 48 64 (now (s .entry)) ⌝ }
 {
-    &s[48..112]
+    &s[KEY_AT..TAIL_AT]
 }
 
 pub fn key_of(s: &[u8]) -> &[u8]
     requires { ⌜ length (now s) ≡ 120 ⌝ }
     ensures { λ r. ⌜ now r ≡ slice 48 32 (now (s .entry)) ⌝ }
 {
-    &s[48..80]
+    &s[KEY_AT..VALUE_AT]
 }
 
 pub fn value_of(s: &[u8]) -> &[u8]
     requires { ⌜ length (now s) ≡ 120 ⌝ }
     ensures { λ r. ⌜ now r ≡ slice 80 32 (now (s .entry)) ⌝ }
 {
-    &s[80..112]
+    &s[VALUE_AT..TAIL_AT]
 }

@@ -2,8 +2,11 @@
 use fields::get_u16;
 use fields::get_u32;
 use fields::put_u32;
-use layout::HEADER_SIZE;
-use layout::SLOT_SIZE;
+use layout::sizes::COUNT_AT;
+use layout::sizes::HEADER_SIZE;
+use layout::sizes::RETIRED_AT;
+use layout::sizes::SLOT_SIZE;
+use layout::sizes::VERSION_AT;
 use place::Place;
 use slots::Child;
 use slots::clear_slot;
@@ -36,7 +39,7 @@ pub fn version_at(store: &[u8], i: usize) -> u32
     requires { ⌜ slotAt i + 120 ≤ length (now store) ⌝ }
     ensures { λ r. ⌜ r ≡ field 40 4 (slotIn i (now (store .entry))) ⌝ }
 {
-    let at = HEADER_SIZE + SLOT_SIZE * i + 40;
+    let at = HEADER_SIZE + SLOT_SIZE * i + VERSION_AT;
     get_u32(store, at)
 }
 
@@ -44,7 +47,7 @@ pub fn retired_at(store: &[u8], i: usize) -> u32
     requires { ⌜ slotAt i + 120 ≤ length (now store) ⌝ }
     ensures { λ r. ⌜ r ≡ field 44 4 (slotIn i (now (store .entry))) ⌝ }
 {
-    let at = HEADER_SIZE + SLOT_SIZE * i + 44;
+    let at = HEADER_SIZE + SLOT_SIZE * i + RETIRED_AT;
     get_u32(store, at)
 }
 
@@ -52,7 +55,7 @@ pub fn count_at(store: &[u8], i: usize) -> u16
     requires { ⌜ slotAt i + 120 ≤ length (now store) ⌝ }
     ensures { λ r. ⌜ r ≡ countIn (slotIn i (now (store .entry))) ⌝ }
 {
-    let at = HEADER_SIZE + SLOT_SIZE * i + 6;
+    let at = HEADER_SIZE + SLOT_SIZE * i + COUNT_AT;
     get_u16(store, at)
 }
 
@@ -103,6 +106,6 @@ pub fn put_retired_at(store: &mut [u8], i: usize, since: u32)
     requires { ⌜ slotAt i + 120 ≤ length (now store) ⌝ }
     ensures { λ _. ⌜ now (store .exit) ≡ written (slotAt i + 44) (le 4 since) (now (store .entry)) ⌝ }
 {
-    let at = HEADER_SIZE + SLOT_SIZE * i + 44;
+    let at = HEADER_SIZE + SLOT_SIZE * i + RETIRED_AT;
     put_u32(store, at, since);
 }
