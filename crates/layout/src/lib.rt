@@ -20,6 +20,7 @@ ghost use mathlib.Core.Path.{_≡_};
 ghost use Prim.Native.Nat.{_≤_};
 ghost use lib.ListN.{length};
 ghost use Rattle.fields.specs.Written.{written};
+ghost use Rattle.layout.specs.Sizes.{headerSize};
 ghost use Rattle.layout.specs.Headers.{sizeRight, headerRight, headerOf, headerBytes};
 ghost use Rattle.layout.specs.Answer.{headerSays};
 
@@ -54,7 +55,7 @@ fn size_right(n: usize) -> bool
 
 // Whether each header field is as it should be.
 fn header_right(store: &[u8]) -> bool
-    requires { ⌜ 24 ≤ length (now store) ⌝ }
+    requires { ⌜ headerSize ≤ length (now store) ⌝ }
     ensures { λ r. ⌜ r ≡ headerRight (now (store .entry)) ⌝ }
 {
     if get_u32(store, 0) != HEADER_LENGTH {
@@ -94,7 +95,7 @@ pub fn read_header(store: &[u8]) -> Header
 
 // Writes the 24 bytes of a header, and nothing else.
 pub fn put_header(store: &mut [u8], capacity: u32, oldest: u32, latest: u32)
-    requires { ⌜ 24 ≤ length (now store) ⌝ }
+    requires { ⌜ headerSize ≤ length (now store) ⌝ }
     ensures { λ _. ⌜ now (store .exit) ≡ written 0 (headerBytes capacity oldest latest) (now (store .entry)) ⌝ }
 {
     put_u32(store, 0, HEADER_LENGTH);

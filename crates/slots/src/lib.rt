@@ -40,6 +40,7 @@ ghost use Rattle.terms.specs.Records.{used, free, innerBody};
 ghost use Rattle.fields.specs.Written.{written};
 ghost use Rattle.hash.specs.Hash.{hashBytes};
 ghost use Rattle.place.specs.Place.{placeOf, Proper, Stands};
+ghost use Rattle.layout.specs.Sizes.{slotSize, grantSize, childSize, bitsAt, retiredAt, keyAt, valueAt};
 ghost use Rattle.layout.specs.Slots.{countIn, placeIn, childIn, recordOf, headTests, isLeaf, childRight, isInner, headFields, childFields, slotBytes};
 ghost use Rattle.slots.specs.Answer.{childSays, Made, Held, Read, grantBody};
 
@@ -67,7 +68,7 @@ pub struct Slot {
 
 // Whether the head of a record is in form: its length and kind, a bit count up to a limit, unused bits zero, version at least 1.
 fn head_right(s: &[u8], len: u32, kind: u16, limit: u16) -> bool
-    requires { ⌜ length (now s) ≡ 120 ⌝ }
+    requires { ⌜ length (now s) ≡ slotSize ⌝ }
     ensures { λ r. ⌜ r ≡ allOf (headTests len kind limit (now (s .entry))) ⌝ }
 {
     if get_u32(s, 0) != len {
@@ -87,7 +88,7 @@ fn head_right(s: &[u8], len: u32, kind: u16, limit: u16) -> bool
 }
 
 fn is_leaf(s: &[u8]) -> bool
-    requires { ⌜ length (now s) ≡ 120 ⌝ }
+    requires { ⌜ length (now s) ≡ slotSize ⌝ }
     ensures { λ r. ⌜ r ≡ isLeaf (now (s .entry)) ⌝ }
 {
     if !head_right(s, LEAF_LENGTH, LEAF_KIND, LEAF_BITS) {
@@ -98,7 +99,7 @@ fn is_leaf(s: &[u8]) -> bool
 
 // Whether a child that is missing has no hash.
 fn child_right(s: &[u8], at: usize) -> bool
-    requires { ⌜ at + 36 ≤ length (now s) ⌝ }
+    requires { ⌜ at + childSize ≤ length (now s) ⌝ }
     ensures { λ r. ⌜ r ≡ childRight (childIn at (now (s .entry))) ⌝ }
 {
     if 1 <= get_u32(s, at) {
@@ -110,7 +111,7 @@ fn child_right(s: &[u8], at: usize) -> bool
 }
 
 fn is_inner(s: &[u8]) -> bool
-    requires { ⌜ length (now s) ≡ 120 ⌝ }
+    requires { ⌜ length (now s) ≡ slotSize ⌝ }
     ensures { λ r. ⌜ r ≡ isInner (now (s .entry)) ⌝ }
 {
     if !head_right(s, INNER_LENGTH, INNER_KIND, INNER_BITS) {
@@ -129,7 +130,7 @@ fn is_inner(s: &[u8]) -> bool
 }
 
 fn child_at(s: &[u8], at: usize) -> Child
-    requires { ⌜ at + 36 ≤ length (now s) ⌝ }
+    requires { ⌜ at + childSize ≤ length (now s) ⌝ }
     ensures { λ r. ⌜ childSays r ≡ childIn at (now (s .entry)) ⌝ }
 {
     let version = get_u32(s, at);
@@ -152,7 +153,7 @@ fn bare(kind: Kind) -> Slot
 
 // A slot of a kind with place, version and retired-since as the bytes have them.
 fn held(s: &[u8], kind: Kind) -> Slot
-    requires { ⌜ (length (now s) ≡ 120) × (countIn (now s) ≤ 256) × (noneSet (drop (countIn (now s)) (bits (slice 8 32 (now s)))) ≡ true) ⌝ }
+    requires { ⌜ (length (now s) ≡ slotSize) × (countIn (now s) ≤ 256) × (noneSet (drop (countIn (now s)) (bits (slice bitsAt 32 (now s)))) ≡ true) ⌝ }
     ensures { λ r. ⌜ Held kind (now (s .entry)) r ⌝ }
 {
     let count = get_u16(s, COUNT_AT);
@@ -169,7 +170,7 @@ fn held(s: &[u8], kind: Kind) -> Slot
 
 // Reads the 120 bytes of a slot.
 pub fn read_slot(s: &[u8]) -> Slot
-    requires { ⌜ length (now s) ≡ 120 ⌝ }
+    requires { ⌜ length (now s) ≡ slotSize ⌝ }
     ensures { λ r. ⌜ Read (now (s .entry)) r ⌝ }
 {
     if all_zero(s) {
@@ -188,7 +189,7 @@ pub fn read_slot(s: &[u8]) -> Slot
 
 // Writes the head of a record: length, kind, bit count, bits, version, retired-since.
 fn put_head(s: &mut [u8], len: u32, kind: u16, place: Place, version: u32, retired: u32)
-    requires { ⌜ (length (now s) ≡ 120) × Proper place ⌝ }
+    requires { ⌜ (length (now s) ≡ slotSize) × Proper place ⌝ }
     ensures { λ _. ⌜ now (s .exit) ≡ written 0 (flat (headFields len kind (placeOf place) version retired)) (now (s .entry)) ⌝ }
 {
     let count = place.count as u16;
@@ -202,7 +203,7 @@ fn put_head(s: &mut [u8], len: u32, kind: u16, place: Place, version: u32, retir
 }
 
 fn put_child(s: &mut [u8], at: usize, c: Child)
-    requires { ⌜ at + 36 ≤ length (now s) ⌝ }
+    requires { ⌜ at + childSize ≤ length (now s) ⌝ }
     ensures { λ _. ⌜ now (s .exit) ≡ written at (flat (childFields (childSays c))) (now (s .entry)) ⌝ }
 {
     let hash = at + 4;
@@ -213,7 +214,7 @@ fn put_child(s: &mut [u8], at: usize, c: Child)
 
 // Writes a leaf over the 120 bytes of a slot; the grant is key and value.
 pub fn put_leaf(s: &mut [u8], place: Place, version: u32, retired: u32, grant: &[u8])
-    requires { ⌜ (length (now s) ≡ 120) × Proper place × (length (now grant) ≡ 64) ⌝ }
+    requires { ⌜ (length (now s) ≡ slotSize) × Proper place × (length (now grant) ≡ grantSize) ⌝ }
     ensures { λ _. ⌜ now (s .exit) ≡ slotBytes (used (recordOf (placeOf place) version retired (grantBody (now (grant .entry))))) ⌝ }
 {
     put_head(s, LEAF_LENGTH, LEAF_KIND, place, version, retired);
@@ -223,7 +224,7 @@ pub fn put_leaf(s: &mut [u8], place: Place, version: u32, retired: u32, grant: &
 
 // Writes an inner record over the 120 bytes of a slot.
 pub fn put_inner(s: &mut [u8], place: Place, version: u32, retired: u32, left: Child, right: Child)
-    requires { ⌜ (length (now s) ≡ 120) × Proper place ⌝ }
+    requires { ⌜ (length (now s) ≡ slotSize) × Proper place ⌝ }
     ensures { λ _. ⌜ now (s .exit) ≡ slotBytes (used (recordOf (placeOf place) version retired (innerBody (childSays left) (childSays right)))) ⌝ }
 {
     put_head(s, INNER_LENGTH, INNER_KIND, place, version, retired);
@@ -233,7 +234,7 @@ pub fn put_inner(s: &mut [u8], place: Place, version: u32, retired: u32, left: C
 
 // Frees the 120 bytes of a slot.
 pub fn clear_slot(s: &mut [u8])
-    requires { ⌜ length (now s) ≡ 120 ⌝ }
+    requires { ⌜ length (now s) ≡ slotSize ⌝ }
     ensures { λ _. ⌜ now (s .exit) ≡ slotBytes free ⌝ }
 {
     clear(s);
@@ -241,30 +242,30 @@ pub fn clear_slot(s: &mut [u8])
 
 // Writes the retired-since of a record, and nothing else.
 pub fn put_retired(s: &mut [u8], since: u32)
-    requires { ⌜ length (now s) ≡ 120 ⌝ }
-    ensures { λ _. ⌜ now (s .exit) ≡ written 44 (le 4 since) (now (s .entry)) ⌝ }
+    requires { ⌜ length (now s) ≡ slotSize ⌝ }
+    ensures { λ _. ⌜ now (s .exit) ≡ written retiredAt (le 4 since) (now (s .entry)) ⌝ }
 {
     put_u32(s, RETIRED_AT, since);
 }
 
 // The grant of a leaf, in the slot's own bytes: key and value.
 pub fn grant_of(s: &[u8]) -> &[u8]
-    requires { ⌜ length (now s) ≡ 120 ⌝ }
-    ensures { λ r. ⌜ now r ≡ slice 48 64 (now (s .entry)) ⌝ }
+    requires { ⌜ length (now s) ≡ slotSize ⌝ }
+    ensures { λ r. ⌜ now r ≡ slice keyAt grantSize (now (s .entry)) ⌝ }
 {
     &s[KEY_AT..TAIL_AT]
 }
 
 pub fn key_of(s: &[u8]) -> &[u8]
-    requires { ⌜ length (now s) ≡ 120 ⌝ }
-    ensures { λ r. ⌜ now r ≡ slice 48 32 (now (s .entry)) ⌝ }
+    requires { ⌜ length (now s) ≡ slotSize ⌝ }
+    ensures { λ r. ⌜ now r ≡ slice keyAt 32 (now (s .entry)) ⌝ }
 {
     &s[KEY_AT..VALUE_AT]
 }
 
 pub fn value_of(s: &[u8]) -> &[u8]
-    requires { ⌜ length (now s) ≡ 120 ⌝ }
-    ensures { λ r. ⌜ now r ≡ slice 80 32 (now (s .entry)) ⌝ }
+    requires { ⌜ length (now s) ≡ slotSize ⌝ }
+    ensures { λ r. ⌜ now r ≡ slice valueAt 32 (now (s .entry)) ⌝ }
 {
     &s[VALUE_AT..TAIL_AT]
 }

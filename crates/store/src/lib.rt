@@ -19,15 +19,15 @@ ghost use Rattle.terms.specs.Fields.{le, field};
 ghost use Rattle.terms.specs.Records.{used, free, innerBody};
 ghost use Rattle.fields.specs.Written.{written};
 ghost use Rattle.place.specs.Place.{placeOf, Proper};
-ghost use Rattle.layout.specs.Sizes.{slotAt};
+ghost use Rattle.layout.specs.Sizes.{slotSize, grantSize, versionAt, retiredAt, slotAt};
 ghost use Rattle.layout.specs.Slots.{countIn, recordOf, slotBytes};
 ghost use Rattle.layout.specs.Stores.{slotIn};
 ghost use Rattle.slots.specs.Answer.{childSays, grantBody};
 
 // The 120 bytes of slot i of a store.
 pub fn slot_of(store: &[u8], i: usize) -> &[u8]
-    requires { ⌜ slotAt i + 120 ≤ length (now store) ⌝ }
-    ensures { λ r. ⌜ (now r ≡ slotIn i (now (store .entry))) × (length (now r) ≡ 120) ⌝ }
+    requires { ⌜ slotAt i + slotSize ≤ length (now store) ⌝ }
+    ensures { λ r. ⌜ (now r ≡ slotIn i (now (store .entry))) × (length (now r) ≡ slotSize) ⌝ }
 {
     let start = HEADER_SIZE + SLOT_SIZE * i;
     let end = start + SLOT_SIZE;
@@ -36,23 +36,23 @@ pub fn slot_of(store: &[u8], i: usize) -> &[u8]
 
 // Single fields of slot i, for searches.
 pub fn version_at(store: &[u8], i: usize) -> u32
-    requires { ⌜ slotAt i + 120 ≤ length (now store) ⌝ }
-    ensures { λ r. ⌜ r ≡ field 40 4 (slotIn i (now (store .entry))) ⌝ }
+    requires { ⌜ slotAt i + slotSize ≤ length (now store) ⌝ }
+    ensures { λ r. ⌜ r ≡ field versionAt 4 (slotIn i (now (store .entry))) ⌝ }
 {
     let at = HEADER_SIZE + SLOT_SIZE * i + VERSION_AT;
     get_u32(store, at)
 }
 
 pub fn retired_at(store: &[u8], i: usize) -> u32
-    requires { ⌜ slotAt i + 120 ≤ length (now store) ⌝ }
-    ensures { λ r. ⌜ r ≡ field 44 4 (slotIn i (now (store .entry))) ⌝ }
+    requires { ⌜ slotAt i + slotSize ≤ length (now store) ⌝ }
+    ensures { λ r. ⌜ r ≡ field retiredAt 4 (slotIn i (now (store .entry))) ⌝ }
 {
     let at = HEADER_SIZE + SLOT_SIZE * i + RETIRED_AT;
     get_u32(store, at)
 }
 
 pub fn count_at(store: &[u8], i: usize) -> u16
-    requires { ⌜ slotAt i + 120 ≤ length (now store) ⌝ }
+    requires { ⌜ slotAt i + slotSize ≤ length (now store) ⌝ }
     ensures { λ r. ⌜ r ≡ countIn (slotIn i (now (store .entry))) ⌝ }
 {
     let at = HEADER_SIZE + SLOT_SIZE * i + COUNT_AT;
@@ -68,7 +68,7 @@ pub fn put_leaf_at(
     retired: u32,
     grant: &[u8],
 )
-    requires { ⌜ (slotAt i + 120 ≤ length (now store)) × Proper place × (length (now grant) ≡ 64) ⌝ }
+    requires { ⌜ (slotAt i + slotSize ≤ length (now store)) × Proper place × (length (now grant) ≡ grantSize) ⌝ }
     ensures { λ _. ⌜ now (store .exit) ≡ written (slotAt i) (slotBytes (used (recordOf (placeOf place) version retired (grantBody (now (grant .entry)))))) (now (store .entry)) ⌝ }
 {
     let start = HEADER_SIZE + SLOT_SIZE * i;
@@ -85,7 +85,7 @@ pub fn put_inner_at(
     left: Child,
     right: Child,
 )
-    requires { ⌜ (slotAt i + 120 ≤ length (now store)) × Proper place ⌝ }
+    requires { ⌜ (slotAt i + slotSize ≤ length (now store)) × Proper place ⌝ }
     ensures { λ _. ⌜ now (store .exit) ≡ written (slotAt i) (slotBytes (used (recordOf (placeOf place) version retired (innerBody (childSays left) (childSays right))))) (now (store .entry)) ⌝ }
 {
     let start = HEADER_SIZE + SLOT_SIZE * i;
@@ -94,7 +94,7 @@ pub fn put_inner_at(
 }
 
 pub fn clear_slot_at(store: &mut [u8], i: usize)
-    requires { ⌜ slotAt i + 120 ≤ length (now store) ⌝ }
+    requires { ⌜ slotAt i + slotSize ≤ length (now store) ⌝ }
     ensures { λ _. ⌜ now (store .exit) ≡ written (slotAt i) (slotBytes free) (now (store .entry)) ⌝ }
 {
     let start = HEADER_SIZE + SLOT_SIZE * i;
@@ -103,8 +103,8 @@ pub fn clear_slot_at(store: &mut [u8], i: usize)
 }
 
 pub fn put_retired_at(store: &mut [u8], i: usize, since: u32)
-    requires { ⌜ slotAt i + 120 ≤ length (now store) ⌝ }
-    ensures { λ _. ⌜ now (store .exit) ≡ written (slotAt i + 44) (le 4 since) (now (store .entry)) ⌝ }
+    requires { ⌜ slotAt i + slotSize ≤ length (now store) ⌝ }
+    ensures { λ _. ⌜ now (store .exit) ≡ written (slotAt i + retiredAt) (le 4 since) (now (store .entry)) ⌝ }
 {
     let at = HEADER_SIZE + SLOT_SIZE * i + RETIRED_AT;
     put_u32(store, at, since);
