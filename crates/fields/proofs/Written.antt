@@ -1,5 +1,5 @@
 -- Laws of `written`: what stores leave, how long the memory stays, and writing one field after the other. Assumes nothing.
-use Prim.Native.Nat.{ℕ, suc, _+_, _<_, _≤_}
+use Prim.Native.Nat.{ℕ, suc, _+_, _-_, _<_, _≤_}
 use native.Mathlib.Omega.{arith}
 use native.Mathlib.Nat.{add-zero}
 use native.Mathlib.Numerals.{add-one}
@@ -9,7 +9,7 @@ use lib.ListN.{length, getD, take, drop, set, length-append, length-take, length
 use lib.Seq.{sets, sets-eq, set-at, drop-cons, take-suc, append-snoc, take-all, length-take-le, take-at, drop-at, drop-append-add, drop-drop}
 use Rattle.terms.specs.Bits.{Bytes}
 use Rattle.terms.specs.Fields.{flat}
-use Rattle.terms.proofs.Fields.{Sized, total}
+use Rattle.terms.proofs.Fields.{Sized, total, length-flat}
 use Rattle.fields.specs.Written.{written}
 
 -- stores one after the other
@@ -39,6 +39,13 @@ written-between p q s f i e h =
     rw (← append-assoc p q s) (drop-at (p ++ q) s (i + length f) (simp length-append (omega arith)))
     in
     rw (take-at p (q ++ s) i e, d)
+
+-- a part of a slice, lent and given back, was written in its place
+pub part-written : (i e : ℕ) (f s : Bytes) → i + length f ≡ e → take i s ++ (f ++ drop (e - i) (drop i s)) ≡ written i f s
+unfolding written
+part-written i e f s h =
+    let k : i + (e - i) ≡ i + length f = omega arith in
+    rw (drop-drop (e - i) i s, k)
 
 -- two fields, one after the other
 written-next : (i j : ℕ) (f g s : Bytes) → i + length f ≡ j → j ≤ length s → written j g (written i f s) ≡ written i (f ++ g) s
@@ -75,6 +82,14 @@ fields-written (n ∷ ns) i (f ∷ fs) s h l =
     let e : length f ≡ n = h .0 in
     fields-written ns (i + n) fs (written i f s) (h .1) (omega (arith, length-written i f s (omega arith)))
     ∙ written-next i (i + n) f (flat fs) s (omega arith) (omega arith)
+
+-- fields that fill a string are the string
+written-whole : (f s : Bytes) → length f ≡ length s → written 0 f s ≡ f
+unfolding written
+written-whole f s e = ap (f ++_) (drop-of-length-le s {i = 0 + length f} (omega arith)) ∙ append-nil f
+
+pub fields-fill : (ns : List ℕ) (fs : List Bytes) (s : Bytes) → Sized ns fs → total ns ≡ length s → fieldsWritten ns 0 fs s ≡ flat fs
+fields-fill ns fs s h l = fields-written ns 0 fs s h (omega arith) ∙ written-whole (flat fs) s (length-flat ns fs h ∙ l)
 
 -- a part that is being filled with f from its front: s, where it was s₀ before, has i new bytes
 pub record Filling (f s₀ s : Bytes) (i : ℕ) : Type 0 where

@@ -103,9 +103,12 @@ headFields n kind p version since =
     ∷ []
 
 -- Then key, value, 8 zero; or left version, left hash, right version, right hash.
+abbrev pub childFields : Child → List Bytes
+childFields c = le 4 (c .version) ∷ c .hash ∷ []
+
 abbrev pub bodyFields : Body → List Bytes
 bodyFields (leafBody k x) = k ∷ x ∷ zeroBytes 8 ∷ []
-bodyFields (innerBody l r) = le 4 (l .version) ∷ l .hash ∷ le 4 (r .version) ∷ r .hash ∷ []
+bodyFields (innerBody l r) = childFields l ++ childFields r
 
 -- The bytes of a record.
 unfoldable pub recordBytes : Record → Bytes

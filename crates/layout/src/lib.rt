@@ -1,27 +1,37 @@
 // Header and slots as bytes, document 01, 'Bytes': specs/ says what they are, proofs/ that they go there and back. The code here is the
 // header's.
+pub mod sizes;
+
 use fields::all_zero;
 use fields::get_u16;
 use fields::get_u32;
 use fields::put_u16;
 use fields::put_u32;
+use sizes::CAPACITY_AT;
+use sizes::HEADER_KIND;
+use sizes::HEADER_LENGTH;
+use sizes::HEADER_SIZE;
+use sizes::KIND_AT;
+use sizes::LATEST_AT;
+use sizes::MOST_SLOTS;
+use sizes::OLDEST_AT;
+use sizes::SLOT_SIZE;
 ghost use mathlib.Core.Path.{_≡_};
 ghost use Prim.Native.Nat.{_≤_};
 ghost use lib.ListN.{length};
 ghost use Rattle.fields.specs.Written.{written};
+ghost use Rattle.layout.specs.Sizes.{headerSize};
 ghost use Rattle.layout.specs.Headers.{sizeRight, headerRight, headerOf, headerBytes};
 ghost use Rattle.layout.specs.Answer.{headerSays};
 
-// The sizes of specs/Sizes.antt.
-pub const HEADER_SIZE: usize = 24;
+// The store's length isn't 24 + 120n, n in 1 to 16,384.
+const WRONG_SIZE: u32 = 1;
 
-pub const SLOT_SIZE: usize = 120;
-
-const MOST_SLOTS: usize = 16384;
+// A header field isn't as it should be, its capacity isn't n, or oldest is above latest.
+const WRONG_HEADER: u32 = 2;
 
 // What reading a header answers.
 pub enum Header {
-    // 1: the store's length isn't 24 + 120n, n in 1 to 16,384. 2: a header field isn't as it should be.
     Refused(u32),
     Accepted {
         capacity: u32,
@@ -45,22 +55,22 @@ pub fn size_right(n: usize) -> bool
 
 // Whether each header field is as it should be.
 fn header_right(store: &[u8]) -> bool
-    requires { ⌜ 24 ≤ length (now store) ⌝ }
+    requires { ⌜ headerSize ≤ length (now store) ⌝ }
     ensures { λ r. ⌜ r ≡ headerRight (now (store .entry)) ⌝ }
 {
-    if get_u32(store, 0) != 24 {
+    if get_u32(store, 0) != HEADER_LENGTH {
         return false;
     }
-    if get_u16(store, 4) != 1 {
+    if get_u16(store, KIND_AT) != HEADER_KIND {
         return false;
     }
     if !all_zero(&store[6..8]) {
         return false;
     }
-    if get_u32(store, 8) as usize != (store.len() - HEADER_SIZE) / SLOT_SIZE {
+    if get_u32(store, CAPACITY_AT) as usize != (store.len() - HEADER_SIZE) / SLOT_SIZE {
         return false;
     }
-    if get_u32(store, 16) < get_u32(store, 12) {
+    if get_u32(store, LATEST_AT) < get_u32(store, OLDEST_AT) {
         return false;
     }
     all_zero(&store[20..24])
@@ -71,28 +81,28 @@ pub fn read_header(store: &[u8]) -> Header
     ensures { λ r. ⌜ headerSays r ≡ headerOf (now (store .entry)) ⌝ }
 {
     if !size_right(store.len()) {
-        return Header::Refused(1);
+        return Header::Refused(WRONG_SIZE);
     }
     if !header_right(store) {
-        return Header::Refused(2);
+        return Header::Refused(WRONG_HEADER);
     }
     Header::Accepted {
-        capacity: get_u32(store, 8),
-        oldest: get_u32(store, 12),
-        latest: get_u32(store, 16),
+        capacity: get_u32(store, CAPACITY_AT),
+        oldest: get_u32(store, OLDEST_AT),
+        latest: get_u32(store, LATEST_AT),
     }
 }
 
 // Writes the 24 bytes of a header, and nothing else.
 pub fn put_header(store: &mut [u8], capacity: u32, oldest: u32, latest: u32)
-    requires { ⌜ 24 ≤ length (now store) ⌝ }
+    requires { ⌜ headerSize ≤ length (now store) ⌝ }
     ensures { λ _. ⌜ now (store .exit) ≡ written 0 (headerBytes capacity oldest latest) (now (store .entry)) ⌝ }
 {
-    put_u32(store, 0, 24);
-    put_u16(store, 4, 1);
+    put_u32(store, 0, HEADER_LENGTH);
+    put_u16(store, KIND_AT, HEADER_KIND);
     put_u16(store, 6, 0);
-    put_u32(store, 8, capacity);
-    put_u32(store, 12, oldest);
-    put_u32(store, 16, latest);
+    put_u32(store, CAPACITY_AT, capacity);
+    put_u32(store, OLDEST_AT, oldest);
+    put_u32(store, LATEST_AT, latest);
     put_u32(store, 20, 0);
 }

@@ -9,23 +9,39 @@ use fields::put_u32;
 use hash::Hash;
 use hash::hash_at;
 use hash::put_hash;
+use layout::sizes::BITS_AT;
+use layout::sizes::COUNT_AT;
+use layout::sizes::INNER_BITS;
+use layout::sizes::INNER_KIND;
+use layout::sizes::INNER_LENGTH;
+use layout::sizes::KEY_AT;
+use layout::sizes::KIND_AT;
+use layout::sizes::LEAF_BITS;
+use layout::sizes::LEAF_KIND;
+use layout::sizes::LEAF_LENGTH;
+use layout::sizes::LEFT_AT;
+use layout::sizes::RETIRED_AT;
+use layout::sizes::RIGHT_AT;
+use layout::sizes::SLOT_SIZE;
+use layout::sizes::TAIL_AT;
+use layout::sizes::VALUE_AT;
+use layout::sizes::VERSION_AT;
 use place::Place;
 use place::place_at;
 use place::unused_zero;
 ghost use mathlib.Core.Path.{_≡_};
 ghost use mathlib.Core.Bool.{true};
 ghost use mathlib.Core.List.{_++_};
-ghost use Prim.Native.Nat.{_+_, _*_, _≤_};
+ghost use Prim.Native.Nat.{_+_, _≤_};
 ghost use lib.ListN.{length, drop};
 ghost use Rattle.terms.specs.Bits.{bits, noneSet};
-ghost use Rattle.terms.specs.Fields.{le, field, slice, flat, allOf};
+ghost use Rattle.terms.specs.Fields.{le, slice, flat, allOf};
 ghost use Rattle.terms.specs.Records.{used, free, innerBody};
 ghost use Rattle.fields.specs.Written.{written};
 ghost use Rattle.hash.specs.Hash.{hashBytes};
 ghost use Rattle.place.specs.Place.{placeOf, Proper, Stands};
-ghost use Rattle.layout.specs.Sizes.{slotAt};
-ghost use Rattle.layout.specs.Slots.{countIn, placeIn, childIn, recordOf, headTests, isLeaf, childRight, isInner, headFields, slotBytes};
-ghost use Rattle.layout.specs.Stores.{slotIn};
+ghost use Rattle.layout.specs.Sizes.{slotSize, grantSize, childSize, bitsAt, retiredAt, keyAt, valueAt};
+ghost use Rattle.layout.specs.Slots.{countIn, placeIn, childIn, recordOf, headTests, isLeaf, childRight, isInner, headFields, childFields, slotBytes};
 ghost use Rattle.slots.specs.Answer.{childSays, Made, Held, Read, grantBody};
 
 // What an inner record says of a child; version 0: there is no child.
@@ -52,38 +68,38 @@ pub struct Slot {
 
 // Whether the head of a record is in form: its length and kind, a bit count up to a limit, unused bits zero, version at least 1.
 fn head_right(s: &[u8], len: u32, kind: u16, limit: u16) -> bool
-    requires { ⌜ length (now s) ≡ 120 ⌝ }
+    requires { ⌜ length (now s) ≡ slotSize ⌝ }
     ensures { λ r. ⌜ r ≡ allOf (headTests len kind limit (now (s .entry))) ⌝ }
 {
     if get_u32(s, 0) != len {
         return false;
     }
-    if get_u16(s, 4) != kind {
+    if get_u16(s, KIND_AT) != kind {
         return false;
     }
-    let count = get_u16(s, 6);
+    let count = get_u16(s, COUNT_AT);
     if limit < count {
         return false;
     }
-    if !unused_zero(&s[8..40], count as usize) {
+    if !unused_zero(&s[BITS_AT..VERSION_AT], count as usize) {
         return false;
     }
-    1 <= get_u32(s, 40)
+    1 <= get_u32(s, VERSION_AT)
 }
 
 pub fn is_leaf(s: &[u8]) -> bool
-    requires { ⌜ length (now s) ≡ 120 ⌝ }
+    requires { ⌜ length (now s) ≡ slotSize ⌝ }
     ensures { λ r. ⌜ r ≡ isLeaf (now (s .entry)) ⌝ }
 {
-    if !head_right(s, 112, 2, 256) {
+    if !head_right(s, LEAF_LENGTH, LEAF_KIND, LEAF_BITS) {
         return false;
     }
-    all_zero(&s[112..120])
+    all_zero(&s[TAIL_AT..SLOT_SIZE])
 }
 
 // Whether a child that is missing has no hash.
 fn child_right(s: &[u8], at: usize) -> bool
-    requires { ⌜ at + 36 ≤ length (now s) ⌝ }
+    requires { ⌜ at + childSize ≤ length (now s) ⌝ }
     ensures { λ r. ⌜ r ≡ childRight (childIn at (now (s .entry))) ⌝ }
 {
     if 1 <= get_u32(s, at) {
@@ -95,26 +111,26 @@ fn child_right(s: &[u8], at: usize) -> bool
 }
 
 pub fn is_inner(s: &[u8]) -> bool
-    requires { ⌜ length (now s) ≡ 120 ⌝ }
+    requires { ⌜ length (now s) ≡ slotSize ⌝ }
     ensures { λ r. ⌜ r ≡ isInner (now (s .entry)) ⌝ }
 {
-    if !head_right(s, 120, 3, 255) {
+    if !head_right(s, INNER_LENGTH, INNER_KIND, INNER_BITS) {
         return false;
     }
-    if !child_right(s, 48) {
+    if !child_right(s, LEFT_AT) {
         return false;
     }
-    if !child_right(s, 84) {
+    if !child_right(s, RIGHT_AT) {
         return false;
     }
-    if 1 <= get_u32(s, 48) {
+    if 1 <= get_u32(s, LEFT_AT) {
         return true;
     }
-    1 <= get_u32(s, 84)
+    1 <= get_u32(s, RIGHT_AT)
 }
 
 fn child_at(s: &[u8], at: usize) -> Child
-    requires { ⌜ at + 36 ≤ length (now s) ⌝ }
+    requires { ⌜ at + childSize ≤ length (now s) ⌝ }
     ensures { λ r. ⌜ childSays r ≡ childIn at (now (s .entry)) ⌝ }
 {
     let version = get_u32(s, at);
@@ -137,13 +153,13 @@ fn bare(kind: Kind) -> Slot
 
 // A slot of a kind with place, version and retired-since as the bytes have them.
 fn held(s: &[u8], kind: Kind) -> Slot
-    requires { ⌜ (length (now s) ≡ 120) × (countIn (now s) ≤ 256) × (noneSet (drop (countIn (now s)) (bits (slice 8 32 (now s)))) ≡ true) ⌝ }
+    requires { ⌜ (length (now s) ≡ slotSize) × (countIn (now s) ≤ 256) × (noneSet (drop (countIn (now s)) (bits (slice bitsAt 32 (now s)))) ≡ true) ⌝ }
     ensures { λ r. ⌜ Held kind (now (s .entry)) r ⌝ }
 {
-    let count = get_u16(s, 6);
-    let place = place_at(&s[8..40], count as usize);
-    let version = get_u32(s, 40);
-    let retired = get_u32(s, 44);
+    let count = get_u16(s, COUNT_AT);
+    let place = place_at(&s[BITS_AT..VERSION_AT], count as usize);
+    let version = get_u32(s, VERSION_AT);
+    let retired = get_u32(s, RETIRED_AT);
     Slot {
         kind,
         place,
@@ -154,7 +170,7 @@ fn held(s: &[u8], kind: Kind) -> Slot
 
 // Reads the 120 bytes of a slot.
 pub fn read_slot(s: &[u8]) -> Slot
-    requires { ⌜ length (now s) ≡ 120 ⌝ }
+    requires { ⌜ length (now s) ≡ slotSize ⌝ }
     ensures { λ r. ⌜ Read (now (s .entry)) r ⌝ }
 {
     if all_zero(s) {
@@ -164,9 +180,92 @@ pub fn read_slot(s: &[u8]) -> Slot
         return held(s, Kind::Leaf);
     }
     if is_inner(s) {
-        let left = child_at(s, 48);
-        let right = child_at(s, 84);
+        let left = child_at(s, LEFT_AT);
+        let right = child_at(s, RIGHT_AT);
         return held(s, Kind::Inner { left, right });
     }
     bare(Kind::Spoiled)
+}
+
+// Writes the head of a record: length, kind, bit count, bits, version, retired-since.
+fn put_head(s: &mut [u8], len: u32, kind: u16, place: Place, version: u32, retired: u32)
+    requires { ⌜ (length (now s) ≡ slotSize) × Proper place ⌝ }
+    ensures { λ _. ⌜ now (s .exit) ≡ written 0 (flat (headFields len kind (placeOf place) version retired)) (now (s .entry)) ⌝ }
+{
+    let count = place.count as u16;
+    let bits = place.bits;
+    put_u32(s, 0, len);
+    put_u16(s, KIND_AT, kind);
+    put_u16(s, COUNT_AT, count);
+    copy(&mut s[BITS_AT..VERSION_AT], &bits);
+    put_u32(s, VERSION_AT, version);
+    put_u32(s, RETIRED_AT, retired);
+}
+
+fn put_child(s: &mut [u8], at: usize, c: Child)
+    requires { ⌜ at + childSize ≤ length (now s) ⌝ }
+    ensures { λ _. ⌜ now (s .exit) ≡ written at (flat (childFields (childSays c))) (now (s .entry)) ⌝ }
+{
+    let hash = at + 4;
+    let end = hash + 32;
+    put_u32(s, at, c.version);
+    put_hash(&mut s[hash..end], c.hash);
+}
+
+// Writes a leaf over the 120 bytes of a slot; the grant is key and value.
+pub fn put_leaf(s: &mut [u8], place: Place, version: u32, retired: u32, grant: &[u8])
+    requires { ⌜ (length (now s) ≡ slotSize) × Proper place × (length (now grant) ≡ grantSize) ⌝ }
+    ensures { λ _. ⌜ now (s .exit) ≡ slotBytes (used (recordOf (placeOf place) version retired (grantBody (now (grant .entry))))) ⌝ }
+{
+    put_head(s, LEAF_LENGTH, LEAF_KIND, place, version, retired);
+    copy(&mut s[KEY_AT..TAIL_AT], grant);
+    clear(&mut s[TAIL_AT..SLOT_SIZE]);
+}
+
+// Writes an inner record over the 120 bytes of a slot.
+pub fn put_inner(s: &mut [u8], place: Place, version: u32, retired: u32, left: Child, right: Child)
+    requires { ⌜ (length (now s) ≡ slotSize) × Proper place ⌝ }
+    ensures { λ _. ⌜ now (s .exit) ≡ slotBytes (used (recordOf (placeOf place) version retired (innerBody (childSays left) (childSays right)))) ⌝ }
+{
+    put_head(s, INNER_LENGTH, INNER_KIND, place, version, retired);
+    put_child(s, LEFT_AT, left);
+    put_child(s, RIGHT_AT, right);
+}
+
+// Frees the 120 bytes of a slot.
+pub fn clear_slot(s: &mut [u8])
+    requires { ⌜ length (now s) ≡ slotSize ⌝ }
+    ensures { λ _. ⌜ now (s .exit) ≡ slotBytes free ⌝ }
+{
+    clear(s);
+}
+
+// Writes the retired-since of a record, and nothing else.
+pub fn put_retired(s: &mut [u8], since: u32)
+    requires { ⌜ length (now s) ≡ slotSize ⌝ }
+    ensures { λ _. ⌜ now (s .exit) ≡ written retiredAt (le 4 since) (now (s .entry)) ⌝ }
+{
+    put_u32(s, RETIRED_AT, since);
+}
+
+// The grant of a leaf, in the slot's own bytes: key and value.
+pub fn grant_of(s: &[u8]) -> &[u8]
+    requires { ⌜ length (now s) ≡ slotSize ⌝ }
+    ensures { λ r. ⌜ now r ≡ slice keyAt grantSize (now (s .entry)) ⌝ }
+{
+    &s[KEY_AT..TAIL_AT]
+}
+
+pub fn key_of(s: &[u8]) -> &[u8]
+    requires { ⌜ length (now s) ≡ slotSize ⌝ }
+    ensures { λ r. ⌜ now r ≡ slice keyAt 32 (now (s .entry)) ⌝ }
+{
+    &s[KEY_AT..VALUE_AT]
+}
+
+pub fn value_of(s: &[u8]) -> &[u8]
+    requires { ⌜ length (now s) ≡ slotSize ⌝ }
+    ensures { λ r. ⌜ now r ≡ slice valueAt 32 (now (s .entry)) ⌝ }
+{
+    &s[VALUE_AT..TAIL_AT]
 }

@@ -12,7 +12,7 @@ use borrow.Author.Tests.{eqb-true, eq-eqb}
 use Rattle.terms.specs.Bits.{Bytes, Byte, All}
 use Rattle.terms.specs.Fields.{le, num, slice, field, zeroBytes, allZero, flat, allOf}
 use Rattle.terms.proofs.Tests.{and-left, and-right, and-true}
-use Rattle.terms.proofs.Lists.{all-take, all-drop}
+use Rattle.terms.proofs.Lists.{all-take, all-drop, drop-take}
 
 pub le-num : (bs : Bytes) → All Byte bs → le (length bs) (num bs) ≡ bs
 unfolding le
@@ -71,6 +71,15 @@ all-zero (suc n) = all-zero n
 pub slice-rest : (i n : ℕ) (s : Bytes) → drop i s ≡ slice i n s ++ drop (i + n) s
 unfolding slice
 slice-rest i n s = sym (ap (take n (drop i s) ++_) (sym (drop-drop n i s)) ∙ take-append-drop n (drop i s))
+
+-- a field of a slice is a field of the whole
+pub slice-slice : (i m j n : ℕ) (s : Bytes) → j + n ≤ m → slice j n (slice i m s) ≡ slice (i + j) n s
+unfolding slice
+slice-slice i m j n s h = rw (drop-take j m (drop i s), drop-drop j i s) (take-take n (m - j) (drop (i + j) s) (omega arith))
+
+pub field-slice : (i m j n : ℕ) (s : Bytes) → j + n ≤ m → field j n (slice i m s) ≡ field (i + j) n s
+unfolding field
+field-slice i m j n s h = ap num (slice-slice i m j n s h)
 
 -- the fields of given sizes from i on
 abbrev pub cuts : List ℕ → ℕ → Bytes → List Bytes
@@ -148,6 +157,10 @@ length-flat [] [] h = refl
 length-flat [] (f ∷ fs) h = absurd h
 length-flat (n ∷ ns) [] h = absurd h
 length-flat (n ∷ ns) (f ∷ fs) h = let l = h .0 in simp length-append (omega (arith, length-flat ns fs (h .1)))
+
+pub flat-append : (fs gs : List Bytes) → flat (fs ++ gs) ≡ flat fs ++ flat gs
+flat-append [] gs = refl
+flat-append (f ∷ fs) gs = rw (flat-append fs gs) (sym (append-assoc f (flat fs) (flat gs)))
 
 pub length-zero-bytes : (n : ℕ) → length (zeroBytes n) ≡ n
 unfolding zeroBytes
