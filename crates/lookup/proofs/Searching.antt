@@ -10,11 +10,11 @@ use lib.ListN.{length, getD, take, drop, drop-of-length-le, length-take}
 use lib.Seq.{drop-cons, getD-drop, getD-take}
 use borrow.Author.Count.{below-more}
 use Rattle.terms.specs.Bits.{Bytes, Byte, All, Place, pack, bits}
-use Rattle.terms.specs.Fields.{num, field, slice}
+use Rattle.terms.specs.Fields.{field, slice}
 use Rattle.terms.specs.Records.{Record, Slot, free, used, spoiled}
 use Rattle.terms.proofs.Lists.{all-of}
 use Rattle.terms.proofs.Places.{length-bits}
-use Rattle.terms.proofs.Fields.{slice-slice, part-slice, length-slice, all-slice}
+use Rattle.terms.proofs.Fields.{field-slice, part-slice, length-slice, all-slice}
 use Rattle.meaning.specs.Store.{find, isNode}
 use Rattle.layout.specs.Sizes.{roomOf}
 use Rattle.layout.specs.Headers.{sizeRight}
@@ -88,8 +88,8 @@ module _ {s : Bytes} {v : ℕ} {b : Bytes} {count n i : ℕ} (w : Slots s v b co
   slot-bytes = all-slice (24 + 120 * i) 120 s (w .bytes)
 
   slot-field : (j m : ℕ) → j + m ≤ 120 → field (24 + 120 * i + j) m s ≡ field j m (slotIn i s)
-  unfolding slotIn field
-  slot-field j m h = ap num (sym (slice-slice (24 + 120 * i) j 120 m s h))
+  unfolding slotIn
+  slot-field j m h = sym (field-slice (24 + 120 * i) 120 j m s h)
 
   slot-byte : (j : ℕ) → j < 120 → getD s (24 + 120 * i + j) 0 ≡ getD (slotIn i s) j 0
   unfolding slotIn slice

@@ -5,9 +5,9 @@ use mathlib.Core.Path.{_≡_, refl, ap, ap₂, sym, _∙_}
 use mathlib.Core.Bool.{Bool, true, false, _&&_}
 use mathlib.Core.List.{List, [], _∷_, _++_, append-assoc, append-nil}
 use lib.ListN.{length, take, drop, replicate, take-append-drop, drop-of-length-le, length-append, length-take, length-drop, length-replicate}
-use lib.Seq.{drop-drop, take-take, take-nil, take-add, take-at, drop-at}
+use lib.Seq.{drop-drop, take-take, take-add, take-at, drop-at}
 use lib.Dec.{eqb}
-use native.Mathlib.Nat.{pow-suc, zero-add, add-sub-cancel-left}
+use native.Mathlib.Nat.{pow-suc, add-sub-cancel-left}
 use borrow.Author.Tests.{eqb-true, eq-eqb}
 use Rattle.terms.specs.Bits.{Bytes, Byte, All}
 use Rattle.terms.specs.Fields.{le, num, slice, field, zeroBytes, allZero, flat, allOf}
@@ -166,21 +166,7 @@ pub length-zero-bytes : (n : ℕ) → length (zeroBytes n) ≡ n
 unfolding zeroBytes
 length-zero-bytes n = length-replicate n 0
 
--- a part of a lent slice, and a slice of a slice
+-- a part of a lent slice
 pub part-slice : (i n : ℕ) (s : Bytes) → take (i + n - i) (drop i s) ≡ slice i n s
 unfolding slice
 part-slice i n s = rw (add-sub-cancel-left i n)
-
-pub drop-take : {A : Type 0} (m n : ℕ) (xs : List A) → drop m (take (m + n) xs) ≡ take n (drop m xs)
-drop-take zero n xs = rw (zero-add n)
-drop-take (suc m) n [] = let e : suc m + n ≡ suc (m + n) = omega arith in rw e (sym (take-nil n))
-drop-take (suc m) n (x ∷ xs) = let e : suc m + n ≡ suc (m + n) = omega arith in rw e (drop-take m n xs)
-
-pub slice-slice : (i j m n : ℕ) (s : Bytes) → j + n ≤ m → slice j n (slice i m s) ≡ slice (i + j) n s
-unfolding slice
-slice-slice i j m n s h =
-    let e : m ≡ j + (m - j) = omega arith in
-    ap (λ k. take n (drop j (take k (drop i s)))) e
-    ∙ ap (take n) (drop-take j (m - j) (drop i s))
-    ∙ take-take n (m - j) (drop j (drop i s)) (omega arith)
-    ∙ ap (take n) (drop-drop j i s)
