@@ -3,75 +3,27 @@
 use Prim.Native.Nat.{ℕ, _<_, _≤_}
 use native.Mathlib.Omega.{arith}
 use mathlib.Core.Path.{_≡_, refl, ap, ap₂, sym, _∙_, subst}
-use mathlib.Core.Logic.{_⊎_, inl, inr, _↔_}
-use mathlib.Core.Bool.{Bool, true, false, cond, not, false≢true}
-use mathlib.Core.Option.{Option, none, some}
+use mathlib.Core.Logic.{inl, inr, _↔_}
+use mathlib.Core.Bool.{true, not, false≢true}
 use lib.ListN.{length, getD}
-use Rattle.terms.specs.Bits.{Bytes, Side, left, right, Place, longer, begins}
+use Rattle.terms.specs.Bits.{Bytes, Side, left, right, Place, longer}
 use Rattle.terms.specs.Records.{Child, Body, leafBody, innerBody, Record, Slot, free, spoiled, Store}
 use Rattle.terms.specs.Form.{RecordForm, top32}
-use Rattle.meaning.specs.Store.{find, isNode, childOn}
+use Rattle.meaning.specs.Store.{find, childOn}
 use Rattle.meaning.specs.Sound.{At, Sound, mostSlots}
 use Rattle.meaning.specs.Local.{Local, Linked, missing, found, BodyFits, childVersion, endsBefore}
-use Rattle.meaning.proofs.Finding.{isNode-eq, isNode-refl}
-use Rattle.local.specs.Test.{firstKept, isSame, holders, isFound, childTest, bodyTest, names, isParent, headTest, linkTest, recordTest, slotTest, slotsTest, formTest, localTest}
+use Rattle.local.specs.Test.{firstKept, isSame, holders, names, isParent, linkTest, recordTest, slotTest, slotsTest, formTest, localTest}
 use Rattle.local.proofs.Slots.{found-at, same-record, at-find}
-use Rattle.local.proofs.Lifetimes.{Lifetime}
+use Rattle.local.proofs.Lifetimes.{Lifetime, life-ends}
 use Rattle.local.proofs.Standing.{linked-on}
 use Rattle.local.proofs.LocalIsGlobal.{local-is-global}
 use Rattle.local.proofs.Scans.{every-at, at-every}
-use Rattle.local.proofs.Records.{slot-elim, each-record, record-total, one-record, record-one, names-eq, eq-names, parent-names, names-inner}
+use Rattle.local.proofs.Records.{slot-elim, each-record, record-total, one-record, record-one}
+use Rattle.local.proofs.Naming.{names-eq, eq-names, parent-names, names-inner}
 use Rattle.local.proofs.Parents.{Kin, named-is-summed}
-use Rattle.local.proofs.Says.{Says, says, itself, equal, at-most, both, either, done, next}
+use Rattle.local.proofs.Says.{Says, says, itself, equal, at-most, done, next}
 use Rattle.local.proofs.InForm.{form-says}
-use Rattle.local.proofs.Links.{Covered, covered-says, life-says, Link, link-says}
-
--- a record's node, counted
-node-counted : (r q : Record) → 1 ≤ isSame r q → (q .version ≡ r .version) × (q .place ≡ r .place)
-unfolding isSame
-node-counted r q h = go (isNode (r .version) (r .place) q) refl h
-  where
-    go : (t : Bool) → isNode (r .version) (r .place) q ≡ t → 1 ≤ cond t 1 0 → (q .version ≡ r .version) × (q .place ≡ r .place)
-    go true e k = isNode-eq (r .version) (r .place) q e
-    go false e k = absurd (omega arith)
-
-counted-node : (r q : Record) → q .version ≡ r .version → q .place ≡ r .place → isSame r q ≡ 1
-unfolding isSame
-counted-node r q e f = rw (← e, ← f, isNode-refl q)
-
-counted-once : (r q : Record) → isSame r q ≤ 1
-unfolding isSame
-counted-once r q = elim (isNode (r .version) (r .place) q) as (λ t. cond t 1 0 ≤ 1) [ true ↦ omega arith | false ↦ omega arith ]
-
-found-says : (o : Option Record) → Says (isFound o) ((r : Record) × (o ≡ some r))
-found-says none = record { passed = λ h. absurd (false≢true h); passes = λ h. let z : _≡_ {A = ℕ} 0 1 = cc (h .1) in absurd (omega arith) }
-found-says (some r) = record { passed = λ h. (r, refl); passes = λ h. refl }
-
-module _ (st : Store) where
-  -- a child is missing or found
-  abbrev ChildFound : Place → Child → Type 0
-  ChildFound p c = (c .version ≡ 0) ⊎ ((r : Record) × (find (c .version) p (st .slots) ≡ some r))
-
-  child-says : (p : Place) (c : Child) → Says (childTest st p c) (ChildFound p c)
-  unfolding childTest
-  child-says p c = either (equal (c .version) 0) (found-says (find (c .version) p (st .slots)))
-
-  -- a leaf's key begins with its place; the children of an inner record are missing or found
-  abbrev BodyFound : Place → Body → Type 0
-  BodyFound p (leafBody k x) = begins p k ≡ true
-  BodyFound p (innerBody l r) = ChildFound (longer left p) l × ChildFound (longer right p) r
-
-  body-says : (p : Place) (o : Body) → Says (bodyTest st p o) (BodyFound p o)
-  body-says p (leafBody k x) = itself (begins p k)
-  body-says p (innerBody l r) = both (child-says (longer left p) l) (child-says (longer right p) r)
-
-  head-says : Says (headTest st)
-      (((1 ≤ length (st .slots)) × (length (st .slots) ≤ mostSlots)) × ((st .oldest ≤ st .latest) × (st .latest ≤ top32)))
-  unfolding headTest
-  head-says =
-      says (next (at-most 1 (length (st .slots))) (next (at-most (length (st .slots)) mostSlots)
-      (next (at-most (st .oldest) (st .latest)) (next (at-most (st .latest) top32) done))) .all)
-      (λ h. ((h .0, h .1 .0), (h .1 .1 .0, h .1 .1 .1 .0))) (λ f. (f .0 .0, (f .0 .1, (f .1 .0, (f .1 .1, tt)))))
+use Rattle.local.proofs.Tests.{node-counted, counted-node, counted-once, ChildFound, BodyFound, body-says, head-says, Covered, covered-says, life-says, Link, link-says}
 
 module _ (leafHash innerHash : Bytes → Bytes → Bytes) (st : Store) where
   -- the child on a side is linked
@@ -181,7 +133,9 @@ module _ (leafHash innerHash : Bytes → Bytes → Bytes) (st : Store) where
     unique = passed-unique formed passed;
     versions = λ i r a. (formed i r a .versioned .0, passed i r a .latest);
     lifetimes = λ i r a. passed i r a .life;
-    roots = λ i r a. passed i r a .covered .0;
+    roots = λ i r a e.
+        let alone = passed i r a .covered .0 e in
+        (omega (arith, life-ends st r (header .0) (passed i r a .latest) (passed i r a .life)), alone);
     bodies = λ i r a. passed-bodies formed passed i r a (r .body) refl (passed i r a .body);
     parents = named-is-summed st (passed-kin formed passed (header .0)) .1 (λ i r a. passed i r a .covered .1);
   }
@@ -226,7 +180,7 @@ module _ (leafHash innerHash : Bytes → Bytes → Bytes) (st : Store) where
       unique = ok .unique;
       versions = ok .versions;
       lifetimes = ok .lifetimes;
-      roots = ok .roots;
+      roots = λ i r a e. ok .roots i r a e .1;
       outlives = outlives (λ i r a. ok .versions i r a .0) local-links;
     }
 
@@ -237,7 +191,7 @@ module _ (leafHash innerHash : Bytes → Bytes → Bytes) (st : Store) where
       once = held-once i r a;
       body = bodies-found r (r .body) (ok .bodies i r a);
       links = local-links i r a;
-      covered = (ok .roots i r a, named-is-summed st local-kin .0 (ok .parents) i r a);
+      covered = (λ e. ok .roots i r a e .1, named-is-summed st local-kin .0 (ok .parents) i r a);
     }
 
   -- Of a store with a right size and header, whose records are in form, the slots pass exactly if it is sound.

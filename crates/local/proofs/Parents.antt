@@ -19,7 +19,8 @@ use Rattle.local.proofs.Slots.{same-slot}
 use Rattle.local.proofs.Lifetimes.{Living, ParentAt, Lifetime, life-ends}
 use Rattle.local.proofs.Scans.{total-le}
 use Rattle.local.proofs.Sums.{sumTo, inside, inside-is, is-inside, inside-one, sum-inside, sum-none, sum-swap, sum-full, sum-gap}
-use Rattle.local.proofs.Records.{slot-elim, record-total, total-record, record-one, names-eq, eq-names, names-parent, parent-names}
+use Rattle.local.proofs.Records.{slot-elim, record-total, total-record, record-one}
+use Rattle.local.proofs.Naming.{names-eq, eq-names, names-parent, parent-names}
 
 -- what is known of records and their parents before lifetimes are added up
 pub record Kin (st : Store) : Type 0 where
@@ -27,7 +28,7 @@ pub record Kin (st : Store) : Type 0 where
   pub unique : (i j : ℕ) (r q : Record) → At st i r → At st j q → r .version ≡ q .version → r .place ≡ q .place → i ≡ j
   pub versions : (i : ℕ) (r : Record) → At st i r → (1 ≤ r .version) × (r .version ≤ st .latest)
   pub lifetimes : (i : ℕ) (r : Record) → At st i r → Lifetime st r
-  pub roots : (i : ℕ) (r : Record) → At st i r → r .place ≡ [] → (st .oldest ≤ r .version) × (endsBefore st r ≡ suc (r .version))
+  pub roots : (i : ℕ) (r : Record) → At st i r → r .place ≡ [] → endsBefore st r ≡ suc (r .version)
   pub outlives : (i j : ℕ) (r q : Record) → At st i r → At st j q → isParent r q ≡ true →
       (r .version ≤ firstKept st q) × (endsBefore st q ≤ endsBefore st r)
 

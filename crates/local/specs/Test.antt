@@ -32,10 +32,11 @@ byRecord d f free = d
 byRecord d f (used r) = f r
 byRecord d f (spoiled x) = d
 
--- How many slots hold the node of r.
+-- 1 where q is the node of r.
 unfoldable pub isSame : Record → Record → ℕ
 isSame r q = cond (isNode (r .version) (r .place) q) 1 0
 
+-- How many slots hold the node of r.
 unfoldable pub holders : Record → List Slot → ℕ
 holders r s = total (byRecord 0 (isSame r)) s
 
@@ -82,11 +83,11 @@ isParent r q = names left q r || names right q r
 unfoldable pub lifeAbove : Store → Record → Record → ℕ
 lifeAbove st r q = cond (isParent r q) (keptLife st q) 0
 
--- A root record lives at its own version alone, and that is kept; the lifetimes of another record's parents add up to its own.
+-- A root record lives at its own version alone; the lifetimes of another record's parents add up to its own.
 unfoldable pub lifeCovered : Store → Record → Bool
 lifeCovered st r =
     cond (samePlace (r .place) [])
-    (leb (st .oldest) (r .version) && eqb (endsBefore st r) (suc (r .version)))
+    (eqb (endsBefore st r) (suc (r .version)))
     (leb (keptLife st r) (total (byRecord 0 (lifeAbove st r)) (st .slots)))
 
 -- A key, value or hash of 32 bytes.

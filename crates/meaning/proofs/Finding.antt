@@ -35,10 +35,10 @@ push : (y : Slot) (s : List Slot) (v : ℕ) (p : Place) (o : Option Record) → 
 push y s v p none k (miss f) = miss (λ i. elim i [ zero ↦ λ r l e. k r e | suc j ↦ λ r l e. f j r (le-of-suc-le-suc l) e ])
 push y s v p (some q) k (hit i r l e n) = hit (suc i) r (omega arith) e n
 
-free-used : {A : Type 0} (r : Record) → free ≡ used r → A
+pub free-used : {A : Type 0} (r : Record) → free ≡ used r → A
 free-used r e = let z : _≡_ {A = ℕ} 0 1 = cc in absurd (omega arith)
 
-spoiled-used : {A : Type 0} (x : Bytes) (r : Record) → spoiled x ≡ used r → A
+pub spoiled-used : {A : Type 0} (x : Bytes) (r : Record) → spoiled x ≡ used r → A
 spoiled-used x r e = let z : _≡_ {A = ℕ} 0 1 = cc in absurd (omega arith)
 
 pub used-eq : (r q : Record) → used r ≡ used q → r ≡ q

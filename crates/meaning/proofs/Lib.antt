@@ -4,3 +4,4 @@ pub mod Sides
 pub mod Runs
 pub mod Versions
 pub mod Samples
+pub mod Shaped

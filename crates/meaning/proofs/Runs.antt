@@ -6,6 +6,7 @@ use mathlib.Core.Bool.{Bool, true, false, cond, Bool·beq, true≢false}
 use mathlib.Core.List.{List, [], _∷_, _++_}
 use Rattle.terms.specs.Bits.{Bytes, Side, All, filter, bit, before}
 use Rattle.terms.specs.Records.{Grant, grant, Ask, insert, delete, askKey}
+use Rattle.terms.specs.Form.{GrantForm, AskForm}
 use Rattle.terms.proofs.Tests.{is-true}
 use Rattle.terms.proofs.Lists.{filter-append, filter-comm, filter-all, filter-none, all-filter, all-map, all-append, filter-passed}
 use Rattle.terms.proofs.Order.{before-trans, before-asym, before-total}
@@ -92,7 +93,7 @@ ask-there i b (delete k) gs s e =
     simp (side-append, side-smaller, side-greater) (split-key k (side i b gs) (ascending-side i b gs s) (others i b k gs e))
 
 -- an ask keeps the order
-ascending-append : (xs ys : List Grant) → Ascending xs → Ascending ys → All (λ g. All (Ahead g) ys) xs → Ascending (xs ++ ys)
+pub ascending-append : (xs ys : List Grant) → Ascending xs → Ascending ys → All (λ g. All (Ahead g) ys) xs → Ascending (xs ++ ys)
 ascending-append [] ys s u a = u
 ascending-append (x ∷ xs) ys s u a = (all-append (Ahead x) xs ys (s .0) (a .0), ascending-append xs ys (s .1) u (a .1))
 
@@ -119,6 +120,17 @@ ascending-ask (delete k) gs s =
 pub ascending-batch : (batch : List Ask) (gs : List Grant) → Ascending gs → Ascending (withBatch batch gs)
 ascending-batch [] gs s = s
 ascending-batch (a ∷ batch) gs s = ascending-batch batch (withAsk a gs) (ascending-ask a gs s)
+
+-- asks in form keep the grants in form
+ask-form : (a : Ask) (gs : List Grant) → AskForm a → All GrantForm gs → All GrantForm (withAsk a gs)
+unfolding smaller greater
+ask-form (insert k x) gs h g =
+    all-append GrantForm (smaller k gs) (grant k x ∷ greater k gs) (all-filter GrantForm _ gs g) (h, all-filter GrantForm _ gs g)
+ask-form (delete k) gs h g = all-append GrantForm (smaller k gs) (greater k gs) (all-filter GrantForm _ gs g) (all-filter GrantForm _ gs g)
+
+pub batch-form : (batch : List Ask) (gs : List Grant) → All AskForm batch → All GrantForm gs → All GrantForm (withBatch batch gs)
+batch-form [] gs h g = g
+batch-form (a ∷ batch) gs h g = batch-form batch (withAsk a gs) (h .1) (ask-form a gs (h .0) g)
 
 -- a batch, on one side, is the run of the batch for that side
 run-head : (i : ℕ) (b : Bool) (a : Ask) (batch : List Ask) (gs : List Grant) → Ascending gs →

@@ -8,7 +8,7 @@ use mathlib.Core.List.{List, [], _∷_, _++_, nil≢cons, tail-eq-of-cons-eq}
 use lib.ListN.{length, getD}
 use Rattle.terms.specs.Bits.{Bytes, Side, Place, longer, All, filter, bits, bit, prefix, begins}
 use Rattle.terms.specs.Records.{Grant}
-use Rattle.terms.proofs.Lists.{filter-twice, filter-ext, filter-all, filter-none, all-filter, all-map, all-map₂, filter-passed}
+use Rattle.terms.proofs.Lists.{filter-twice, filter-ext, filter-all, filter-none, all-filter, all-map, all-map₂, all-always, filter-passed}
 use Rattle.terms.proofs.Places.{prefix-snoc, length-longer}
 use Rattle.terms.proofs.Order.{lex, lex-mono, lex-whole}
 use Rattle.meaning.specs.Tree.{Tree, none, leaf, inner, byCount, grantsAt, treeAt, treeOf, grants}
@@ -164,14 +164,10 @@ sorted-radix zero p (g ∷ g′ ∷ gs) e s k h =
     lex-whole p (bits (g .key)) (bits (g′ .key)) (h .0) (h .1 .0) (k .0 ∙ omega arith) (k .1 .0 ∙ omega arith) (s .0 .0)
 sorted-radix (suc n) p gs e s k h = (sides p gs s h, deeper n p gs e false s k h (sorted-radix n), deeper n p gs e true s k h (sorted-radix n))
 
-all-true : (P : Grant → Type 0) (gs : List Grant) → ((g : Grant) → P g) → All P gs
-all-true P [] f = tt
-all-true P (g ∷ gs) f = (f g, all-true P gs f)
-
 -- the leaves of the tree of a set of grants are the grants
 pub grants-treeOf : (gs : List Grant) → Sorted gs → All Long gs → grants (treeOf gs) ≡ gs
 unfolding treeOf grantsAt begins
 grants-treeOf gs s k =
     ap grants (treeAt-by 256 [] gs refl k)
-    ∙ ap (λ l. grants (treeBy 256 0 l)) (filter-all _ gs (all-true _ gs (λ g. refl)))
-    ∙ grants-treeBy 256 0 gs (sorted-radix 256 [] gs refl s k (all-true _ gs (λ g. refl)))
+    ∙ ap (λ l. grants (treeBy 256 0 l)) (filter-all _ gs (all-always _ gs (λ g. refl)))
+    ∙ grants-treeBy 256 0 gs (sorted-radix 256 [] gs refl s k (all-always _ gs (λ g. refl)))

@@ -7,9 +7,10 @@ use mathlib.Core.List.{List, [], _∷_, _++_}
 use mathlib.Core.Option.{Option, none, some}
 use lib.ListN.{replicate}
 use Rattle.terms.specs.Bits.{Bytes, Place, All}
-use Rattle.terms.specs.Records.{Ask, insert, delete, Store, Slot, free, used, Record, leafBody, innerBody, child, zeros}
+use Rattle.terms.specs.Records.{grant, Ask, insert, delete, Store, Slot, free, used, Record, leafBody, innerBody, child, zeros}
 use Rattle.meaning.specs.Store.{formatted}
 use Rattle.meaning.specs.Calls.{Answer, refused, accepted, Applied, Outcome, apply, prune}
+use Rattle.meaning.specs.History.{Call, applying, pruning, looking, Entry, entry}
 
 -- A row: a batch on a store, or a pruning.
 pub data Row : Type 0 where
@@ -100,6 +101,28 @@ four = insert A a ∷ insert B b ∷ insert C c ∷ insert D d ∷ []
 
 abbrev two : List Ask
 two = insert A a ∷ insert F b ∷ []
+
+-- M1 to M8 and M11 as the calls of one history; between M3 and M4 come a batch out of order and one that isn't in form, after M4 a read.
+abbrev pub calls : List Call
+calls =
+    applying (some four)
+    ∷ applying (some (delete B ∷ insert C c′ ∷ []))
+    ∷ applying (some [])
+    ∷ applying (some (insert D e ∷ insert C e ∷ []))
+    ∷ applying none
+    ∷ applying (some (delete A ∷ []))
+    ∷ looking
+    ∷ applying (some (delete D ∷ []))
+    ∷ applying (some (delete C ∷ []))
+    ∷ pruning 4
+    ∷ applying (some (insert E e ∷ []))
+    ∷ pruning 4
+    ∷ pruning 8
+    ∷ []
+
+-- What they grant: versions 0 to 3 are pruned.
+abbrev pub granted : List Entry
+granted = entry 7 (grant E e ∷ []) ∷ entry 6 [] ∷ entry 5 (grant C c′ ∷ []) ∷ entry 4 (grant C c′ ∷ grant D d ∷ []) ∷ []
 
 module _ (leafHash innerHash : Bytes → Bytes → Bytes) where
   -- The call's answer and the store after it are the row's.

@@ -1,14 +1,15 @@
 -- Demand 3: histories. The calls on a store, and the grants that a history gives to each version, told from the calls and from which of
 -- them were accepted. Assumes nothing.
-use Prim.Native.Nat.{ℕ, suc, _≤_}
+use Prim.Native.Nat.{ℕ, zero, suc, _+_, _-_, _≤_}
 use mathlib.Core.Path.{_≡_}
 use mathlib.Core.Bool.{Bool, true, false, cond}
 use mathlib.Core.List.{List, [], _∷_}
 use mathlib.Core.Option.{Option, none, some}
 use lib.ListN.{length}
 use lib.Dec.{eqb, leb}
-use Rattle.terms.specs.Bits.{Bytes, filter}
+use Rattle.terms.specs.Bits.{Bytes, All, filter}
 use Rattle.terms.specs.Records.{Grant, Ask, Store}
+use Rattle.terms.specs.Form.{AskForm}
 use Rattle.meaning.specs.Tree.{withBatch, treeOf, unversioned, grantsIn}
 use Rattle.meaning.specs.Store.{formatted, treeAtVersion}
 use Rattle.meaning.specs.Sound.{Sound, Kept}
@@ -22,6 +23,14 @@ pub data Call : Type 0 where
   pruning : ℕ → Call
   -- check, the reads, proving, and any call refused for its sizes or its header: nothing is written
   looking : Call
+
+-- The asks of a batch are in form, as those decoded from bytes are.
+abbrev pub CallForm : Call → Type 0
+CallForm formatting = Unit {0}
+CallForm (applying none) = Unit {0}
+CallForm (applying (some batch)) = All AskForm batch
+CallForm (pruning n) = Unit {0}
+CallForm looking = Unit {0}
 
 abbrev pub isAccepted : {A : Type 0} → Answer A → Bool
 isAccepted (refused n) = false
@@ -82,6 +91,15 @@ ledger (c ∷ calls) es = ledger calls (cond (c .1) (noted (c .0) es) es)
 abbrev pub grantsOf : ℕ → List Entry → Option (List Grant)
 grantsOf v [] = none
 grantsOf v (e ∷ es) = cond (eqb (e .version) v) (some (e .grants)) (grantsOf v es)
+
+-- What a store holds by itself: the grants of its kept versions, the newest first, here of the versions o + n down to o. A history that
+-- starts at a sound store starts with this.
+abbrev pub heldFrom : Store → ℕ → ℕ → List Entry
+heldFrom st o zero = entry o (grantsIn (treeAtVersion st o)) ∷ []
+heldFrom st o (suc n) = entry (o + suc n) (grantsIn (treeAtVersion st (o + suc n))) ∷ heldFrom st o n
+
+unfoldable pub held : Store → List Entry
+held st = heldFrom st (st .oldest) (st .latest - st .oldest)
 
 -- A store holds what a ledger says: it is sound, each kept version's tree is the tree of its grants, and no other version has any.
 module _ (leafHash innerHash : Bytes → Bytes → Bytes) where

@@ -6,7 +6,7 @@ use mathlib.Core.Bool.{Bool, true, false}
 use mathlib.Core.List.{List, []}
 use mathlib.Core.Option.{Option, some}
 use lib.ListN.{length, getD}
-use Rattle.terms.specs.Bits.{Bytes, Side, left, right, Place, longer, begins}
+use Rattle.terms.specs.Bits.{Bytes, Whole32, Side, left, right, Place, longer, begins}
 use Rattle.terms.specs.Records.{Grant, Body, leafBody, innerBody, Record, Slot, free, used, spoiled, Store}
 use Rattle.terms.specs.Form.{RecordForm, top32}
 use Rattle.meaning.specs.Tree.{VTree, vnone, vleaf, vinner}
@@ -44,6 +44,10 @@ NodeOf v q vnone p = ⊥
 NodeOf v q (vleaf w g) p = (w ≡ v) × (p ≡ q)
 NodeOf v q (vinner w l r) p =
     ((w ≡ v) × (p ≡ q)) ⊎ (NodeOf v q l (longer left p) ⊎ NodeOf v q r (longer right p))
+
+-- A hash function that gives 32 bytes, as SHA-256 does.
+abbrev pub Hashes32 : (Bytes → Bytes → Bytes) → Type 0
+Hashes32 f = (x y : Bytes) → Whole32 (f x y)
 
 -- A record lives at v: its version is at most v and it isn't retired by v.
 abbrev pub Lives : ℕ → Record → Type 0

@@ -3,3 +3,4 @@ pub mod Lists
 pub mod Places
 pub mod Order
 pub mod Fields
+pub mod Members

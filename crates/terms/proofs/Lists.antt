@@ -46,6 +46,10 @@ module _ {A : Type 0} where
       elim (f x) as (λ b. All P (cond b (x ∷ filter f xs) (filter f xs)))
       [ true ↦ (h .0, all-filter P f xs (h .1)) | false ↦ all-filter P f xs (h .1) ]
 
+  pub all-always : (P : A → Type 0) (xs : List A) → ((x : A) → P x) → All P xs
+  all-always P [] f = tt
+  all-always P (x ∷ xs) f = (f x, all-always P xs f)
+
   pub all-append : (P : A → Type 0) (xs ys : List A) → All P xs → All P ys → All P (xs ++ ys)
   all-append P [] ys h k = k
   all-append P (x ∷ xs) ys h k = (h .0, all-append P xs ys (h .1) k)

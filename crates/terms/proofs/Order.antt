@@ -117,26 +117,27 @@ lex-whole (false ∷ p) (false ∷ as′) (false ∷ bs) u w x y l = lex-whole p
 lex-whole (false ∷ p) (false ∷ as′) (true ∷ bs) u w x y l = false≢true w
 lex-whole (false ∷ p) (true ∷ as′) (b ∷ bs) u w x y l = false≢true u
 
--- two strings that part at a place are in the order of the bits that they go on with
-lex-parted : (p : Place) (as′ bs : List Bool) → prefix (p ++ (false ∷ [])) as′ ≡ true → prefix (p ++ (true ∷ [])) bs ≡ true → lex as′ bs ≡ true
-lex-parted [] [] bs u w = absurd (false≢true u)
-lex-parted [] (a ∷ as′) [] u w = absurd (false≢true w)
-lex-parted [] (true ∷ as′) (b ∷ bs) u w = absurd (false≢true u)
-lex-parted [] (false ∷ as′) (false ∷ bs) u w = absurd (false≢true w)
-lex-parted [] (false ∷ as′) (true ∷ bs) u w = refl
-lex-parted (q ∷ p) [] bs u w = absurd (false≢true u)
-lex-parted (q ∷ p) (a ∷ as′) [] u w = absurd (false≢true w)
-lex-parted (true ∷ p) (true ∷ as′) (true ∷ bs) u w = lex-parted p as′ bs u w
-lex-parted (true ∷ p) (true ∷ as′) (false ∷ bs) u w = absurd (false≢true w)
-lex-parted (true ∷ p) (false ∷ as′) (b ∷ bs) u w = absurd (false≢true u)
-lex-parted (false ∷ p) (false ∷ as′) (false ∷ bs) u w = lex-parted p as′ bs u w
-lex-parted (false ∷ p) (false ∷ as′) (true ∷ bs) u w = absurd (false≢true w)
-lex-parted (false ∷ p) (true ∷ as′) (b ∷ bs) u w = absurd (false≢true u)
+-- of two strings that begin with p, one that goes on with 0 comes before one that goes on with 1
+pub lex-sides : (p : Place) (as′ bs : List Bool) → prefix (longer left p) as′ ≡ true → prefix (longer right p) bs ≡ true → lex as′ bs ≡ true
+unfolding longer
+lex-sides [] [] bs h k = absurd (false≢true h)
+lex-sides [] (true ∷ as′) bs h k = absurd (false≢true h)
+lex-sides [] (false ∷ as′) [] h k = absurd (false≢true k)
+lex-sides [] (false ∷ as′) (true ∷ bs) h k = refl
+lex-sides [] (false ∷ as′) (false ∷ bs) h k = absurd (false≢true k)
+lex-sides (x ∷ p) [] bs h k = absurd (false≢true h)
+lex-sides (x ∷ p) (a ∷ as′) [] h k = absurd (false≢true k)
+lex-sides (true ∷ p) (true ∷ as′) (true ∷ bs) h k = lex-sides p as′ bs h k
+lex-sides (true ∷ p) (true ∷ as′) (false ∷ bs) h k = absurd (false≢true k)
+lex-sides (true ∷ p) (false ∷ as′) (b ∷ bs) h k = absurd (false≢true h)
+lex-sides (false ∷ p) (false ∷ as′) (false ∷ bs) h k = lex-sides p as′ bs h k
+lex-sides (false ∷ p) (false ∷ as′) (true ∷ bs) h k = absurd (false≢true k)
+lex-sides (false ∷ p) (true ∷ as′) (b ∷ bs) h k = absurd (false≢true h)
 
 -- of two keys that part at a place, the one that goes on to the left comes before the one that goes on to the right
 pub before-parted : (p : Place) (k l : Bytes) → All Byte k → All Byte l → begins (longer left p) k ≡ true → begins (longer right p) l ≡ true → before k l ≡ true
-unfolding begins longer
-before-parted p k l a b u w = before-lex k l a b ∙ lex-parted p (bits k) (bits l) u w
+unfolding begins
+before-parted p k l a b u w = before-lex k l a b ∙ lex-sides p (bits k) (bits l) u w
 
 -- the first byte decides, or the rest does
 Split : ℕ → ℕ → Bytes → Bytes → Type 0

@@ -11,7 +11,7 @@ use lib.Seq.{take-all, getD-append-add, getD-drop, getD-take, ext-getD}
 use lib.Dec.{eqb, ltb}
 use borrow.Author.Tests.{ltb-true, ltb-false}
 use Rattle.terms.specs.Bits.{Bytes, Byte, Side, Place, All, left, longer, bits, byteBits, odd, bit, prefix, begins, noneSet, digit, packed, pack, samePlace}
-use Rattle.terms.proofs.Tests.{and-true, and-assoc, bothBits, both-bits, same-place}
+use Rattle.terms.proofs.Tests.{and-left, and-right, and-true, and-assoc, same-bit, bothBits, both-bits, same-place}
 
 pub length-byteBits : (x : ℕ) → length (byteBits x) ≡ 8
 unfolding byteBits
@@ -56,6 +56,21 @@ prefix-snoc [] b [] h = absurd (not-suc-le-zero h)
 prefix-snoc [] b (c ∷ bs) h = and-true (Bool·beq b c)
 prefix-snoc (x ∷ p) b [] h = absurd (not-suc-le-zero h)
 prefix-snoc (x ∷ p) b (c ∷ bs) h = ap (Bool·beq x c &&_) (prefix-snoc p b bs (le-of-suc-le-suc h)) ∙ sym (and-assoc (Bool·beq x c) (prefix p bs) _)
+
+-- a string of bits that begins with a longer place begins with the place and goes on with its last bit
+pub prefix-longer : (b : Side) (p : Place) (bs : List Side) → prefix (longer b p) bs ≡ true → (prefix p bs ≡ true) × (getD bs (length p) false ≡ b)
+unfolding longer
+prefix-longer b [] [] h = absurd (false≢true h)
+prefix-longer b [] (c ∷ bs) h = (refl, sym (same-bit b c (and-left (Bool·beq b c) true h)))
+prefix-longer b (x ∷ p) [] h = absurd (false≢true h)
+prefix-longer b (x ∷ p) (c ∷ bs) h =
+    let rest = prefix-longer b p bs (and-right (Bool·beq x c) (prefix (p ++ (b ∷ [])) bs) h) in
+    (rw (and-left (Bool·beq x c) (prefix (p ++ (b ∷ [])) bs) h) (rest .0), rest .1)
+
+pub prefix-length : (p : Place) (bs : List Side) → prefix p bs ≡ true → length p ≤ length bs
+prefix-length [] bs h = omega arith
+prefix-length (x ∷ p) [] h = absurd (false≢true h)
+prefix-length (x ∷ p) (c ∷ bs) h = omega (arith, prefix-length p bs (and-right (Bool·beq x c) (prefix p bs) h))
 
 -- a key begins with a longer place if it begins with the place and goes on with its last bit
 pub begins-longer : (b : Side) (p : Place) (k : Bytes) → length p < 8 * length k → begins (longer b p) k ≡ begins p k && Bool·beq b (bit (length p) k)

@@ -1,0 +1,15 @@
+pub mod Slots
+pub mod Writing
+pub mod Standing
+pub mod Whole
+pub mod Pruning
+pub mod Nodes
+pub mod Growing
+pub mod Trees
+pub mod Forms
+pub mod Applying
+pub mod Unchanged
+pub mod Calls
+pub mod Ledger
+pub mod Histories
+pub mod Theorems

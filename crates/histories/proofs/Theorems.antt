@@ -1,0 +1,197 @@
+-- The theorems on what a store holds, in the words of `Sound`, the calls and `Holds`: what accepted calls do, what refused ones leave, and
+-- demand 3 over every list of calls. Assumes nothing.
+use Prim.Native.Nat.{ℕ, _≤_}
+use native.Mathlib.Omega.{arith}
+use mathlib.Core.Path.{_≡_, refl, ap, sym, _∙_, subst}
+use mathlib.Core.Logic.{_↔_}
+use mathlib.Core.Bool.{true, false, true≢false}
+use mathlib.Core.List.{List, [], _∷_, _++_}
+use mathlib.Core.Option.{Option, none, some}
+use lib.ListN.{length}
+use borrow.Author.Tests.{le-leb}
+use Rattle.terms.specs.Bits.{Bytes, Place, All}
+use Rattle.terms.specs.Records.{Grant, Ask, Body, leafBody, innerBody, Record, Store}
+use Rattle.terms.specs.Form.{placeLimit, GrantForm, AskForm}
+use Rattle.meaning.specs.Tree.{treeOf, hash, unversioned, grantsIn, newRoot, nextTree}
+use Rattle.meaning.specs.Store.{formatted, treeAtVersion}
+use Rattle.meaning.specs.Sound.{mostSlots, At, Kept, NodeOf, Lives, Hashes32, Sound}
+use Rattle.meaning.specs.Calls.{Answer, refused, accepted, refuse, isKept, Applied, ascending, prune, apply}
+use Rattle.meaning.specs.Reading.{readRoot}
+use Rattle.meaning.specs.History.{Call, formatting, applying, pruning, looking, CallForm, isAccepted, after, took, run, history, Entry, entry, ledger, grantsOf, held, Holds}
+use Rattle.meaning.proofs.Runs.{Ascending}
+use Rattle.meaning.proofs.Shaped.{Shaped, shaped-form, shaped-ascending, shaped-treeOf}
+use Rattle.histories.specs.Claims.{NoChange, ApplyRefuses, not-in-form, not-ascending, no-version-left, no-room, AfterApply, AfterPrune}
+use Rattle.histories.proofs.Standing.{node-found}
+use Rattle.histories.proofs.Whole.{sound-whole, whole-sound}
+use Rattle.histories.proofs.Pruning.{cut, formatted-whole}
+use Rattle.histories.proofs.Trees.{kept-shaped, root-hash}
+use Rattle.histories.proofs.Unchanged.{unchanged-without, unchanged-tree}
+use Rattle.histories.proofs.Calls.{prune-cases, cut-after, storeAfter, apply-cases, settled-after}
+use Rattle.histories.proofs.Histories.{keeps-holds, keeps-held, keeps-formatted, keeps-calls}
+
+-- an answer is refused or accepted, with one number or result
+not-both : {A B : Type 0} {n : ℕ} {x : A} → _≡_ {A = Answer A} (refused n) (accepted x) → B
+not-both e = let z : _≡_ {A = ℕ} 0 1 = cc in absurd (omega arith)
+
+same-result : {A : Type 0} {x y : A} → _≡_ {A = Answer A} (accepted x) (accepted y) → x ≡ y
+same-result e = cc
+
+same-number : {A : Type 0} {m n : ℕ} → _≡_ {A = Answer A} (refused m) (refused n) → m ≡ n
+same-number e = cc
+
+not-accepted : {A : Type 0} (a : Answer A) → isAccepted a ≡ false → (n : ℕ) × (a ≡ refused n)
+not-accepted (refused n) e = (n, refl)
+not-accepted (accepted x) e = absurd (true≢false e)
+
+most-bits : (b : Body) → placeLimit b ≤ 256
+most-bits (leafBody k x) = omega arith
+most-bits (innerBody l r) = omega arith
+
+module _ (leafHash innerHash : Bytes → Bytes → Bytes) where
+  -- Formatting: a fresh store is sound.
+  pub formatted-is-sound : (n : ℕ) → 1 ≤ n → n ≤ mostSlots → Sound leafHash innerHash (formatted n)
+  formatted-is-sound n h k = whole-sound leafHash innerHash (formatted n) (formatted-whole leafHash innerHash n (h, k))
+
+  -- In a sound store a kept version's tree is the tree of its grants, which ascend and have keys and values of 32 bytes.
+  pub sound-tree-of-grants : (st : Store) → Sound leafHash innerHash st → (v : ℕ) → Kept st v →
+      (unversioned (treeAtVersion st v) ≡ treeOf (grantsIn (treeAtVersion st v)))
+      × Ascending (grantsIn (treeAtVersion st v))
+      × All GrantForm (grantsIn (treeAtVersion st v))
+  sound-tree-of-grants st s v k =
+      let t = unversioned (treeAtVersion st v) in
+      let shaped = kept-shaped leafHash innerHash st (sound-whole leafHash innerHash st s) v k in
+      (shaped-treeOf t shaped, shaped-ascending [] t shaped, shaped-form [] t shaped)
+
+  -- No path is longer than 256 steps: the place of a node has at most 256 bits.
+  pub paths-have-at-most-256-steps : (st : Store) → Sound leafHash innerHash st → (v : ℕ) → Kept st v →
+      (w : ℕ) (q : Place) → NodeOf w q (treeAtVersion st v) [] → length q ≤ 256
+  paths-have-at-most-256-steps st s v k w q n =
+      let r = node-found leafHash innerHash st w q [] (treeAtVersion st v) (s .stands v k) n in
+      let form = sound-whole leafHash innerHash st s .formed (r .0) (r .1) in
+      omega (arith, form .short, most-bits (r .0 .body), ap length (r .3))
+
+  -- Pruning, accepted.
+  pub prune-keeps-sound : (n : ℕ) (st : Store) (freed : ℕ) → Sound leafHash innerHash st → prune n st .answer ≡ accepted freed →
+      AfterPrune leafHash innerHash n st freed (prune n st .store)
+  unfolding refuse
+  prune-keeps-sound n st freed s =
+      prune-cases (λ o. o .answer ≡ accepted freed → AfterPrune leafHash innerHash n st freed (o .store)) n st (λ k e. not-both e)
+      (λ k e. subst (λ x. AfterPrune leafHash innerHash n st x (cut n st)) (same-result e) (cut-after leafHash innerHash n st s k))
+
+  -- A batch, accepted.
+  pub apply-keeps-sound : Hashes32 leafHash → Hashes32 innerHash → (batch : List Ask) (st : Store) (answer : Applied) →
+      Sound leafHash innerHash st → All AskForm batch → apply leafHash innerHash (some batch) st .answer ≡ accepted answer →
+      AfterApply leafHash innerHash batch st answer (apply leafHash innerHash (some batch) st .store)
+  unfolding refuse
+  apply-keeps-sound lh ih batch st answer s ok =
+      apply-cases leafHash innerHash (λ o. o .answer ≡ accepted answer → AfterApply leafHash innerHash batch st answer (o .store)) batch st
+      (λ a e. not-both e) (λ a m e. not-both e) (λ a m h e. not-both e)
+      (λ a m room e.
+      subst (λ x. AfterApply leafHash innerHash batch st x (storeAfter leafHash innerHash batch st)) (same-result e)
+      (settled-after leafHash innerHash lh ih batch st s ok m room))
+
+  -- Refused calls leave the store as it was.
+  pub refused-apply-writes-nothing : (batch : Option (List Ask)) (st : Store) (n : ℕ) →
+      apply leafHash innerHash batch st .answer ≡ refused n → apply leafHash innerHash batch st .store ≡ st
+  unfolding refuse
+  refused-apply-writes-nothing none st n e = refl
+  refused-apply-writes-nothing (some batch) st n e =
+      apply-cases leafHash innerHash (λ o. o .answer ≡ refused n → o .store ≡ st) batch st (λ a k. refl) (λ a m k. refl)
+      (λ a m h k. refl) (λ a m room k. not-both (sym k)) e
+
+  pub refused-prune-writes-nothing : (n : ℕ) (st : Store) (m : ℕ) → prune n st .answer ≡ refused m → prune n st .store ≡ st
+  unfolding refuse
+  refused-prune-writes-nothing n st m e =
+      prune-cases (λ o. o .answer ≡ refused m → o .store ≡ st) n st (λ h k. refl) (λ h k. not-both (sym k)) e
+
+  -- 4 to 7 are given by apply exactly as the rows say, 8 by prune exactly if the version isn't kept; and no other number.
+  pub apply-refuses-exactly : (batch : Option (List Ask)) (st : Store) (n : ℕ) →
+      (apply leafHash innerHash batch st .answer ≡ refused n) ↔ ApplyRefuses leafHash innerHash st batch n
+  unfolding refuse
+  apply-refuses-exactly none st n =
+      (λ e. subst (ApplyRefuses leafHash innerHash st none) (same-number e) not-in-form, λ r. none-row r)
+    where
+      none-row : {m : ℕ} → ApplyRefuses leafHash innerHash st none m → _≡_ {A = Answer Applied} (refused 4) (refused m)
+      none-row not-in-form = refl
+  apply-refuses-exactly (some batch) st n = (there, back)
+    where
+      there : apply leafHash innerHash (some batch) st .answer ≡ refused n → ApplyRefuses leafHash innerHash st (some batch) n
+      there =
+          apply-cases leafHash innerHash (λ o. o .answer ≡ refused n → ApplyRefuses leafHash innerHash st (some batch) n) batch st
+          (λ a e. subst (ApplyRefuses leafHash innerHash st (some batch)) (same-number e) (not-ascending a))
+          (λ a l e. subst (ApplyRefuses leafHash innerHash st (some batch)) (same-number e) (no-version-left a l))
+          (λ a l f e. subst (ApplyRefuses leafHash innerHash st (some batch)) (same-number e) (no-room a l f))
+          (λ a l f e. not-both (sym e))
+
+      back : {m : ℕ} → ApplyRefuses leafHash innerHash st (some batch) m → apply leafHash innerHash (some batch) st .answer ≡ refused m
+      back (not-ascending a) =
+          apply-cases leafHash innerHash (λ o. o .answer ≡ refused 5) batch st (λ b. refl) (λ b l. absurd (true≢false (sym b ∙ a)))
+          (λ b l f. absurd (true≢false (sym b ∙ a))) (λ b l f. absurd (true≢false (sym b ∙ a)))
+      back (no-version-left a l) =
+          apply-cases leafHash innerHash (λ o. o .answer ≡ refused 6) batch st (λ b. absurd (true≢false (sym a ∙ b))) (λ b m. refl)
+          (λ b m f. absurd (m l)) (λ b m f. absurd (m l))
+      back (no-room a l f) =
+          apply-cases leafHash innerHash (λ o. o .answer ≡ refused 7) batch st (λ b. absurd (true≢false (sym a ∙ b))) (λ b m. absurd (l m))
+          (λ b m g. refl) (λ b m g. absurd (omega arith))
+
+  pub prune-refuses-exactly : (n : ℕ) (st : Store) (m : ℕ) → (prune n st .answer ≡ refused m) ↔ ((m ≡ 8) × (Kept st n → ⊥))
+  unfolding refuse
+  prune-refuses-exactly n st m =
+      prune-cases (λ o. (o .answer ≡ refused m) ↔ ((m ≡ 8) × (Kept st n → ⊥))) n st
+      (λ h. (λ e. (sym (same-number e), h), λ k. ap refused (sym (k .0)))) (λ h. (λ e. not-both (sym e), λ k. absurd (k .1 h)))
+
+  -- An insert of the value already there and a delete of an absent key are no change: the tree is that of the batch without them. A batch
+  -- of nothing else makes a new root only.
+  latest-shaped : (st : Store) → Sound leafHash innerHash st → Shaped [] (unversioned (treeAtVersion st (st .latest)))
+  latest-shaped st s = kept-shaped leafHash innerHash st (sound-whole leafHash innerHash st s) (st .latest) (s .header .0, omega arith)
+
+  pub no-change-is-left-out : (new : ℕ) (xs : List Ask) (a : Ask) (ys : List Ask) (st : Store) → Sound leafHash innerHash st →
+      ascending (xs ++ a ∷ ys) ≡ true → NoChange (grantsIn (treeAtVersion st (st .latest))) a →
+      nextTree new (treeAtVersion st (st .latest)) (xs ++ a ∷ ys) ≡ nextTree new (treeAtVersion st (st .latest)) (xs ++ ys)
+  no-change-is-left-out new xs a ys st s o h = unchanged-without new (treeAtVersion st (st .latest)) xs a ys (latest-shaped st s) o h
+
+  pub no-change-makes-a-root : (new : ℕ) (batch : List Ask) (st : Store) → Sound leafHash innerHash st →
+      All (NoChange (grantsIn (treeAtVersion st (st .latest)))) batch →
+      nextTree new (treeAtVersion st (st .latest)) batch ≡ newRoot new (treeAtVersion st (st .latest))
+  no-change-makes-a-root new batch st s h = unchanged-tree new (treeAtVersion st (st .latest)) batch (latest-shaped st s) h
+
+  -- Demand 3. After any list of calls a formatted store is sound and holds what the calls have granted to each version.
+  pub histories-hold : Hashes32 leafHash → Hashes32 innerHash → (n : ℕ) → 1 ≤ n → n ≤ mostSlots → (calls : List Call) →
+      All CallForm calls →
+      Holds leafHash innerHash (run leafHash innerHash calls (formatted n))
+      (ledger (history leafHash innerHash calls (formatted n)) (entry 0 [] ∷ []))
+  histories-hold lh ih n h k calls f =
+      keeps-holds leafHash innerHash _ _
+      (keeps-calls leafHash innerHash lh ih calls (formatted n) _ f (keeps-formatted leafHash innerHash n (h, k)))
+
+  -- The same from any sound store, with what it holds.
+  pub sound-histories-hold : Hashes32 leafHash → Hashes32 innerHash → (st : Store) → Sound leafHash innerHash st → (calls : List Call) →
+      All CallForm calls →
+      Holds leafHash innerHash (run leafHash innerHash calls st) (ledger (history leafHash innerHash calls st) (held st))
+  sound-histories-hold lh ih st s calls f =
+      keeps-holds leafHash innerHash _ _ (keeps-calls leafHash innerHash lh ih calls st (held st) f (keeps-held leafHash innerHash st s))
+
+  -- A call that isn't accepted leaves the store as it was.
+  pub not-accepted-changes-nothing : (c : Call) (st : Store) → took leafHash innerHash c st ≡ false → after leafHash innerHash c st ≡ st
+  not-accepted-changes-nothing formatting st e = absurd (true≢false e)
+  not-accepted-changes-nothing (applying batch) st e = let r = not-accepted _ e in refused-apply-writes-nothing batch st (r .0) (r .1)
+  not-accepted-changes-nothing (pruning n) st e = let r = not-accepted _ e in refused-prune-writes-nothing n st (r .0) (r .1)
+  not-accepted-changes-nothing looking st e = refl
+
+  -- Each record stands in exactly the kept versions of its lifetime.
+  pub records-stand-in-their-lifetimes : (st : Store) (es : List Entry) → Holds leafHash innerHash st es → (v : ℕ) → Kept st v →
+      (i : ℕ) (r : Record) → At st i r → NodeOf (r .version) (r .place) (treeAtVersion st v) [] ↔ Lives v r
+  records-stand-in-their-lifetimes st es h = h .sound .exact
+
+  -- A root read answers the hash of the tree of what the calls have granted.
+  pub root-read-of-the-ledger : (st : Store) (es : List Entry) → Holds leafHash innerHash st es → (v : ℕ) → Kept st v →
+      (gs : List Grant) × (grantsOf v es ≡ some gs) × (readRoot leafHash innerHash st v ≡ accepted (hash leafHash innerHash (treeOf gs)))
+  unfolding readRoot isKept
+  root-read-of-the-ledger st es h v k =
+      let g = h .gives v k in (
+        g .0,
+        g .1,
+        rw (le-leb (st .oldest) v (k .0), le-leb v (st .latest) (k .1))
+            (ap accepted
+            (root-hash leafHash innerHash st (sound-whole leafHash innerHash st (h .sound)) v k ∙ ap (hash leafHash innerHash) (g .2))),
+      )

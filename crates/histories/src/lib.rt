@@ -1,0 +1,1 @@
+// Theorems on what a store holds after calls, without code: that soundness is kept, and histories.
