@@ -10,7 +10,7 @@ use lib.ListN.{length, getD}
 use lib.Dec.{ltb, eqb}
 use borrow.Author.Tests.{ltb-true, ltb-false, eqb-true, eqb-false, lt-ltb, le-ltb, eq-eqb, ne-eqb}
 use Rattle.terms.specs.Bits.{Bytes, Byte, Side, Place, All, bits, byteBits, odd, prefix, before}
-use Rattle.terms.proofs.Tests.{not-both}
+use Rattle.terms.proofs.Tests.{is-false}
 
 -- the order of bit strings
 abbrev pub lex : List Bool → List Bool → Bool
@@ -157,7 +157,7 @@ before-irrefl [] h = false≢true h
 before-irrefl (x ∷ xs) h = irrefl-split x xs (split x x xs xs _ _ refl refl h) (before-irrefl xs)
 
 pub before-asym : (xs ys : Bytes) → before xs ys ≡ true → before ys xs ≡ false
-before-asym xs ys h = not-both (before ys xs) (λ k. before-irrefl xs (before-trans xs ys xs h k))
+before-asym xs ys h = is-false (before ys xs) (λ k. before-irrefl xs (before-trans xs ys xs h k))
 
 -- neither before the other: equal
 total-go : (x y : ℕ) (xs ys : Bytes) (a b c : Bool) → ltb x y ≡ a → ltb y x ≡ b → eqb x y ≡ c → eqb y x ≡ c →

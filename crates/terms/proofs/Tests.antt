@@ -29,9 +29,13 @@ pub and-true : (a : Bool) → a && true ≡ a
 and-true true = refl
 and-true false = refl
 
-pub not-both : (b : Bool) → (b ≡ true → ⊥) → b ≡ false
-not-both true h = absurd (h refl)
-not-both false h = refl
+pub is-false : (b : Bool) → (b ≡ true → ⊥) → b ≡ false
+is-false true h = absurd (h refl)
+is-false false h = refl
+
+pub is-true : (b : Bool) → (b ≡ false → ⊥) → b ≡ true
+is-true true h = refl
+is-true false h = absurd (h refl)
 
 -- A Bool test of both bits, and what it says of one: for facts about bits that are computed.
 abbrev pub bothBits : (Side → Bool) → Bool

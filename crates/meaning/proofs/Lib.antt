@@ -1,0 +1,5 @@
+pub mod Desk
+pub mod Finding
+pub mod Sides
+pub mod Runs
+pub mod Versions

@@ -1,0 +1,222 @@
+-- Document 01, 'The desk's example': M1 to M12 without M10 as one table, for any two hash functions. A begins 00, B 010, C 011, D 1; other
+-- bits zero. A row has the store before, the call, its answer and the store after; hashes are names. Assumes nothing.
+use Prim.Native.Nat.{ℕ}
+use mathlib.Core.Path.{_≡_}
+use mathlib.Core.Bool.{Bool, true, false}
+use mathlib.Core.List.{List, [], _∷_, _++_}
+use mathlib.Core.Option.{Option, none, some}
+use lib.ListN.{replicate}
+use Rattle.terms.specs.Bits.{Bytes, Place, All}
+use Rattle.terms.specs.Records.{Ask, insert, delete, Store, Slot, free, used, Record, leafBody, innerBody, child, zeros}
+use Rattle.meaning.specs.Store.{formatted}
+use Rattle.meaning.specs.Calls.{Answer, refused, accepted, Applied, Outcome, apply, prune}
+
+-- A row: a batch on a store, or a pruning.
+pub data Row : Type 0 where
+  applies : Store → List Ask → Answer Applied → Store → Row
+  prunes : Store → ℕ → Answer ℕ → Store → Row
+
+-- a key: its first byte, then zeros, then its last byte
+abbrev pub keyOf : ℕ → ℕ → Bytes
+keyOf first last = first ∷ replicate 30 0 ++ (last ∷ [])
+
+abbrev A : Bytes
+A = keyOf 0 0
+
+abbrev B : Bytes
+B = keyOf 0b01000000 0
+
+abbrev C : Bytes
+C = keyOf 0b01100000 0
+
+abbrev D : Bytes
+D = keyOf 0b10000000 0
+
+abbrev E : Bytes
+E = keyOf 0b10000000 1
+
+abbrev F : Bytes
+F = keyOf 0b00010000 0
+
+abbrev a : Bytes
+a = replicate 32 1
+
+abbrev b : Bytes
+b = replicate 32 2
+
+abbrev c : Bytes
+c = replicate 32 3
+
+abbrev d : Bytes
+d = replicate 32 4
+
+abbrev c′ : Bytes
+c′ = replicate 32 5
+
+abbrev e : Bytes
+e = replicate 32 6
+
+-- places
+abbrev o : Bool
+o = false
+
+abbrev i : Bool
+i = true
+
+abbrev p0 : Place
+p0 = o ∷ []
+
+abbrev p1 : Place
+p1 = i ∷ []
+
+abbrev p00 : Place
+p00 = o ∷ o ∷ []
+
+abbrev p01 : Place
+p01 = o ∷ i ∷ []
+
+abbrev p010 : Place
+p010 = o ∷ i ∷ o ∷ []
+
+abbrev p011 : Place
+p011 = o ∷ i ∷ i ∷ []
+
+-- place, version, retired since, and the rest
+abbrev lf : Place → ℕ → ℕ → Bytes → Bytes → Slot
+lf p v r k x = used (record { place = p; version = v; retired = r; body = leafBody k x })
+
+abbrev nd : Place → ℕ → ℕ → ℕ → Bytes → ℕ → Bytes → Slot
+nd p v r lv lh rv rh = used (record { place = p; version = v; retired = r; body = innerBody (child lv lh) (child rv rh) })
+
+abbrev store : ℕ → ℕ → List Slot → Store
+store old new s = record { oldest = old; latest = new; slots = s }
+
+abbrev made : ℕ → Bytes → ℕ → Answer Applied
+made v root n = accepted (record { version = v; root = root; count = n })
+
+-- M1's batch, and M9's.
+abbrev four : List Ask
+four = insert A a ∷ insert B b ∷ insert C c ∷ insert D d ∷ []
+
+abbrev two : List Ask
+two = insert A a ∷ insert F b ∷ []
+
+module _ (leafHash innerHash : Bytes → Bytes → Bytes) where
+  -- The call's answer and the store after it are the row's.
+  abbrev pub RowHolds : Row → Type 0
+  RowHolds (applies st batch answer end) = apply leafHash innerHash (some batch) st ≡ record { answer = answer; store = end }
+  RowHolds (prunes st n answer end) = prune n st ≡ record { answer = answer; store = end }
+
+  abbrev hA : Bytes
+  hA = leafHash A a
+
+  abbrev hB : Bytes
+  hB = leafHash B b
+
+  abbrev hC : Bytes
+  hC = leafHash C c
+
+  abbrev hD : Bytes
+  hD = leafHash D d
+
+  abbrev hC′ : Bytes
+  hC′ = leafHash C c′
+
+  abbrev h01 : Bytes
+  h01 = innerHash hB hC
+
+  abbrev h0 : Bytes
+  h0 = innerHash hA h01
+
+  abbrev root₁ : Bytes
+  root₁ = innerHash h0 hD
+
+  abbrev h0′ : Bytes
+  h0′ = innerHash hA hC′
+
+  abbrev root₂ : Bytes
+  root₂ = innerHash h0′ hD
+
+  abbrev root₄ : Bytes
+  root₄ = innerHash hC′ hD
+
+  abbrev seven : List Slot
+  seven = lf p010 1 0 B b ∷ lf p011 1 0 C c ∷ lf p00 1 0 A a ∷ nd p01 1 0 1 hB 1 hC ∷ nd p0 1 0 1 hA 1 h01 ∷ lf p1 1 0 D d ∷ nd [] 1 0 1 h0 1 hD ∷ []
+
+  abbrev pub s₁ : Store
+  s₁ = store 0 1 (seven ++ replicate 13 free)
+
+  abbrev pub s₂ : Store
+  s₂ = store 0 2
+      (lf p010 1 2 B b ∷ lf p011 1 2 C c ∷ lf p00 1 0 A a ∷ nd p01 1 2 1 hB 1 hC ∷ nd p0 1 2 1 hA 1 h01 ∷ lf p1 1 0 D d ∷ nd [] 1 2 1 h0 1 hD
+      ∷ lf p01 2 0 C c′ ∷ nd p0 2 0 1 hA 2 hC′ ∷ nd [] 2 0 2 h0′ 1 hD ∷ replicate 10 free)
+
+  abbrev pub s₃ : Store
+  s₃ = store 0 3
+      (lf p010 1 2 B b ∷ lf p011 1 2 C c ∷ lf p00 1 0 A a ∷ nd p01 1 2 1 hB 1 hC ∷ nd p0 1 2 1 hA 1 h01 ∷ lf p1 1 0 D d ∷ nd [] 1 2 1 h0 1 hD
+      ∷ lf p01 2 0 C c′ ∷ nd p0 2 0 1 hA 2 hC′ ∷ nd [] 2 3 2 h0′ 1 hD ∷ nd [] 3 0 2 h0′ 1 hD ∷ replicate 9 free)
+
+  abbrev pub s₄ : Store
+  s₄ = store 0 4
+      (lf p010 1 2 B b ∷ lf p011 1 2 C c ∷ lf p00 1 4 A a ∷ nd p01 1 2 1 hB 1 hC ∷ nd p0 1 2 1 hA 1 h01 ∷ lf p1 1 0 D d ∷ nd [] 1 2 1 h0 1 hD
+      ∷ lf p01 2 4 C c′ ∷ nd p0 2 4 1 hA 2 hC′ ∷ nd [] 2 3 2 h0′ 1 hD ∷ nd [] 3 4 2 h0′ 1 hD
+      ∷ lf p0 4 0 C c′ ∷ nd [] 4 0 4 hC′ 1 hD ∷ replicate 7 free)
+
+  abbrev pub s₅ : Store
+  s₅ = store 0 5
+      (lf p010 1 2 B b ∷ lf p011 1 2 C c ∷ lf p00 1 4 A a ∷ nd p01 1 2 1 hB 1 hC ∷ nd p0 1 2 1 hA 1 h01 ∷ lf p1 1 5 D d ∷ nd [] 1 2 1 h0 1 hD
+      ∷ lf p01 2 4 C c′ ∷ nd p0 2 4 1 hA 2 hC′ ∷ nd [] 2 3 2 h0′ 1 hD ∷ nd [] 3 4 2 h0′ 1 hD
+      ∷ lf p0 4 5 C c′ ∷ nd [] 4 5 4 hC′ 1 hD ∷ lf [] 5 0 C c′ ∷ replicate 6 free)
+
+  abbrev pub s₆ : Store
+  s₆ = store 0 6
+      (lf p010 1 2 B b ∷ lf p011 1 2 C c ∷ lf p00 1 4 A a ∷ nd p01 1 2 1 hB 1 hC ∷ nd p0 1 2 1 hA 1 h01 ∷ lf p1 1 5 D d ∷ nd [] 1 2 1 h0 1 hD
+      ∷ lf p01 2 4 C c′ ∷ nd p0 2 4 1 hA 2 hC′ ∷ nd [] 2 3 2 h0′ 1 hD ∷ nd [] 3 4 2 h0′ 1 hD
+      ∷ lf p0 4 5 C c′ ∷ nd [] 4 5 4 hC′ 1 hD ∷ lf [] 5 6 C c′ ∷ replicate 6 free)
+
+  abbrev pub s₇ : Store
+  s₇ = store 4 6
+      (replicate 5 free ++ lf p1 1 5 D d ∷ replicate 5 free ++ lf p0 4 5 C c′ ∷ nd [] 4 5 4 hC′ 1 hD ∷ lf [] 5 6 C c′ ∷ replicate 6 free)
+
+  abbrev pub s₈ : Store
+  s₈ = store 4 7
+      (lf [] 7 0 E e ∷ replicate 4 free ++ lf p1 1 5 D d ∷ replicate 5 free ++ lf p0 4 5 C c′ ∷ nd [] 4 5 4 hC′ 1 hD ∷ lf [] 5 6 C c′ ∷ replicate 6 free)
+
+  abbrev hF : Bytes
+  hF = leafHash F b
+
+  abbrev r3 : Bytes
+  r3 = innerHash hA hF
+
+  abbrev r2 : Bytes
+  r2 = innerHash r3 zeros
+
+  abbrev r1 : Bytes
+  r1 = innerHash r2 zeros
+
+  abbrev pub s₉ : Store
+  s₉ = store 0 1
+      (lf (o ∷ o ∷ o ∷ o ∷ []) 1 0 A a ∷ lf (o ∷ o ∷ o ∷ i ∷ []) 1 0 F b ∷ nd (o ∷ o ∷ o ∷ []) 1 0 1 hA 1 hF ∷ nd p00 1 0 1 r3 0 zeros ∷ nd p0 1 0 1 r2 0 zeros ∷ nd [] 1 0 1 r1 0 zeros ∷ replicate 14 free)
+
+  abbrev pub s₁₂ : Store
+  s₁₂ = store 0 2
+      (lf p010 1 2 B b ∷ lf p011 1 2 C c ∷ lf p00 1 2 A a ∷ nd p01 1 2 1 hB 1 hC ∷ nd p0 1 2 1 hA 1 h01 ∷ lf p1 1 2 D d ∷ nd [] 1 2 1 h0 1 hD ∷ [])
+
+  abbrev pub table : List Row
+  table =
+      applies (formatted 20) four (made 1 root₁ 7) s₁
+      ∷ applies s₁ (delete B ∷ insert C c′ ∷ []) (made 2 root₂ 3) s₂
+      ∷ applies s₂ [] (made 3 root₂ 1) s₃
+      ∷ applies s₃ (delete A ∷ []) (made 4 root₄ 2) s₄
+      ∷ applies s₄ (delete D ∷ []) (made 5 hC′ 1) s₅
+      ∷ applies s₅ (delete C ∷ []) (made 6 zeros 0) s₆
+      ∷ prunes s₆ 4 (accepted 10) s₇
+      ∷ applies s₇ (insert E e ∷ []) (made 7 (leafHash E e) 1) s₈
+      ∷ applies (formatted 20) two (made 1 (innerHash r1 zeros) 6) s₉
+      ∷ applies (formatted 5) two (refused 7) (formatted 5)
+      ∷ prunes s₈ 4 (accepted 0) s₈
+      ∷ prunes s₈ 8 (refused 8) s₈
+      ∷ applies (formatted 7) four (made 1 root₁ 7) (store 0 1 seven)
+      ∷ applies (store 0 1 seven) [] (refused 7) (store 0 1 seven)
+      ∷ applies (store 0 1 seven) (delete A ∷ delete B ∷ delete C ∷ delete D ∷ []) (made 2 zeros 0) s₁₂
+      ∷ []

@@ -1,0 +1,95 @@
+-- Demand 3: histories. The calls on a store, and the grants that a history gives to each version, told from the calls and from which of
+-- them were accepted. Assumes nothing.
+use Prim.Native.Nat.{ℕ, suc, _≤_}
+use mathlib.Core.Path.{_≡_}
+use mathlib.Core.Bool.{Bool, true, false, cond}
+use mathlib.Core.List.{List, [], _∷_}
+use mathlib.Core.Option.{Option, none, some}
+use lib.ListN.{length}
+use lib.Dec.{eqb, leb}
+use Rattle.terms.specs.Bits.{Bytes, filter}
+use Rattle.terms.specs.Records.{Grant, Ask, Store}
+use Rattle.meaning.specs.Tree.{withBatch, treeOf, unversioned, grantsIn}
+use Rattle.meaning.specs.Store.{formatted, treeAtVersion}
+use Rattle.meaning.specs.Sound.{Sound, Kept}
+use Rattle.meaning.specs.Calls.{Answer, refused, accepted, apply, prune}
+
+-- A call on a store, with its arguments.
+pub data Call : Type 0 where
+  formatting : Call
+  -- the batch as decoded; none where it isn't whole records in form
+  applying : Option (List Ask) → Call
+  pruning : ℕ → Call
+  -- check, the reads, proving, and any call refused for its sizes or its header: nothing is written
+  looking : Call
+
+abbrev pub isAccepted : {A : Type 0} → Answer A → Bool
+isAccepted (refused n) = false
+isAccepted (accepted x) = true
+
+module _ (leafHash innerHash : Bytes → Bytes → Bytes) where
+  -- The store after a call.
+  abbrev pub after : Call → Store → Store
+  after formatting st = formatted (length (st .slots))
+  after (applying batch) st = apply leafHash innerHash batch st .store
+  after (pruning n) st = prune n st .store
+  after looking st = st
+
+  -- The call was accepted, so it may have changed what the store holds.
+  abbrev pub took : Call → Store → Bool
+  took formatting st = true
+  took (applying batch) st = isAccepted (apply leafHash innerHash batch st .answer)
+  took (pruning n) st = isAccepted (prune n st .answer)
+  took looking st = false
+
+  -- The store after a list of calls.
+  abbrev pub run : List Call → Store → Store
+  run [] st = st
+  run (c ∷ calls) st = run calls (after c st)
+
+  -- A history as the callers see it: each call, and whether it was accepted.
+  abbrev pub history : List Call → Store → List (Call × Bool)
+  history [] st = []
+  history (c ∷ calls) st = (c, took c st) ∷ history calls (after c st)
+
+-- The grants of a version.
+pub record Entry : Type 0 where
+  pub version : ℕ
+  pub grants : List Grant
+
+abbrev pub entry : ℕ → List Grant → Entry
+entry v gs = record { version = v; grants = gs }
+
+unfoldable pub keptBy : ℕ → Entry → Bool
+keptBy n e = leb n (e .version)
+
+-- What an accepted call does to the grants by version, the newest first: formatting starts anew with the empty version 0, a batch makes
+-- the next version (there always is a newest one), pruning forgets what is older.
+abbrev pub noted : Call → List Entry → List Entry
+noted formatting es = entry 0 [] ∷ []
+noted (applying none) es = es
+noted (applying (some batch)) [] = []
+noted (applying (some batch)) (e ∷ es) = entry (suc (e .version)) (withBatch batch (e .grants)) ∷ e ∷ es
+noted (pruning n) es = filter (keptBy n) es
+noted looking es = es
+
+-- The grants by version that a history gives, from those before it.
+abbrev pub ledger : List (Call × Bool) → List Entry → List Entry
+ledger [] es = es
+ledger (c ∷ calls) es = ledger calls (cond (c .1) (noted (c .0) es) es)
+
+-- The grants of a version in a ledger.
+abbrev pub grantsOf : ℕ → List Entry → Option (List Grant)
+grantsOf v [] = none
+grantsOf v (e ∷ es) = cond (eqb (e .version) v) (some (e .grants)) (grantsOf v es)
+
+-- A store holds what a ledger says: it is sound, each kept version's tree is the tree of its grants, and no other version has any.
+module _ (leafHash innerHash : Bytes → Bytes → Bytes) where
+  pub record Holds (st : Store) (es : List Entry) : Type 0 where
+    pub sound : Sound leafHash innerHash st
+    pub gives : (v : ℕ) → Kept st v →
+        (gs : List Grant)
+        × (grantsOf v es ≡ some gs)
+        × (unversioned (treeAtVersion st v) ≡ treeOf gs)
+        × (grantsIn (treeAtVersion st v) ≡ gs)
+    pub only : (v : ℕ) → (Kept st v → ⊥) → grantsOf v es ≡ none

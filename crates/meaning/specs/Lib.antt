@@ -1,0 +1,11 @@
+pub mod Tree
+pub mod Store
+pub mod Sound
+pub mod Calls
+pub mod Reading
+pub mod Proving
+pub mod Checking
+pub mod History
+pub mod Local
+pub mod Desk
+pub mod Computed

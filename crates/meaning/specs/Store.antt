@@ -1,0 +1,134 @@
+-- Document 01, 'Retirement', 'Placing' and 'Pruning', and finding a node in a store. Assumes nothing.
+use Prim.Native.Nat.{ℕ, zero, suc}
+use mathlib.Core.Bool.{Bool, true, false, cond, _&&_, _||_, not}
+use mathlib.Core.List.{List, [], _∷_, _++_, map}
+use mathlib.Core.Option.{Option, none, some}
+use lib.ListN.{replicate}
+use lib.Dec.{eqb, leb}
+use Rattle.terms.specs.Bits.{Bytes, Side, left, right, Place, longer, filter, samePlace}
+use Rattle.terms.specs.Records.{Grant, grant, Child, child, Body, leafBody, innerBody, Record, Slot, free, used, spoiled, Store}
+use Rattle.meaning.specs.Tree.{Tree, hash, VTree, vnone, vleaf, vinner, topVersion, unversioned}
+
+-- Formatted: oldest and latest are 0 and all slots free.
+unfoldable pub formatted : ℕ → Store
+formatted n = record { oldest = 0; latest = 0; slots = replicate n free }
+
+-- A record is the node (version, place).
+unfoldable pub isNode : ℕ → Place → Record → Bool
+isNode v p r = eqb (r .version) v && samePlace (r .place) p
+
+-- The lowest slot that matches a version and place is the one found.
+abbrev pub find : ℕ → Place → List Slot → Option Record
+find v p [] = none
+find v p (free ∷ s) = find v p s
+find v p (used r ∷ s) = cond (isNode v p r) (some r) (find v p s)
+find v p (spoiled x ∷ s) = find v p s
+
+-- The root record of a version.
+unfoldable pub rootOf : Store → ℕ → Option Record
+rootOf st v = find v [] (st .slots)
+
+-- The child on a side.
+abbrev pub childOn : Side → Child → Child → Child
+childOn false l r = l
+childOn true l r = r
+
+-- The tree below a record, where `below` gives what stands at a child by its side; version 0 means no child.
+abbrev pub treeBelow : ℕ → Body → (Side → ℕ → VTree) → VTree
+treeBelow v (leafBody k x) below = vleaf v (grant k x)
+treeBelow v (innerBody l r) below = vinner v (below left (l .version)) (below right (r .version))
+
+abbrev pub treeFound : Option Record → (Side → ℕ → VTree) → VTree
+treeFound none below = vnone
+treeFound (some r) below = treeBelow (r .version) (r .body) below
+
+-- The tree that stands at a version and place which is n bits short of a key; below a place of a whole key there is none.
+abbrev pub treeFrom : ℕ → List Slot → ℕ → Place → VTree
+treeFrom zero s v p = cond (eqb v 0) vnone (treeFound (find v p s) (λ b w. vnone))
+treeFrom (suc n) s v p = cond (eqb v 0) vnone (treeFound (find v p s) (λ b w. treeFrom n s w (longer b p)))
+
+-- The tree of a version: from its root record, each child at its version and place.
+unfoldable pub treeAtVersion : Store → ℕ → VTree
+treeAtVersion st v = treeFound (rootOf st v) (λ b w. treeFrom 255 (st .slots) w (b ∷ []))
+
+abbrev pub freeSlots : List Slot → ℕ
+freeSlots [] = 0
+freeSlots (free ∷ s) = suc (freeSlots s)
+freeSlots (used r ∷ s) = freeSlots s
+freeSlots (spoiled x ∷ s) = freeSlots s
+
+-- New records go to the lowest free slots.
+abbrev pub placed : List Record → List Slot → List Slot
+placed rs [] = []
+placed [] (free ∷ s) = free ∷ s
+placed (r ∷ rs) (free ∷ s) = used r ∷ placed rs s
+placed rs (used x ∷ s) = used x ∷ placed rs s
+placed rs (spoiled x ∷ s) = spoiled x ∷ placed rs s
+
+-- A record marked retired since n; nothing else in it changes.
+unfoldable pub marked : ℕ → Record → Record
+marked n r = record { place = r .place; version = r .version; retired = n; body = r .body }
+
+-- What stands in a slot, changed where it is a record.
+abbrev pub onRecord : (Record → Slot) → Slot → Slot
+onRecord f free = free
+onRecord f (used r) = f r
+onRecord f (spoiled x) = spoiled x
+
+-- A record's node is among those of a list.
+abbrev pub hasNode : Record → List Record → Bool
+hasNode r [] = false
+hasNode r (x ∷ xs) = isNode (r .version) (r .place) x || hasNode r xs
+
+-- A node of the old tree that isn't in the new tree is marked retired since the new version.
+unfoldable pub retireIn : ℕ → List Record → List Record → Record → Slot
+retireIn new old now r = used (cond (hasNode r old && not (hasNode r now)) (marked new r) r)
+
+abbrev pub retire : ℕ → List Record → List Record → List Slot → List Slot
+retire new old now s = map (onRecord (retireIn new old now)) s
+
+-- Retired by v: retired since v or earlier.
+unfoldable pub retiredBy : ℕ → Record → Bool
+retiredBy v r = leb 1 (r .retired) && leb (r .retired) v
+
+-- Pruning to n frees every record retired since n or earlier.
+unfoldable pub pruneRecord : ℕ → Record → Slot
+pruneRecord n r = cond (retiredBy n r) free (used r)
+
+abbrev pub pruned : ℕ → List Slot → List Slot
+pruned n s = map (onRecord (pruneRecord n)) s
+
+module _ (leafHash innerHash : Bytes → Bytes → Bytes) where
+  -- What an inner record says of the tree at a child.
+  unfoldable pub childOf : VTree → Child
+  childOf t = child (topVersion t) (hash leafHash innerHash (unversioned t))
+
+  -- The record of the node at a place, not retired.
+  abbrev pub recordAt : Place → VTree → List Record
+  recordAt p vnone = []
+  recordAt p (vleaf v g) = record { place = p; version = v; retired = 0; body = leafBody (g .key) (g .value) } ∷ []
+  recordAt p (vinner v l r) = record { place = p; version = v; retired = 0; body = innerBody (childOf l) (childOf r) } ∷ []
+
+  -- The records strictly below a node in the order of placing: first all strictly below its left child, then strictly below its right,
+  -- then the left child, then the right.
+  abbrev pub recordsBelow : Place → VTree → List Record
+  recordsBelow p vnone = []
+  recordsBelow p (vleaf v g) = []
+  recordsBelow p (vinner v l r) =
+      recordsBelow (longer left p) l ++ recordsBelow (longer right p) r ++ recordAt (longer left p) l ++ recordAt (longer right p) r
+
+  -- The root last.
+  unfoldable pub recordsOf : VTree → List Record
+  recordsOf t = recordsBelow [] t ++ recordAt [] t
+
+  -- The new records of a tree.
+  unfoldable pub newRecords : ℕ → VTree → List Record
+  newRecords new t = filter (λ r. eqb (r .version) new) (recordsOf t)
+
+  -- The store with version `new`, where `old` is the tree before and `now` the tree after.
+  unfoldable pub settled : ℕ → VTree → VTree → Store → Store
+  settled new old now st = record {
+    oldest = st .oldest;
+    latest = new;
+    slots = placed (newRecords new now) (retire new (recordsOf old) (recordsOf now) (st .slots));
+  }

@@ -1,0 +1,13 @@
+pub mod Histories1
+pub mod Histories2
+pub mod Histories3
+pub mod Histories4
+pub mod Histories5
+pub mod Looks1
+pub mod Looks2
+pub mod Looks3
+pub mod Looks4
+pub mod Looks5
+pub mod Tries1
+pub mod Tries2
+pub mod Tries3

@@ -1,0 +1,114 @@
+//! Format, apply, prune, and the two reads.
+
+use crate::bytes::{self, bit, Body, Place, Slot, SLOT};
+use crate::sound::sound;
+use crate::tree::{grants_of, make, placing, record_hash, version_tree, Grants, Index};
+use crate::{proof, Bytes32, Refusal, ZEROS};
+use std::collections::HashMap;
+
+pub fn format(s: &mut [u8]) -> Result<(), Refusal> {
+    bytes::capacity(s.len())?;
+    s.fill(0);
+    bytes::put_header(s, 0, 0);
+    Ok(())
+}
+
+/// Version, root and count of new records.
+pub fn apply(s: &mut [u8], batch: &[u8]) -> Result<(u32, Bytes32, u32), Refusal> {
+    let store = bytes::store(s)?;
+    if !sound(&store) {
+        return Err(3);
+    }
+    let asks = bytes::batch(batch)?;
+    if store.latest == u32::MAX {
+        return Err(6);
+    }
+    let new = store.latest + 1;
+    let index = Index::of(&store);
+    let old = version_tree(&store, &index, store.latest);
+    let before = grants_of(old.values().map(|(_, r)| r));
+    let mut after: Grants = before.clone();
+    for a in &asks {
+        match a.value {
+            Some(v) => after.insert(a.key, v),
+            None => after.remove(&a.key),
+        };
+    }
+    let before: Vec<(Bytes32, Bytes32)> = before.into_iter().collect();
+    let after: Vec<(Bytes32, Bytes32)> = after.into_iter().collect();
+    let keeps = |place: Place, grants: &[(Bytes32, Bytes32)]| {
+        let (_, r) = old.get(&place)?;
+        let from = before.partition_point(|(k, _)| k < &place.bits);
+        let below = before[from..].iter().take_while(|(k, _)| place.begins(k));
+        below.eq(grants.iter()).then_some(r.version)
+    };
+    let made = make(&after, new, &keeps);
+    let fresh: Vec<_> = placing(&made).into_iter().filter(|r| r.version == new).collect();
+    let free: Vec<usize> = (0..store.slots.len()).filter(|&i| store.slots[i] == Slot::Free).collect();
+    if free.len() < fresh.len() {
+        return Err(7);
+    }
+    for (place, (i, r)) in &old {
+        if made.nodes.get(place).map(|q| q.version) != Some(r.version) {
+            let mut r = *r;
+            r.retired = new;
+            bytes::put_slot(s, *i, &bytes::slot_bytes(&r));
+        }
+    }
+    for (i, r) in free.iter().zip(&fresh) {
+        bytes::put_slot(s, *i, &bytes::slot_bytes(r));
+    }
+    bytes::put_header(s, store.oldest, new);
+    Ok((new, made.root.hash, fresh.len() as u32))
+}
+
+/// How many records were freed.
+pub fn prune(s: &mut [u8], n: u32) -> Result<u32, Refusal> {
+    let store = bytes::store(s)?;
+    if !sound(&store) {
+        return Err(3);
+    }
+    if n < store.oldest || n > store.latest {
+        return Err(8);
+    }
+    let mut freed = 0;
+    for (i, slot) in store.slots.iter().enumerate() {
+        if let Slot::Used(r) = slot {
+            if 0 < r.retired && r.retired <= n {
+                bytes::put_slot(s, i, &[0; SLOT]);
+                freed += 1;
+            }
+        }
+    }
+    bytes::put_header(s, n, store.latest);
+    Ok(freed)
+}
+
+pub fn root(s: &[u8], version: u32) -> Result<Bytes32, Refusal> {
+    let store = bytes::store(s)?;
+    proof::kept(&store, version)?;
+    Ok(Index::of(&store).find(&store, version, Place::EMPTY).map_or(ZEROS, |(_, r)| record_hash(r)))
+}
+
+/// The value, or None for absent.
+pub fn get(s: &[u8], version: u32, key: &[u8]) -> Result<Option<Bytes32>, Refusal> {
+    let key: Bytes32 = key.try_into().map_err(|_| 12u32)?;
+    let store = bytes::store(s)?;
+    proof::kept(&store, version)?;
+    let index = Index::of(&store);
+    let walk = proof::walk(&store, &index, version, &key)?;
+    Ok(walk.end.filter(|(k, _)| *k == key).map(|(_, v)| v))
+}
+
+/// Every key's bits lead to its leaf: used by tests that ask for a key's path.
+pub fn place_of(key: &Bytes32, count: usize) -> Place {
+    (0..count).fold(Place::EMPTY, |p, i| p.longer(bit(key, i)))
+}
+
+/// The grants of a kept version of a sound store.
+pub fn grants(s: &[u8], version: u32) -> Result<Grants, Refusal> {
+    let store = bytes::store(s)?;
+    proof::kept(&store, version)?;
+    let nodes: HashMap<_, _> = version_tree(&store, &Index::of(&store), version);
+    Ok(grants_of(nodes.values().map(|(_, r)| r).filter(|r| matches!(r.body, Body::Leaf { .. }))))
+}

@@ -1,0 +1,21 @@
+//! The grant store a second time, in plain Rust, from document 01 and from nothing else. It is what the proved library is compared
+//! with, so it says each rule as 01 says it: trees are made from sets of grants, soundness follows every kept version's tree.
+
+pub mod bytes;
+pub mod calls;
+pub mod check;
+pub mod proof;
+pub mod sha256;
+pub mod sound;
+pub mod tree;
+
+pub use calls::{apply, format, get, prune, root};
+pub use check::verify;
+pub use proof::prove;
+pub use sound::check;
+
+pub type Bytes32 = [u8; 32];
+pub const ZEROS: Bytes32 = [0; 32];
+
+/// A number of refusal, as in 01's table.
+pub type Refusal = u32;

@@ -1,0 +1,154 @@
+//! 01, 'Reading and proving': the walk, the neighbours, the proof.
+
+use crate::bytes::{self, bit, Body, Child, Place, Record, Store};
+use crate::tree::Index;
+use crate::{Bytes32, Refusal};
+
+pub struct Step {
+    pub side: bool,
+    pub sibling: Bytes32,
+}
+
+pub struct Presence {
+    pub key: Bytes32,
+    pub value: Bytes32,
+    /// From the leaf upwards.
+    pub steps: Vec<Step>,
+}
+
+pub fn kept(store: &Store, version: u32) -> Result<(), Refusal> {
+    if store.oldest <= version && version <= store.latest {
+        Ok(())
+    } else {
+        Err(8)
+    }
+}
+
+/// An inner node passed, and the side taken there.
+#[derive(Clone, Copy)]
+pub struct Pass {
+    pub place: Place,
+    pub children: [Child; 2],
+    pub side: bool,
+}
+
+pub struct Walk {
+    /// The root first.
+    pub trail: Vec<Pass>,
+    pub end: Option<(Bytes32, Bytes32)>,
+}
+
+fn judged<'a>(store: &'a Store, index: &Index, c: &Child, place: Place) -> Result<&'a Record, Refusal> {
+    let (_, r) = index.find(store, c.version, place).ok_or(3u32)?;
+    leaf_begins(r)?;
+    Ok(r)
+}
+
+fn leaf_begins(r: &Record) -> Result<(), Refusal> {
+    match &r.body {
+        Body::Leaf { key, .. } if !r.place.begins(key) => Err(3),
+        _ => Ok(()),
+    }
+}
+
+pub fn walk(store: &Store, index: &Index, version: u32, key: &Bytes32) -> Result<Walk, Refusal> {
+    let mut trail = vec![];
+    let Some((_, mut r)) = index.find(store, version, Place::EMPTY) else {
+        return Ok(Walk { trail, end: None });
+    };
+    leaf_begins(r)?;
+    loop {
+        match r.body {
+            Body::Leaf { key, value } => return Ok(Walk { trail, end: Some((key, value)) }),
+            Body::Inner(children) => {
+                let side = bit(key, r.place.count);
+                trail.push(Pass { place: r.place, children, side });
+                let c = &children[side as usize];
+                if c.version == 0 {
+                    return Ok(Walk { trail, end: None });
+                }
+                r = judged(store, index, c, r.place.longer(side))?;
+            }
+        }
+    }
+}
+
+fn steps(trail: &[Pass]) -> Vec<Step> {
+    trail.iter().rev().map(|p| Step { side: p.side, sibling: p.children[!p.side as usize].hash }).collect()
+}
+
+/// The neighbour on a side: false the left one.
+fn neighbour(store: &Store, index: &Index, walk: &Walk, key: &Bytes32, side: bool) -> Result<Option<Presence>, Refusal> {
+    if let Some((k, v)) = walk.end {
+        if (!side && k < *key) || (side && *key < k) {
+            return Ok(Some(Presence { key: k, value: v, steps: steps(&walk.trail) }));
+        }
+    }
+    let turned = |p: &Pass| p.side != side && p.children[side as usize].version != 0;
+    let Some(at) = walk.trail.iter().rposition(turned) else { return Ok(None) };
+    let mut trail: Vec<Pass> = walk.trail[..=at].to_vec();
+    trail[at].side = side;
+    loop {
+        let p = trail[trail.len() - 1];
+        let r = judged(store, index, &p.children[p.side as usize], p.place.longer(p.side))?;
+        match r.body {
+            Body::Leaf { key, value } => return Ok(Some(Presence { key, value, steps: steps(&trail) })),
+            Body::Inner(children) => {
+                let toward = if children[!side as usize].version != 0 { !side } else { side };
+                trail.push(Pass { place: r.place, children, side: toward });
+            }
+        }
+    }
+}
+
+pub fn presence_bytes(p: &Presence) -> Vec<u8> {
+    let length = 72 + 33 * p.steps.len() as u32;
+    let mut out = length.to_le_bytes().to_vec();
+    out.extend(16u16.to_le_bytes());
+    out.extend((p.steps.len() as u16).to_le_bytes());
+    out.extend(p.key);
+    out.extend(p.value);
+    for s in &p.steps {
+        out.push(s.side as u8);
+        out.extend(s.sibling);
+    }
+    out
+}
+
+pub fn absence_bytes(key: &Bytes32, left: Option<&Presence>, right: Option<&Presence>) -> Vec<u8> {
+    let neighbours: Vec<u8> = [left, right].iter().flatten().flat_map(|p| presence_bytes(p)).collect();
+    let flags = left.is_some() as u16 + 2 * right.is_some() as u16;
+    let mut out = (40 + neighbours.len() as u32).to_le_bytes().to_vec();
+    out.extend(17u16.to_le_bytes());
+    out.extend(flags.to_le_bytes());
+    out.extend(key);
+    out.extend(neighbours);
+    out
+}
+
+/// The proof for a key in a version.
+pub fn proof(s: &[u8], version: u32, key: &[u8]) -> Result<Vec<u8>, Refusal> {
+    let key: Bytes32 = key.try_into().map_err(|_| 12u32)?;
+    let store = bytes::store(s)?;
+    kept(&store, version)?;
+    let index = Index::of(&store);
+    let walk = walk(&store, &index, version, &key)?;
+    if let Some((k, v)) = walk.end {
+        if k == key {
+            return Ok(presence_bytes(&Presence { key: k, value: v, steps: steps(&walk.trail) }));
+        }
+    }
+    let left = neighbour(&store, &index, &walk, &key, false)?;
+    let right = neighbour(&store, &index, &walk, &key, true)?;
+    Ok(absence_bytes(&key, left.as_ref(), right.as_ref()))
+}
+
+/// The proof fills the front of the room; its length.
+pub fn prove(s: &[u8], version: u32, key: &[u8], room: &mut [u8]) -> Result<u32, Refusal> {
+    let p = proof(s, version, key)?;
+    if p.len() > room.len() {
+        return Err(9);
+    }
+    room[..p.len()].copy_from_slice(&p);
+    Ok(p.len() as u32)
+}

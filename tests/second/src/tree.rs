@@ -1,0 +1,119 @@
+//! 01, 'The tree of a set of grants', and finding a node in a store.
+
+use crate::bytes::{bit, Body, Child, Place, Record, Slot, Store, NO_CHILD};
+use crate::sha256::{inner_hash, leaf_hash};
+use crate::Bytes32;
+use std::collections::{BTreeMap, HashMap};
+
+pub type Grants = BTreeMap<Bytes32, Bytes32>;
+
+/// Which slot is found for a version and place: the lowest that matches.
+pub struct Index(HashMap<(u32, Place), usize>);
+
+impl Index {
+    pub fn of(store: &Store) -> Index {
+        let mut map = HashMap::new();
+        for (i, s) in store.slots.iter().enumerate() {
+            if let Slot::Used(r) = s {
+                map.entry((r.version, r.place)).or_insert(i);
+            }
+        }
+        Index(map)
+    }
+
+    pub fn find<'a>(&self, store: &'a Store, version: u32, place: Place) -> Option<(usize, &'a Record)> {
+        let i = *self.0.get(&(version, place))?;
+        match &store.slots[i] {
+            Slot::Used(r) => Some((i, r)),
+            _ => None,
+        }
+    }
+}
+
+pub fn record_hash(r: &Record) -> Bytes32 {
+    match &r.body {
+        Body::Leaf { key, value } => leaf_hash(key, value),
+        Body::Inner([l, r]) => inner_hash(&l.hash, &r.hash),
+    }
+}
+
+/// The nodes of a sound store's version, by place, with their slots.
+pub fn version_tree(store: &Store, index: &Index, version: u32) -> HashMap<Place, (usize, Record)> {
+    let mut nodes = HashMap::new();
+    let mut todo = vec![(version, Place::EMPTY)];
+    while let Some((v, p)) = todo.pop() {
+        let Some((i, r)) = index.find(store, v, p) else { continue };
+        nodes.insert(p, (i, *r));
+        if let Body::Inner(children) = r.body {
+            for (c, b) in children.iter().zip([false, true]) {
+                if c.version != 0 {
+                    todo.push((c.version, p.longer(b)));
+                }
+            }
+        }
+    }
+    nodes
+}
+
+pub fn grants_of<'a>(nodes: impl Iterator<Item = &'a Record>) -> Grants {
+    nodes
+        .filter_map(|r| match r.body {
+            Body::Leaf { key, value } => Some((key, value)),
+            Body::Inner(_) => None,
+        })
+        .collect()
+}
+
+/// The tree of a set of grants, by place, each node with its version; and the root's child record.
+pub struct Made {
+    pub nodes: HashMap<Place, Record>,
+    pub root: Child,
+}
+
+/// `grants` ascend and all begin with `place`; `old` gives the version that a node keeps there, if it keeps one.
+pub fn make(grants: &[(Bytes32, Bytes32)], new: u32, keeps: &dyn Fn(Place, &[(Bytes32, Bytes32)]) -> Option<u32>) -> Made {
+    let mut nodes = HashMap::new();
+    let root = make_at(grants, Place::EMPTY, new, keeps, &mut nodes);
+    Made { nodes, root }
+}
+
+fn make_at(
+    grants: &[(Bytes32, Bytes32)],
+    place: Place,
+    new: u32,
+    keeps: &dyn Fn(Place, &[(Bytes32, Bytes32)]) -> Option<u32>,
+    nodes: &mut HashMap<Place, Record>,
+) -> Child {
+    if grants.is_empty() {
+        return NO_CHILD;
+    }
+    let version = if place.count == 0 { new } else { keeps(place, grants).unwrap_or(new) };
+    let body = if let [(key, value)] = grants {
+        Body::Leaf { key: *key, value: *value }
+    } else {
+        let middle = grants.partition_point(|(k, _)| !bit(k, place.count));
+        let l = make_at(&grants[..middle], place.longer(false), new, keeps, nodes);
+        let r = make_at(&grants[middle..], place.longer(true), new, keeps, nodes);
+        Body::Inner([l, r])
+    };
+    let r = Record { place, version, retired: 0, body };
+    nodes.insert(place, r);
+    Child { version, hash: record_hash(&r) }
+}
+
+/// The order of placing: under an inner node first all strictly below its left child, then strictly below its right, then the left child,
+/// then the right; the root last.
+pub fn placing(made: &Made) -> Vec<Record> {
+    fn below(nodes: &HashMap<Place, Record>, p: Place, out: &mut Vec<Record>) {
+        let Some(Record { body: Body::Inner(_), .. }) = nodes.get(&p) else { return };
+        let sides = [p.longer(false), p.longer(true)];
+        for q in sides {
+            below(nodes, q, out);
+        }
+        out.extend(sides.iter().filter_map(|q| nodes.get(q)));
+    }
+    let mut out = vec![];
+    below(&made.nodes, Place::EMPTY, &mut out);
+    out.extend(made.nodes.get(&Place::EMPTY));
+    out
+}

@@ -1,0 +1,268 @@
+"""Document 01 read a second time, by its words, on records without bytes. Hashes are symbols: ('leaf', key, value), ('inner', left, right)
+or ZEROS. Nothing here was made from the project's definitions; generate.py compares the two.
+"""
+from dataclasses import dataclass, replace
+
+ZEROS = ('zeros',)
+TOP = 4294967295
+
+
+@dataclass(frozen=True)
+class Record:
+    place: str          # '0' and '1'
+    version: int
+    retired: int
+    leaf: tuple = None   # (key, value)
+    left: tuple = None   # (version, hash); version 0: no child
+    right: tuple = None
+
+
+@dataclass(frozen=True)
+class Store:
+    oldest: int
+    latest: int
+    slots: tuple        # None: free
+
+
+def bits(key):
+    return ''.join(f'{b:08b}' for b in key)
+
+
+def formatted(n):
+    return Store(0, 0, (None,) * n)
+
+
+def find(store, version, place):
+    for r in store.slots:
+        if r is not None and r.version == version and r.place == place:
+            return r
+    return None
+
+
+def tree(store, version):
+    """The nodes of a version's tree by place, for a sound store."""
+    nodes = {}
+
+    def follow(v, p):
+        r = find(store, v, p)
+        if r is None:
+            return
+        nodes[p] = r
+        if r.leaf is None:
+            for child, bit in ((r.left, '0'), (r.right, '1')):
+                if child[0] != 0:
+                    follow(child[0], p + bit)
+
+    follow(version, '')
+    return nodes
+
+
+def grants_of(nodes):
+    return {r.leaf[0]: r.leaf[1] for r in nodes.values() if r.leaf is not None}
+
+
+def record_hash(r):
+    return ('leaf',) + r.leaf if r.leaf is not None else ('inner', r.left[1], r.right[1])
+
+
+def apply(store, batch):
+    """batch: list of (key, value or None). Answer: a number of refusal, or (version, root, count); and the store after."""
+    keys = [k for k, _ in batch]
+    if any(not a < b for a, b in zip(keys, keys[1:])):
+        return 5, store
+    if store.latest == TOP:
+        return 6, store
+    new = store.latest + 1
+    old = tree(store, store.latest)
+    before = grants_of(old)
+    after = dict(before)
+    for k, x in batch:
+        if x is None:
+            after.pop(k, None)
+        else:
+            after[k] = x
+    now = {}
+
+    def same(place):
+        here = {k: x for k, x in before.items() if bits(k).startswith(place)}
+        there = {k: x for k, x in after.items() if bits(k).startswith(place)}
+        return place in old and here == there
+
+    def build(place):
+        here = [k for k in after if bits(k).startswith(place)]
+        if not here:
+            return (0, ZEROS)
+        version = new if place == '' or not same(place) else old[place].version
+        if len(here) == 1:
+            r = Record(place, version, 0, leaf=(here[0], after[here[0]]))
+        else:
+            l = build(place + '0')
+            right = build(place + '1')
+            r = Record(place, version, 0, left=l, right=right)
+        now[place] = r
+        return (version, record_hash(r))
+
+    root = build('')[1]
+    order = []
+
+    def below(place):
+        r = now.get(place)
+        if r is None or r.leaf is not None:
+            return
+        below(place + '0')
+        below(place + '1')
+        order.extend(now[c] for c in (place + '0', place + '1') if c in now)
+
+    below('')
+    if '' in now:
+        order.append(now[''])
+    fresh = [r for r in order if r.version == new]
+    free = [i for i, r in enumerate(store.slots) if r is None]
+    if len(free) < len(fresh):
+        return 7, store
+    slots = list(store.slots)
+    gone = {(r.version, p) for p, r in old.items()} - {(r.version, p) for p, r in now.items()}
+    for i, r in enumerate(slots):
+        if r is not None and (r.version, r.place) in gone:
+            slots[i] = replace(r, retired=new)
+    for i, r in zip(free, fresh):
+        slots[i] = r
+    return (new, root, len(fresh)), Store(store.oldest, new, tuple(slots))
+
+
+def prune(store, n):
+    if not store.oldest <= n <= store.latest:
+        return 8, store
+    slots = tuple(None if r is not None and 0 < r.retired <= n else r for r in store.slots)
+    freed = sum(1 for a, b in zip(store.slots, slots) if a is not None and b is None)
+    return freed, Store(n, store.latest, slots)
+
+
+class Refused(Exception):
+    pass
+
+
+def child_record(store, child, place):
+    """The record of a present child, judged as a read judges it."""
+    r = find(store, child[0], place)
+    if r is None or (r.leaf is not None and not bits(r.leaf[0]).startswith(place)):
+        raise Refused(3)
+    return r
+
+
+def walk(store, version, key):
+    """The inner nodes passed with the bit taken at each, and the leaf at the end or None."""
+    r = find(store, version, '')
+    trail = []
+    if r is None:
+        return trail, None
+    while r.leaf is None:
+        b = bits(key)[len(r.place)]
+        trail.append((r, b))
+        child = r.right if b == '1' else r.left
+        if child[0] == 0:
+            return trail, None
+        r = child_record(store, child, r.place + b)
+    return trail, r
+
+
+def other(b):
+    return '1' if b == '0' else '0'
+
+
+def on(r, b):
+    return r.right if b == '1' else r.left
+
+
+def steps_of(trail):
+    """Steps from the end of a trail upwards: the side of the node and the sibling's hash as stored."""
+    return [(b, on(r, other(b))[1]) for r, b in reversed(trail)]
+
+
+def neighbour(store, trail, end, key, side):
+    if end is not None and (end.leaf[0] < key if side == '0' else end.leaf[0] > key):
+        return end.leaf + (steps_of(trail),)
+    for i in range(len(trail) - 1, -1, -1):
+        r, b = trail[i]
+        if b == other(side) and on(r, side)[0] != 0:
+            path = trail[:i] + [(r, side)]
+            r = child_record(store, on(r, side), r.place + side)
+            while r.leaf is None:
+                b = other(side) if on(r, other(side))[0] != 0 else side
+                path.append((r, b))
+                r = child_record(store, on(r, b), r.place + b)
+            return r.leaf + (steps_of(path),)
+    return None
+
+
+def kept(store, version):
+    if not store.oldest <= version <= store.latest:
+        raise Refused(8)
+
+
+def prove(store, version, key):
+    kept(store, version)
+    trail, end = walk(store, version, key)
+    if end is not None and end.leaf[0] == key:
+        return ('presence',) + end.leaf + (steps_of(trail),)
+    left = neighbour(store, trail, end, key, '0')
+    right = neighbour(store, trail, end, key, '1')
+    return ('absence', key, left, right)
+
+
+def read_key(store, version, key):
+    kept(store, version)
+    trail, end = walk(store, version, key)
+    return end.leaf[1] if end is not None and end.leaf[0] == key else None
+
+
+def read_root(store, version):
+    kept(store, version)
+    r = find(store, version, '')
+    return ZEROS if r is None else record_hash(r)
+
+
+def answer(f, *args):
+    try:
+        return f(*args)
+    except Refused as e:
+        return int(e.args[0])
+
+
+# Checking, with hashes as bytes: leaf_hash and inner_hash are given.
+
+def climb(hashes, p):
+    key, value, steps = p
+    h = hashes[0](key, value)
+    for side, sibling in steps:
+        h = hashes[1](sibling, h) if side == '1' else hashes[1](h, sibling)
+    return h
+
+
+def outermost(side, steps):
+    return all(s == side or x == bytes(32) for s, x in steps)
+
+
+def check_proof(hashes, root, key, p):
+    """The value, None for absent, or 11."""
+    if p[0] == 'presence':
+        return p[2] if p[1] == key and climb(hashes, p[1:]) == root else 11
+    _, k, left, right = p
+    ok = k == key
+    for n in (left, right):
+        ok = ok and (n is None or climb(hashes, n) == root)
+    ok = ok and (left is None or left[0] < key) and (right is None or key < right[0])
+    if left is None and right is None:
+        ok = ok and root == bytes(32)
+    elif right is None:
+        ok = ok and outermost('1', left[2])
+    elif left is None:
+        ok = ok and outermost('0', right[2])
+    else:
+        a, b = list(left[2]), list(right[2])
+        while a and b and a[-1] == b[-1]:
+            a.pop()
+            b.pop()
+        ok = ok and bool(a) and bool(b) and a[-1][0] == '0' and b[-1][0] == '1'
+        ok = ok and outermost('1', a[:-1]) and outermost('0', b[:-1])
+    return None if ok else 11
