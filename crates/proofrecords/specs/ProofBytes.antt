@@ -86,16 +86,18 @@ unfoldable pub stepCount : Bytes → ℕ
 stepCount x = field 6 2 x
 
 -- Bytes are one whole presence proof in form.
-unfoldable pub isPresence : Bytes → Bool
-isPresence x =
-    allOf
-    (leb presenceHead (length x)
+abbrev pub presenceTests : Bytes → List Bool
+presenceTests x =
+    leb presenceHead (length x)
     ∷ eqb (field 0 4 x) (length x)
     ∷ eqb (field 4 2 x) presenceKind
     ∷ leb (stepCount x) mostSteps
     ∷ eqb (length x) (presenceHead + stepSize * stepCount x)
     ∷ sidesRight (stepCount x) (drop presenceHead x)
-    ∷ [])
+    ∷ []
+
+unfoldable pub isPresence : Bytes → Bool
+isPresence x = allOf (presenceTests x)
 
 -- The presence proof that they are then.
 unfoldable pub presenceIn : Bytes → Presence
@@ -122,15 +124,17 @@ neighboursFit x =
     (cond (leb (flags x) 2) (isPresence (drop absenceHead x)) (isPresence (leftPart x) && isPresence (rightPart x)))
 
 -- Bytes are one whole absence proof in form.
-unfoldable pub isAbsence : Bytes → Bool
-isAbsence x =
-    allOf
-    (leb absenceHead (length x)
+abbrev pub absenceTests : Bytes → List Bool
+absenceTests x =
+    leb absenceHead (length x)
     ∷ eqb (field 0 4 x) (length x)
     ∷ eqb (field 4 2 x) absenceKind
     ∷ leb (flags x) 3
     ∷ neighboursFit x
-    ∷ [])
+    ∷ []
+
+unfoldable pub isAbsence : Bytes → Bool
+isAbsence x = allOf (absenceTests x)
 
 -- The absence proof that they are then.
 unfoldable pub absenceIn : Bytes → Absence

@@ -148,3 +148,11 @@ length-flat (n ∷ ns) (f ∷ fs) h = let l = h .0 in simp length-append (omega 
 pub length-zero-bytes : (n : ℕ) → length (zeroBytes n) ≡ n
 unfolding zeroBytes
 length-zero-bytes n = length-replicate n 0
+
+pub flat-append : (fs gs : List Bytes) → flat (fs ++ gs) ≡ flat fs ++ flat gs
+flat-append [] gs = refl
+flat-append (f ∷ fs) gs = ap (f ++_) (flat-append fs gs) ∙ sym (append-assoc f (flat fs) (flat gs))
+
+-- what follows the first fields
+pub drop-fields : (ns : List ℕ) (fs gs : List Bytes) → Sized ns fs → drop (total ns) (flat (fs ++ gs)) ≡ flat gs
+drop-fields ns fs gs h = ap (drop (total ns)) (flat-append fs gs) ∙ drop-at (flat fs) (flat gs) (total ns) (length-flat ns fs h)
