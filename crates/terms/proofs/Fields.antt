@@ -166,12 +166,11 @@ pub length-zero-bytes : (n : ℕ) → length (zeroBytes n) ≡ n
 unfolding zeroBytes
 length-zero-bytes n = length-replicate n 0
 
-<<<<<<< HEAD
 -- a part of a lent slice
 pub part-slice : (i n : ℕ) (s : Bytes) → take (i + n - i) (drop i s) ≡ slice i n s
 unfolding slice
 part-slice i n s = rw (add-sub-cancel-left i n)
-=======
+
 pub flat-append : (fs gs : List Bytes) → flat (fs ++ gs) ≡ flat fs ++ flat gs
 flat-append [] gs = refl
 flat-append (f ∷ fs) gs = ap (f ++_) (flat-append fs gs) ∙ sym (append-assoc f (flat fs) (flat gs))
@@ -179,4 +178,3 @@ flat-append (f ∷ fs) gs = ap (f ++_) (flat-append fs gs) ∙ sym (append-assoc
 -- what follows the first fields
 pub drop-fields : (ns : List ℕ) (fs gs : List Bytes) → Sized ns fs → drop (total ns) (flat (fs ++ gs)) ≡ flat gs
 drop-fields ns fs gs h = ap (drop (total ns)) (flat-append fs gs) ∙ drop-at (flat fs) (flat gs) (total ns) (length-flat ns fs h)
->>>>>>> 495852efdffc509f797905dd7aa31eb642d48e57
