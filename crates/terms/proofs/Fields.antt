@@ -171,10 +171,6 @@ pub part-slice : (i n : ℕ) (s : Bytes) → take (i + n - i) (drop i s) ≡ sli
 unfolding slice
 part-slice i n s = rw (add-sub-cancel-left i n)
 
-pub flat-append : (fs gs : List Bytes) → flat (fs ++ gs) ≡ flat fs ++ flat gs
-flat-append [] gs = refl
-flat-append (f ∷ fs) gs = ap (f ++_) (flat-append fs gs) ∙ sym (append-assoc f (flat fs) (flat gs))
-
 -- what follows the first fields
 pub drop-fields : (ns : List ℕ) (fs gs : List Bytes) → Sized ns fs → drop (total ns) (flat (fs ++ gs)) ≡ flat gs
 drop-fields ns fs gs h = ap (drop (total ns)) (flat-append fs gs) ∙ drop-at (flat fs) (flat gs) (total ns) (length-flat ns fs h)
