@@ -87,7 +87,8 @@ fn head_right(s: &[u8], len: u32, kind: u16, limit: u16) -> bool
     1 <= get_u32(s, VERSION_AT)
 }
 
-fn is_leaf(s: &[u8]) -> bool
+// Whether the 120 bytes are a leaf in form.
+pub fn is_leaf(s: &[u8]) -> bool
     requires { ⌜ length (now s) ≡ slotSize ⌝ }
     ensures { λ r. ⌜ r ≡ isLeaf (now (s .entry)) ⌝ }
 {
@@ -110,7 +111,8 @@ fn child_right(s: &[u8], at: usize) -> bool
     all_zero(&s[hash..end])
 }
 
-fn is_inner(s: &[u8]) -> bool
+// Whether they are an inner record in form.
+pub fn is_inner(s: &[u8]) -> bool
     requires { ⌜ length (now s) ≡ slotSize ⌝ }
     ensures { λ r. ⌜ r ≡ isInner (now (s .entry)) ⌝ }
 {
