@@ -5,13 +5,13 @@ use native.Mathlib.Omega.{arith}
 use mathlib.Core.Path.{_≡_, refl, ap, sym, _∙_}
 use mathlib.Core.Bool.{Bool, true, false, cond}
 use mathlib.Core.List.{List, [], _∷_, _++_}
-use lib.ListN.{length, getD, take, drop, length-append, length-take}
-use lib.Seq.{take-append-le, take-all}
-use lib.Dec.{eqb, leb}
+use lib.ListN.{length, getD, take, length-append}
+use lib.Dec.{eqb}
 use borrow.Author.Tests.{eqb-true, eqb-false, eq-eqb, leb-true, le-leb}
 use Rattle.terms.specs.Bits.{Bytes, Byte, All}
-use Rattle.terms.specs.Fields.{le, num, field, slice, zeroBytes, allZero, flat, allOf}
+use Rattle.terms.specs.Fields.{le, num, field, slice, zeroBytes, allZero, flat}
 use Rattle.terms.specs.Form.{top32}
+<<<<<<< HEAD
 use Rattle.terms.proofs.Lists.{all-take}
 use Rattle.terms.proofs.Tests.{is-false}
 use Rattle.terms.proofs.Fields.{
@@ -32,10 +32,14 @@ use Rattle.terms.proofs.Fields.{
   length-flat,
   length-zero-bytes,
 }
+=======
+use Rattle.terms.proofs.Tests.{not-both}
+use Rattle.terms.proofs.Fields.{num-le, length-le, le-field, length-slice, zero-bytes, all-zero, cuts, flat-front, all-of-tests, tests-all, Sized, cuts-front, length-flat, length-zero-bytes}
+>>>>>>> 87059e72b9839aa1e3e99dab141487399cbdeb17
 use Rattle.fields.specs.Written.{written}
 use Rattle.fields.proofs.Written.{fields-written}
 use Rattle.layout.specs.Sizes.{roomOf}
-use Rattle.layout.specs.Headers.{Headed, refusal, header, sizeRight, headerRight, headerOf, headerBytes}
+use Rattle.layout.specs.Headers.{refusal, header, sizeRight, headerRight, headerOf, headerBytes}
 
 -- a store of 24 + 120n bytes has n slots
 pub room-of : (m n : ℕ) → m ≡ 24 + 120 * n → roomOf m ≡ n
