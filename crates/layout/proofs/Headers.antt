@@ -11,31 +11,8 @@ use borrow.Author.Tests.{eqb-true, eqb-false, eq-eqb, leb-true, le-leb}
 use Rattle.terms.specs.Bits.{Bytes, Byte, All}
 use Rattle.terms.specs.Fields.{le, num, field, slice, zeroBytes, allZero, flat}
 use Rattle.terms.specs.Form.{top32}
-<<<<<<< HEAD
-use Rattle.terms.proofs.Lists.{all-take}
 use Rattle.terms.proofs.Tests.{is-false}
-use Rattle.terms.proofs.Fields.{
-  num-le,
-  length-le,
-  le-field,
-  field-below,
-  length-slice,
-  zero-bytes,
-  all-zero,
-  cuts,
-  total,
-  flat-front,
-  all-of-tests,
-  tests-all,
-  Sized,
-  cuts-front,
-  length-flat,
-  length-zero-bytes,
-}
-=======
-use Rattle.terms.proofs.Tests.{not-both}
 use Rattle.terms.proofs.Fields.{num-le, length-le, le-field, length-slice, zero-bytes, all-zero, cuts, flat-front, all-of-tests, tests-all, Sized, cuts-front, length-flat, length-zero-bytes}
->>>>>>> 87059e72b9839aa1e3e99dab141487399cbdeb17
 use Rattle.fields.specs.Written.{written}
 use Rattle.fields.proofs.Written.{fields-written}
 use Rattle.layout.specs.Sizes.{roomOf}

@@ -69,10 +69,7 @@ fn head_right(s: &[u8], len: u32, kind: u16, limit: u16) -> bool
     1 <= get_u32(s, sizes::VERSION_AT)
 }
 
-<<<<<<< HEAD
-=======
 // Whether the 120 bytes are a leaf in form.
->>>>>>> 87059e72b9839aa1e3e99dab141487399cbdeb17
 pub fn is_leaf(s: &[u8]) -> bool
     requires { ⌜ length (now s) ≡ slotSize ⌝ }
     ensures { λ r. ⌜ r ≡ isLeaf (now (s .entry)) ⌝ }
@@ -96,10 +93,7 @@ fn child_right(s: &[u8], at: usize) -> bool
     all_zero(&s[hash..end])
 }
 
-<<<<<<< HEAD
-=======
 // Whether they are an inner record in form.
->>>>>>> 87059e72b9839aa1e3e99dab141487399cbdeb17
 pub fn is_inner(s: &[u8]) -> bool
     requires { ⌜ length (now s) ≡ slotSize ⌝ }
     ensures { λ r. ⌜ r ≡ isInner (now (s .entry)) ⌝ }

@@ -7,13 +7,8 @@ use mathlib.Core.List.{List, [], _∷_, _++_, append-assoc, append-nil}
 use lib.ListN.{length, take, drop, take-append-drop, drop-of-length-le, length-append, length-take, length-drop, length-replicate}
 use lib.Seq.{drop-drop, take-take, take-add, take-at, drop-at}
 use lib.Dec.{eqb}
-<<<<<<< HEAD
 use native.Mathlib.Nat.{pow-suc, add-sub-cancel-left}
-use borrow.Author.Tests.{eqb-true, eq-eqb}
-=======
-use native.Mathlib.Nat.{pow-suc}
 use borrow.Author.Tests.{eqb-true}
->>>>>>> 87059e72b9839aa1e3e99dab141487399cbdeb17
 use Rattle.terms.specs.Bits.{Bytes, Byte, All}
 use Rattle.terms.specs.Fields.{le, num, slice, field, zeroBytes, allZero, flat, allOf}
 use Rattle.terms.proofs.Tests.{and-left, and-right, and-true}
