@@ -13,7 +13,7 @@ use Rattle.terms.specs.Fields.{le, num, field, slice, zeroBytes, allZero, flat,
 use Rattle.terms.specs.Records.{Child, child, Body, leafBody, innerBody, Record, Slot, free, used, spoiled, zeros}
 use Rattle.terms.specs.Form.{top32, placeLimit, ChildForm, BodyForm, RecordForm}
 use Rattle.terms.proofs.Places.{length-bits, length-pack, pack-place, place-packed, unused-packed}
-use Rattle.terms.proofs.Tests.{not-both}
+use Rattle.terms.proofs.Tests.{is-false}
 use Rattle.terms.proofs.Fields.{num-le, length-le, le-field, field-below, length-slice, all-slice, zero-bytes, all-zero, cuts, total, flat-cuts, all-of-tests, test-failed, tests-all, Sized, cuts-flat, length-flat, length-zero-bytes, flat-append}
 use Rattle.fields.specs.Written.{written}
 use Rattle.fields.proofs.Written.{written-between}
@@ -372,7 +372,7 @@ module _ (x : Bytes) (l : length x ≡ 120) where
 
   pub leaf-read : isLeaf x ≡ true → slotOf x ≡ used (recordIn x (leafIn x))
   unfolding slotOf
-  leaf-read e = rw (not-both (allZero x) (λ z. false≢true (sym zeros-no-leaf ∙ ap isLeaf (sym (all-zeros z)) ∙ e)), e)
+  leaf-read e = rw (is-false (allZero x) (λ z. false≢true (sym zeros-no-leaf ∙ ap isLeaf (sym (all-zeros z)) ∙ e)), e)
 
   not-leaf : isInner x ≡ true → isLeaf x ≡ false
   unfolding isLeaf isInner headRight leafIn innerIn
@@ -382,4 +382,4 @@ module _ (x : Bytes) (l : length x ≡ 120) where
 
   pub inner-read : isInner x ≡ true → slotOf x ≡ used (recordIn x (innerIn x))
   unfolding slotOf
-  inner-read e = rw (not-both (allZero x) (λ z. false≢true (sym zeros-no-inner ∙ ap isInner (sym (all-zeros z)) ∙ e)), not-leaf e, e)
+  inner-read e = rw (is-false (allZero x) (λ z. false≢true (sym zeros-no-inner ∙ ap isInner (sym (all-zeros z)) ∙ e)), not-leaf e, e)
