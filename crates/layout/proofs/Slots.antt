@@ -1,40 +1,23 @@
 -- Slots there and back: the bytes of a record in form are read as that record, every 120 bytes are the bytes of the slot that they are read
 -- as, and what is read is in form. The fields fill the slot, and each is its number or its part. Assumes nothing.
-use Prim.Native.Nat.{ℕ, zero, suc, _+_, _*_, _-_, _<_, _≤_, _^_}
+use Prim.Native.Nat.{ℕ, _+_, _-_, _<_, _≤_}
 use native.Mathlib.Omega.{arith}
-use mathlib.Core.Path.{_≡_, refl, ap, ap₂, sym, _∙_, subst}
-use mathlib.Core.Bool.{Bool, true, false, cond, _||_, false≢true, true≢false}
+use mathlib.Core.Path.{_≡_, refl, ap, ap₂, sym, _∙_}
+use mathlib.Core.Bool.{Bool, true, false, cond, _||_, false≢true}
 use mathlib.Core.List.{List, [], _∷_, _++_}
-use lib.ListN.{length, getD, take, drop, replicate, length-take}
-use lib.Dec.{eqb, leb}
+use lib.ListN.{length, getD, drop, length-take}
+use lib.Dec.{leb}
 use borrow.Author.Tests.{eqb-true, eq-eqb, ne-eqb, leb-true, leb-false, le-leb, lt-leb}
 use Rattle.terms.specs.Bits.{Bytes, Byte, Place, All, Whole32, bits, pack, noneSet}
 use Rattle.terms.specs.Fields.{le, num, field, slice, zeroBytes, allZero, flat, allOf}
 use Rattle.terms.specs.Records.{Child, child, Body, leafBody, innerBody, Record, Slot, free, used, spoiled, zeros}
 use Rattle.terms.specs.Form.{top32, placeLimit, ChildForm, BodyForm, RecordForm}
-use Rattle.terms.proofs.Places.{length-bits, length-pack, pack-bytes, pack-place, place-packed, unused-packed}
-use Rattle.terms.proofs.Fields.{
-  num-le,
-  length-le,
-  le-bytes,
-  le-field,
-  field-below,
-  length-slice,
-  all-slice,
-  zero-bytes,
-  all-zero,
-  cuts,
-  total,
-  flat-cuts,
-  all-of-tests,
-  test-failed,
-  tests-all,
-  Sized,
-  cuts-flat,
-  length-flat,
-  length-zero-bytes,
-}
-use Rattle.layout.specs.Slots.{lengthOf, kindOf, countIn, placeIn, leafIn, childIn, innerIn, recordIn, headRight, isLeaf, childRight, someChild, isInner, slotOf, bodyFields, recordBytes, slotBytes, SlotForm}
+use Rattle.terms.proofs.Places.{length-bits, length-pack, pack-place, place-packed, unused-packed}
+use Rattle.terms.proofs.Tests.{is-false}
+use Rattle.terms.proofs.Fields.{num-le, length-le, le-field, field-below, length-slice, all-slice, zero-bytes, all-zero, cuts, total, flat-cuts, all-of-tests, test-failed, tests-all, Sized, cuts-flat, length-flat, length-zero-bytes, flat-append}
+use Rattle.fields.specs.Written.{written}
+use Rattle.fields.proofs.Written.{written-between}
+use Rattle.layout.specs.Slots.{lengthOf, kindOf, countIn, placeIn, leafIn, childIn, innerIn, recordOf, recordIn, headRight, isLeaf, childRight, someChild, isInner, slotOf, headFields, bodyFields, recordBytes, slotBytes, SlotForm}
 
 -- a record's fields have these sizes
 abbrev bodySizes : Body → List ℕ
@@ -45,14 +28,7 @@ abbrev sizes : Body → List ℕ
 sizes b = 4 ∷ 2 ∷ 2 ∷ 32 ∷ 4 ∷ 4 ∷ bodySizes b
 
 abbrev fields : Record → List Bytes
-fields r =
-    le 4 (lengthOf (r .body))
-    ∷ le 2 (kindOf (r .body))
-    ∷ le 2 (length (r .place))
-    ∷ pack 32 (r .place)
-    ∷ le 4 (r .version)
-    ∷ le 4 (r .retired)
-    ∷ bodyFields (r .body)
+fields r = headFields (lengthOf (r .body)) (kindOf (r .body)) (r .place) (r .version) (r .retired) ++ bodyFields (r .body)
 
 body-sized : (b : Body) → BodyForm b → Sized (bodySizes b) (bodyFields b)
 body-sized (leafBody k x) h = (h .0 .0, (h .1 .0, (length-zero-bytes 8, tt)))
@@ -96,17 +72,20 @@ module _ (r : Record) (h : RecordForm r) where
   unfolding field
   kind-says = ap num (cut r h 1) ∙ num-le 2 _ (kind-small (r .body))
 
-  count-says : countIn (recordBytes r) ≡ length (r .place)
+  pub count-says : countIn (recordBytes r) ≡ length (r .place)
   unfolding countIn field
   count-says = ap num (cut r h 2) ∙ num-le 2 _ (omega (arith, h .short, limit-small (r .body)))
 
-  version-says : field 40 4 (recordBytes r) ≡ r .version
+  pub version-says : field 40 4 (recordBytes r) ≡ r .version
   unfolding field
   version-says = ap num (cut r h 4) ∙ num-le 4 _ (omega (arith, h .versioned .1))
 
   retired-says : field 44 4 (recordBytes r) ≡ r .retired
   unfolding field
   retired-says = ap num (cut r h 5) ∙ num-le 4 _ (omega (arith, h .number))
+
+  pub bits-say : slice 8 32 (recordBytes r) ≡ pack 32 (r .place)
+  bits-say = cut r h 3
 
   place-says : placeIn (recordBytes r) ≡ r .place
   unfolding placeIn
@@ -153,58 +132,55 @@ some-child l r f = go (leb 1 (l .version)) (leb 1 (r .version)) refl refl
     go false true d e = refl
     go false false d e = absurd (f (omega (arith, leb-false 1 (l .version) d)) (omega (arith, leb-false 1 (r .version) e)))
 
-abbrev made : Place → ℕ → ℕ → Body → Record
-made p v n b = record { place = p; version = v; retired = n; body = b }
-
 not-free : (r : Record) → allZero (recordBytes r) ≡ false
 unfolding recordBytes le
 not-free r = go (r .body)
   where
-    go : (b : Body) → allZero (flat (le 4 (lengthOf b) ∷ le 2 (kindOf b) ∷ le 2 (length (r .place)) ∷ pack 32 (r .place) ∷ le 4 (r .version) ∷ le 4 (r .retired) ∷ bodyFields b)) ≡ false
+    go : (b : Body) → allZero (flat (headFields (lengthOf b) (kindOf b) (r .place) (r .version) (r .retired) ++ bodyFields b)) ≡ false
     go (leafBody k x) = refl
     go (innerBody a b) = refl
 
 -- a leaf in form is read as it was written
-module _ (p : Place) (v n : ℕ) (k x : Bytes) (h : RecordForm (made p v n (leafBody k x))) where
-  leaf-body : leafIn (recordBytes (made p v n (leafBody k x))) ≡ leafBody k x
+module _ (p : Place) (v n : ℕ) (k x : Bytes) (h : RecordForm (recordOf p v n (leafBody k x))) where
+  leaf-body : leafIn (recordBytes (recordOf p v n (leafBody k x))) ≡ leafBody k x
   unfolding leafIn
-  leaf-body = ap₂ leafBody (cut (made p v n (leafBody k x)) h 6) (cut (made p v n (leafBody k x)) h 7)
+  leaf-body = ap₂ leafBody (cut (recordOf p v n (leafBody k x)) h 6) (cut (recordOf p v n (leafBody k x)) h 7)
 
-  is-leaf : isLeaf (recordBytes (made p v n (leafBody k x))) ≡ true
+  is-leaf : isLeaf (recordBytes (recordOf p v n (leafBody k x))) ≡ true
   unfolding isLeaf
   is-leaf =
       tests-all _ (
-        rw leaf-body (head-says (made p v n (leafBody k x)) h),
-        (ap allZero (cut (made p v n (leafBody k x)) h 8) ∙ all-zero 8, tt),
+        rw leaf-body (head-says (recordOf p v n (leafBody k x)) h),
+        (ap allZero (cut (recordOf p v n (leafBody k x)) h 8) ∙ all-zero 8, tt),
       )
 
-  leaf-said : slotOf (recordBytes (made p v n (leafBody k x))) ≡ used (made p v n (leafBody k x))
+  leaf-said : slotOf (recordBytes (recordOf p v n (leafBody k x))) ≡ used (recordOf p v n (leafBody k x))
   unfolding slotOf
-  leaf-said = rw (not-free (made p v n (leafBody k x)), is-leaf, leaf-body, record-says (made p v n (leafBody k x)) h)
+  leaf-said = rw (not-free (recordOf p v n (leafBody k x)), is-leaf, leaf-body, record-says (recordOf p v n (leafBody k x)) h)
 
 -- and so is an inner record
-module _ (p : Place) (v n : ℕ) (l r : Child) (h : RecordForm (made p v n (innerBody l r))) where
-  left-child : childIn 48 (recordBytes (made p v n (innerBody l r))) ≡ l
+module _ (p : Place) (v n : ℕ) (l r : Child) (h : RecordForm (recordOf p v n (innerBody l r))) where
+  left-child : childIn 48 (recordBytes (recordOf p v n (innerBody l r))) ≡ l
   unfolding childIn field
-  left-child = ap₂ child (ap num (cut (made p v n (innerBody l r)) h 6) ∙ num-le 4 (l .version) (omega (arith, h .body .0 .number))) (cut (made p v n (innerBody l r)) h 7)
+  left-child = ap₂ child (ap num (cut (recordOf p v n (innerBody l r)) h 6) ∙ num-le 4 (l .version) (omega (arith, h .body .0 .number))) (cut (recordOf p v n (innerBody l r)) h 7)
 
-  right-child : childIn 84 (recordBytes (made p v n (innerBody l r))) ≡ r
+  right-child : childIn 84 (recordBytes (recordOf p v n (innerBody l r))) ≡ r
   unfolding childIn field
-  right-child = ap₂ child (ap num (cut (made p v n (innerBody l r)) h 8) ∙ num-le 4 (r .version) (omega (arith, h .body .1 .number))) (cut (made p v n (innerBody l r)) h 9)
+  right-child = ap₂ child (ap num (cut (recordOf p v n (innerBody l r)) h 8) ∙ num-le 4 (r .version) (omega (arith, h .body .1 .number))) (cut (recordOf p v n (innerBody l r)) h 9)
 
-  inner-body : innerIn (recordBytes (made p v n (innerBody l r))) ≡ innerBody l r
+  inner-body : innerIn (recordBytes (recordOf p v n (innerBody l r))) ≡ innerBody l r
   unfolding innerIn
   inner-body = ap₂ innerBody left-child right-child
 
-  is-no-leaf : isLeaf (recordBytes (made p v n (innerBody l r))) ≡ false
+  is-no-leaf : isLeaf (recordBytes (recordOf p v n (innerBody l r))) ≡ false
   unfolding isLeaf headRight leafIn
-  is-no-leaf = test-failed _ (test-failed _ (ne-eqb (field 0 4 (recordBytes (made p v n (innerBody l r)))) 112 (λ e. omega (arith, length-says (made p v n (innerBody l r)) h))))
+  is-no-leaf = test-failed _ (test-failed _ (ne-eqb (field 0 4 (recordBytes (recordOf p v n (innerBody l r)))) 112 (λ e. omega (arith, length-says (recordOf p v n (innerBody l r)) h))))
 
-  is-inner : isInner (recordBytes (made p v n (innerBody l r))) ≡ true
+  is-inner : isInner (recordBytes (recordOf p v n (innerBody l r))) ≡ true
   unfolding isInner
   is-inner =
       tests-all _ (
-        rw inner-body (head-says (made p v n (innerBody l r)) h),
+        rw inner-body (head-says (recordOf p v n (innerBody l r)) h),
         (
           ap childRight left-child ∙ child-right l (h .body .0),
           (
@@ -214,15 +190,15 @@ module _ (p : Place) (v n : ℕ) (l r : Child) (h : RecordForm (made p v n (inne
         ),
       )
 
-  inner-said : slotOf (recordBytes (made p v n (innerBody l r))) ≡ used (made p v n (innerBody l r))
+  inner-said : slotOf (recordBytes (recordOf p v n (innerBody l r))) ≡ used (recordOf p v n (innerBody l r))
   unfolding slotOf
-  inner-said = rw (not-free (made p v n (innerBody l r)), is-no-leaf, is-inner, inner-body, record-says (made p v n (innerBody l r)) h)
+  inner-said = rw (not-free (recordOf p v n (innerBody l r)), is-no-leaf, is-inner, inner-body, record-says (recordOf p v n (innerBody l r)) h)
 
 -- a record in form is read as it was written
 pub record-said : (r : Record) → RecordForm r → slotOf (recordBytes r) ≡ used r
 record-said r = go (r .place) (r .version) (r .retired) (r .body)
   where
-    go : (p : Place) (v n : ℕ) (b : Body) → RecordForm (made p v n b) → slotOf (recordBytes (made p v n b)) ≡ used (made p v n b)
+    go : (p : Place) (v n : ℕ) (b : Body) → RecordForm (recordOf p v n b) → slotOf (recordBytes (recordOf p v n b)) ≡ used (recordOf p v n b)
     go p v n (leafBody k x) h = leaf-said p v n k x h
     go p v n (innerBody l r) h = inner-said p v n l r h
 
@@ -236,6 +212,19 @@ unfolding slotBytes
 slot-said free h = free-said
 slot-said (used r) h = record-said r h
 slot-said (spoiled x) h = h .2
+
+-- another retired-since: four bytes change
+pub retired-put : (r : Record) (n : ℕ) → recordBytes (recordOf (r .place) (r .version) n (r .body)) ≡ written 44 (le 4 n) (recordBytes r)
+unfolding recordBytes
+retired-put r n =
+    let b = r .body in
+    let fs = le 4 (lengthOf b) ∷ le 2 (kindOf b) ∷ le 2 (length (r .place)) ∷ pack 32 (r .place) ∷ le 4 (r .version) ∷ [] in
+    let long : length (flat fs) ≡ 44 =
+    length-flat (4 ∷ 2 ∷ 2 ∷ 32 ∷ 4 ∷ []) fs (length-le 4 _, (length-le 2 _, (length-le 2 _, (length-pack 32 _, (length-le 4 _, tt)))))
+    in
+    flat-append fs (le 4 n ∷ bodyFields b)
+    ∙ sym (written-between (flat fs) (le 4 (r .retired)) (flat (bodyFields b)) (le 4 n) 44 long (length-le 4 n ∙ sym (length-le 4 (r .retired))))
+    ∙ ap (written 44 (le 4 n)) (sym (flat-append fs (le 4 (r .retired) ∷ bodyFields b)))
 
 pub length-slot : (x : Slot) → SlotForm x → length (slotBytes x) ≡ 120
 unfolding slotBytes
@@ -356,3 +345,41 @@ module _ (x : Bytes) (l : length x ≡ 120) (h : All Byte x) where
       go false true c d e f = leaf-form e
       go false false true d e f = inner-form f
       go false false false d e f = (l, h, rw (d, e, f))
+
+-- a record that was read says what the fields of its bytes say
+pub used-is : (x : Bytes) (r : Record) → slotOf x ≡ used r → recordIn x (r .body) ≡ r
+unfolding slotOf recordIn
+used-is x r = go (allZero x) (isLeaf x) (isInner x)
+  where
+    go : (a b c : Bool) → cond a free (cond b (used (recordIn x (leafIn x))) (cond c (used (recordIn x (innerIn x))) (spoiled x))) ≡ used r → recordIn x (r .body) ≡ r
+    go true b c e = let z : _≡_ {A = ℕ} 0 1 = cc in absurd (omega arith)
+    go false true c e = let m : recordIn x (leafIn x) ≡ r = cc in ap (λ q. recordIn x (q .body)) (sym m) ∙ m
+    go false false true e = let m : recordIn x (innerIn x) ≡ r = cc in ap (λ q. recordIn x (q .body)) (sym m) ∙ m
+    go false false false e = let z : _≡_ {A = ℕ} 0 1 = cc in absurd (omega arith)
+
+zeros-no-leaf : isLeaf (zeroBytes 120) ≡ false
+unfolding isLeaf headRight leafIn field slice zeroBytes allOf
+zeros-no-leaf = refl
+
+zeros-no-inner : isInner (zeroBytes 120) ≡ false
+unfolding isInner headRight innerIn field slice zeroBytes allOf
+zeros-no-inner = refl
+
+-- the tests by themselves say what is read
+module _ (x : Bytes) (l : length x ≡ 120) where
+  all-zeros : allZero x ≡ true → x ≡ zeroBytes 120
+  all-zeros e = zero-bytes x e ∙ ap zeroBytes l
+
+  pub leaf-read : isLeaf x ≡ true → slotOf x ≡ used (recordIn x (leafIn x))
+  unfolding slotOf
+  leaf-read e = rw (is-false (allZero x) (λ z. false≢true (sym zeros-no-leaf ∙ ap isLeaf (sym (all-zeros z)) ∙ e)), e)
+
+  not-leaf : isInner x ≡ true → isLeaf x ≡ false
+  unfolding isLeaf isInner headRight leafIn innerIn
+  not-leaf e =
+      let n = eqb-true (field 0 4 x) 120 (all-of-tests _ (all-of-tests _ e .0) .0) in
+      test-failed _ (test-failed _ (ne-eqb (field 0 4 x) 112 (λ k. omega arith)))
+
+  pub inner-read : isInner x ≡ true → slotOf x ≡ used (recordIn x (innerIn x))
+  unfolding slotOf
+  inner-read e = rw (is-false (allZero x) (λ z. false≢true (sym zeros-no-inner ∙ ap isInner (sym (all-zeros z)) ∙ e)), not-leaf e, e)

@@ -1,4 +1,5 @@
 pub mod Sizes
-pub mod Header
+pub mod Headers
 pub mod Slots
 pub mod Stores
+pub mod Answer

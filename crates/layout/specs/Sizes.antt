@@ -54,7 +54,10 @@ versionAt = 40
 abbrev pub retiredAt : ℕ
 retiredAt = 44
 
--- A leaf's key 32, value 32, 8 zero.
+-- A leaf's key 32, value 32, 8 zero; key and value are its grant.
+abbrev pub grantSize : ℕ
+grantSize = 64
+
 abbrev pub keyAt : ℕ
 keyAt = 48
 
@@ -65,6 +68,9 @@ abbrev pub tailAt : ℕ
 tailAt = 112
 
 -- An inner record's left version 4, left hash 32, right version 4, right hash 32.
+abbrev pub childSize : ℕ
+childSize = 36
+
 abbrev pub leftAt : ℕ
 leftAt = 48
 

@@ -3,7 +3,7 @@
 use Prim.Native.Nat.{ℕ, _+_}
 use mathlib.Core.Path.{_≡_}
 use mathlib.Core.Bool.{Bool, cond, _||_}
-use mathlib.Core.List.{List, [], _∷_}
+use mathlib.Core.List.{List, [], _∷_, _++_}
 use lib.ListN.{length, take, drop}
 use lib.Dec.{eqb, leb}
 use Rattle.terms.specs.Bits.{Bytes, Byte, Place, All, bits, pack, noneSet}
@@ -40,20 +40,26 @@ childIn i x = child (field i 4 x) (slice (i + 4) 32 x)
 unfoldable pub innerIn : Bytes → Body
 innerIn x = innerBody (childIn leftAt x) (childIn rightAt x)
 
+-- A record of a place, a version, a retired-since and a body.
+abbrev pub recordOf : Place → ℕ → ℕ → Body → Record
+recordOf p v n b = record { place = p; version = v; retired = n; body = b }
+
 -- The record with this body that the bytes hold.
 unfoldable pub recordIn : Bytes → Body → Record
-recordIn x b = record { place = placeIn x; version = field versionAt 4 x; retired = field retiredAt 4 x; body = b }
+recordIn x b = recordOf (placeIn x) (field versionAt 4 x) (field retiredAt 4 x) b
 
 -- Length and kind; bit count (0 to 256, inner 0 to 255), unused bits zero; version at least 1.
-unfoldable pub headRight : Body → Bytes → Bool
-headRight b x =
-    allOf
-    (eqb (field 0 4 x) (lengthOf b)
-    ∷ eqb (field kindAt 2 x) (kindOf b)
-    ∷ leb (countIn x) (placeLimit b)
+abbrev pub headTests : ℕ → ℕ → ℕ → Bytes → List Bool
+headTests n kind limit x =
+    eqb (field 0 4 x) n
+    ∷ eqb (field kindAt 2 x) kind
+    ∷ leb (countIn x) limit
     ∷ noneSet (drop (countIn x) (bits (slice bitsAt 32 x)))
     ∷ leb 1 (field versionAt 4 x)
-    ∷ [])
+    ∷ []
+
+unfoldable pub headRight : Body → Bytes → Bool
+headRight b x = allOf (headTests (lengthOf b) (kindOf b) (placeLimit b) x)
 
 -- A leaf ends with 8 zero bytes.
 unfoldable pub isLeaf : Bytes → Bool
@@ -67,14 +73,16 @@ childRight c = leb 1 (c .version) || allZero (c .hash)
 unfoldable pub someChild : Child → Child → Bool
 someChild l r = leb 1 (l .version) || leb 1 (r .version)
 
-unfoldable pub isInner : Bytes → Bool
-isInner x =
-    allOf
-    (headRight (innerIn x) x
+abbrev pub innerTests : Bytes → List Bool
+innerTests x =
+    headRight (innerIn x) x
     ∷ childRight (childIn leftAt x)
     ∷ childRight (childIn rightAt x)
     ∷ someChild (childIn leftAt x) (childIn rightAt x)
-    ∷ [])
+    ∷ []
+
+unfoldable pub isInner : Bytes → Bool
+isInner x = allOf (innerTests x)
 
 -- Free: all zero. A leaf, or an inner record, in form. Else the bytes are all that can be said.
 unfoldable pub slotOf : Bytes → Slot
@@ -83,22 +91,28 @@ slotOf x =
     (cond (isLeaf x) (used (recordIn x (leafIn x)))
     (cond (isInner x) (used (recordIn x (innerIn x))) (spoiled x)))
 
--- What follows the head: key, value, 8 zero; or left version, left hash, right version, right hash.
+-- Length, kind, bit count, bits, version, retired-since.
+abbrev pub headFields : ℕ → ℕ → Place → ℕ → ℕ → List Bytes
+headFields n kind p version since =
+    le 4 n
+    ∷ le 2 kind
+    ∷ le 2 (length p)
+    ∷ pack 32 p
+    ∷ le 4 version
+    ∷ le 4 since
+    ∷ []
+
+-- Then key, value, 8 zero; or left version, left hash, right version, right hash.
+abbrev pub childFields : Child → List Bytes
+childFields c = le 4 (c .version) ∷ c .hash ∷ []
+
 abbrev pub bodyFields : Body → List Bytes
 bodyFields (leafBody k x) = k ∷ x ∷ zeroBytes 8 ∷ []
-bodyFields (innerBody l r) = le 4 (l .version) ∷ l .hash ∷ le 4 (r .version) ∷ r .hash ∷ []
+bodyFields (innerBody l r) = childFields l ++ childFields r
 
 -- The bytes of a record.
 unfoldable pub recordBytes : Record → Bytes
-recordBytes r =
-    flat
-    (le 4 (lengthOf (r .body))
-    ∷ le 2 (kindOf (r .body))
-    ∷ le 2 (length (r .place))
-    ∷ pack 32 (r .place)
-    ∷ le 4 (r .version)
-    ∷ le 4 (r .retired)
-    ∷ bodyFields (r .body))
+recordBytes r = flat (headFields (lengthOf (r .body)) (kindOf (r .body)) (r .place) (r .version) (r .retired) ++ bodyFields (r .body))
 
 -- The 120 bytes of a slot.
 unfoldable pub slotBytes : Slot → Bytes

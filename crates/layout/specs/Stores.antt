@@ -1,14 +1,18 @@
 -- Document 01, 'Bytes': a store is its header and its slots, one after the other; the store is 24 + 120n bytes. Assumes nothing.
 use Prim.Native.Nat.{ℕ, zero, suc, _≤_}
 use mathlib.Core.List.{List, [], _∷_, _++_}
-use lib.ListN.{length, take, drop}
+use lib.ListN.{length, take, drop, set}
 use Rattle.terms.specs.Bits.{Bytes, All}
-use Rattle.terms.specs.Fields.{field}
+use Rattle.terms.specs.Fields.{field, slice}
 use Rattle.terms.specs.Records.{Slot, Store}
 use Rattle.terms.specs.Form.{top32}
-use Rattle.layout.specs.Sizes.{headerSize, slotSize, mostSlots, oldestAt, latestAt, roomOf}
-use Rattle.layout.specs.Header.{headerBytes}
+use Rattle.layout.specs.Sizes.{headerSize, slotSize, mostSlots, oldestAt, latestAt, roomOf, slotAt}
+use Rattle.layout.specs.Headers.{headerBytes}
 use Rattle.layout.specs.Slots.{slotOf, slotBytes, SlotForm}
+
+-- The 120 bytes of slot i.
+unfoldable pub slotIn : ℕ → Bytes → Bytes
+slotIn i s = slice (slotAt i) slotSize s
 
 -- The n slots that bytes hold, 120 bytes each.
 abbrev pub slotsOf : ℕ → Bytes → List Slot
@@ -34,3 +38,11 @@ pub record StoreForm (st : Store) : Type 0 where
   pub ordered : st .oldest ≤ st .latest
   pub number : st .latest ≤ top32
   pub each : All SlotForm (st .slots)
+
+-- The store with another slot at i.
+unfoldable pub putSlot : ℕ → Slot → Store → Store
+putSlot i x st = record { oldest = st .oldest; latest = st .latest; slots = set (st .slots) i x }
+
+-- The store with another oldest and latest.
+unfoldable pub putBounds : ℕ → ℕ → Store → Store
+putBounds oldest latest st = record { oldest = oldest; latest = latest; slots = st .slots }

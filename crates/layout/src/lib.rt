@@ -1,1 +1,101 @@
-// Header and slots as bytes, document 01, 'Bytes'.
+// Header and slots as bytes, document 01, 'Bytes': specs/ says what they are, proofs/ that they go there and back. The code here is the
+// header's.
+pub mod sizes;
+
+use fields::all_zero;
+use fields::get_u16;
+use fields::get_u32;
+use fields::put_u16;
+use fields::put_u32;
+ghost use mathlib.Core.Path.{_≡_};
+ghost use Prim.Native.Nat.{_≤_};
+ghost use lib.ListN.{length};
+ghost use Rattle.fields.specs.Written.{written};
+ghost use Rattle.layout.specs.Sizes.{headerSize};
+ghost use Rattle.layout.specs.Headers.{sizeRight, headerRight, headerOf, headerBytes};
+ghost use Rattle.layout.specs.Answer.{headerSays};
+
+// The store's length isn't 24 + 120n, n in 1 to 16,384.
+const WRONG_SIZE: u32 = 1;
+
+// A header field isn't as it should be, its capacity isn't n, or oldest is above latest.
+const WRONG_HEADER: u32 = 2;
+
+// What reading a header answers.
+pub enum Header {
+    Refused(u32),
+    Accepted {
+        capacity: u32,
+        oldest: u32,
+        latest: u32,
+    },
+}
+
+// Whether a store of n bytes has a header and 1 to 16,384 slots, no byte over.
+pub fn size_right(n: usize) -> bool
+    ensures { λ r. ⌜ r ≡ sizeRight n ⌝ }
+{
+    if n < sizes::HEADER_SIZE + sizes::SLOT_SIZE {
+        return false;
+    }
+    if sizes::HEADER_SIZE + sizes::SLOT_SIZE * sizes::MOST_SLOTS < n {
+        return false;
+    }
+    (n - sizes::HEADER_SIZE) % sizes::SLOT_SIZE == 0
+}
+
+// Whether each header field is as it should be.
+fn header_right(store: &[u8]) -> bool
+    requires { ⌜ headerSize ≤ length (now store) ⌝ }
+    ensures { λ r. ⌜ r ≡ headerRight (now (store .entry)) ⌝ }
+{
+    if get_u32(store, 0) != sizes::HEADER_LENGTH {
+        return false;
+    }
+    if get_u16(store, sizes::KIND_AT) != sizes::HEADER_KIND {
+        return false;
+    }
+    if !all_zero(&store[6..8]) {
+        return false;
+    }
+    if get_u32(store, sizes::CAPACITY_AT) as usize
+        != (store.len() - sizes::HEADER_SIZE) / sizes::SLOT_SIZE
+    {
+        return false;
+    }
+    if get_u32(store, sizes::LATEST_AT) < get_u32(store, sizes::OLDEST_AT) {
+        return false;
+    }
+    all_zero(&store[20..24])
+}
+
+// Reads the header of any bytes.
+pub fn read_header(store: &[u8]) -> Header
+    ensures { λ r. ⌜ headerSays r ≡ headerOf (now (store .entry)) ⌝ }
+{
+    if !size_right(store.len()) {
+        return Header::Refused(WRONG_SIZE);
+    }
+    if !header_right(store) {
+        return Header::Refused(WRONG_HEADER);
+    }
+    Header::Accepted {
+        capacity: get_u32(store, sizes::CAPACITY_AT),
+        oldest: get_u32(store, sizes::OLDEST_AT),
+        latest: get_u32(store, sizes::LATEST_AT),
+    }
+}
+
+// Writes the 24 bytes of a header, and nothing else.
+pub fn put_header(store: &mut [u8], capacity: u32, oldest: u32, latest: u32)
+    requires { ⌜ headerSize ≤ length (now store) ⌝ }
+    ensures { λ _. ⌜ now (store .exit) ≡ written 0 (headerBytes capacity oldest latest) (now (store .entry)) ⌝ }
+{
+    put_u32(store, 0, sizes::HEADER_LENGTH);
+    put_u16(store, sizes::KIND_AT, sizes::HEADER_KIND);
+    put_u16(store, 6, 0);
+    put_u32(store, sizes::CAPACITY_AT, capacity);
+    put_u32(store, sizes::OLDEST_AT, oldest);
+    put_u32(store, sizes::LATEST_AT, latest);
+    put_u32(store, 20, 0);
+}

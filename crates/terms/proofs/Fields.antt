@@ -1,18 +1,18 @@
 -- Fields there and back: a number is the bytes that stand for it, and fields that fill a string are the string. Assumes nothing.
-use Prim.Native.Nat.{ℕ, zero, suc, _+_, _*_, _-_, _<_, _≤_, _/_, _%_, _^_}
+use Prim.Native.Nat.{ℕ, zero, suc, _+_, _-_, _<_, _≤_, _/_, _^_}
 use native.Mathlib.Omega.{arith}
 use mathlib.Core.Path.{_≡_, refl, ap, ap₂, sym, _∙_}
-use mathlib.Core.Bool.{Bool, true, false, _&&_}
+use mathlib.Core.Bool.{Bool, true, false}
 use mathlib.Core.List.{List, [], _∷_, _++_, append-assoc, append-nil}
-use lib.ListN.{length, take, drop, replicate, take-append-drop, drop-of-length-le, length-append, length-take, length-drop, length-replicate}
-use lib.Seq.{drop-drop, take-at, drop-at}
+use lib.ListN.{length, take, drop, take-append-drop, drop-of-length-le, length-append, length-take, length-drop, length-replicate}
+use lib.Seq.{drop-drop, take-take, take-add, take-at, drop-at}
 use lib.Dec.{eqb}
-use native.Mathlib.Nat.{pow-suc}
-use borrow.Author.Tests.{eqb-true, eq-eqb}
+use native.Mathlib.Nat.{pow-suc, add-sub-cancel-left}
+use borrow.Author.Tests.{eqb-true}
 use Rattle.terms.specs.Bits.{Bytes, Byte, All}
 use Rattle.terms.specs.Fields.{le, num, slice, field, zeroBytes, allZero, flat, allOf}
-use Rattle.terms.proofs.Tests.{and-left, and-right}
-use Rattle.terms.proofs.Lists.{all-take, all-drop}
+use Rattle.terms.proofs.Tests.{and-left, and-right, and-true}
+use Rattle.terms.proofs.Lists.{all-take, all-drop, drop-take}
 
 pub le-num : (bs : Bytes) → All Byte bs → le (length bs) (num bs) ≡ bs
 unfolding le
@@ -72,6 +72,15 @@ pub slice-rest : (i n : ℕ) (s : Bytes) → drop i s ≡ slice i n s ++ drop (i
 unfolding slice
 slice-rest i n s = sym (ap (take n (drop i s) ++_) (sym (drop-drop n i s)) ∙ take-append-drop n (drop i s))
 
+-- a field of a slice is a field of the whole
+pub slice-slice : (i m j n : ℕ) (s : Bytes) → j + n ≤ m → slice j n (slice i m s) ≡ slice (i + j) n s
+unfolding slice
+slice-slice i m j n s h = rw (drop-take j m (drop i s), drop-drop j i s) (take-take n (m - j) (drop (i + j) s) (omega arith))
+
+pub field-slice : (i m j n : ℕ) (s : Bytes) → j + n ≤ m → field j n (slice i m s) ≡ field (i + j) n s
+unfolding field
+field-slice i m j n s h = ap num (slice-slice i m j n s h)
+
 -- the fields of given sizes from i on
 abbrev pub cuts : List ℕ → ℕ → Bytes → List Bytes
 cuts [] i s = []
@@ -86,6 +95,12 @@ pub flat-cuts : (ns : List ℕ) (i : ℕ) (s : Bytes) → i + total ns ≡ lengt
 flat-cuts [] i s h = sym (drop-of-length-le s {i = i} (omega arith))
 flat-cuts (n ∷ ns) i s h = ap (slice i n s ++_) (flat-cuts ns (i + n) s (omega arith)) ∙ sym (slice-rest i n s)
 
+-- the fields at the front of a string
+pub flat-front : (ns : List ℕ) (i : ℕ) (s : Bytes) → flat (cuts ns i s) ≡ take (total ns) (drop i s)
+unfolding slice
+flat-front [] i s = refl
+flat-front (n ∷ ns) i s = rw (flat-front ns (i + n) s, take-add n (total ns) (drop i s), drop-drop n i s)
+
 pub all-of-tests : (ts : List Bool) → allOf ts ≡ true → All (λ t. t ≡ true) ts
 unfolding allOf
 all-of-tests [] h = tt
@@ -99,6 +114,10 @@ test-passed ts e = rw e
 pub test-failed : {t : Bool} (ts : List Bool) → t ≡ false → allOf (t ∷ ts) ≡ false
 unfolding allOf
 test-failed ts e = rw e
+
+pub test-last : (t : Bool) → allOf (t ∷ []) ≡ t
+unfolding allOf
+test-last t = and-true t
 
 pub tests-all : (ts : List Bool) → All (λ t. t ≡ true) ts → allOf ts ≡ true
 unfolding allOf
@@ -139,6 +158,19 @@ length-flat [] (f ∷ fs) h = absurd h
 length-flat (n ∷ ns) [] h = absurd h
 length-flat (n ∷ ns) (f ∷ fs) h = let l = h .0 in simp length-append (omega (arith, length-flat ns fs (h .1)))
 
+pub flat-append : (fs gs : List Bytes) → flat (fs ++ gs) ≡ flat fs ++ flat gs
+flat-append [] gs = refl
+flat-append (f ∷ fs) gs = rw (flat-append fs gs) (sym (append-assoc f (flat fs) (flat gs)))
+
 pub length-zero-bytes : (n : ℕ) → length (zeroBytes n) ≡ n
 unfolding zeroBytes
 length-zero-bytes n = length-replicate n 0
+
+-- a part of a lent slice
+pub part-slice : (i n : ℕ) (s : Bytes) → take (i + n - i) (drop i s) ≡ slice i n s
+unfolding slice
+part-slice i n s = rw (add-sub-cancel-left i n)
+
+-- what follows the first fields
+pub drop-fields : (ns : List ℕ) (fs gs : List Bytes) → Sized ns fs → drop (total ns) (flat (fs ++ gs)) ≡ flat gs
+drop-fields ns fs gs h = ap (drop (total ns)) (flat-append fs gs) ∙ drop-at (flat fs) (flat gs) (total ns) (length-flat ns fs h)

@@ -3,8 +3,10 @@
 use mathlib.Core.Path.{_≡_, refl, ap, sym, _∙_, fun-ext}
 use mathlib.Core.Bool.{Bool, true, false, cond, _&&_}
 use mathlib.Core.List.{List, [], _∷_, _++_}
-use Prim.Native.Nat.{ℕ, zero, suc, _<_}
+use Prim.Native.Nat.{ℕ, zero, suc, _-_, _<_}
 use native.Mathlib.Omega.{arith}
+use native.Mathlib.Nat.{sub-zero, zero-sub}
+use lib.Seq.{take-nil}
 use lib.ListN.{length, getD, take, drop}
 use Rattle.terms.specs.Bits.{filter, All}
 use Rattle.terms.proofs.Tests.{and-comm}
@@ -87,3 +89,10 @@ module _ {A : Type 0} where
   pub all-of : (P : A → Type 0) (xs : List A) (d : A) → ((i : ℕ) → i < length xs → P (getD xs i d)) → All P xs
   all-of P [] d f = tt
   all-of P (x ∷ xs) d f = (f 0 (omega arith), all-of P xs d (λ i h. f (suc i) (omega arith)))
+
+  -- a part of a front
+  pub drop-take : (i n : ℕ) (xs : List A) → drop i (take n xs) ≡ take (n - i) (drop i xs)
+  drop-take zero n xs = rw (sub-zero n)
+  drop-take (suc i) zero xs = rw (zero-sub (suc i))
+  drop-take (suc i) (suc n) [] = sym (take-nil (suc n - suc i))
+  drop-take (suc i) (suc n) (x ∷ xs) = let e : n - i ≡ suc n - suc i = omega arith in drop-take i n xs ∙ ap (λ k. take k (drop i xs)) e

@@ -1,7 +1,7 @@
 -- Document 01, 'Bytes', header, and refusals 1 and 2: what a store's length and first 24 bytes say. Assumes nothing.
 use Prim.Native.Nat.{ℕ, _+_, _*_}
 use mathlib.Core.Bool.{Bool, cond}
-use mathlib.Core.List.{[], _∷_}
+use mathlib.Core.List.{List, [], _∷_}
 use lib.ListN.{length}
 use lib.Dec.{eqb, leb}
 use Rattle.terms.specs.Bits.{Bytes}
@@ -23,16 +23,18 @@ sizeRight n =
     ∷ [])
 
 -- Refusal 2: a header field isn't as above, its capacity isn't n, or oldest is above latest.
-unfoldable pub headerRight : Bytes → Bool
-headerRight s =
-    allOf
-    (eqb (field 0 4 s) headerSize
+abbrev pub headerTests : Bytes → List Bool
+headerTests s =
+    eqb (field 0 4 s) headerSize
     ∷ eqb (field kindAt 2 s) headerKind
     ∷ allZero (slice 6 2 s)
     ∷ eqb (field capacityAt 4 s) (roomOf (length s))
     ∷ leb (field oldestAt 4 s) (field latestAt 4 s)
     ∷ allZero (slice 20 4 s)
-    ∷ [])
+    ∷ []
+
+unfoldable pub headerRight : Bytes → Bool
+headerRight s = allOf (headerTests s)
 
 -- The answer of reading a header.
 unfoldable pub headerOf : Bytes → Headed

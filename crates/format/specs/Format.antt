@@ -1,0 +1,16 @@
+-- Document 01: format gives only 1; when it accepts, oldest and latest are 0 and all slots free. Assumes nothing.
+use Prim.Native.Nat.{ℕ}
+use mathlib.Core.Bool.{cond}
+use lib.ListN.{length}
+use Rattle.terms.specs.Bits.{Bytes}
+use Rattle.meaning.specs.Store.{formatted}
+use Rattle.layout.specs.Sizes.{roomOf}
+use Rattle.layout.specs.Headers.{sizeRight}
+use Rattle.layout.specs.Stores.{storeBytes}
+
+unfoldable pub formatAnswer : Bytes → ℕ
+formatAnswer s = cond (sizeRight (length s)) 0 1
+
+-- The store's bytes afterwards; refused, as they were.
+unfoldable pub formatBytes : Bytes → Bytes
+formatBytes s = cond (sizeRight (length s)) (storeBytes (formatted (roomOf (length s)))) s

@@ -1,0 +1,24 @@
+// Formatting: a store of any contents becomes a fresh one.
+use fields::clear;
+use layout::put_header;
+use layout::size_right;
+ghost use mathlib.Core.Path.{_≡_};
+ghost use Rattle.format.specs.Format.{formatAnswer, formatBytes};
+
+// 1: the store's length isn't 24 + 120n, n in 1 to 16,384.
+const WRONG_SIZE: u32 = 1;
+
+// 0 where the store is formatted, else 1; refused, nothing is written.
+pub fn format(store: &mut [u8]) -> u32
+    ensures answer { λ r. ⌜ r ≡ formatAnswer (now (store .entry)) ⌝ }
+    ensures bytes { λ _. ⌜ now (store .exit) ≡ formatBytes (now (store .entry)) ⌝ }
+{
+    let n = store.len();
+    if !size_right(n) {
+        return WRONG_SIZE;
+    }
+    let capacity = ((n - 24) / 120) as u32;
+    clear(store);
+    put_header(store, capacity, 0, 0);
+    0
+}

@@ -1,0 +1,48 @@
+// The sizes, kinds and offsets of header and slot: specs/Sizes.antt for the code.
+pub const HEADER_SIZE: usize = 24;
+
+pub const HEADER_LENGTH: u32 = 24;
+
+pub const HEADER_KIND: u16 = 1;
+
+pub const MOST_SLOTS: usize = 16384;
+
+pub const CAPACITY_AT: usize = 8;
+
+pub const OLDEST_AT: usize = 12;
+
+pub const LATEST_AT: usize = 16;
+
+pub const SLOT_SIZE: usize = 120;
+
+pub const LEAF_LENGTH: u32 = 112;
+
+pub const LEAF_KIND: u16 = 2;
+
+pub const LEAF_BITS: u16 = 256;
+
+pub const INNER_LENGTH: u32 = 120;
+
+pub const INNER_KIND: u16 = 3;
+
+pub const INNER_BITS: u16 = 255;
+
+pub const KIND_AT: usize = 4;
+
+pub const COUNT_AT: usize = 6;
+
+pub const BITS_AT: usize = 8;
+
+pub const VERSION_AT: usize = 40;
+
+pub const RETIRED_AT: usize = 44;
+
+pub const KEY_AT: usize = 48;
+
+pub const VALUE_AT: usize = 80;
+
+pub const TAIL_AT: usize = 112;
+
+pub const LEFT_AT: usize = 48;
+
+pub const RIGHT_AT: usize = 84;

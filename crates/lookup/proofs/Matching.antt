@@ -1,0 +1,126 @@
+-- Whether a slot is the node asked for, from its bytes: a record in form is its own bytes, so version, bit count and bits decide. Assumes
+-- nothing.
+use Prim.Native.Nat.{ℕ, zero, suc, _+_, _*_, _<_, _≤_}
+use native.Mathlib.Omega.{arith}
+use mathlib.Core.Path.{_≡_, refl, ap, ap₂, sym, _∙_, subst}
+use mathlib.Core.Bool.{Bool, true, false, cond, _&&_, true≢false}
+use mathlib.Core.List.{List, [], _∷_}
+use lib.ListN.{length, getD, take, drop}
+use lib.Seq.{ext-getD, getD-drop, getD-take}
+use lib.Dec.{eqb}
+use borrow.Author.Tests.{eqb-true, eq-eqb}
+use Rattle.terms.specs.Bits.{Bytes, Byte, All, Place, pack, bits, samePlace}
+use Rattle.terms.specs.Fields.{num, field, slice, allZero}
+use Rattle.terms.specs.Records.{Body, leafBody, innerBody, Record, free, used, spoiled}
+use Rattle.terms.specs.Form.{RecordForm, placeLimit}
+use Rattle.terms.proofs.Tests.{and-left, and-right, is-false, place-same}
+use Rattle.terms.proofs.Places.{place-packed, length-pack}
+use Rattle.terms.proofs.Fields.{length-slice, all-of-tests}
+use Rattle.meaning.specs.Store.{isNode}
+use Rattle.meaning.proofs.Finding.{isNode-eq}
+use Rattle.layout.specs.Slots.{slotOf, slotBytes, recordBytes, countIn, headRight, isLeaf, isInner, leafIn, innerIn, recordIn, SlotForm}
+use Rattle.layout.proofs.Slots.{slot-back, slot-form, count-says, version-says, bits-say}
+use Rattle.lookup.specs.Lookup.{isUsed}
+
+-- 120 bytes that are read as a record
+record Says (x : Bytes) (r : Record) : Type 0 where
+  form : RecordForm r
+  bytes : recordBytes r ≡ x
+
+says : (x : Bytes) → length x ≡ 120 → All Byte x → (r : Record) → slotOf x ≡ used r → Says x r
+unfolding slotBytes
+says x l h r e = record {
+  form = subst (λ s. SlotForm s) e (slot-form x l h);
+  bytes = sym (ap slotBytes e) ∙ slot-back x l h;
+}
+
+module _ (x : Bytes) (l : length x ≡ 120) (h : All Byte x) (r : Record) (e : slotOf x ≡ used r) where
+  version-is : field 40 4 x ≡ r .version
+  version-is = let s = says x l h r e in ap (field 40 4) (sym (s .bytes)) ∙ version-says r (s .form)
+
+  count-is : field 6 2 x ≡ length (r .place)
+  unfolding countIn
+  count-is = let s = says x l h r e in ap (field 6 2) (sym (s .bytes)) ∙ count-says r (s .form)
+
+  bits-are : slice 8 32 x ≡ pack 32 (r .place)
+  bits-are = let s = says x l h r e in ap (slice 8 32) (sym (s .bytes)) ∙ bits-say r (s .form)
+
+limit-small : (b : Body) → placeLimit b ≤ 256
+limit-small (leafBody k x) = omega arith
+limit-small (innerBody l r) = omega arith
+
+-- places with the same count and the same bytes are the same
+pub same-packed : (p q : Place) → length p ≤ 256 → length q ≤ 256 → length p ≡ length q → pack 32 p ≡ pack 32 q → p ≡ q
+same-packed p q a b n e =
+    sym (place-packed 32 p a) ∙ ap₂ (λ m y. take m (bits y)) n e ∙ place-packed 32 q b
+
+bits-at : (x : Bytes) (j : ℕ) → j < 32 → getD (slice 8 32 x) j 0 ≡ getD x (8 + j) 0
+unfolding slice
+bits-at x j h = getD-take 32 (drop 8 x) j 0 h ∙ getD-drop 8 x j 0
+
+-- a slot is no node (v, p)
+abbrev pub NoNode : Bytes → ℕ → Place → Type 0
+NoNode x v p = (r : Record) → slotOf x ≡ used r → isNode v p r ≡ false
+
+module _ (x : Bytes) (l : length x ≡ 120) (h : All Byte x) (v : ℕ) (p : Place) where
+  pub off-version : (field 40 4 x ≡ v → ⊥) → NoNode x v p
+  off-version f r e = is-false (isNode v p r) (λ t. f (version-is x l h r e ∙ isNode-eq v p r t .0))
+
+  pub off-count : (field 6 2 x ≡ length p → ⊥) → NoNode x v p
+  off-count f r e = is-false (isNode v p r) (λ t. f (count-is x l h r e ∙ ap length (isNode-eq v p r t .1)))
+
+  off-bits : (slice 8 32 x ≡ pack 32 p → ⊥) → NoNode x v p
+  off-bits f r e = is-false (isNode v p r) (λ t. f (bits-are x l h r e ∙ ap (pack 32) (isNode-eq v p r t .1)))
+
+  pub off-byte : (j : ℕ) → j < 32 → (getD x (8 + j) 0 ≡ getD (pack 32 p) j 0 → ⊥) → NoNode x v p
+  off-byte j k f = off-bits (λ e. f (sym (bits-at x j k) ∙ ap (λ y. getD y j 0) e))
+
+  pub is-here : length p ≤ 256 → field 40 4 x ≡ v → field 6 2 x ≡ length p → ((j : ℕ) → j < 32 → getD x (8 + j) 0 ≡ getD (pack 32 p) j 0) →
+      (r : Record) → slotOf x ≡ used r → isNode v p r ≡ true
+  unfolding isNode
+  is-here short a b c r e =
+      let s = says x l h r e in
+      let same : slice 8 32 x ≡ pack 32 p =
+      ext-getD 0 (slice 8 32 x) (pack 32 p) (length-slice 8 32 x (omega arith) ∙ sym (length-pack 32 p)) (λ i m.
+      let k : i < 32 = omega (arith, length-slice 8 32 x (omega arith)) in
+      bits-at x i k ∙ c i k)
+      in
+      let q : r .place ≡ p =
+      same-packed (r .place) p (omega (arith, s .form .short, limit-small (r .body))) short (sym (count-is x l h r e) ∙ b) (sym (bits-are x l h r e) ∙ same)
+      in
+      rw (eq-eqb (r .version) v (sym (version-is x l h r e) ∙ a), q) (place-same p)
+
+-- zero bytes say 0
+zero-said : (n : ℕ) (x : Bytes) → allZero x ≡ true → num (take n x) ≡ 0
+zero-said zero x z = refl
+zero-said (suc n) [] z = refl
+zero-said (suc n) (a ∷ x) z =
+    let e = eqb-true a 0 (and-left (eqb a 0) (allZero x) z) in omega (arith, zero-said n x (and-right (eqb a 0) (allZero x) z))
+
+-- bytes in form as a leaf or an inner record are not free
+not-free : (x : Bytes) (n : ℕ) → field 0 4 x ≡ suc n → allZero x ≡ false
+unfolding field slice
+not-free x n e = is-false (allZero x) (λ z. omega (arith, zero-said 4 x z))
+
+leaf-length : (x : Bytes) → isLeaf x ≡ true → field 0 4 x ≡ 112
+unfolding isLeaf headRight leafIn
+leaf-length x e = eqb-true (field 0 4 x) 112 (all-of-tests _ (all-of-tests _ e .0) .0)
+
+inner-length : (x : Bytes) → isInner x ≡ true → field 0 4 x ≡ 120
+unfolding isInner headRight innerIn
+inner-length x e = eqb-true (field 0 4 x) 120 (all-of-tests _ (all-of-tests _ e .0) .0)
+
+pub leaf-used : (x : Bytes) → isLeaf x ≡ true → isUsed (slotOf x) ≡ true
+unfolding slotOf
+leaf-used x e = rw (not-free x 111 (leaf-length x e), e)
+
+pub inner-used : (x : Bytes) → isLeaf x ≡ false → isUsed (slotOf x) ≡ isInner x
+unfolding slotOf
+inner-used x e = go (allZero x) (isInner x) refl refl
+  where
+    go : (a b : Bool) → allZero x ≡ a → isInner x ≡ b →
+        isUsed (cond a free (cond (isLeaf x) (used (recordIn x (leafIn x))) (cond b (used (recordIn x (innerIn x))) (spoiled x)))) ≡ b
+    go true true z i = absurd (true≢false (sym z ∙ not-free x 119 (inner-length x i)))
+    go true false z i = refl
+    go false true z i = rw e
+    go false false z i = rw e

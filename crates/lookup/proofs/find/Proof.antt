@@ -1,0 +1,238 @@
+-- `lookup::find` meets its contract: each slot passed does not match, so the first that does is the one found. Assumes nothing.
+use Prim.Native.Nat.{_-_}
+use mathlib.Core.Path.{_≡_, refl, sym, _∙_}
+use native.Mathlib.Omega.{arith}
+use borrow.Author.Needs.{needs}
+use borrow.Author.Tests.{not-true, not-false}
+use Rattle.place.specs.Place.{placeOf}
+use Rattle.layout.specs.Sizes.{roomOf}
+use Rattle.layout.proofs.Headers.{size-least}
+use Rattle.lookup.proofs.Searching.{Slots, Agrees, from-start, other-version, other-count, none-left, byte-more, byte-off, found-here, spoiled-here}
+use Rattle.lookup.proofs.find.Statement.{statement}
+use Rattle.lookup.proofs.find.Tie as tie
+use Rattle.lookup.proofs.find.Reads as reads
+use Rattle.lookup.proofs.find.Lts as lts
+use Rattle.fields.proofs.get_u16.Reads as get-u16-reads
+use Rattle.fields.proofs.get_u32.Reads as get-u32-reads
+use Rattle.lookup.proofs.holds_record.Reads as holds-record-reads
+
+abbrev Inv-loop : tie.InvT-loop
+Inv-loop store version b count n i₀ at k₀ i k = Agrees store version b count n i at k
+
+abbrev μ-loop : tie.MeasureT-loop
+μ-loop store version b count n i₀ at k₀ i k = 32 - k
+
+abbrev Inv-slots : tie.InvT-slots
+Inv-slots store version b count n i₀ i = Slots store version b count n i
+
+abbrev μ-slots : tie.MeasureT-slots
+μ-slots store version b count n i₀ i = n - i
+
+-- src/lib.rt:40:14
+sub-n : tie.Need-sub-n Inv-loop μ-loop Inv-slots μ-slots
+sub-n c = omega (arith, size-least _ (c .before .before .pre .0))
+
+-- src/lib.rt:42:5
+slots-holds : tie.Need-slots-holds Inv-loop μ-loop Inv-slots μ-slots
+unfolding placeOf roomOf
+slots-holds c =
+    let a = c .before .before in
+    from-start (a .args .store .now) (a .args .version) (a .args .place .bits) (a .args .place .count) (a .pre .0) (λ i. omega (arith, c .before .shared-slice-known .given i))
+    (a .pre .1 .short) (search needs) (a .pre .1 .trimmed)
+
+-- src/lib.rt:46:23
+mul-at : tie.Need-mul-at Inv-loop μ-loop Inv-slots μ-slots
+mul-at c = omega arith
+
+-- src/lib.rt:46:18
+add-at : tie.Need-add-at Inv-loop μ-loop Inv-slots μ-slots
+add-at c = omega arith
+
+-- src/lib.rt:47:27
+add-get-u32 : tie.Need-add-get-u32 Inv-loop μ-loop Inv-slots μ-slots
+add-get-u32 c = omega arith
+
+-- src/lib.rt:47:12
+get-u32-requires : tie.Need-get-u32-requires Inv-loop μ-loop Inv-slots μ-slots
+get-u32-requires c κs = omega arith
+
+-- src/lib.rt:48:13
+add-i : tie.Need-add-i Inv-loop μ-loop Inv-slots μ-slots
+add-i c = omega arith
+
+-- src/lib.rt:42:5
+slots-less : tie.Need-slots-less Inv-loop μ-loop Inv-slots μ-slots
+slots-less c = omega arith
+
+-- src/lib.rt:42:5
+slots-again : tie.Need-slots-again Inv-loop μ-loop Inv-slots μ-slots
+slots-again c =
+    other-version (c .before .before .before .slots .inv) (c .before .before .if1 .left) _ refl (λ e. c .if2 .taken (c .before .get-u32 .ensures ∙ e))
+
+-- src/lib.rt:51:27
+add-get-u16 : tie.Need-add-get-u16 Inv-loop μ-loop Inv-slots μ-slots
+add-get-u16 c = omega arith
+
+-- src/lib.rt:51:12
+get-u16-requires : tie.Need-get-u16-requires Inv-loop μ-loop Inv-slots μ-slots
+get-u16-requires c κs = omega arith
+
+-- src/lib.rt:51:12
+cast-if3 : tie.Need-cast-if3 Inv-loop μ-loop Inv-slots μ-slots
+cast-if3 c = omega arith
+
+-- src/lib.rt:52:13
+add-i-2 : tie.Need-add-i-2 Inv-loop μ-loop Inv-slots μ-slots
+add-i-2 c = omega arith
+
+-- src/lib.rt:42:5
+slots-less-2 : tie.Need-slots-less-2 Inv-loop μ-loop Inv-slots μ-slots
+slots-less-2 c = omega arith
+
+-- src/lib.rt:42:5
+slots-again-2 : tie.Need-slots-again-2 Inv-loop μ-loop Inv-slots μ-slots
+slots-again-2 c =
+    let d = c .before .before .before .before in
+    other-count (d .before .slots .inv) (d .if1 .left) _ refl (λ e. c .if3 .taken (c .before .get-u16 .ensures ∙ e))
+
+-- src/lib.rt:56:9
+loop-holds : tie.Need-loop-holds Inv-loop μ-loop Inv-slots μ-slots
+loop-holds c =
+    let d = c .before .before .before .before in
+    record {
+      slots = d .before .slots .inv;
+      inside = d .if1 .left;
+      here = refl;
+      within = omega arith;
+      version = sym (c .before .before .before .get-u32 .ensures) ∙ c .before .before .if2 .left;
+      bits = sym (c .before .get-u16 .ensures) ∙ c .if3 .left;
+      same = λ j h. absurd (omega arith);
+    }
+
+-- src/lib.rt:57:22
+add-if4 : tie.Need-add-if4 Inv-loop μ-loop Inv-slots μ-slots
+add-if4 c = omega arith
+
+-- src/lib.rt:57:22
+add-if4-2 : tie.Need-add-if4-2 Inv-loop μ-loop Inv-slots μ-slots
+add-if4-2 c = omega arith
+
+-- src/lib.rt:57:16
+shared-slice-read-if4 : tie.Need-shared-slice-read-if4 Inv-loop μ-loop Inv-slots μ-slots
+shared-slice-read-if4 c = omega arith
+
+-- src/lib.rt:57:37
+array-read-if4 : tie.Need-array-read-if4 Inv-loop μ-loop Inv-slots μ-slots
+array-read-if4 c = omega arith
+
+-- src/lib.rt:58:17
+add-i-3 : tie.Need-add-i-3 Inv-loop μ-loop Inv-slots μ-slots
+add-i-3 c = omega arith
+
+-- src/lib.rt:42:5
+slots-less-3 : tie.Need-slots-less-3 Inv-loop μ-loop Inv-slots μ-slots
+slots-less-3 c = omega arith
+
+-- src/lib.rt:42:5
+slots-again-3 : tie.Need-slots-again-3 Inv-loop μ-loop Inv-slots μ-slots
+slots-again-3 c = byte-off (c .before .before .before .loop .inv) (c .before .before .loop-test .taken) (c .if4 .taken)
+
+-- src/lib.rt:61:13
+add-k : tie.Need-add-k Inv-loop μ-loop Inv-slots μ-slots
+add-k c = omega arith
+
+-- src/lib.rt:56:9
+loop-less : tie.Need-loop-less Inv-loop μ-loop Inv-slots μ-slots
+loop-less c = omega arith
+
+-- src/lib.rt:56:9
+loop-again : tie.Need-loop-again Inv-loop μ-loop Inv-slots μ-slots
+loop-again c = byte-more (c .before .before .before .loop .inv) (c .before .before .loop-test .taken) (c .if4 .left)
+
+-- src/lib.rt:63:19
+add-end : tie.Need-add-end Inv-loop μ-loop Inv-slots μ-slots
+add-end c = omega arith
+
+-- src/lib.rt:64:25
+sub-holds-record : tie.Need-sub-holds-record Inv-loop μ-loop Inv-slots μ-slots
+sub-holds-record c = omega arith
+
+-- src/lib.rt:64:25
+part-holds-record-start : tie.Need-part-holds-record-start Inv-loop μ-loop Inv-slots μ-slots
+part-holds-record-start c = omega arith
+
+-- src/lib.rt:64:25
+part-holds-record-end : tie.Need-part-holds-record-end Inv-loop μ-loop Inv-slots μ-slots
+part-holds-record-end c = omega arith
+
+-- src/lib.rt:64:12
+holds-record-requires : tie.Need-holds-record-requires Inv-loop μ-loop Inv-slots μ-slots
+holds-record-requires c κs = omega arith
+
+-- src/lib.rt:67:9
+add-i-4 : tie.Need-add-i-4 Inv-loop μ-loop Inv-slots μ-slots
+add-i-4 c = omega arith
+
+-- src/lib.rt:42:5
+slots-less-4 : tie.Need-slots-less-4 Inv-loop μ-loop Inv-slots μ-slots
+slots-less-4 c = omega arith
+
+-- src/lib.rt:42:5
+slots-again-4 : tie.Need-slots-again-4 Inv-loop μ-loop Inv-slots μ-slots
+slots-again-4 c = spoiled-here (c .before .before .before .before .loop .inv) refl (sym (c .before .holds-record .ensures) ∙ c .if5 .left)
+
+-- src/lib.rt:34:1
+returns : tie.Need-returns Inv-loop μ-loop Inv-slots μ-slots
+unfolding placeOf
+returns c = none-left (c .before .slots .inv) (c .if1 .taken)
+
+-- src/lib.rt:34:1
+returns-2 : tie.Need-returns-2 Inv-loop μ-loop Inv-slots μ-slots
+unfolding placeOf
+returns-2 c =
+    found-here (c .before .before .before .before .loop .inv) refl (c .before .before .before .loop-test .left) (sym (c .before .holds-record .ensures) ∙ c .if5 .taken)
+
+pub find-spec : {M : Type 1} → statement M
+find-spec =
+    tie.close
+    (tie.spec
+    Inv-loop
+    μ-loop
+    Inv-slots
+    μ-slots
+    sub-n
+    slots-holds
+    mul-at
+    add-at
+    add-get-u32
+    get-u32-requires
+    add-i
+    slots-less
+    slots-again
+    add-get-u16
+    get-u16-requires
+    cast-if3
+    add-i-2
+    slots-less-2
+    slots-again-2
+    loop-holds
+    add-if4
+    add-if4-2
+    shared-slice-read-if4
+    array-read-if4
+    add-i-3
+    slots-less-3
+    slots-again-3
+    add-k
+    loop-less
+    loop-again
+    add-end
+    sub-holds-record
+    part-holds-record-start
+    part-holds-record-end
+    holds-record-requires
+    add-i-4
+    slots-less-4
+    slots-again-4
+    returns
+    returns-2)

@@ -1,0 +1,69 @@
+// Finding a node in lent memory, document 01, 'Reading and proving'.
+use fields::get_u16;
+use fields::get_u32;
+use place::Place;
+use slots::is_inner;
+use slots::is_leaf;
+ghost use mathlib.Core.Path.{_≡_};
+ghost use mathlib.Core.Bool.{true};
+ghost use lib.ListN.{length};
+ghost use Rattle.place.specs.Place.{placeOf, Proper};
+ghost use Rattle.layout.specs.Headers.{sizeRight};
+ghost use Rattle.layout.specs.Slots.{slotOf};
+ghost use Rattle.layout.specs.Stores.{storeOf};
+ghost use Rattle.lookup.specs.Lookup.{isUsed, FoundIn};
+
+// Whether 120 bytes are a record in form.
+pub fn holds_record(s: &[u8]) -> bool
+    requires { ⌜ length (now s) ≡ 120 ⌝ }
+    ensures { λ r. ⌜ r ≡ isUsed (slotOf (now (s .entry))) ⌝ }
+{
+    if is_leaf(s) {
+        return true;
+    }
+    is_inner(s)
+}
+
+pub enum Found {
+    // The number of the slot.
+    At(usize),
+    Nothing,
+}
+
+// The lowest slot that matches a version and place: the cheap fields first, and the next slot at the first difference.
+pub fn find(store: &[u8], version: u32, place: Place) -> Found
+    requires { ⌜ (sizeRight (length (now store)) ≡ true) × Proper place ⌝ }
+    ensures { λ r. ⌜ FoundIn (storeOf (now (store .entry)) .slots) version (placeOf place) r ⌝ }
+{
+    let bits = place.bits;
+    let count = place.count;
+    let n = (store.len() - 24) / 120;
+    let mut i = 0;
+    'slots: loop {
+        if n <= i {
+            break 'slots Found::Nothing;
+        }
+        let at = 24 + 120 * i;
+        if get_u32(store, at + 40) != version {
+            i += 1;
+            continue 'slots;
+        }
+        if get_u16(store, at + 6) as usize != count {
+            i += 1;
+            continue 'slots;
+        }
+        let mut k = 0;
+        while k < 32 {
+            if store[at + 8 + k] != bits[k] {
+                i += 1;
+                continue 'slots;
+            }
+            k += 1;
+        }
+        let end = at + 120;
+        if holds_record(&store[at..end]) {
+            break 'slots Found::At(i);
+        }
+        i += 1;
+    }
+}

@@ -1,0 +1,271 @@
+// Slots in lent memory, document 01, 'Bytes': reading any 120 bytes, and writing a record. A leaf and an inner record share their head.
+use fields::all_zero;
+use fields::clear;
+use fields::copy;
+use fields::get_u16;
+use fields::get_u32;
+use fields::put_u16;
+use fields::put_u32;
+use hash::Hash;
+use hash::hash_at;
+use hash::put_hash;
+use layout::sizes;
+use place::Place;
+use place::place_at;
+use place::unused_zero;
+ghost use mathlib.Core.Path.{_≡_};
+ghost use mathlib.Core.Bool.{true};
+ghost use Prim.Native.Nat.{_+_, _≤_};
+ghost use lib.ListN.{length, drop};
+ghost use Rattle.terms.specs.Bits.{bits, noneSet};
+ghost use Rattle.terms.specs.Fields.{le, slice, flat, allOf};
+ghost use Rattle.terms.specs.Records.{used, free, innerBody};
+ghost use Rattle.fields.specs.Written.{written};
+ghost use Rattle.place.specs.Place.{placeOf, Proper};
+ghost use Rattle.layout.specs.Sizes.{slotSize, grantSize, childSize, bitsAt, retiredAt, keyAt, valueAt};
+ghost use Rattle.layout.specs.Slots.{countIn, childIn, recordOf, headTests, isLeaf, childRight, isInner, headFields, childFields, slotBytes};
+ghost use Rattle.slots.specs.Answer.{childSays, Made, Held, Read, grantBody};
+
+// What an inner record says of a child; version 0: there is no child.
+pub struct Child {
+    pub version: u32,
+    pub hash: Hash,
+}
+
+pub enum Kind {
+    Free,
+    // Its key and value stay in the slot's bytes.
+    Leaf,
+    Inner { left: Child, right: Child },
+    Spoiled,
+}
+
+// What 120 bytes hold; of a free or spoiled slot the kind is all that counts.
+pub struct Slot {
+    pub kind: Kind,
+    pub place: Place,
+    pub version: u32,
+    pub retired: u32,
+}
+
+// Whether the head of a record is in form: its length and kind, a bit count up to a limit, unused bits zero, version at least 1.
+fn head_right(s: &[u8], len: u32, kind: u16, limit: u16) -> bool
+    requires { ⌜ length (now s) ≡ slotSize ⌝ }
+    ensures { λ r. ⌜ r ≡ allOf (headTests len kind limit (now (s .entry))) ⌝ }
+{
+    if get_u32(s, 0) != len {
+        return false;
+    }
+    if get_u16(s, sizes::KIND_AT) != kind {
+        return false;
+    }
+    let count = get_u16(s, sizes::COUNT_AT);
+    if limit < count {
+        return false;
+    }
+    if !unused_zero(&s[sizes::BITS_AT..sizes::VERSION_AT], count as usize) {
+        return false;
+    }
+    1 <= get_u32(s, sizes::VERSION_AT)
+}
+
+// Whether the 120 bytes are a leaf in form.
+pub fn is_leaf(s: &[u8]) -> bool
+    requires { ⌜ length (now s) ≡ slotSize ⌝ }
+    ensures { λ r. ⌜ r ≡ isLeaf (now (s .entry)) ⌝ }
+{
+    if !head_right(s, sizes::LEAF_LENGTH, sizes::LEAF_KIND, sizes::LEAF_BITS) {
+        return false;
+    }
+    all_zero(&s[sizes::TAIL_AT..sizes::SLOT_SIZE])
+}
+
+// Whether a child that is missing has no hash.
+fn child_right(s: &[u8], at: usize) -> bool
+    requires { ⌜ at + childSize ≤ length (now s) ⌝ }
+    ensures { λ r. ⌜ r ≡ childRight (childIn at (now (s .entry))) ⌝ }
+{
+    if 1 <= get_u32(s, at) {
+        return true;
+    }
+    let hash = at + 4;
+    let end = hash + 32;
+    all_zero(&s[hash..end])
+}
+
+// Whether they are an inner record in form.
+pub fn is_inner(s: &[u8]) -> bool
+    requires { ⌜ length (now s) ≡ slotSize ⌝ }
+    ensures { λ r. ⌜ r ≡ isInner (now (s .entry)) ⌝ }
+{
+    if !head_right(s, sizes::INNER_LENGTH, sizes::INNER_KIND, sizes::INNER_BITS) {
+        return false;
+    }
+    if !child_right(s, sizes::LEFT_AT) {
+        return false;
+    }
+    if !child_right(s, sizes::RIGHT_AT) {
+        return false;
+    }
+    if 1 <= get_u32(s, sizes::LEFT_AT) {
+        return true;
+    }
+    1 <= get_u32(s, sizes::RIGHT_AT)
+}
+
+fn child_at(s: &[u8], at: usize) -> Child
+    requires { ⌜ at + childSize ≤ length (now s) ⌝ }
+    ensures { λ r. ⌜ childSays r ≡ childIn at (now (s .entry)) ⌝ }
+{
+    let version = get_u32(s, at);
+    let hash = hash_at(s, at + 4);
+    Child { version, hash }
+}
+
+// A slot of a kind that says nothing else.
+fn bare(kind: Kind) -> Slot
+    ensures { λ r. ⌜ Made kind r ⌝ }
+{
+    let place = Place::top();
+    Slot {
+        kind,
+        place,
+        version: 0,
+        retired: 0,
+    }
+}
+
+// A slot of a kind with place, version and retired-since as the bytes have them.
+fn held(s: &[u8], kind: Kind) -> Slot
+    requires { ⌜ (length (now s) ≡ slotSize) × (countIn (now s) ≤ 256) × (noneSet (drop (countIn (now s)) (bits (slice bitsAt 32 (now s)))) ≡ true) ⌝ }
+    ensures { λ r. ⌜ Held kind (now (s .entry)) r ⌝ }
+{
+    let count = get_u16(s, sizes::COUNT_AT);
+    let place = place_at(&s[sizes::BITS_AT..sizes::VERSION_AT], count as usize);
+    let version = get_u32(s, sizes::VERSION_AT);
+    let retired = get_u32(s, sizes::RETIRED_AT);
+    Slot {
+        kind,
+        place,
+        version,
+        retired,
+    }
+}
+
+// Reads the 120 bytes of a slot.
+pub fn read_slot(s: &[u8]) -> Slot
+    requires { ⌜ length (now s) ≡ slotSize ⌝ }
+    ensures { λ r. ⌜ Read (now (s .entry)) r ⌝ }
+{
+    if all_zero(s) {
+        return bare(Kind::Free);
+    }
+    if is_leaf(s) {
+        return held(s, Kind::Leaf);
+    }
+    if is_inner(s) {
+        let left = child_at(s, sizes::LEFT_AT);
+        let right = child_at(s, sizes::RIGHT_AT);
+        return held(s, Kind::Inner { left, right });
+    }
+    bare(Kind::Spoiled)
+}
+
+// Writes the head of a record: length, kind, bit count, bits, version, retired-since.
+fn put_head(s: &mut [u8], len: u32, kind: u16, place: Place, version: u32, retired: u32)
+    requires { ⌜ (length (now s) ≡ slotSize) × Proper place ⌝ }
+    ensures { λ _. ⌜ now (s .exit) ≡ written 0 (flat (headFields len kind (placeOf place) version retired)) (now (s .entry)) ⌝ }
+{
+    let count = place.count as u16;
+    let bits = place.bits;
+    put_u32(s, 0, len);
+    put_u16(s, sizes::KIND_AT, kind);
+    put_u16(s, sizes::COUNT_AT, count);
+    copy(&mut s[sizes::BITS_AT..sizes::VERSION_AT], &bits);
+    put_u32(s, sizes::VERSION_AT, version);
+    put_u32(s, sizes::RETIRED_AT, retired);
+}
+
+fn put_child(s: &mut [u8], at: usize, c: Child)
+    requires { ⌜ at + childSize ≤ length (now s) ⌝ }
+    ensures { λ _. ⌜ now (s .exit) ≡ written at (flat (childFields (childSays c))) (now (s .entry)) ⌝ }
+{
+    let hash = at + 4;
+    let end = hash + 32;
+    put_u32(s, at, c.version);
+    put_hash(&mut s[hash..end], c.hash);
+}
+
+// Writes a leaf over the 120 bytes of a slot; the grant is key and value.
+pub fn put_leaf(s: &mut [u8], place: Place, version: u32, retired: u32, grant: &[u8])
+    requires { ⌜ (length (now s) ≡ slotSize) × Proper place × (length (now grant) ≡ grantSize) ⌝ }
+    ensures { λ _. ⌜ now (s .exit) ≡ slotBytes (used (recordOf (placeOf place) version retired (grantBody (now (grant .entry))))) ⌝ }
+{
+    put_head(
+        s,
+        sizes::LEAF_LENGTH,
+        sizes::LEAF_KIND,
+        place,
+        version,
+        retired,
+    );
+    copy(&mut s[sizes::KEY_AT..sizes::TAIL_AT], grant);
+    clear(&mut s[sizes::TAIL_AT..sizes::SLOT_SIZE]);
+}
+
+// Writes an inner record over the 120 bytes of a slot.
+pub fn put_inner(s: &mut [u8], place: Place, version: u32, retired: u32, left: Child, right: Child)
+    requires { ⌜ (length (now s) ≡ slotSize) × Proper place ⌝ }
+    ensures { λ _. ⌜ now (s .exit) ≡ slotBytes (used (recordOf (placeOf place) version retired (innerBody (childSays left) (childSays right)))) ⌝ }
+{
+    put_head(
+        s,
+        sizes::INNER_LENGTH,
+        sizes::INNER_KIND,
+        place,
+        version,
+        retired,
+    );
+    put_child(s, sizes::LEFT_AT, left);
+    put_child(s, sizes::RIGHT_AT, right);
+}
+
+// Frees the 120 bytes of a slot.
+pub fn clear_slot(s: &mut [u8])
+    requires { ⌜ length (now s) ≡ slotSize ⌝ }
+    ensures { λ _. ⌜ now (s .exit) ≡ slotBytes free ⌝ }
+{
+    clear(s);
+}
+
+// Writes the retired-since of a record, and nothing else.
+pub fn put_retired(s: &mut [u8], since: u32)
+    requires { ⌜ length (now s) ≡ slotSize ⌝ }
+    ensures { λ _. ⌜ now (s .exit) ≡ written retiredAt (le 4 since) (now (s .entry)) ⌝ }
+{
+    put_u32(s, sizes::RETIRED_AT, since);
+}
+
+// The grant of a leaf, in the slot's own bytes: key and value.
+pub fn grant_of(s: &[u8]) -> &[u8]
+    requires { ⌜ length (now s) ≡ slotSize ⌝ }
+    ensures { λ r. ⌜ (now r ≡ slice keyAt grantSize (now (s .entry))) × (length (now r) ≡ grantSize) ⌝ }
+{
+    &s[sizes::KEY_AT..sizes::TAIL_AT]
+}
+
+// Its key alone.
+pub fn key_of(s: &[u8]) -> &[u8]
+    requires { ⌜ length (now s) ≡ slotSize ⌝ }
+    ensures { λ r. ⌜ (now r ≡ slice keyAt 32 (now (s .entry))) × (length (now r) ≡ 32) ⌝ }
+{
+    &s[sizes::KEY_AT..sizes::VALUE_AT]
+}
+
+// Its value alone.
+pub fn value_of(s: &[u8]) -> &[u8]
+    requires { ⌜ length (now s) ≡ slotSize ⌝ }
+    ensures { λ r. ⌜ (now r ≡ slice valueAt 32 (now (s .entry))) × (length (now r) ≡ 32) ⌝ }
+{
+    &s[sizes::VALUE_AT..sizes::TAIL_AT]
+}

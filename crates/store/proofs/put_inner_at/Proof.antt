@@ -1,0 +1,49 @@
+-- `store::put_inner_at` meets its contract: the part of slot i comes back as the inner record. Assumes nothing.
+use Rattle.store.proofs.Slots.{part-put}
+use borrow.Author.Needs.{needs}
+use Rattle.store.proofs.put_inner_at.Statement.{statement}
+use Rattle.store.proofs.put_inner_at.Tie as tie
+
+mul-start : tie.Need-mul-start
+mul-start c = search needs
+
+add-start : tie.Need-add-start
+add-start c = search needs
+
+add-end : tie.Need-add-end
+add-end c = search needs
+
+sub-put-inner : tie.Need-sub-put-inner
+sub-put-inner c = search needs
+
+part-put-inner-start : tie.Need-part-put-inner-start
+part-put-inner-start c = search needs
+
+part-put-inner-end : tie.Need-part-put-inner-end
+part-put-inner-end c = search needs
+
+put-inner-requires : tie.Need-put-inner-requires
+put-inner-requires c κs = search needs
+
+same-length : tie.Need-same-length
+same-length c = search needs
+
+returns : tie.Need-returns
+returns c =
+    let put = c .before .before in
+    let start = put .before .before .before in
+    part-put (start .args .i) _ (start .args .store .now) (start .pre .0) (put .put-inner .ensures) (put .put-inner .kept .0)
+
+pub put-inner-at-spec : {M : Type 1} → statement M
+put-inner-at-spec =
+    tie.close
+    (tie.spec
+    mul-start
+    add-start
+    add-end
+    sub-put-inner
+    part-put-inner-start
+    part-put-inner-end
+    put-inner-requires
+    same-length
+    returns)
