@@ -23,7 +23,8 @@ pub room-of : (m n : ℕ) → m ≡ 24 + 120 * n → roomOf m ≡ n
 unfolding roomOf
 room-of m n e = omega arith
 
-size-right-of : (m n : ℕ) → m ≡ 24 + 120 * n → 1 ≤ n → n ≤ 16384 → sizeRight m ≡ true
+-- the size is right exactly if it is 24 + 120n, n in 1 to 16,384
+pub size-right-of : (m n : ℕ) → m ≡ 24 + 120 * n → 1 ≤ n → n ≤ 16384 → sizeRight m ≡ true
 unfolding sizeRight
 size-right-of m n e some fits =
     let r = room-of m n e in
@@ -122,7 +123,7 @@ pub record Accepted (s : Bytes) (n o l : ℕ) : Type 0 where
   pub oldest : field 12 4 s ≡ o
   pub latest : field 16 4 s ≡ l
 
-size-says : (m : ℕ) → sizeRight m ≡ true → (m ≡ 24 + 120 * roomOf m) × (1 ≤ roomOf m) × (roomOf m ≤ 16384)
+pub size-says : (m : ℕ) → sizeRight m ≡ true → (m ≡ 24 + 120 * roomOf m) × (1 ≤ roomOf m) × (roomOf m ≤ 16384)
 unfolding sizeRight
 size-says m e = let t = all-of-tests _ e in (eqb-true m (24 + 120 * roomOf m) (t .0), leb-true 1 (roomOf m) (t .1 .0), leb-true (roomOf m) 16384 (t .1 .1 .0))
 
