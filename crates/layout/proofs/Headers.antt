@@ -23,7 +23,8 @@ pub room-of : (m n : ℕ) → m ≡ 24 + 120 * n → roomOf m ≡ n
 unfolding roomOf
 room-of m n e = omega arith
 
-size-right-of : (m n : ℕ) → m ≡ 24 + 120 * n → 1 ≤ n → n ≤ 16384 → sizeRight m ≡ true
+-- the size is right exactly if it is 24 + 120n, n in 1 to 16,384
+pub size-right-of : (m n : ℕ) → m ≡ 24 + 120 * n → 1 ≤ n → n ≤ 16384 → sizeRight m ≡ true
 unfolding sizeRight
 size-right-of m n e some fits =
     let r = room-of m n e in

@@ -84,9 +84,9 @@ module _ (s : Bytes) (n o l : ℕ) (h : All Byte s) (a : Accepted s n o l) where
   slots-long : length (drop 24 s) ≡ 120 * n
   slots-long = let k = a .size in simp length-drop (omega arith)
 
-  slots-read : storeOf s .slots ≡ slotsOf n (drop 24 s)
+  pub slot-count : length (storeOf s .slots) ≡ n
   unfolding storeOf
-  slots-read = ap (λ k. slotsOf k (drop 24 s)) (room-of (length s) n (a .size))
+  slot-count = length-slots (roomOf (length s)) (drop 24 s) ∙ room-of (length s) n (a .size)
 
   pub store-back : storeBytes (storeOf s) ≡ s
   unfolding storeBytes storeOf
@@ -100,15 +100,13 @@ module _ (s : Bytes) (n o l : ℕ) (h : All Byte s) (a : Accepted s n o l) where
   pub store-form : StoreForm (storeOf s)
   unfolding storeOf
   store-form =
-      let r = room-of (length s) n (a .size) in
-      let k : length (slotsOf (roomOf (length s)) (drop 24 s)) ≡ n = length-slots (roomOf (length s)) (drop 24 s) ∙ r in
       let z = a .size in
       record {
-        some = rw k (a .some);
-        fits = rw k (a .fits);
+        some = rw slot-count (a .some);
+        fits = rw slot-count (a .fits);
         ordered = rw (a .oldest, a .latest) (a .ordered);
         number = omega (arith, field-below 16 4 s (omega arith) h);
-        each = rw r (slots-form n (drop 24 s) slots-long (all-drop Byte 24 s h));
+        each = rw (room-of (length s) n z) (slots-form n (drop 24 s) slots-long (all-drop Byte 24 s h));
       }
 
 -- free slots are zero bytes
