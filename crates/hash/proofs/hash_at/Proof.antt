@@ -1,0 +1,51 @@
+use mathlib.Core.Path.{ap, _∙_}
+use native.Mathlib.Omega.{arith}
+use lib.ListN.{take, drop}
+use Rattle.hash.specs.Hash.{hashBytes}
+use Rattle.hash.proofs.Laws.{hash-of-numbers, whole-part, bytes-of-hash}
+use borrow.Author.Needs.{needs}
+use Rattle.hash.proofs.hash_at.Statement.{statement}
+use Rattle.hash.proofs.hash_at.Tie as tie
+use Rattle.hash.proofs.number_at.Reads as number-at-reads
+
+number-at-requires : tie.Need-number-at-requires
+number-at-requires c κs = search needs
+
+add-number-at : tie.Need-add-number-at
+add-number-at c = search needs
+
+number-at-requires-2 : tie.Need-number-at-requires-2
+number-at-requires-2 c κs = search needs
+
+add-number-at-2 : tie.Need-add-number-at-2
+add-number-at-2 c = search needs
+
+number-at-requires-3 : tie.Need-number-at-requires-3
+number-at-requires-3 c κs = search needs
+
+add-number-at-3 : tie.Need-add-number-at-3
+add-number-at-3 c = search needs
+
+number-at-requires-4 : tie.Need-number-at-requires-4
+number-at-requires-4 c κs = search needs
+
+returns : tie.Need-returns
+returns c =
+    let a = c .before .before .before .before .before .args in
+    let x = take 32 (drop (a .at) (a .s .now)) in
+    let e = hash-of-numbers (a .s .now) (a .at) (omega arith) (c .before .before .before .number-at .ensures) (c .before .before .number-at2 .ensures)
+    (c .before .number-at3 .ensures) (c .number-at4 .ensures) in
+    (e, ap hashBytes e ∙ bytes-of-hash x (whole-part (a .s .now) (a .at) (omega arith) (λ i. omega (arith, c .before .before .before .before .shared-slice-known .given i))))
+
+pub hash-at-spec : {M : Type 1} → statement M
+hash-at-spec =
+    tie.close
+    (tie.spec
+    number-at-requires
+    add-number-at
+    number-at-requires-2
+    add-number-at-2
+    number-at-requires-3
+    add-number-at-3
+    number-at-requires-4
+    returns)

@@ -1,0 +1,34 @@
+use mathlib.Core.Path.{ap, sym}
+use borrow.Author.Needs.{needs}
+use Rattle.hash.specs.declared.Hash.{Hash}
+use Rattle.hash.proofs.Laws.{same-hashes, other-hashes}
+use Rattle.hash.proofs.same_hash.Statement.{statement}
+use Rattle.hash.proofs.same_hash.Tie as tie
+
+returns : tie.Need-returns
+returns c =
+    let a = c .before .before .before .args in
+    sym (other-hashes (a .x) (a .y) (search needs) (search needs) (λ e. c .if1 .taken (ap (λ (h : Hash). h .a) e)))
+
+returns-2 : tie.Need-returns-2
+returns-2 c =
+    let a = c .before .before .before .before .before .before .args in
+    sym (other-hashes (a .x) (a .y) (search needs) (search needs) (λ e. c .if2 .taken (ap (λ (h : Hash). h .b) e)))
+
+returns-3 : tie.Need-returns-3
+returns-3 c =
+    let a = c .before .before .before .before .before .before .before .before .before .args in
+    sym (other-hashes (a .x) (a .y) (search needs) (search needs) (λ e. c .if3 .taken (ap (λ (h : Hash). h .c) e)))
+
+returns-4 : tie.Need-returns-4
+returns-4 c =
+    let a = c .before .before .before .before .before .before .before .before .before .before .before .before .args in
+    sym (other-hashes (a .x) (a .y) (search needs) (search needs) (λ e. c .if4 .taken (ap (λ (h : Hash). h .d) e)))
+
+returns-5 : tie.Need-returns-5
+returns-5 c =
+    let a = c .before .before .before .before .before .before .before .before .before .before .before .before .args in
+    sym (same-hashes (a .x) (a .y) (c .before .before .before .before .before .before .before .before .before .if1 .left) (c .before .before .before .before .before .before .if2 .left) (c .before .before .before .if3 .left) (c .if4 .left))
+
+pub same-hash-spec : {M : Type 1} → statement M
+same-hash-spec = tie.close (tie.spec returns returns-2 returns-3 returns-4 returns-5)

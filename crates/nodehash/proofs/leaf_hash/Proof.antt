@@ -1,0 +1,30 @@
+use mathlib.Core.Path.{_∙_}
+use native.Mathlib.Omega.{arith}
+use lib.ListN.{drop, length-drop}
+use lib.Seq.{take-all}
+use Rattle.nodehash.specs.Node.{leafHash}
+use borrow.Author.Needs.{needs}
+use Rattle.nodehash.proofs.leaf_hash.Statement.{statement}
+use Rattle.nodehash.proofs.leaf_hash.Tie as tie
+use Rattle.hash.proofs.hash_at.Reads as hash-at-reads
+use Rattle.nodehash.proofs.node_hash.Reads as node-hash-reads
+
+hash-at-requires : tie.Need-hash-at-requires
+hash-at-requires c κs = search needs
+
+hash-at-requires-2 : tie.Need-hash-at-requires-2
+hash-at-requires-2 c κs = search needs
+
+node-hash-requires : tie.Need-node-hash-requires
+node-hash-requires c κs = search needs
+
+returns : tie.Need-returns
+unfolding leafHash
+returns c =
+    let g = c .before .before .before .before .args .grant .now in
+    let e = c .before .hash-at2 .ensures .1 ∙ take-all 32 (drop 32 g) (simp length-drop (omega arith)) in
+    rw (← c .before .before .hash-at .ensures .1, ← e) (c .node-hash .ensures)
+
+pub leaf-hash-spec : {M : Type 1} → statement M
+leaf-hash-spec =
+    tie.close (tie.spec hash-at-requires hash-at-requires-2 node-hash-requires returns)

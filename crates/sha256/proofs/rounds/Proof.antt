@@ -1,0 +1,30 @@
+use Rattle.sha256.proofs.Rolling.{four-times}
+use borrow.Author.Needs.{needs}
+use Rattle.sha256.proofs.rounds.Statement.{statement}
+use Rattle.sha256.proofs.rounds.Tie as tie
+use Rattle.sha256.proofs.rounds0.Reads as rounds0-reads
+use Rattle.sha256.proofs.rounds1.Reads as rounds1-reads
+use Rattle.sha256.proofs.rounds2.Reads as rounds2-reads
+use Rattle.sha256.proofs.rounds3.Reads as rounds3-reads
+
+rounds0-requires : tie.Need-rounds0-requires
+rounds0-requires c κs = search needs
+
+rounds1-requires : tie.Need-rounds1-requires
+rounds1-requires c κs = search needs
+
+rounds2-requires : tie.Need-rounds2-requires
+rounds2-requires c κs = search needs
+
+rounds3-requires : tie.Need-rounds3-requires
+rounds3-requires c κs = search needs
+
+returns : tie.Need-returns
+returns c =
+    four-times _ _ _ _ _ _ _ _ _ (c .before .before .before .rounds1 .ensures .0) (c .before .before .rounds2 .ensures .0) (c .before .rounds3 .ensures .0)
+    (c .before .before .before .before .rounds0 .ensures) (c .before .before .before .rounds1 .ensures .1) (c .before .before .rounds2 .ensures .1) (c .before .rounds3 .ensures .1)
+
+pub rounds-spec : {M : Type 1} → statement M
+rounds-spec =
+    tie.close
+    (tie.spec rounds0-requires rounds1-requires rounds2-requires rounds3-requires returns)

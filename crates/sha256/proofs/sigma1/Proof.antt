@@ -1,0 +1,18 @@
+use Rattle.sha256.specs.Sha256.{σ₁}
+use borrow.Author.Needs.{needs}
+use Rattle.sha256.proofs.sigma1.Statement.{statement}
+use Rattle.sha256.proofs.sigma1.Tie as tie
+use Rattle.sha256.proofs.rotr.Reads as rotr-reads
+
+rotr-requires : tie.Need-rotr-requires
+rotr-requires c κs = search needs
+
+rotr-requires-2 : tie.Need-rotr-requires-2
+rotr-requires-2 c κs = search needs
+
+returns : tie.Need-returns
+unfolding σ₁
+returns c = cc
+
+pub sigma1-spec : {M : Type 1} → statement M
+sigma1-spec = tie.close (tie.spec rotr-requires rotr-requires-2 returns)

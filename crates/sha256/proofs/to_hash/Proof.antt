@@ -1,0 +1,24 @@
+use Rattle.hash.proofs.Laws.{hash-in-parts}
+use borrow.Author.Needs.{needs}
+use Rattle.sha256.proofs.to_hash.Statement.{statement}
+use Rattle.sha256.proofs.to_hash.Tie as tie
+use Rattle.hash.proofs.join.Reads as join-reads
+
+join-requires : tie.Need-join-requires
+join-requires c κs = search needs
+
+join-requires-2 : tie.Need-join-requires-2
+join-requires-2 c κs = search needs
+
+join-requires-3 : tie.Need-join-requires-3
+join-requires-3 c κs = search needs
+
+join-requires-4 : tie.Need-join-requires-4
+join-requires-4 c κs = search needs
+
+returns : tie.Need-returns
+returns c = hash-in-parts _ (c .before .before .before .join .ensures .1) (c .before .before .join2 .ensures .1) (c .before .join3 .ensures .1) (c .join4 .ensures .1)
+
+pub to-hash-spec : {M : Type 1} → statement M
+to-hash-spec =
+    tie.close (tie.spec join-requires join-requires-2 join-requires-3 join-requires-4 returns)

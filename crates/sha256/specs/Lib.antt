@@ -1,0 +1,3 @@
+pub mod Sha256
+pub mod Rolling
+pub mod Vectors

@@ -1,0 +1,159 @@
+-- SHA-256 after FIPS 180-4, in its order and its names, for a message of whole bytes. A word of 32 bits is a number below 2 ^ 32.
+-- Assumes nothing.
+use Prim.Native.Nat.{ℕ, zero, suc, _+_, _*_, _-_, _/_, _%_, _^_}
+use mathlib.Core.Bool.{cond}
+use mathlib.Core.List.{List, [], _∷_, _++_}
+use lib.Dec.{ltb}
+use lib.ListN.{length, getD, replicate}
+use lib.Bits.{bitAnd, bitOr, bitXor}
+use Rattle.terms.specs.Bits.{Bytes}
+use Rattle.hash.specs.BigEndian.{big, wordAt}
+use Rattle.sha256.specs.declared.State.{State}
+
+infixl 40 _⊕_
+infixl 50 _⊞_
+infixl 60 _&_
+-- 2.2.2: bitwise and, exclusive or, complement, and the sum modulo 2 ^ 32.
+abbrev pub _&_ : ℕ → ℕ → ℕ
+x & y = bitAnd x y
+
+abbrev pub _⊕_ : ℕ → ℕ → ℕ
+x ⊕ y = bitXor x y
+
+abbrev pub complement : ℕ → ℕ
+complement x = (2 ^ 32 - 1) - x
+
+abbrev pub _⊞_ : ℕ → ℕ → ℕ
+x ⊞ y = (x + y) % 2 ^ 32
+
+-- 3.2: x shifted right by n bits, and rotated right by n bits.
+abbrev pub SHR : ℕ → ℕ → ℕ
+SHR n x = x / 2 ^ n
+
+abbrev pub ROTR : ℕ → ℕ → ℕ
+ROTR n x = bitOr (x / 2 ^ n) ((x * 2 ^ (32 - n)) % 2 ^ 32)
+
+-- 4.1.2: the six functions.
+abbrev pub Ch : ℕ → ℕ → ℕ → ℕ
+Ch x y z = (x & y) ⊕ (complement x & z)
+
+abbrev pub Maj : ℕ → ℕ → ℕ → ℕ
+Maj x y z = (x & y) ⊕ (x & z) ⊕ (y & z)
+
+unfoldable pub Σ₀ : ℕ → ℕ
+Σ₀ x = ROTR 2 x ⊕ ROTR 13 x ⊕ ROTR 22 x
+
+unfoldable pub Σ₁ : ℕ → ℕ
+Σ₁ x = ROTR 6 x ⊕ ROTR 11 x ⊕ ROTR 25 x
+
+unfoldable pub σ₀ : ℕ → ℕ
+σ₀ x = ROTR 7 x ⊕ ROTR 18 x ⊕ SHR 3 x
+
+unfoldable pub σ₁ : ℕ → ℕ
+σ₁ x = ROTR 17 x ⊕ ROTR 19 x ⊕ SHR 10 x
+
+-- 4.2.2: the constants.
+unfoldable pub K : List ℕ
+K =
+    0x428a2f98 ∷ 0x71374491 ∷ 0xb5c0fbcf ∷ 0xe9b5dba5 ∷ 0x3956c25b ∷ 0x59f111f1 ∷ 0x923f82a4 ∷ 0xab1c5ed5 ∷
+    0xd807aa98 ∷ 0x12835b01 ∷ 0x243185be ∷ 0x550c7dc3 ∷ 0x72be5d74 ∷ 0x80deb1fe ∷ 0x9bdc06a7 ∷ 0xc19bf174 ∷
+    0xe49b69c1 ∷ 0xefbe4786 ∷ 0x0fc19dc6 ∷ 0x240ca1cc ∷ 0x2de92c6f ∷ 0x4a7484aa ∷ 0x5cb0a9dc ∷ 0x76f988da ∷
+    0x983e5152 ∷ 0xa831c66d ∷ 0xb00327c8 ∷ 0xbf597fc7 ∷ 0xc6e00bf3 ∷ 0xd5a79147 ∷ 0x06ca6351 ∷ 0x14292967 ∷
+    0x27b70a85 ∷ 0x2e1b2138 ∷ 0x4d2c6dfc ∷ 0x53380d13 ∷ 0x650a7354 ∷ 0x766a0abb ∷ 0x81c2c92e ∷ 0x92722c85 ∷
+    0xa2bfe8a1 ∷ 0xa81a664b ∷ 0xc24b8b70 ∷ 0xc76c51a3 ∷ 0xd192e819 ∷ 0xd6990624 ∷ 0xf40e3585 ∷ 0x106aa070 ∷
+    0x19a4c116 ∷ 0x1e376c08 ∷ 0x2748774c ∷ 0x34b0bcb5 ∷ 0x391c0cb3 ∷ 0x4ed8aa4a ∷ 0x5b9cca4f ∷ 0x682e6ff3 ∷
+    0x748f82ee ∷ 0x78a5636f ∷ 0x84c87814 ∷ 0x8cc70208 ∷ 0x90befffa ∷ 0xa4506ceb ∷ 0xbef9a3f7 ∷ 0xc67178f2 ∷
+    []
+
+-- 5.1.1: the bit 1, which begins the byte 128, and as few zero bytes as bring the message to 56 bytes beyond whole blocks of 64.
+abbrev pub marked : Bytes → Bytes
+marked m = m ++ (128 ∷ replicate ((119 - length m % 64) % 64) 0)
+
+-- 5.1.1: the padded message ends with the message's number of bits in 64 bits. FIPS hashes no message of 2 ^ 64 bits or more; of such a
+-- message, which no machine holds, this takes the number modulo 2 ^ 64.
+unfoldable pub padded : Bytes → Bytes
+padded m = marked m ++ big 8 (length m * 8)
+
+-- 5.2.1: word t of block i of a padded message.
+abbrev pub M : Bytes → ℕ → ℕ → ℕ
+M l i t = wordAt l (i * 64 + t * 4)
+
+-- 5.3.3: the initial hash value H(0). Its words H0 to H7 have the names of the working variables.
+abbrev pub H0 : State
+H0 =
+    record {
+      a = 0x6a09e667;
+      b = 0xbb67ae85;
+      c = 0x3c6ef372;
+      d = 0xa54ff53a;
+      e = 0x510e527f;
+      f = 0x9b05688c;
+      g = 0x1f83d9ab;
+      h = 0x5be0cd19;
+    }
+
+-- 6.2.2, 1: W(t) from W(t - 2), W(t - 7), W(t - 15) and W(t - 16).
+unfoldable pub scheduled : ℕ → ℕ → ℕ → ℕ → ℕ
+scheduled p q r s = σ₁ p ⊞ q ⊞ σ₀ r ⊞ s
+
+-- 6.2.2, 1: the first t words of the message schedule of a block with the words m.
+abbrev pub W : (ℕ → ℕ) → ℕ → List ℕ
+W m zero = []
+W m (suc t) =
+    let w = W m t in
+    w ++ (cond (ltb t 16) (m t) (scheduled (getD w (t - 2) 0) (getD w (t - 7) 0) (getD w (t - 15) 0) (getD w (t - 16) 0)) ∷ [])
+
+-- 6.2.2, 3: the two sums of a round, with its constant k and its word w.
+abbrev pub T₁ : State → ℕ → ℕ → ℕ
+T₁ s k w = s .h ⊞ Σ₁ (s .e) ⊞ Ch (s .e) (s .f) (s .g) ⊞ k ⊞ w
+
+abbrev pub T₂ : State → ℕ
+T₂ s = Σ₀ (s .a) ⊞ Maj (s .a) (s .b) (s .c)
+
+unfoldable pub round : State → ℕ → ℕ → State
+round s k w =
+    record {
+      a = T₁ s k w ⊞ T₂ s;
+      b = s .a;
+      c = s .b;
+      d = s .c;
+      e = s .d ⊞ T₁ s k w;
+      f = s .e;
+      g = s .f;
+      h = s .g;
+    }
+
+-- 6.2.2, 2 and 3: the working variables after t rounds, from the hash value s and the message schedule w.
+abbrev pub rounds : List ℕ → State → ℕ → State
+rounds w s zero = s
+rounds w s (suc t) = round (rounds w s t) (getD K t 0) (getD w t 0)
+
+-- 6.2.2, 4: the working variables x added to the hash value s.
+unfoldable pub added : State → State → State
+added x s =
+    record {
+      a = x .a ⊞ s .a;
+      b = x .b ⊞ s .b;
+      c = x .c ⊞ s .c;
+      d = x .d ⊞ s .d;
+      e = x .e ⊞ s .e;
+      f = x .f ⊞ s .f;
+      g = x .g ⊞ s .g;
+      h = x .h ⊞ s .h;
+    }
+
+unfoldable pub compressed : State → (ℕ → ℕ) → State
+compressed s m = added (rounds (W m 64) s 64) s
+
+-- 6.2.2: the hash value H(i) after i blocks of a padded message.
+abbrev pub hashValue : Bytes → ℕ → State
+hashValue l zero = H0
+hashValue l (suc i) = compressed (hashValue l i) (M l i)
+
+-- 6.2.2: the message digest is the last hash value, word after word.
+abbrev pub stateBytes : State → Bytes
+stateBytes s =
+    big 4 (s .a) ++ (big 4 (s .b) ++ (big 4 (s .c) ++ (big 4 (s .d) ++ (big 4 (s .e) ++ (big 4 (s .f) ++ (big 4 (s .g) ++ big 4 (s .h)))))))
+
+unfoldable pub sha256 : Bytes → Bytes
+sha256 m = stateBytes (hashValue (padded m) (length (padded m) / 64))

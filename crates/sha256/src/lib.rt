@@ -1,0 +1,507 @@
+// SHA-256 of a slice of bytes. `specs/Sha256.antt` is FIPS 180-4; what the proofs say of this code is in terms of it.
+ghost use mathlib.Core.Path.{_≡_};
+ghost use mathlib.Core.List.{_++_, _∷_, []};
+ghost use Prim.Native.Nat.{_+_, _/_, _<_, _≤_};
+ghost use lib.ListN.{length, getD};
+ghost use Rattle.hash.specs.BigEndian.{wordAt};
+ghost use Rattle.hash.specs.Hash.{hashBytes};
+ghost use Rattle.sha256.specs.Sha256.{_⊞_, ROTR, Ch, Maj, Σ₀, Σ₁, σ₀, σ₁, scheduled, round, added, H0, hashValue, padded, stateBytes, sha256};
+ghost use Rattle.sha256.specs.Rolling.{rolls, turns, folded, blockAt, lastOf};
+use hash::Hash;
+use hash::join;
+use hash::pack;
+use hash::wide;
+use hash::word_at;
+
+// The eight working variables, and the eight words of a hash value.
+pub struct State {
+    pub a: u32,
+    pub b: u32,
+    pub c: u32,
+    pub d: u32,
+    pub e: u32,
+    pub f: u32,
+    pub g: u32,
+    pub h: u32,
+}
+
+// Sixteen words of the message schedule, one after another.
+pub struct Words {
+    pub w0: u32,
+    pub w1: u32,
+    pub w2: u32,
+    pub w3: u32,
+    pub w4: u32,
+    pub w5: u32,
+    pub w6: u32,
+    pub w7: u32,
+    pub w8: u32,
+    pub w9: u32,
+    pub w10: u32,
+    pub w11: u32,
+    pub w12: u32,
+    pub w13: u32,
+    pub w14: u32,
+    pub w15: u32,
+}
+
+// The working variables, and the words that the last rounds used.
+struct Rolled {
+    s: State,
+    x: Words,
+}
+
+fn add(x: u32, y: u32) -> u32
+    ensures { λ r. ⌜ r ≡ x ⊞ y ⌝ }
+{
+    ((x as u64 + y as u64) % 0x1_0000_0000) as u32
+}
+
+fn rotr(n: u32, x: u32) -> u32
+    requires { ⌜ (0 < n) × (n < 32) ⌝ }
+    ensures { λ r. ⌜ r ≡ ROTR n x ⌝ }
+{
+    (x >> n) | (x << (32 - n))
+}
+
+fn ch(x: u32, y: u32, z: u32) -> u32
+    ensures { λ r. ⌜ r ≡ Ch x y z ⌝ }
+{
+    (x & y) ^ (!x & z)
+}
+
+fn maj(x: u32, y: u32, z: u32) -> u32
+    ensures { λ r. ⌜ r ≡ Maj x y z ⌝ }
+{
+    (x & y) ^ (x & z) ^ (y & z)
+}
+
+fn big_sigma0(x: u32) -> u32
+    ensures { λ r. ⌜ r ≡ Σ₀ x ⌝ }
+{
+    rotr(2, x) ^ rotr(13, x) ^ rotr(22, x)
+}
+
+fn big_sigma1(x: u32) -> u32
+    ensures { λ r. ⌜ r ≡ Σ₁ x ⌝ }
+{
+    rotr(6, x) ^ rotr(11, x) ^ rotr(25, x)
+}
+
+fn sigma0(x: u32) -> u32
+    ensures { λ r. ⌜ r ≡ σ₀ x ⌝ }
+{
+    rotr(7, x) ^ rotr(18, x) ^ (x >> 3)
+}
+
+fn sigma1(x: u32) -> u32
+    ensures { λ r. ⌜ r ≡ σ₁ x ⌝ }
+{
+    rotr(17, x) ^ rotr(19, x) ^ (x >> 10)
+}
+
+// The next word of the message schedule, from those 2, 7, 15 and 16 before it.
+fn schedule(p: u32, q: u32, r: u32, s: u32) -> u32
+    ensures { λ v. ⌜ v ≡ scheduled p q r s ⌝ }
+{
+    add(add(add(sigma1(p), q), sigma0(r)), s)
+}
+
+fn step(s: State, k: u32, w: u32) -> State
+    ensures { λ r. ⌜ r ≡ round s k w ⌝ }
+{
+    let t1 = add(add(add(add(s.h, big_sigma1(s.e)), ch(s.e, s.f, s.g)), k), w);
+    let t2 = add(big_sigma0(s.a), maj(s.a, s.b, s.c));
+    State {
+        a: add(t1, t2),
+        b: s.a,
+        c: s.b,
+        d: s.c,
+        e: add(s.d, t1),
+        f: s.e,
+        g: s.f,
+        h: s.g,
+    }
+}
+
+// Four functions of sixteen rounds, each with one caller, and constants in the code: so the compiler makes one straight run of all 64.
+// Each word is made just before its round.
+fn rounds0(s: State, x: Words) -> State
+    ensures { λ r. ⌜ r ≡ turns 0 16 s x ⌝ }
+{
+    let s1 = step(s, 0x428a2f98, x.w0);
+    let s2 = step(s1, 0x71374491, x.w1);
+    let s3 = step(s2, 0xb5c0fbcf, x.w2);
+    let s4 = step(s3, 0xe9b5dba5, x.w3);
+    let s5 = step(s4, 0x3956c25b, x.w4);
+    let s6 = step(s5, 0x59f111f1, x.w5);
+    let s7 = step(s6, 0x923f82a4, x.w6);
+    let s8 = step(s7, 0xab1c5ed5, x.w7);
+    let s9 = step(s8, 0xd807aa98, x.w8);
+    let s10 = step(s9, 0x12835b01, x.w9);
+    let s11 = step(s10, 0x243185be, x.w10);
+    let s12 = step(s11, 0x550c7dc3, x.w11);
+    let s13 = step(s12, 0x72be5d74, x.w12);
+    let s14 = step(s13, 0x80deb1fe, x.w13);
+    let s15 = step(s14, 0x9bdc06a7, x.w14);
+    let s16 = step(s15, 0xc19bf174, x.w15);
+    s16
+}
+
+fn rounds1(q: Rolled) -> Rolled
+    ensures { λ r. ⌜ (r .x ≡ rolls 16 (q .x)) × (r .s ≡ turns 16 16 (q .s) (r .x)) ⌝ }
+{
+    let s = q.s;
+    let x = q.x;
+    let n0 = schedule(x.w14, x.w9, x.w1, x.w0);
+    let s1 = step(s, 0xe49b69c1, n0);
+    let n1 = schedule(x.w15, x.w10, x.w2, x.w1);
+    let s2 = step(s1, 0xefbe4786, n1);
+    let n2 = schedule(n0, x.w11, x.w3, x.w2);
+    let s3 = step(s2, 0x0fc19dc6, n2);
+    let n3 = schedule(n1, x.w12, x.w4, x.w3);
+    let s4 = step(s3, 0x240ca1cc, n3);
+    let n4 = schedule(n2, x.w13, x.w5, x.w4);
+    let s5 = step(s4, 0x2de92c6f, n4);
+    let n5 = schedule(n3, x.w14, x.w6, x.w5);
+    let s6 = step(s5, 0x4a7484aa, n5);
+    let n6 = schedule(n4, x.w15, x.w7, x.w6);
+    let s7 = step(s6, 0x5cb0a9dc, n6);
+    let n7 = schedule(n5, n0, x.w8, x.w7);
+    let s8 = step(s7, 0x76f988da, n7);
+    let n8 = schedule(n6, n1, x.w9, x.w8);
+    let s9 = step(s8, 0x983e5152, n8);
+    let n9 = schedule(n7, n2, x.w10, x.w9);
+    let s10 = step(s9, 0xa831c66d, n9);
+    let n10 = schedule(n8, n3, x.w11, x.w10);
+    let s11 = step(s10, 0xb00327c8, n10);
+    let n11 = schedule(n9, n4, x.w12, x.w11);
+    let s12 = step(s11, 0xbf597fc7, n11);
+    let n12 = schedule(n10, n5, x.w13, x.w12);
+    let s13 = step(s12, 0xc6e00bf3, n12);
+    let n13 = schedule(n11, n6, x.w14, x.w13);
+    let s14 = step(s13, 0xd5a79147, n13);
+    let n14 = schedule(n12, n7, x.w15, x.w14);
+    let s15 = step(s14, 0x06ca6351, n14);
+    let n15 = schedule(n13, n8, n0, x.w15);
+    let s16 = step(s15, 0x14292967, n15);
+    let y = Words {
+        w0: n0,
+        w1: n1,
+        w2: n2,
+        w3: n3,
+        w4: n4,
+        w5: n5,
+        w6: n6,
+        w7: n7,
+        w8: n8,
+        w9: n9,
+        w10: n10,
+        w11: n11,
+        w12: n12,
+        w13: n13,
+        w14: n14,
+        w15: n15,
+    };
+    Rolled { s: s16, x: y }
+}
+
+fn rounds2(q: Rolled) -> Rolled
+    ensures { λ r. ⌜ (r .x ≡ rolls 16 (q .x)) × (r .s ≡ turns 32 16 (q .s) (r .x)) ⌝ }
+{
+    let s = q.s;
+    let x = q.x;
+    let n0 = schedule(x.w14, x.w9, x.w1, x.w0);
+    let s1 = step(s, 0x27b70a85, n0);
+    let n1 = schedule(x.w15, x.w10, x.w2, x.w1);
+    let s2 = step(s1, 0x2e1b2138, n1);
+    let n2 = schedule(n0, x.w11, x.w3, x.w2);
+    let s3 = step(s2, 0x4d2c6dfc, n2);
+    let n3 = schedule(n1, x.w12, x.w4, x.w3);
+    let s4 = step(s3, 0x53380d13, n3);
+    let n4 = schedule(n2, x.w13, x.w5, x.w4);
+    let s5 = step(s4, 0x650a7354, n4);
+    let n5 = schedule(n3, x.w14, x.w6, x.w5);
+    let s6 = step(s5, 0x766a0abb, n5);
+    let n6 = schedule(n4, x.w15, x.w7, x.w6);
+    let s7 = step(s6, 0x81c2c92e, n6);
+    let n7 = schedule(n5, n0, x.w8, x.w7);
+    let s8 = step(s7, 0x92722c85, n7);
+    let n8 = schedule(n6, n1, x.w9, x.w8);
+    let s9 = step(s8, 0xa2bfe8a1, n8);
+    let n9 = schedule(n7, n2, x.w10, x.w9);
+    let s10 = step(s9, 0xa81a664b, n9);
+    let n10 = schedule(n8, n3, x.w11, x.w10);
+    let s11 = step(s10, 0xc24b8b70, n10);
+    let n11 = schedule(n9, n4, x.w12, x.w11);
+    let s12 = step(s11, 0xc76c51a3, n11);
+    let n12 = schedule(n10, n5, x.w13, x.w12);
+    let s13 = step(s12, 0xd192e819, n12);
+    let n13 = schedule(n11, n6, x.w14, x.w13);
+    let s14 = step(s13, 0xd6990624, n13);
+    let n14 = schedule(n12, n7, x.w15, x.w14);
+    let s15 = step(s14, 0xf40e3585, n14);
+    let n15 = schedule(n13, n8, n0, x.w15);
+    let s16 = step(s15, 0x106aa070, n15);
+    let y = Words {
+        w0: n0,
+        w1: n1,
+        w2: n2,
+        w3: n3,
+        w4: n4,
+        w5: n5,
+        w6: n6,
+        w7: n7,
+        w8: n8,
+        w9: n9,
+        w10: n10,
+        w11: n11,
+        w12: n12,
+        w13: n13,
+        w14: n14,
+        w15: n15,
+    };
+    Rolled { s: s16, x: y }
+}
+
+fn rounds3(q: Rolled) -> Rolled
+    ensures { λ r. ⌜ (r .x ≡ rolls 16 (q .x)) × (r .s ≡ turns 48 16 (q .s) (r .x)) ⌝ }
+{
+    let s = q.s;
+    let x = q.x;
+    let n0 = schedule(x.w14, x.w9, x.w1, x.w0);
+    let s1 = step(s, 0x19a4c116, n0);
+    let n1 = schedule(x.w15, x.w10, x.w2, x.w1);
+    let s2 = step(s1, 0x1e376c08, n1);
+    let n2 = schedule(n0, x.w11, x.w3, x.w2);
+    let s3 = step(s2, 0x2748774c, n2);
+    let n3 = schedule(n1, x.w12, x.w4, x.w3);
+    let s4 = step(s3, 0x34b0bcb5, n3);
+    let n4 = schedule(n2, x.w13, x.w5, x.w4);
+    let s5 = step(s4, 0x391c0cb3, n4);
+    let n5 = schedule(n3, x.w14, x.w6, x.w5);
+    let s6 = step(s5, 0x4ed8aa4a, n5);
+    let n6 = schedule(n4, x.w15, x.w7, x.w6);
+    let s7 = step(s6, 0x5b9cca4f, n6);
+    let n7 = schedule(n5, n0, x.w8, x.w7);
+    let s8 = step(s7, 0x682e6ff3, n7);
+    let n8 = schedule(n6, n1, x.w9, x.w8);
+    let s9 = step(s8, 0x748f82ee, n8);
+    let n9 = schedule(n7, n2, x.w10, x.w9);
+    let s10 = step(s9, 0x78a5636f, n9);
+    let n10 = schedule(n8, n3, x.w11, x.w10);
+    let s11 = step(s10, 0x84c87814, n10);
+    let n11 = schedule(n9, n4, x.w12, x.w11);
+    let s12 = step(s11, 0x8cc70208, n11);
+    let n12 = schedule(n10, n5, x.w13, x.w12);
+    let s13 = step(s12, 0x90befffa, n12);
+    let n13 = schedule(n11, n6, x.w14, x.w13);
+    let s14 = step(s13, 0xa4506ceb, n13);
+    let n14 = schedule(n12, n7, x.w15, x.w14);
+    let s15 = step(s14, 0xbef9a3f7, n14);
+    let n15 = schedule(n13, n8, n0, x.w15);
+    let s16 = step(s15, 0xc67178f2, n15);
+    let y = Words {
+        w0: n0,
+        w1: n1,
+        w2: n2,
+        w3: n3,
+        w4: n4,
+        w5: n5,
+        w6: n6,
+        w7: n7,
+        w8: n8,
+        w9: n9,
+        w10: n10,
+        w11: n11,
+        w12: n12,
+        w13: n13,
+        w14: n14,
+        w15: n15,
+    };
+    Rolled { s: s16, x: y }
+}
+
+fn rounds(s: State, x: Words) -> State
+    ensures { λ r. ⌜ r ≡ turns 0 64 s x ⌝ }
+{
+    let r = rounds3(rounds2(rounds1(Rolled {
+        s: rounds0(s, x),
+        x: x,
+    })));
+    r.s
+}
+
+fn add_state(x: State, s: State) -> State
+    ensures { λ r. ⌜ r ≡ added x s ⌝ }
+{
+    State {
+        a: add(x.a, s.a),
+        b: add(x.b, s.b),
+        c: add(x.c, s.c),
+        d: add(x.d, s.d),
+        e: add(x.e, s.e),
+        f: add(x.f, s.f),
+        g: add(x.g, s.g),
+        h: add(x.h, s.h),
+    }
+}
+
+// The hash value after one block more.
+pub fn compress(s: State, x: Words) -> State
+    ensures { λ r. ⌜ r ≡ folded s x ⌝ }
+{
+    add_state(rounds(s, x), s)
+}
+
+// The initial hash value.
+pub fn start() -> State
+    ensures { λ r. ⌜ r ≡ H0 ⌝ }
+{
+    State {
+        a: 0x6a09e667,
+        b: 0xbb67ae85,
+        c: 0x3c6ef372,
+        d: 0xa54ff53a,
+        e: 0x510e527f,
+        f: 0x9b05688c,
+        g: 0x1f83d9ab,
+        h: 0x5be0cd19,
+    }
+}
+
+// The eight words as a hash.
+pub fn to_hash(s: State) -> Hash
+    ensures { λ r. ⌜ hashBytes r ≡ stateBytes s ⌝ }
+{
+    Hash {
+        a: join(s.a, s.b),
+        b: join(s.c, s.d),
+        c: join(s.e, s.f),
+        d: join(s.g, s.h),
+    }
+}
+
+fn words_at(b: &[u8], at: usize) -> Words
+    requires { ⌜ at + 64 ≤ length (now b) ⌝ }
+    ensures { λ r. ⌜ r ≡ blockAt (now (b .entry)) at ⌝ }
+{
+    Words {
+        w0: word_at(b, at),
+        w1: word_at(b, at + 4),
+        w2: word_at(b, at + 8),
+        w3: word_at(b, at + 12),
+        w4: word_at(b, at + 16),
+        w5: word_at(b, at + 20),
+        w6: word_at(b, at + 24),
+        w7: word_at(b, at + 28),
+        w8: word_at(b, at + 32),
+        w9: word_at(b, at + 36),
+        w10: word_at(b, at + 40),
+        w11: word_at(b, at + 44),
+        w12: word_at(b, at + 48),
+        w13: word_at(b, at + 52),
+        w14: word_at(b, at + 56),
+        w15: word_at(b, at + 60),
+    }
+}
+
+// A byte of the message with the byte 128 after it, and then zeros for ever.
+fn tail_byte(b: &[u8], at: usize) -> u32
+    ensures { λ r. ⌜ (r ≡ getD (now (b .entry) ++ (128 ∷ [])) at 0) × (r < 256) ⌝ }
+{
+    if at < b.len() {
+        return wide(b[at]);
+    }
+    if at == b.len() {
+        return 128;
+    }
+    0
+}
+
+// The word that begins there. Only one word of a message needs to be read byte by byte.
+fn tail_word(b: &[u8], at: usize) -> u32
+    requires { ⌜ at ≤ length (now b) + 128 ⌝ }
+    ensures { λ r. ⌜ r ≡ wordAt (now (b .entry) ++ (128 ∷ [])) at ⌝ }
+{
+    if at + 4 <= b.len() {
+        return word_at(b, at);
+    }
+    if b.len() < at {
+        return 0;
+    }
+    pack(
+        tail_byte(b, at),
+        tail_byte(b, at + 1),
+        tail_byte(b, at + 2),
+        tail_byte(b, at + 3),
+    )
+}
+
+fn tail_words(b: &[u8], at: usize) -> Words
+    requires { ⌜ at ≤ length (now b) + 64 ⌝ }
+    ensures { λ r. ⌜ r ≡ blockAt (now (b .entry) ++ (128 ∷ [])) at ⌝ }
+{
+    Words {
+        w0: tail_word(b, at),
+        w1: tail_word(b, at + 4),
+        w2: tail_word(b, at + 8),
+        w3: tail_word(b, at + 12),
+        w4: tail_word(b, at + 16),
+        w5: tail_word(b, at + 20),
+        w6: tail_word(b, at + 24),
+        w7: tail_word(b, at + 28),
+        w8: tail_word(b, at + 32),
+        w9: tail_word(b, at + 36),
+        w10: tail_word(b, at + 40),
+        w11: tail_word(b, at + 44),
+        w12: tail_word(b, at + 48),
+        w13: tail_word(b, at + 52),
+        w14: tail_word(b, at + 56),
+        w15: tail_word(b, at + 60),
+    }
+}
+
+// The last two words of the last block say how many bits a message of n bytes has.
+fn last_words(x: Words, n: usize) -> Words
+    ensures { λ r. ⌜ r ≡ lastOf x n ⌝ }
+{
+    let mut y = x;
+    y.w14 = (n / 0x2000_0000 % 0x1_0000_0000) as u32;
+    y.w15 = (n % 0x2000_0000 * 8) as u32;
+    y
+}
+
+fn whole_blocks(b: &[u8]) -> State
+    ensures { λ r. ⌜ r ≡ hashValue (padded (now (b .entry))) (length (now (b .entry)) / 64) ⌝ }
+{
+    let n = b.len() / 64;
+    let mut s = start();
+    let mut i: usize = 0;
+    while i < n {
+        s = compress(s, words_at(b, i * 64));
+        i += 1;
+    }
+    s
+}
+
+// The last hash value: the blocks that the message fills, then one or two with what is left of it and the padding.
+fn hash_value(b: &[u8]) -> State
+    ensures { λ r. ⌜ r ≡ hashValue (padded (now (b .entry))) (length (padded (now (b .entry))) / 64) ⌝ }
+{
+    let n = b.len();
+    let at = n / 64 * 64;
+    let s = whole_blocks(b);
+    if n % 64 < 56 {
+        return compress(s, last_words(tail_words(b, at), n));
+    }
+    let t = compress(s, tail_words(b, at));
+    compress(t, last_words(tail_words(b, at + 64), n))
+}
+
+// SHA-256 of the slice.
+pub fn digest(b: &[u8]) -> Hash
+    ensures { λ r. ⌜ hashBytes r ≡ sha256 (now (b .entry)) ⌝ }
+{
+    to_hash(hash_value(b))
+}
