@@ -20,7 +20,7 @@ lex (a ∷ as′) [] = false
 lex (a ∷ as′) (b ∷ bs) = (not a && b) || (Bool·beq a b && lex as′ bs)
 
 -- the w low bits of a number, the top one first
-abbrev low : ℕ → ℕ → List Bool
+abbrev pub low : ℕ → ℕ → List Bool
 low zero x = []
 low (suc w) x = low w (x / 2) ++ (odd x ∷ [])
 
@@ -68,7 +68,8 @@ low-lex (suc w) x y r s hx hy =
     ∙ low-lex w (x / 2) (y / 2) (odd x ∷ r) (odd y ∷ s) (omega arith) (omega arith)
     ∙ low-halves x y (lex r s) _ _ refl refl
 
-byteBits-low : (x : ℕ) → byteBits x ≡ low 8 x
+-- the bits of a byte are its eight low bits
+pub byteBits-low : (x : ℕ) → byteBits x ≡ low 8 x
 unfolding byteBits
 byteBits-low x =
     let a : x / 2 / 2 ≡ x / 4 = omega arith in

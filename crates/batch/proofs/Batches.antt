@@ -1,0 +1,87 @@
+-- Whole batches there and back: the bytes of asks in form, at most 1,024, are read as those asks, and a batch in form is the bytes of what it
+-- asks for. Assumes nothing.
+use Prim.Native.Nat.{ℕ, zero, suc, _+_, _*_, _-_, _<_, _≤_, _/_, _%_}
+use native.Mathlib.Omega.{arith}
+use mathlib.Core.Path.{_≡_, refl, ap, ap₂, sym, _∙_}
+use mathlib.Core.Bool.{Bool, true, false, cond, _&&_}
+use mathlib.Core.List.{List, [], _∷_, _++_, map}
+use mathlib.Core.Option.{some, none}
+use lib.ListN.{length, take, drop, length-append, length-drop, take-append-drop, length-map}
+use lib.Seq.{take-at, drop-at}
+use lib.Dec.{eqb, leb}
+use borrow.Author.Tests.{eq-eqb, eqb-true, le-leb, leb-true}
+use Rattle.terms.specs.Bits.{Bytes, Byte, All}
+use Rattle.terms.specs.Fields.{flat, allOf}
+use Rattle.terms.specs.Records.{Ask}
+use Rattle.terms.specs.Form.{AskForm}
+use Rattle.terms.proofs.Tests.{and-left, and-right}
+use Rattle.terms.proofs.Lists.{all-map₂}
+use Rattle.terms.proofs.Fields.{all-of-tests, tests-all}
+use Rattle.batch.specs.Batch.{askBytes, askForm, ask, records, count, recordsOf, asks, every, batchForm, batchOf, asksBytes}
+use Rattle.batch.proofs.Asks.{length-ask, ask-form, ask-says, form-bytes}
+use Rattle.batch.proofs.Records.{length-asks, records-whole, asks-whole}
+
+pub every-all : {A : Type 0} (f : A → Bool) (xs : List A) → every f xs ≡ true → All (λ x. f x ≡ true) xs
+every-all f [] h = tt
+every-all f (x ∷ xs) h = (and-left (f x) (every f xs) h, every-all f xs (and-right (f x) (every f xs) h))
+
+length-batch : (as′ : List Ask) → All AskForm as′ → length (asksBytes as′) ≡ 72 * length as′
+unfolding asksBytes
+length-batch [] h = refl
+length-batch (a ∷ as′) h = length-append (askBytes a) (asksBytes as′) ∙ omega (arith, length-ask a (h .0), length-batch as′ (h .1))
+
+records-batch : (as′ : List Ask) → All AskForm as′ → records (length as′) (asksBytes as′) ≡ map askBytes as′
+unfolding asksBytes records
+records-batch [] h = refl
+records-batch (a ∷ as′) h =
+    let l = length-ask a (h .0) in
+    ap₂ _∷_ (take-at (askBytes a) (asksBytes as′) 72 l) (ap (records (length as′)) (drop-at (askBytes a) (asksBytes as′) 72 l) ∙ records-batch as′ (h .1))
+
+forms-batch : (as′ : List Ask) → All AskForm as′ → every askForm (map askBytes as′) ≡ true
+forms-batch [] h = refl
+forms-batch (a ∷ as′) h = rw (ask-form a (h .0)) (forms-batch as′ (h .1))
+
+says-batch : (as′ : List Ask) → All AskForm as′ → map ask (map askBytes as′) ≡ as′
+says-batch [] h = refl
+says-batch (a ∷ as′) h = ap₂ _∷_ (ask-says a (h .0)) (says-batch as′ (h .1))
+
+-- asks in form, from bytes back
+pub batch-of-bytes : (as′ : List Ask) → All AskForm as′ → length as′ ≤ 1024 → batchOf (asksBytes as′) ≡ some as′
+unfolding batchOf batchForm asks
+batch-of-bytes as′ h l =
+    let n = length-batch as′ h in
+    let c : length (asksBytes as′) / 72 ≡ length as′ = omega arith in
+    let r : recordsOf (asksBytes as′) ≡ map askBytes as′ = ap (λ (k : ℕ). records k (asksBytes as′)) c ∙ records-batch as′ h in
+    let f : batchForm (asksBytes as′) ≡ true =
+        tests-all _ (eq-eqb (length (asksBytes as′) % 72) 0 (omega arith), (le-leb (count (asksBytes as′)) 1024 (omega arith), (ap (every askForm) r ∙ forms-batch as′ h, tt))) in
+    rw (f, r, says-batch as′ h)
+
+flat-records : (n : ℕ) (b : Bytes) → length b ≡ 72 * n → flat (records n b) ≡ b
+unfolding records
+flat-records zero [] h = refl
+flat-records zero (x ∷ b) h = absurd (omega arith)
+flat-records (suc n) b h =
+    ap (take 72 b ++_) (flat-records n (drop 72 b) (simp length-drop (omega arith))) ∙ take-append-drop 72 b
+
+map-back : (xs : List Bytes) → All (λ x. askBytes (ask x) ≡ x) xs → map askBytes (map ask xs) ≡ xs
+map-back [] h = refl
+map-back (x ∷ xs) h = ap₂ _∷_ (h .0) (map-back xs (h .1))
+
+-- a batch in form is the bytes of what it asks for
+pub form-batch : (b : Bytes) → All Byte b → batchForm b ≡ true → (asksBytes (asks b) ≡ b) × (length (asks b) ≤ 1024)
+unfolding batchForm asksBytes asks
+form-batch b h e =
+    let t = all-of-tests _ e in
+    let m = eqb-true (length b % 72) 0 (t .0) in
+    let n = leb-true (count b) 1024 (t .1 .0) in
+    let k = all-map₂ _ _ (λ x. askBytes (ask x) ≡ x) (recordsOf b) (λ x u v. form-bytes x (u .1) (u .0) v) (records-whole b h) (every-all askForm (recordsOf b) (t .1 .1 .0)) in
+    (ap flat (map-back (recordsOf b) k) ∙ flat-records (count b) b (omega arith), omega (arith, length-asks b))
+
+-- bytes, to asks and back
+pub batch-of-back : (b : Bytes) (as′ : List Ask) → All Byte b → batchOf b ≡ some as′ → (asksBytes as′ ≡ b) × (length as′ ≤ 1024) × All AskForm as′
+unfolding batchOf
+batch-of-back b as′ h e = go (batchForm b) refl e
+  where
+    go : (t : Bool) → batchForm b ≡ t → cond t (some (asks b)) none ≡ some as′ → (asksBytes as′ ≡ b) × (length as′ ≤ 1024) × All AskForm as′
+    go true f d = let g : asks b ≡ as′ = cc in let k = form-batch b h f in rw (← g) (k .0, k .1, asks-whole b h)
+    go false f d = let z : _≡_ {A = ℕ} 0 1 = cc in absurd (omega arith)

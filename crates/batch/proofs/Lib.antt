@@ -1,0 +1,4 @@
+pub mod Asks
+pub mod Records
+pub mod Batches
+pub mod Runs
