@@ -61,9 +61,10 @@ module _ (a : Ask) (h : AskForm a) where
   head-says : headIs (lengthOf a) (kindOf a) (askBytes a) ≡ true
   unfolding headIs field
   head-says =
-      tests-all _
-      (eq-eqb _ _ length-says
-      , (eq-eqb _ _ (ap num (cut a h 1) ∙ num-le 2 (kindOf a) (kind-small a)), (eq-eqb _ _ (ap num (cut a h 2) ∙ num-le 2 0 (omega arith)), tt)))
+      tests-all _ (
+        eq-eqb _ _ length-says,
+        (eq-eqb _ _ (ap num (cut a h 1) ∙ num-le 2 (kindOf a) (kind-small a)), (eq-eqb _ _ (ap num (cut a h 2) ∙ num-le 2 0 (omega arith)), tt)),
+      )
 
   key-says : slice 8 32 (askBytes a) ≡ askKey a
   key-says = cut a h 3
@@ -118,7 +119,7 @@ form-bytes x h l e = go (headIs 72 1 x) refl e
     go true d f = head-bytes 72 1 x h l d
     go false d f =
         let z : slice 40 32 x ≡ zeros =
-            zero-bytes (slice 40 32 x) (and-right (headIs 40 2 x) _ f) ∙ ap zeroBytes (length-slice 40 32 x (omega arith)) ∙ zeros-are in
+        zero-bytes (slice 40 32 x) (and-right (headIs 40 2 x) _ f) ∙ ap zeroBytes (length-slice 40 32 x (omega arith)) ∙ zeros-are in
         rw (← z) (head-bytes 40 2 x h l (and-left (headIs 40 2 x) _ f))
 
 -- what is read is in form
@@ -128,6 +129,7 @@ ask-whole x h l = go (isInsert x)
   where
     part : (i : ℕ) → i + 32 ≤ 72 → Whole32 (slice i 32 x)
     part i m = (length-slice i 32 x (omega arith), all-slice i 32 x h)
+
     go : (t : Bool) → AskForm (cond t (insert (slice 8 32 x) (slice 40 32 x)) (delete (slice 8 32 x)))
     go true = (part 8 (omega arith), part 40 (omega arith))
     go false = part 8 (omega arith)

@@ -53,7 +53,7 @@ batch-of-bytes as′ h l =
     let c : length (asksBytes as′) / 72 ≡ length as′ = omega arith in
     let r : recordsOf (asksBytes as′) ≡ map askBytes as′ = ap (λ (k : ℕ). records k (asksBytes as′)) c ∙ records-batch as′ h in
     let f : batchForm (asksBytes as′) ≡ true =
-        tests-all _ (eq-eqb (length (asksBytes as′) % 72) 0 (omega arith), (le-leb (count (asksBytes as′)) 1024 (omega arith), (ap (every askForm) r ∙ forms-batch as′ h, tt))) in
+    tests-all _ (eq-eqb (length (asksBytes as′) % 72) 0 (omega arith), (le-leb (count (asksBytes as′)) 1024 (omega arith), (ap (every askForm) r ∙ forms-batch as′ h, tt))) in
     rw (f, r, says-batch as′ h)
 
 flat-records : (n : ℕ) (b : Bytes) → length b ≡ 72 * n → flat (records n b) ≡ b

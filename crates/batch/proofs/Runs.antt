@@ -73,9 +73,11 @@ After a b = before (askKey a) (askKey b) ≡ true
 
 after-all : (a : Ask) (as′ : List Ask) → precedes a as′ ≡ true → ascending as′ ≡ true → All (After a) as′
 after-all a [] h k = tt
-after-all a (b ∷ as′) h k =
-    (h, all-map (After b) (After a) as′ (λ c e. before-trans (askKey a) (askKey b) (askKey c) h e)
-    (after-all b as′ (and-left (precedes b as′) (ascending as′) k) (and-right (precedes b as′) (ascending as′) k)))
+after-all a (b ∷ as′) h k = (
+  h,
+  all-map (After b) (After a) as′ (λ c e. before-trans (askKey a) (askKey b) (askKey c) h e)
+      (after-all b as′ (and-left (precedes b as′) (ascending as′) k) (and-right (precedes b as′) (ascending as′) k)),
+)
 
 all-after : (a : Ask) (as′ : List Ask) → All (After a) as′ → precedes a as′ ≡ true
 all-after a [] h = refl
@@ -156,7 +158,7 @@ module _ (b : Side) (p : Place) (run : Bytes) (w : Run p run) where
         whole = whole-half b (lefts (length p) run) run m (w .whole);
         form = rw (records-half b (lefts (length p) run) run m) (all-half (λ x. askForm x ≡ true) b (lefts (length p) run) (recordsOf run) (w .form));
         order = rw asks-of-part (ascending-filter (onSide b (length p)) (asks run) (w .order));
-        under = rw asks-of-part (under-longer h)
+        under = rw asks-of-part (under-longer h);
       }
 
 -- the next bit of a key tells on which side of the cut its record stands

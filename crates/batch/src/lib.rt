@@ -10,13 +10,21 @@ ghost use Rattle.batch.specs.Runs.{RunAt, lefts, runOf};
 
 // Batch record, 72 bytes: length 72 and kind 1 (insert) or length 40 and kind 2 (delete), 2 zero, key 32, value 32 (zero for delete).
 const RECORD_SIZE: usize = 72;
+
 const INSERT_LENGTH: u32 = 72;
+
 const INSERT_KIND: u16 = 1;
+
 const DELETE_LENGTH: u32 = 40;
+
 const DELETE_KIND: u16 = 2;
+
 const KIND_AT: usize = 4;
+
 const ZERO_AT: usize = 6;
+
 const KEY_AT: usize = 8;
+
 const VALUE_AT: usize = 40;
 
 // At most 1,024 records.

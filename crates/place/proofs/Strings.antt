@@ -10,7 +10,7 @@ use lib.Seq.{drop-cons}
 use lib.Dec.{ltb}
 use borrow.Author.Tests.{eq-eqb, ne-eqb, le-ltb}
 use Rattle.terms.specs.Bits.{Bytes, before, sameBytes}
-use Rattle.terms.proofs.Tests.{not-both, same-bytes}
+use Rattle.terms.proofs.Tests.{is-false, same-bytes}
 
 or-false : (b : Bool) → b || false ≡ b
 or-false true = refl
@@ -52,4 +52,4 @@ module _ (x y : Bytes) (i : ℕ) where
   same-end h e = rw (drop-of-length-le x {i = i} h, drop-of-length-le y {i = i} (omega arith))
 
 pub same-length-off : (x y : Bytes) → (length x ≡ length y → ⊥) → sameBytes x y ≡ false
-same-length-off x y f = not-both (sameBytes x y) (λ e. f (ap length (same-bytes x y e)))
+same-length-off x y f = is-false (sameBytes x y) (λ e. f (ap length (same-bytes x y e)))
