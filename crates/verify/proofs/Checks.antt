@@ -1,0 +1,103 @@
+-- The check of a proof in form as the code makes it: one test after the other, each of them the definition's. Assumes nothing.
+use Prim.Native.Nat.{ℕ}
+use mathlib.Core.Path.{_≡_, refl, _∙_}
+use mathlib.Core.Bool.{Bool, true, false, cond, _&&_}
+use mathlib.Core.Option.{some}
+use lib.ListN.{length, drop}
+use borrow.Author.Tests.{eq-eqb, ne-eqb}
+use Rattle.terms.specs.Bits.{Bytes, left, right, sameBytes}
+use Rattle.terms.specs.Fields.{slice, field}
+use Rattle.terms.specs.Records.{presence, absence, zeros}
+use Rattle.meaning.specs.Calls.{refused, accepted}
+use Rattle.meaning.specs.Reading.{Verdict, present, absent}
+use Rattle.meaning.specs.Checking.{climb, leadsTo, absenceHolds, checked}
+use Rattle.nodehash.specs.Node.{leafHash, innerHash}
+use Rattle.proofrecords.specs.ProofBytes.{stepCount, isPresence, presenceIn, leftPart, rightPart, flags, isAbsence, absenceIn, proofIn}
+use Rattle.verify.specs.Paths.{firstSteps}
+use Rattle.verify.specs.Verify.{loneHolds, judged, verified}
+
+-- the steps of the count in the head are all steps
+pub all-steps : (n : ℕ) (x : Bytes) → n ≡ field 6 2 x → firstSteps n x ≡ presenceIn x .steps
+unfolding presenceIn stepCount
+all-steps n x e = rw e
+
+-- the hash that n steps lead to is compared with the root
+pub leads : (n : ℕ) (h root x : Bytes) → n ≡ field 6 2 x → h ≡ climb leafHash innerHash (leafHash (slice 8 32 x) (slice 40 32 x)) (firstSteps n x) →
+    sameBytes h root ≡ leadsTo leafHash innerHash root (presenceIn x)
+unfolding leadsTo presenceIn
+leads n h root x e d = rw (d, all-steps n x e)
+
+no-second : (b : Bool) (v : Verdict) → cond (b && false) (accepted v) (refused 11) ≡ refused 11
+no-second true v = refl
+no-second false v = refl
+
+module _ (root k x : Bytes) where
+  -- the neighbours by the flags
+  abbrev shown : Bool
+  shown = absenceHolds leafHash innerHash root k (absenceIn x .leftward) (absenceIn x .rightward)
+
+  pub neither-shown : flags x ≡ 0 → shown ≡ sameBytes root zeros
+  unfolding absenceIn
+  neither-shown f = rw f
+
+  pub left-shown : flags x ≡ 1 → shown ≡ loneHolds left root k (presenceIn (drop 40 x))
+  unfolding absenceIn
+  left-shown f = rw f
+
+  pub right-shown : flags x ≡ 2 → shown ≡ loneHolds right root k (presenceIn (drop 40 x))
+  unfolding absenceIn
+  right-shown f = rw f
+
+  pub both-shown : flags x ≡ 3 → shown ≡ absenceHolds leafHash innerHash root k (some (presenceIn (leftPart x))) (some (presenceIn (rightPart x)))
+  unfolding absenceIn
+  both-shown f = rw f
+
+  pub presence-other : sameBytes k (slice 8 32 x) ≡ false → checked leafHash innerHash root k (presence (presenceIn x)) ≡ refused 11
+  unfolding presenceIn
+  presence-other e = rw e
+
+  pub presence-astray : leadsTo leafHash innerHash root (presenceIn x) ≡ false → checked leafHash innerHash root k (presence (presenceIn x)) ≡ refused 11
+  presence-astray e = rw e (no-second (sameBytes k (presenceIn x .key)) (present (presenceIn x .value)))
+
+  pub presence-holds : sameBytes k (slice 8 32 x) ≡ true → leadsTo leafHash innerHash root (presenceIn x) ≡ true →
+      checked leafHash innerHash root k (presence (presenceIn x)) ≡ accepted (present (slice 40 32 x))
+  unfolding presenceIn
+  presence-holds e d = rw (e, d)
+
+  pub absence-other : sameBytes k (slice 8 32 x) ≡ false → checked leafHash innerHash root k (absence (absenceIn x)) ≡ refused 11
+  unfolding absenceIn
+  absence-other e = rw e
+
+  pub absence-unshown : shown ≡ false → checked leafHash innerHash root k (absence (absenceIn x)) ≡ refused 11
+  absence-unshown e = rw e (no-second (sameBytes k (absenceIn x .key)) absent)
+
+  pub absence-shown : sameBytes k (slice 8 32 x) ≡ true → shown ≡ true → checked leafHash innerHash root k (absence (absenceIn x)) ≡ accepted absent
+  unfolding absenceIn
+  absence-shown e d = rw (e, d)
+
+  -- 12, then 10, then what the proof says
+  pub root-off : (length root ≡ 32 → ⊥) → verified root k x ≡ refused 12
+  unfolding verified
+  root-off f = rw (ne-eqb (length root) 32 f)
+
+  module _ (r : length root ≡ 32) where
+    pub key-off : (length k ≡ 32 → ⊥) → verified root k x ≡ refused 12
+    unfolding verified
+    key-off f = rw (eq-eqb (length root) 32 r, ne-eqb (length k) 32 f)
+
+    module _ (e : length k ≡ 32) where
+      sizes : verified root k x ≡ judged root k (proofIn x)
+      unfolding verified
+      sizes = rw (eq-eqb (length root) 32 r, eq-eqb (length k) 32 e)
+
+      pub as-presence : isPresence x ≡ true → verified root k x ≡ checked leafHash innerHash root k (presence (presenceIn x))
+      unfolding proofIn
+      as-presence p = sizes ∙ rw p
+
+      pub as-absence : isPresence x ≡ false → isAbsence x ≡ true → verified root k x ≡ checked leafHash innerHash root k (absence (absenceIn x))
+      unfolding proofIn
+      as-absence p a = sizes ∙ rw (p, a)
+
+      pub off-form : isPresence x ≡ false → isAbsence x ≡ false → verified root k x ≡ refused 10
+      unfolding proofIn
+      off-form p a = sizes ∙ rw (p, a)
