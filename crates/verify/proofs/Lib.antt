@@ -2,3 +2,4 @@ pub mod Steps
 pub mod Forms
 pub mod Checks
 pub mod Boundary
+pub mod Acceptance
