@@ -13,7 +13,7 @@ use Rattle.terms.proofs.Tests.{and-left, and-right, same-bytes}
 use Rattle.meaning.specs.Calls.{Answer, refused, accepted}
 use Rattle.meaning.specs.Reading.{Verdict, present, absent}
 use Rattle.meaning.specs.Checking.{climb, leadsTo, absenceHolds}
-use Rattle.hash.specs.Hash.{hashBytes, Fits}
+use Rattle.hash.specs.Hash.{Fits}
 use Rattle.hash.proofs.Laws.{hash-bytes-injective}
 use Rattle.nodehash.specs.Node.{leafHash, innerHash}
 use Rattle.proofrecords.specs.ProofBytes.{proofIn, proofBytes}

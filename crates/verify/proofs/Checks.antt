@@ -1,6 +1,6 @@
 -- The check of a proof in form as the code makes it: one test after the other, each of them the definition's. Assumes nothing.
 use Prim.Native.Nat.{ℕ}
-use mathlib.Core.Path.{_≡_, refl, _∙_}
+use mathlib.Core.Path.{_≡_, _∙_}
 use mathlib.Core.Bool.{Bool, true, false, cond, _&&_}
 use mathlib.Core.Option.{some}
 use lib.ListN.{length, drop}
@@ -9,7 +9,7 @@ use Rattle.terms.specs.Bits.{Bytes, left, right, sameBytes}
 use Rattle.terms.specs.Fields.{slice, field}
 use Rattle.terms.specs.Records.{presence, absence, zeros}
 use Rattle.meaning.specs.Calls.{refused, accepted}
-use Rattle.meaning.specs.Reading.{Verdict, present, absent}
+use Rattle.meaning.specs.Reading.{present, absent}
 use Rattle.meaning.specs.Checking.{climb, leadsTo, absenceHolds, checked}
 use Rattle.nodehash.specs.Node.{leafHash, innerHash}
 use Rattle.proofrecords.specs.ProofBytes.{stepCount, isPresence, presenceIn, leftPart, rightPart, flags, isAbsence, absenceIn, proofIn}
@@ -26,10 +26,6 @@ pub leads : (n : ℕ) (h root x : Bytes) → n ≡ field 6 2 x → h ≡ climb l
     sameBytes h root ≡ leadsTo leafHash innerHash root (presenceIn x)
 unfolding leadsTo presenceIn
 leads n h root x e d = rw (d, all-steps n x e)
-
-no-second : (b : Bool) (v : Verdict) → cond (b && false) (accepted v) (refused 11) ≡ refused 11
-no-second true v = refl
-no-second false v = refl
 
 module _ (root k x : Bytes) where
   -- the neighbours by the flags
@@ -52,28 +48,16 @@ module _ (root k x : Bytes) where
   unfolding absenceIn
   both-shown f = rw f
 
-  pub presence-other : sameBytes k (slice 8 32 x) ≡ false → checked leafHash innerHash root k (presence (presenceIn x)) ≡ refused 11
+  -- the answer where a proof holds, else 11
+  pub presence-answer : {b : Bool} {h v : Bytes} → h ≡ root → v ≡ slice 40 32 x → b ≡ (sameBytes k (presenceIn x .key) && leadsTo leafHash innerHash h (presenceIn x)) →
+      cond b (accepted (present v)) (refused 11) ≡ checked leafHash innerHash root k (presence (presenceIn x))
   unfolding presenceIn
-  presence-other e = rw e
+  presence-answer e w d = rw (d, w, e)
 
-  pub presence-astray : leadsTo leafHash innerHash root (presenceIn x) ≡ false → checked leafHash innerHash root k (presence (presenceIn x)) ≡ refused 11
-  presence-astray e = rw e (no-second (sameBytes k (presenceIn x .key)) (present (presenceIn x .value)))
-
-  pub presence-holds : sameBytes k (slice 8 32 x) ≡ true → leadsTo leafHash innerHash root (presenceIn x) ≡ true →
-      checked leafHash innerHash root k (presence (presenceIn x)) ≡ accepted (present (slice 40 32 x))
-  unfolding presenceIn
-  presence-holds e d = rw (e, d)
-
-  pub absence-other : sameBytes k (slice 8 32 x) ≡ false → checked leafHash innerHash root k (absence (absenceIn x)) ≡ refused 11
-  unfolding absenceIn
-  absence-other e = rw e
-
-  pub absence-unshown : shown ≡ false → checked leafHash innerHash root k (absence (absenceIn x)) ≡ refused 11
-  absence-unshown e = rw e (no-second (sameBytes k (absenceIn x .key)) absent)
-
-  pub absence-shown : sameBytes k (slice 8 32 x) ≡ true → shown ≡ true → checked leafHash innerHash root k (absence (absenceIn x)) ≡ accepted absent
-  unfolding absenceIn
-  absence-shown e d = rw (e, d)
+  pub absence-answer : {b : Bool} {h : Bytes} → h ≡ root →
+      b ≡ (sameBytes k (absenceIn x .key) && absenceHolds leafHash innerHash h k (absenceIn x .leftward) (absenceIn x .rightward)) →
+      cond b (accepted absent) (refused 11) ≡ checked leafHash innerHash root k (absence (absenceIn x))
+  absence-answer e d = rw (d, e)
 
   -- 12, then 10, then what the proof says
   pub root-off : (length root ≡ 32 → ⊥) → verified root k x ≡ refused 12

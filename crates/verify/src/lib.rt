@@ -3,13 +3,14 @@ mod form;
 mod path;
 
 ghost use mathlib.Core.Path.{_≡_};
-ghost use mathlib.Core.Bool.{true};
+ghost use mathlib.Core.Bool.{true, cond, _&&_};
 ghost use mathlib.Core.Option.{some};
 ghost use lib.ListN.{length};
-ghost use Rattle.terms.specs.Records.{presence, absence};
+ghost use Rattle.terms.specs.Bits.{sameBytes};
+ghost use Rattle.meaning.specs.Calls.{refused};
 ghost use Rattle.meaning.specs.Reading.{present};
 ghost use Rattle.meaning.specs.Proving.{beyond};
-ghost use Rattle.meaning.specs.Checking.{leadsTo, neighbourHolds, absenceHolds, checked};
+ghost use Rattle.meaning.specs.Checking.{leadsTo, neighbourHolds, absenceHolds};
 ghost use Rattle.hash.specs.Hash.{hashBytes};
 ghost use Rattle.nodehash.specs.Node.{leafHash, innerHash};
 ghost use Rattle.proofrecords.specs.ProofBytes.{isPresence, presenceIn, isAbsence, absenceIn};
@@ -98,7 +99,7 @@ fn both_hold(root: Hash, key: &[u8], l: &[u8], r: &[u8]) -> bool
 }
 
 // Whether the neighbours of an absence proof show that the key is absent. Each is read where it lies in the proof.
-fn absence_holds(root: Hash, key: &[u8], proof: &[u8]) -> bool
+fn neighbours_hold(root: Hash, key: &[u8], proof: &[u8]) -> bool
     requires { ⌜ isAbsence (now proof) ≡ true ⌝ }
     ensures { λ r. ⌜ r ≡ absenceHolds leafHash innerHash (hashBytes root) (now (key .entry)) (absenceIn (now (proof .entry)) .leftward) (absenceIn (now (proof .entry)) .rightward) ⌝ }
 {
@@ -117,30 +118,36 @@ fn absence_holds(root: Hash, key: &[u8], proof: &[u8]) -> bool
     both_hold(root, key, &proof[40..e], &proof[e..n])
 }
 
-fn check_presence(root: Hash, key: &[u8], proof: &[u8]) -> Checked
+// Whether a presence proof holds: its key is the one asked for, and its steps lead to the root.
+fn presence_holds(root: Hash, key: &[u8], proof: &[u8]) -> bool
     requires { ⌜ isPresence (now proof) ≡ true ⌝ }
-    ensures { λ r. ⌜ says r ≡ checked leafHash innerHash (hashBytes root) (now (key .entry)) (presence (presenceIn (now (proof .entry)))) ⌝ }
+    ensures { λ r. ⌜ r ≡ (sameBytes (now (key .entry)) (presenceIn (now (proof .entry)) .key) && leadsTo leafHash innerHash (hashBytes root) (presenceIn (now (proof .entry)))) ⌝ }
 {
     if !place::same(key, &proof[8..40]) {
-        return Checked::Refused(NOT_HOLDING);
+        return false;
     }
-    if !leads_to(root, proof) {
-        return Checked::Refused(NOT_HOLDING);
-    }
-    Checked::Present(hash_at(proof, 40))
+    leads_to(root, proof)
 }
 
-fn check_absence(root: Hash, key: &[u8], proof: &[u8]) -> Checked
+// Whether an absence proof holds: its key is the one asked for, and its neighbours show that it is absent.
+fn absence_holds(root: Hash, key: &[u8], proof: &[u8]) -> bool
     requires { ⌜ isAbsence (now proof) ≡ true ⌝ }
-    ensures { λ r. ⌜ says r ≡ checked leafHash innerHash (hashBytes root) (now (key .entry)) (absence (absenceIn (now (proof .entry)))) ⌝ }
+    ensures { λ r. ⌜ r ≡ (sameBytes (now (key .entry)) (absenceIn (now (proof .entry)) .key) && absenceHolds leafHash innerHash (hashBytes root) (now (key .entry)) (absenceIn (now (proof .entry)) .leftward) (absenceIn (now (proof .entry)) .rightward)) ⌝ }
 {
     if !place::same(key, &proof[8..40]) {
-        return Checked::Refused(NOT_HOLDING);
+        return false;
     }
-    if !absence_holds(root, key, proof) {
-        return Checked::Refused(NOT_HOLDING);
+    neighbours_hold(root, key, proof)
+}
+
+// The answer of a proof in form that holds, else 11.
+fn held(holds: bool, answer: Checked) -> Checked
+    ensures { λ r. ⌜ says r ≡ cond holds (says answer) (refused 11) ⌝ }
+{
+    if holds {
+        return answer;
     }
-    Checked::Absent
+    Checked::Refused(NOT_HOLDING)
 }
 
 // What a proof says of a key under a root: any bytes may be handed in.
@@ -155,21 +162,24 @@ pub fn verify(root: &[u8], key: &[u8], proof: &[u8]) -> Checked
     }
     let top = hash_at(root, 0);
     if form::is_presence(proof) {
-        return check_presence(top, key, proof);
+        let value = hash_at(proof, 40);
+        let holds = presence_holds(top, key, proof);
+        return held(holds, Checked::Present(value));
     }
     if form::is_absence(proof) {
-        return check_absence(top, key, proof);
+        let holds = absence_holds(top, key, proof);
+        return held(holds, Checked::Absent);
     }
     Checked::Refused(NOT_IN_FORM)
 }
 
 // Writes 1 and the value.
-fn put_present(found: &mut [u8], value: Hash)
+fn put_present(found: &mut [u8], hash: Hash)
     requires { ⌜ length (now found) ≡ 33 ⌝ }
-    ensures { λ _. ⌜ now (found .exit) ≡ foundBytes (present (hashBytes value)) ⌝ }
+    ensures { λ _. ⌜ now (found .exit) ≡ foundBytes (present (hashBytes hash)) ⌝ }
 {
     found[0] = 1;
-    put_hash(&mut found[1..33], value);
+    put_hash(&mut found[1..33], hash);
 }
 
 // The check for callers in other languages: 0 where a proof is accepted, with 1 and the value or 0 and zero bytes in `found`; else the
@@ -182,8 +192,8 @@ pub extern "C" fn grants_verify(root: &[u8], key: &[u8], proof: &[u8], found: &m
     let answer = verify(root, key, proof);
     match answer {
         Checked::Refused(number) => number,
-        Checked::Present(value) => {
-            put_present(found, value);
+        Checked::Present(hash) => {
+            put_present(found, hash);
             0
         }
         Checked::Absent => {

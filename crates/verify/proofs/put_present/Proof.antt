@@ -29,13 +29,13 @@ put-hash-requires c κs = search needs
 -- the slice after the stores
 written : (c : tie.After-slice-known2) →
     take 1 (set (c .before .before .before .before .before .args .found .now) 0 1) ++ (c .before .before .put-hash .last .0 ++ drop 32 (drop 1 (set (c .before .before .before .before .before .args .found .now) 0 1)))
-    ≡ 1 ∷ hashBytes (c .before .before .before .before .before .args .value)
+    ≡ 1 ∷ hashBytes (c .before .before .before .before .before .args .hash)
 written c =
     let s = c .before .before .before .before .before in
-    found-written (s .args .found .now) (hashBytes (s .args .value)) (c .before .before .put-hash .last .0) (s .pre) (c .before .before .put-hash .ensures)
+    found-written (s .args .found .now) (hashBytes (s .args .hash)) (c .before .before .put-hash .last .0) (s .pre) (c .before .before .put-hash .ensures)
 
 same-length : tie.Need-same-length
-same-length c = let s = c .before .before .before .before .before in ap length (written c) ∙ ap suc (hash-whole (s .args .value) .0) ∙ sym (s .pre)
+same-length c = let s = c .before .before .before .before .before in ap length (written c) ∙ ap suc (hash-whole (s .args .hash) .0) ∙ sym (s .pre)
 
 returns : tie.Need-returns
 returns c = written c
