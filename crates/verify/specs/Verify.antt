@@ -1,13 +1,13 @@
 -- Document 01, 'Checking', with the numbers of refusal 10, 11 and 12: what the proof check answers to any bytes. Assumes nothing.
-use mathlib.Core.Bool.{Bool, cond, not, _&&_}
+use mathlib.Core.Bool.{cond, _&&_}
 use mathlib.Core.Option.{Option, none, some}
 use lib.ListN.{length}
 use lib.Dec.{eqb}
-use Rattle.terms.specs.Bits.{Bytes, Side}
-use Rattle.terms.specs.Records.{Presence, Proof}
+use Rattle.terms.specs.Bits.{Bytes}
+use Rattle.terms.specs.Records.{Proof}
 use Rattle.meaning.specs.Calls.{Answer, refused, accepted}
 use Rattle.meaning.specs.Reading.{Verdict, present, absent}
-use Rattle.meaning.specs.Checking.{outermost, neighbourHolds, checked}
+use Rattle.meaning.specs.Checking.{checked}
 use Rattle.hash.specs.Hash.{hashBytes}
 use Rattle.nodehash.specs.Node.{leafHash, innerHash}
 use Rattle.proofrecords.specs.ProofBytes.{proofIn}
@@ -28,7 +28,3 @@ abbrev pub says : Checked → Answer Verdict
 says (Refused n) = refused n
 says (Present h) = accepted (present (hashBytes h))
 says Absent = accepted absent
-
--- A neighbour on side b that is the only one: its path is outermost on the other side, where the key is.
-abbrev pub loneHolds : Side → Bytes → Bytes → Presence → Bool
-loneHolds b root k p = neighbourHolds leafHash innerHash b root k p && outermost (not b) (p .steps)

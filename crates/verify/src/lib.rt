@@ -1,21 +1,21 @@
-// The check of presence and absence proofs over hostile bytes, document 01, 'Checking'.
+// The check of presence and absence proofs over hostile bytes, document 01, 'Checking'. What the bytes hold is read where it lies:
+//
+//     presence proof   0 length, 4 kind, 6 step count, 8 key, 40 value, 72 steps of 33 bytes (side, sibling's hash)
+//     absence proof    0 length, 4 kind, 6 flags, 8 key, 40 the neighbours' presence proofs
 mod form;
 mod path;
 
 ghost use mathlib.Core.Path.{_≡_};
-ghost use mathlib.Core.Bool.{true, cond, _&&_};
-ghost use mathlib.Core.Option.{some};
+ghost use mathlib.Core.Bool.{true, cond};
 ghost use lib.ListN.{length};
-ghost use Rattle.terms.specs.Bits.{sameBytes};
 ghost use Rattle.meaning.specs.Calls.{refused};
 ghost use Rattle.meaning.specs.Reading.{present};
 ghost use Rattle.meaning.specs.Proving.{beyond};
-ghost use Rattle.meaning.specs.Checking.{leadsTo, neighbourHolds, absenceHolds};
 ghost use Rattle.hash.specs.Hash.{hashBytes};
-ghost use Rattle.nodehash.specs.Node.{leafHash, innerHash};
-ghost use Rattle.proofrecords.specs.ProofBytes.{isPresence, presenceIn, isAbsence, absenceIn};
+ghost use Rattle.proofrecords.specs.ProofBytes.{isPresence, isAbsence};
 ghost use Rattle.verify.specs.Boundary.{numberOf, foundBytes, foundAfter};
-ghost use Rattle.verify.specs.Verify.{verified, says, loneHolds};
+ghost use Rattle.verify.specs.Holding.{leads, presenceHolds, neighbour, loneNeighbour, bothNeighbours, neighbours, absenceProofHolds};
+ghost use Rattle.verify.specs.Verify.{verified, says};
 use fields::clear;
 use fields::get_u16;
 use fields::get_u32;
@@ -42,7 +42,7 @@ pub enum Checked {
 // Whether the steps of a presence proof lead from the leaf hash to the root.
 fn leads_to(root: Hash, p: &[u8]) -> bool
     requires { ⌜ isPresence (now p) ≡ true ⌝ }
-    ensures { λ r. ⌜ r ≡ leadsTo leafHash innerHash (hashBytes root) (presenceIn (now (p .entry))) ⌝ }
+    ensures { λ r. ⌜ r ≡ leads (hashBytes root) (now (p .entry)) ⌝ }
 {
     let n = get_u16(p, 6) as usize;
     same_hash(path::top(p, n), root)
@@ -61,7 +61,7 @@ fn beyond(side: bool, x: &[u8], key: &[u8]) -> bool
 // Whether a neighbour's proof leads to the root and its key is on its side of the key.
 fn neighbour_holds(side: bool, root: Hash, key: &[u8], p: &[u8]) -> bool
     requires { ⌜ isPresence (now p) ≡ true ⌝ }
-    ensures { λ r. ⌜ r ≡ neighbourHolds leafHash innerHash side (hashBytes root) (now (key .entry)) (presenceIn (now (p .entry))) ⌝ }
+    ensures { λ r. ⌜ r ≡ neighbour side (hashBytes root) (now (key .entry)) (now (p .entry)) ⌝ }
 {
     if !leads_to(root, p) {
         return false;
@@ -72,7 +72,7 @@ fn neighbour_holds(side: bool, root: Hash, key: &[u8], p: &[u8]) -> bool
 // Whether a neighbour that is the only one holds: its path is outermost on the key's side.
 fn lone_holds(side: bool, root: Hash, key: &[u8], p: &[u8]) -> bool
     requires { ⌜ isPresence (now p) ≡ true ⌝ }
-    ensures { λ r. ⌜ r ≡ loneHolds side (hashBytes root) (now (key .entry)) (presenceIn (now (p .entry))) ⌝ }
+    ensures { λ r. ⌜ r ≡ loneNeighbour side (hashBytes root) (now (key .entry)) (now (p .entry)) ⌝ }
 {
     if !neighbour_holds(side, root, key, p) {
         return false;
@@ -85,7 +85,7 @@ fn lone_holds(side: bool, root: Hash, key: &[u8], p: &[u8]) -> bool
 fn both_hold(root: Hash, key: &[u8], l: &[u8], r: &[u8]) -> bool
     requires { ⌜ isPresence (now l) ≡ true ⌝ }
     requires { ⌜ isPresence (now r) ≡ true ⌝ }
-    ensures { λ b. ⌜ b ≡ absenceHolds leafHash innerHash (hashBytes root) (now (key .entry)) (some (presenceIn (now (l .entry)))) (some (presenceIn (now (r .entry)))) ⌝ }
+    ensures { λ b. ⌜ b ≡ bothNeighbours (hashBytes root) (now (key .entry)) (now (l .entry)) (now (r .entry)) ⌝ }
 {
     if !neighbour_holds(false, root, key, l) {
         return false;
@@ -101,7 +101,7 @@ fn both_hold(root: Hash, key: &[u8], l: &[u8], r: &[u8]) -> bool
 // Whether the neighbours of an absence proof show that the key is absent. Each is read where it lies in the proof.
 fn neighbours_hold(root: Hash, key: &[u8], proof: &[u8]) -> bool
     requires { ⌜ isAbsence (now proof) ≡ true ⌝ }
-    ensures { λ r. ⌜ r ≡ absenceHolds leafHash innerHash (hashBytes root) (now (key .entry)) (absenceIn (now (proof .entry)) .leftward) (absenceIn (now (proof .entry)) .rightward) ⌝ }
+    ensures { λ r. ⌜ r ≡ neighbours (hashBytes root) (now (key .entry)) (now (proof .entry)) ⌝ }
 {
     let n = proof.len();
     let flags = get_u16(proof, 6);
@@ -121,7 +121,7 @@ fn neighbours_hold(root: Hash, key: &[u8], proof: &[u8]) -> bool
 // Whether a presence proof holds: its key is the one asked for, and its steps lead to the root.
 fn presence_holds(root: Hash, key: &[u8], proof: &[u8]) -> bool
     requires { ⌜ isPresence (now proof) ≡ true ⌝ }
-    ensures { λ r. ⌜ r ≡ (sameBytes (now (key .entry)) (presenceIn (now (proof .entry)) .key) && leadsTo leafHash innerHash (hashBytes root) (presenceIn (now (proof .entry)))) ⌝ }
+    ensures { λ r. ⌜ r ≡ presenceHolds (hashBytes root) (now (key .entry)) (now (proof .entry)) ⌝ }
 {
     if !place::same(key, &proof[8..40]) {
         return false;
@@ -132,7 +132,7 @@ fn presence_holds(root: Hash, key: &[u8], proof: &[u8]) -> bool
 // Whether an absence proof holds: its key is the one asked for, and its neighbours show that it is absent.
 fn absence_holds(root: Hash, key: &[u8], proof: &[u8]) -> bool
     requires { ⌜ isAbsence (now proof) ≡ true ⌝ }
-    ensures { λ r. ⌜ r ≡ (sameBytes (now (key .entry)) (absenceIn (now (proof .entry)) .key) && absenceHolds leafHash innerHash (hashBytes root) (now (key .entry)) (absenceIn (now (proof .entry)) .leftward) (absenceIn (now (proof .entry)) .rightward)) ⌝ }
+    ensures { λ r. ⌜ r ≡ absenceProofHolds (hashBytes root) (now (key .entry)) (now (proof .entry)) ⌝ }
 {
     if !place::same(key, &proof[8..40]) {
         return false;

@@ -1,10 +1,10 @@
 // The steps of a presence proof, read where they lie in its bytes.
 ghost use mathlib.Core.Path.{_≡_};
 ghost use Prim.Native.Nat.{suc};
-ghost use Rattle.terms.specs.Fields.{slice};
-ghost use Rattle.meaning.specs.Checking.{keepsTo, outermost, sameStep, pathsPart, parentHash, climb};
+ghost use Rattle.meaning.specs.Checking.{keepsTo, outermost, sameStep, pathsPart, parentHash};
 ghost use Rattle.hash.specs.Hash.{hashBytes};
 ghost use Rattle.nodehash.specs.Node.{leafHash, innerHash};
+ghost use Rattle.verify.specs.Holding.{topAfter};
 ghost use Rattle.verify.specs.Paths.{Room, stepAt, firstSteps, apartAt};
 use hash::Hash;
 use hash::hash_at;
@@ -45,7 +45,7 @@ fn parent(p: &[u8], i: usize, h: Hash) -> Hash
 // The hash that the first n steps lead to from the leaf.
 pub fn top(p: &[u8], n: usize) -> Hash
     requires { ⌜ Room n (now p) ⌝ }
-    ensures { λ r. ⌜ hashBytes r ≡ climb leafHash innerHash (leafHash (slice 8 32 (now (p .entry))) (slice 40 32 (now (p .entry)))) (firstSteps n (now (p .entry))) ⌝ }
+    ensures { λ r. ⌜ hashBytes r ≡ topAfter n (now (p .entry)) ⌝ }
 {
     let mut h = leaf_hash(&p[8..72]);
     let mut i = 0;

@@ -3,7 +3,7 @@ use native.Mathlib.Omega.{arith}
 use mathlib.Core.Path.{_∙_}
 use Rattle.proofrecords.specs.ProofBytes.{stepCount}
 use Rattle.verify.proofs.Forms.{presence-whole}
-use Rattle.verify.proofs.Checks.{leads}
+use Rattle.verify.proofs.Checks.{top-leads}
 use borrow.Author.Needs.{needs}
 use Rattle.verify.proofs.leads_to.Statement.{statement}
 use Rattle.verify.proofs.leads_to.Tie as tie
@@ -22,7 +22,7 @@ same-hash-requires : tie.Need-same-hash-requires
 same-hash-requires c κs = search needs
 
 returns : tie.Need-returns
-returns c = c .same-hash .ensures ∙ leads _ _ _ (c .before .before .before .before .args .p .now) (c .before .before .get-u16 .ensures) (c .before .top .ensures)
+returns c = c .same-hash .ensures ∙ top-leads _ _ _ (c .before .before .before .before .args .p .now) (c .before .before .get-u16 .ensures) (c .before .top .ensures)
 
 pub leads-to-spec : {M : Type 1} → statement M
 leads-to-spec =

@@ -2,14 +2,11 @@
 use Prim.Native.Nat.{_+_, _<_, _≤_}
 use native.Mathlib.Omega.{arith}
 use mathlib.Core.Path.{ap, ap₂, sym, _∙_}
-use mathlib.Core.Option.{some}
 use lib.ListN.{length}
 use Rattle.terms.specs.Bits.{Bytes, left, right}
-use Rattle.meaning.specs.Checking.{absenceHolds}
 use Rattle.hash.specs.Hash.{hashBytes}
-use Rattle.nodehash.specs.Node.{leafHash, innerHash}
-use Rattle.proofrecords.specs.ProofBytes.{isPresence, presenceIn, leftLength, flags}
-use Rattle.verify.specs.Verify.{loneHolds}
+use Rattle.proofrecords.specs.ProofBytes.{isPresence, leftLength, flags}
+use Rattle.verify.specs.Holding.{loneNeighbour, bothNeighbours}
 use Rattle.verify.proofs.Forms.{absence-head, one-there, flags-both, left-there, right-there, both-room, rest-part, left-part, right-part, above-two}
 use Rattle.verify.proofs.Checks.{neither-shown, left-shown, right-shown, both-shown}
 use borrow.Author.Needs.{needs}
@@ -48,7 +45,7 @@ returns-2 : tie.Need-returns-2
 unfolding flags
 returns-2 c =
     let a = c .before .before .before .before .before .before .before .args in
-    c .lone-holds .ensures ∙ ap (λ (y : Bytes). loneHolds left (hashBytes (a .root)) (a .key .now) (presenceIn y)) (rest-part 40 (a .proof .now))
+    c .lone-holds .ensures ∙ ap (λ (y : Bytes). loneNeighbour left (hashBytes (a .root)) (a .key .now) y) (rest-part 40 (a .proof .now))
     ∙ sym (left-shown (hashBytes (a .root)) (a .key .now) (a .proof .now) (sym (c .before .before .before .before .get-u16 .ensures) ∙ c .before .before .if2 .taken))
 
 sub-lone-holds-2 : tie.Need-sub-lone-holds-2
@@ -71,7 +68,7 @@ returns-3 : tie.Need-returns-3
 unfolding flags
 returns-3 c =
     let a = c .before .before .before .before .before .before .before .before .args in
-    c .lone-holds2 .ensures ∙ ap (λ (y : Bytes). loneHolds right (hashBytes (a .root)) (a .key .now) (presenceIn y)) (rest-part 40 (a .proof .now))
+    c .lone-holds2 .ensures ∙ ap (λ (y : Bytes). loneNeighbour right (hashBytes (a .root)) (a .key .now) y) (rest-part 40 (a .proof .now))
     ∙ sym (right-shown (hashBytes (a .root)) (a .key .now) (a .proof .now) (sym (c .before .before .before .before .before .get-u16 .ensures) ∙ c .before .before .if3 .taken))
 
 -- past the three tests of the flags there are two neighbours
@@ -130,7 +127,7 @@ returns-4 c =
     let x = s .args .proof .now in
     let e = c .before .before .before .get-u32 .ensures in
     c .both-hold .ensures
-    ∙ ap₂ (λ (l : Bytes) (r : Bytes). absenceHolds leafHash innerHash root k (some (presenceIn l)) (some (presenceIn r))) (left-part _ x e) (right-part _ x e)
+    ∙ ap₂ (bothNeighbours root k) (left-part _ x e) (right-part _ x e)
     ∙ sym (both-shown root k x (flags-both x (s .pre) (two-flagged (c .before .before .before .before))))
 
 pub neighbours-hold-spec : {M : Type 1} → statement M

@@ -5,19 +5,18 @@ use native.Mathlib.Omega.{arith}
 use native.Mathlib.Nat.{sub-zero}
 use mathlib.Core.Path.{_≡_, ap, sym, _∙_}
 use lib.ListN.{length-take, length-drop}
-use Rattle.terms.specs.Fields.{slice}
 use Rattle.meaning.specs.Checking.{climb}
 use Rattle.hash.specs.Hash.{hashBytes}
 use Rattle.nodehash.specs.Node.{leafHash, innerHash}
 use Rattle.proofrecords.specs.ProofBytes.{stepsIn}
-use Rattle.verify.specs.Paths.{firstSteps}
+use Rattle.verify.specs.Holding.{topAfter}
 use Rattle.verify.proofs.Steps.{fromStep, steps-left, no-steps-left, grant-at}
 use Rattle.verify.proofs.path.top.Statement.{statement}
 use Rattle.verify.proofs.path.top.Tie as tie
 
 abbrev Inv-loop : tie.InvT-loop
 Inv-loop p n h₀ i₀ h i =
-    (i ≤ n) × (climb leafHash innerHash (hashBytes h) (stepsIn (n - i) (fromStep i p)) ≡ climb leafHash innerHash (leafHash (slice 8 32 p) (slice 40 32 p)) (firstSteps n p))
+    (i ≤ n) × (climb leafHash innerHash (hashBytes h) (stepsIn (n - i) (fromStep i p)) ≡ topAfter n p)
 
 abbrev μ-loop : tie.MeasureT-loop
 μ-loop p n h₀ i₀ h i = n - i
