@@ -1,5 +1,7 @@
 -- `verify::path::keeps_to` meets its contract: the side decides, else the sibling. Assumes nothing.
-use mathlib.Core.Path.{sym}
+use mathlib.Core.Path.{ap, sym, _∙_}
+use Rattle.terms.specs.Bits.{Bytes, sameBytes}
+use Rattle.terms.specs.Records.{zeros}
 use Rattle.verify.proofs.Steps.{keeps-side, keeps-zero}
 use borrow.Author.Needs.{needs}
 use Rattle.verify.proofs.path.keeps_to.Statement.{statement}
@@ -19,7 +21,9 @@ is-zero-requires c κs = search needs
 
 returns-2 : tie.Need-returns-2
 returns-2 c =
-    rw (c .is-zero .ensures, c .before .sibling .ensures) (sym (keeps-zero _ _ (c .before .before .before .is-right .ensures) (c .before .before .if1 .left)))
+    c .is-zero .ensures
+    ∙ ap (λ (h : Bytes). sameBytes h zeros) (c .before .sibling .ensures)
+    ∙ sym (keeps-zero _ _ (c .before .before .before .is-right .ensures) (c .before .before .if1 .left))
 
 pub keeps-to-spec : {M : Type 1} → statement M
 keeps-to-spec =

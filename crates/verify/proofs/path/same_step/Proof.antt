@@ -1,6 +1,7 @@
 -- `verify::path::same_step` meets its contract: the sides decide, else the siblings. Assumes nothing.
-use mathlib.Core.Path.{sym}
+use mathlib.Core.Path.{ap₂, sym, _∙_}
 use borrow.Author.Tests.{not-true, not-false}
+use Rattle.terms.specs.Bits.{sameBytes}
 use Rattle.verify.proofs.Steps.{other-side, same-side}
 use borrow.Author.Needs.{needs}
 use Rattle.verify.proofs.path.same_step.Statement.{statement}
@@ -27,8 +28,9 @@ same-hash-requires c κs = search needs
 returns-2 : tie.Need-returns-2
 returns-2 c =
     let t = c .before .before .before in
-    rw (c .same-hash .ensures, c .before .before .sibling .ensures, c .before .sibling2 .ensures)
-    (sym (same-side _ _ (t .before .before .is-right .ensures) (t .before .is-right2 .ensures) (not-false _ (t .if1 .left))))
+    c .same-hash .ensures
+    ∙ ap₂ sameBytes (c .before .before .sibling .ensures) (c .before .sibling2 .ensures)
+    ∙ sym (same-side _ _ (t .before .before .is-right .ensures) (t .before .is-right2 .ensures) (not-false _ (t .if1 .left)))
 
 pub same-step-spec : {M : Type 1} → statement M
 same-step-spec =
