@@ -1,4 +1,5 @@
--- The 33 bytes of what is found, as they are written. Assumes nothing.
+-- The 33 bytes of what is found, as they are written.
+-- Assumes nothing.
 use native.Mathlib.Omega.{arith}
 use mathlib.Core.Path.{_≡_}
 use mathlib.Core.List.{[], _∷_, _++_, append-nil}

@@ -1,4 +1,5 @@
--- The check of a proof in form as the code makes it: one test after the other, each of them the definition's. Assumes nothing.
+-- The check of a proof in form as the code makes it: one test after the other, each of them the definition's.
+-- Assumes nothing.
 use Prim.Native.Nat.{ℕ}
 use mathlib.Core.Path.{_≡_, _∙_}
 use mathlib.Core.Bool.{Bool, true, false, cond}

@@ -97,7 +97,7 @@ last-step (suc n) y =
     let d : drop (33 * n) (drop 33 y) ≡ drop (33 * suc n) y = rw (← e) (drop-drop (33 * n) 33 y) in
     ap (frontStep y ∷_) (last-step n (drop 33 y) ∙ ap (λ (z : Bytes). stepsIn n (drop 33 y) ++ (frontStep z ∷ [])) d)
 
-pub top-step : (n : ℕ) (x : Bytes) → firstSteps (suc n) x ≡ firstSteps n x ++ (stepAt n x ∷ [])
+top-step : (n : ℕ) (x : Bytes) → firstSteps (suc n) x ≡ firstSteps n x ++ (stepAt n x ∷ [])
 top-step n x =
     last-step n (drop 72 x) ∙ ap (λ (s : Step). firstSteps n x ++ (s ∷ [])) (ap frontStep (drop-drop (33 * n) 72 x) ∙ step-there n x)
 

@@ -1,4 +1,5 @@
--- `verify::absence_holds` meets its contract: the key, then the neighbours. Assumes nothing.
+-- `verify::absence_holds` meets its contract: the key, then the neighbours.
+-- Assumes nothing.
 use native.Mathlib.Omega.{arith}
 use mathlib.Core.Path.{sym, _∙_}
 use borrow.Author.Tests.{not-true, not-false}

@@ -1,4 +1,5 @@
--- `verify::beyond` meets its contract: on each side it asks `before`, with the keys in that side's order. Assumes nothing.
+-- `verify::beyond` meets its contract: on each side it asks `before`, with the keys in that side's order.
+-- Assumes nothing.
 use borrow.Author.Needs.{needs}
 use Rattle.verify.proofs.beyond.Statement.{statement}
 use Rattle.verify.proofs.beyond.Tie as tie

@@ -1,4 +1,5 @@
--- `verify::both_hold` meets its contract: each neighbour, then their paths. Assumes nothing.
+-- `verify::both_hold` meets its contract: each neighbour, then their paths.
+-- Assumes nothing.
 use native.Mathlib.Omega.{arith}
 use mathlib.Core.Path.{ap₂, sym, _∙_}
 use borrow.Author.Tests.{not-true, not-false}

@@ -1,4 +1,5 @@
--- `verify::grants_verify` meets its contract: each case of the answer is written out. Assumes nothing.
+-- `verify::grants_verify` meets its contract: each case of the answer is written out.
+-- Assumes nothing.
 use mathlib.Core.Path.{ap, sym, _∙_}
 use Rattle.meaning.specs.Calls.{Answer}
 use Rattle.meaning.specs.Reading.{Verdict}

@@ -1,4 +1,5 @@
--- `verify::leads_to` meets its contract: the hash at the top of all steps is compared with the root. Assumes nothing.
+-- `verify::leads_to` meets its contract: the hash at the top of all steps is compared with the root.
+-- Assumes nothing.
 use native.Mathlib.Omega.{arith}
 use mathlib.Core.Path.{_∙_}
 use Rattle.proofrecords.specs.ProofBytes.{stepCount}
@@ -9,14 +10,14 @@ use Rattle.verify.proofs.leads_to.Statement.{statement}
 use Rattle.verify.proofs.leads_to.Tie as tie
 
 get-u16-requires : tie.Need-get-u16-requires
-get-u16-requires c κs = let w = presence-whole (c .before .args .p .now) (c .before .pre) in omega arith
+get-u16-requires c κs = let s = c .before in let w = presence-whole (s .args .p .now) (s .pre) in omega arith
 
 cast-n : tie.Need-cast-n
 cast-n c = search needs
 
 top-requires : tie.Need-top-requires
 unfolding stepCount
-top-requires c κs = let w = presence-whole (c .before .before .args .p .now) (c .before .before .pre) in omega arith
+top-requires c κs = let s = c .before .before in let w = presence-whole (s .args .p .now) (s .pre) in omega arith
 
 same-hash-requires : tie.Need-same-hash-requires
 same-hash-requires c κs = search needs

@@ -1,4 +1,5 @@
--- `verify::lone_holds` meets its contract: the neighbour holds, and its path is outermost. Assumes nothing.
+-- `verify::lone_holds` meets its contract: the neighbour holds, and its path is outermost.
+-- Assumes nothing.
 use native.Mathlib.Omega.{arith}
 use mathlib.Core.Path.{ap, sym, _∙_}
 use mathlib.Core.Bool.{not}
@@ -18,18 +19,21 @@ returns : tie.Need-returns
 returns c = rw (sym (c .before .neighbour-holds .ensures) ∙ not-true _ (c .if1 .taken))
 
 get-u16-requires : tie.Need-get-u16-requires
-get-u16-requires c κs = let w = presence-whole (c .before .before .before .before .args .p .now) (c .before .before .before .before .pre) in omega arith
+get-u16-requires c κs = let s = c .before .before .before .before in let w = presence-whole (s .args .p .now) (s .pre) in omega arith
 
 cast-n : tie.Need-cast-n
 cast-n c = search needs
 
 outermost-requires : tie.Need-outermost-requires
 unfolding stepCount
-outermost-requires c κs = let w = presence-whole (c .before .before .before .before .before .args .p .now) (c .before .before .before .before .before .pre) in omega arith
+outermost-requires c κs = let s = c .before .before .before .before .before in let w = presence-whole (s .args .p .now) (s .pre) in omega arith
 
 returns-2 : tie.Need-returns-2
 returns-2 c =
-    rw (sym (c .before .before .before .neighbour-holds .ensures) ∙ not-false _ (c .before .before .if1 .left)) (c .outermost .ensures ∙ ap (outermost (not (c .before .before .before .before .before .before .args .side))) (all-steps _ (c .before .before .before .before .before .before .args .p .now) (c .before .get-u16 .ensures)))
+    let a = c .before .before .before .before .before .before .args in
+    let t = c .before .before in
+    rw (sym (t .before .neighbour-holds .ensures) ∙ not-false _ (t .if1 .left))
+    (c .outermost .ensures ∙ ap (outermost (not (a .side))) (all-steps _ (a .p .now) (c .before .get-u16 .ensures)))
 
 pub lone-holds-spec : {M : Type 1} → statement M
 lone-holds-spec =

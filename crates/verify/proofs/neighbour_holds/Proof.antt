@@ -1,4 +1,5 @@
--- `verify::neighbour_holds` meets its contract: the path, then the order of the keys. Assumes nothing.
+-- `verify::neighbour_holds` meets its contract: the path, then the order of the keys.
+-- Assumes nothing.
 use native.Mathlib.Omega.{arith}
 use mathlib.Core.Path.{sym, _∙_}
 use borrow.Author.Tests.{not-true, not-false}

@@ -1,9 +1,10 @@
--- `verify::neighbours_hold` meets its contract: by the flags, each neighbour is checked where it lies. Assumes nothing.
+-- `verify::neighbours_hold` meets its contract: by the flags, each neighbour is checked where it lies.
+-- Assumes nothing.
 use Prim.Native.Nat.{_+_, _<_, _≤_}
 use native.Mathlib.Omega.{arith}
 use mathlib.Core.Path.{ap, ap₂, sym, _∙_}
 use lib.ListN.{length}
-use Rattle.terms.specs.Bits.{Bytes, left, right}
+use Rattle.terms.specs.Bits.{left, right}
 use Rattle.hash.specs.Hash.{hashBytes}
 use Rattle.proofrecords.specs.ProofBytes.{isPresence, leftLength, flags}
 use Rattle.verify.specs.Holding.{loneNeighbour, bothNeighbours}
@@ -13,8 +14,11 @@ use borrow.Author.Needs.{needs}
 use Rattle.verify.proofs.neighbours_hold.Statement.{statement}
 use Rattle.verify.proofs.neighbours_hold.Tie as tie
 
+head : (c : tie.Start) → 40 ≤ length (c .args .proof .now)
+head c = absence-head (c .args .proof .now) (c .pre)
+
 get-u16-requires : tie.Need-get-u16-requires
-get-u16-requires c κs = let w = absence-head (c .before .before .args .proof .now) (c .before .before .pre) in omega arith
+get-u16-requires c κs = let w = head (c .before .before) in omega arith
 
 is-zero-requires : tie.Need-is-zero-requires
 is-zero-requires c κs = search needs
@@ -23,13 +27,14 @@ returns : tie.Need-returns
 unfolding flags
 returns c =
     let a = c .before .before .before .before .before .args in
-    c .is-zero .ensures ∙ sym (neither-shown (hashBytes (a .root)) (a .key .now) (a .proof .now) (sym (c .before .before .get-u16 .ensures) ∙ c .before .if1 .taken))
+    let f = sym (c .before .before .get-u16 .ensures) ∙ c .before .if1 .taken in
+    c .is-zero .ensures ∙ sym (neither-shown (hashBytes (a .root)) (a .key .now) (a .proof .now) f)
 
 sub-lone-holds : tie.Need-sub-lone-holds
-sub-lone-holds c = let w = absence-head (c .before .before .before .before .before .args .proof .now) (c .before .before .before .before .before .pre) in omega arith
+sub-lone-holds c = let w = head (c .before .before .before .before .before) in omega arith
 
 part-lone-holds-start : tie.Need-part-lone-holds-start
-part-lone-holds-start c = let w = absence-head (c .before .before .before .before .before .args .proof .now) (c .before .before .before .before .before .pre) in omega arith
+part-lone-holds-start c = let w = head (c .before .before .before .before .before) in omega arith
 
 part-lone-holds-end : tie.Need-part-lone-holds-end
 part-lone-holds-end c = search needs
@@ -45,14 +50,15 @@ returns-2 : tie.Need-returns-2
 unfolding flags
 returns-2 c =
     let a = c .before .before .before .before .before .before .before .args in
-    c .lone-holds .ensures ∙ ap (λ (y : Bytes). loneNeighbour left (hashBytes (a .root)) (a .key .now) y) (rest-part 40 (a .proof .now))
-    ∙ sym (left-shown (hashBytes (a .root)) (a .key .now) (a .proof .now) (sym (c .before .before .before .before .get-u16 .ensures) ∙ c .before .before .if2 .taken))
+    let root = hashBytes (a .root) in
+    let f = sym (c .before .before .before .before .get-u16 .ensures) ∙ c .before .before .if2 .taken in
+    c .lone-holds .ensures ∙ ap (loneNeighbour left root (a .key .now)) (rest-part 40 (a .proof .now)) ∙ sym (left-shown root (a .key .now) (a .proof .now) f)
 
 sub-lone-holds-2 : tie.Need-sub-lone-holds-2
-sub-lone-holds-2 c = let w = absence-head (c .before .before .before .before .before .before .args .proof .now) (c .before .before .before .before .before .before .pre) in omega arith
+sub-lone-holds-2 c = let w = head (c .before .before .before .before .before .before) in omega arith
 
 part-lone-holds-start-2 : tie.Need-part-lone-holds-start-2
-part-lone-holds-start-2 c = let w = absence-head (c .before .before .before .before .before .before .args .proof .now) (c .before .before .before .before .before .before .pre) in omega arith
+part-lone-holds-start-2 c = let w = head (c .before .before .before .before .before .before) in omega arith
 
 part-lone-holds-end-2 : tie.Need-part-lone-holds-end-2
 part-lone-holds-end-2 c = search needs
@@ -68,15 +74,18 @@ returns-3 : tie.Need-returns-3
 unfolding flags
 returns-3 c =
     let a = c .before .before .before .before .before .before .before .before .args in
-    c .lone-holds2 .ensures ∙ ap (λ (y : Bytes). loneNeighbour right (hashBytes (a .root)) (a .key .now) y) (rest-part 40 (a .proof .now))
-    ∙ sym (right-shown (hashBytes (a .root)) (a .key .now) (a .proof .now) (sym (c .before .before .before .before .before .get-u16 .ensures) ∙ c .before .before .if3 .taken))
+    let root = hashBytes (a .root) in
+    let f = sym (c .before .before .before .before .before .get-u16 .ensures) ∙ c .before .before .if3 .taken in
+    c .lone-holds2 .ensures ∙ ap (loneNeighbour right root (a .key .now)) (rest-part 40 (a .proof .now)) ∙ sym (right-shown root (a .key .now) (a .proof .now) f)
 
 -- past the three tests of the flags there are two neighbours
 two-flagged : (c : tie.Else3) → 2 < flags (c .before .before .before .before .before .before .args .proof .now)
 unfolding flags
-two-flagged c = rw (← c .before .before .before .get-u16 .ensures) (above-two _ (c .before .before .if1 .left) (c .before .if2 .left) (c .if3 .left))
+two-flagged c =
+    rw (← c .before .before .before .get-u16 .ensures)
+    (above-two _ (c .before .before .if1 .left) (c .before .if2 .left) (c .if3 .left))
 
-room : (c : tie.Else3) → 112 + leftLength (c .before .before .before .before .before .before .args .proof .now) ≤ length (c .before .before .before .before .before .before .args .proof .now)
+room : (c : tie.Else3) → let x = c .before .before .before .before .before .before .args .proof .now in 112 + leftLength x ≤ length x
 room c = let s = c .before .before .before .before .before .before in both-room (s .args .proof .now) (s .pre) (two-flagged c)
 
 get-u32-requires : tie.Need-get-u32-requires

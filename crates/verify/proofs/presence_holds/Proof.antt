@@ -1,4 +1,5 @@
--- `verify::presence_holds` meets its contract: the key, then the path. Assumes nothing.
+-- `verify::presence_holds` meets its contract: the key, then the path.
+-- Assumes nothing.
 use native.Mathlib.Omega.{arith}
 use mathlib.Core.Path.{sym, _∙_}
 use borrow.Author.Tests.{not-true, not-false}

@@ -1,12 +1,12 @@
--- `verify::put_present` meets its contract: the first byte and the 32 after it are all 33. Assumes nothing.
+-- `verify::put_present` meets its contract: the first byte and the 32 after it are all 33.
+-- Assumes nothing.
 use Prim.Native.Nat.{suc}
-use mathlib.Core.Path.{_≡_, ap, sym, _∙_}
-use mathlib.Core.List.{_∷_, _++_}
+use mathlib.Core.Path.{ap, sym, _∙_}
 use Rattle.hash.specs.Hash.{hashBytes}
 use Rattle.hash.proofs.Laws.{hash-whole}
 use Rattle.verify.proofs.Boundary.{found-written}
 use native.Mathlib.Omega.{arith}
-use lib.ListN.{length, take, drop, set, length-set}
+use lib.ListN.{length, length-set}
 use borrow.Author.Needs.{needs}
 use Rattle.verify.proofs.put_present.Statement.{statement}
 use Rattle.verify.proofs.put_present.Tie as tie
@@ -26,19 +26,17 @@ part-put-hash-end c = simp length-set (omega arith)
 put-hash-requires : tie.Need-put-hash-requires
 put-hash-requires c κs = search needs
 
--- the slice after the stores
-written : (c : tie.After-slice-known2) →
-    take 1 (set (c .before .before .before .before .before .args .found .now) 0 1) ++ (c .before .before .put-hash .last .0 ++ drop 32 (drop 1 (set (c .before .before .before .before .before .args .found .now) 0 1)))
-    ≡ 1 ∷ hashBytes (c .before .before .before .before .before .args .hash)
-written c =
-    let s = c .before .before .before .before .before in
-    found-written (s .args .found .now) (hashBytes (s .args .hash)) (c .before .before .put-hash .last .0) (s .pre) (c .before .before .put-hash .ensures)
-
 same-length : tie.Need-same-length
-same-length c = let s = c .before .before .before .before .before in ap length (written c) ∙ ap suc (hash-whole (s .args .hash) .0) ∙ sym (s .pre)
+same-length c =
+    let s = c .before .before .before .before .before in
+    let p = c .before .before .put-hash in
+    ap length (found-written (s .args .found .now) (hashBytes (s .args .hash)) (p .last .0) (s .pre) (p .ensures)) ∙ ap suc (hash-whole (s .args .hash) .0) ∙ sym (s .pre)
 
 returns : tie.Need-returns
-returns c = written c
+returns c =
+    let s = c .before .before .before .before .before in
+    let p = c .before .before .put-hash in
+    found-written (s .args .found .now) (hashBytes (s .args .hash)) (p .last .0) (s .pre) (p .ensures)
 
 pub put-present-spec : {M : Type 1} → statement M
 put-present-spec =

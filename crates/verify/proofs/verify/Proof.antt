@@ -1,4 +1,5 @@
--- `verify::verify` meets its contract: the lengths, then which form the proof has, then whether it holds. Assumes nothing.
+-- `verify::verify` meets its contract: the lengths, then which form the proof has, then whether it holds.
+-- Assumes nothing.
 use native.Mathlib.Omega.{arith}
 use mathlib.Core.Path.{sym, _∙_}
 use lib.Seq.{take-all}

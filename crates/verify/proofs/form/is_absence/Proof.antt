@@ -1,4 +1,5 @@
--- `verify::form::is_absence` meets its contract: each test is one of the definition's, and the last call is its last. Assumes nothing.
+-- `verify::form::is_absence` meets its contract: each test is one of the definition's, and the last call is its last.
+-- Assumes nothing.
 use mathlib.Core.Path.{sym, _∙_}
 use borrow.Author.Tests.{ne-eqb, lt-leb}
 use Rattle.terms.specs.Fields.{field}

@@ -1,4 +1,5 @@
--- `verify::form::is_presence` meets its contract: each test is one of the definition's, and the last call is its last. Assumes nothing.
+-- `verify::form::is_presence` meets its contract: each test is one of the definition's, and the last call is its last.
+-- Assumes nothing.
 use Prim.Native.Nat.{ℕ, _+_, _*_}
 use mathlib.Core.Path.{ap, sym, _∙_}
 use lib.ListN.{length, drop}

@@ -1,4 +1,6 @@
--- `verify::form::neighbours_fit` meets its contract: by the flags, each neighbour is tested where it lies. Assumes nothing.
+-- `verify::form::neighbours_fit` meets its contract: by the flags, each neighbour is tested where it lies.
+-- Assumes nothing.
+use Prim.Native.Nat.{_<_}
 use native.Mathlib.Omega.{arith}
 use mathlib.Core.Path.{ap, sym, _∙_}
 use borrow.Author.Tests.{not-true, not-false}
@@ -35,9 +37,13 @@ returns-2 c =
     c .is-presence .ensures ∙ ap isPresence (rest-part 40 x)
     ∙ sym (fit-one x (rw (← e) (c .before .before .before .if1 .left)) (rw (← e) (c .before .before .if2 .taken)))
 
-returns-3 : tie.Need-returns-3
+-- past the second test of the flags there are two neighbours
+two-flagged : (c : tie.Else2) → 2 < flags (c .before .before .before .before .args .p .now)
 unfolding flags
-returns-3 c = sym (fit-short (c .before .before .before .before .before .args .p .now) (rw (← c .before .before .before .get-u16 .ensures) (c .before .if2 .left)) (omega arith))
+two-flagged c = rw (← c .before .before .get-u16 .ensures) (c .if2 .left)
+
+returns-3 : tie.Need-returns-3
+returns-3 c = sym (fit-short (c .before .before .before .before .before .args .p .now) (two-flagged (c .before)) (omega arith))
 
 get-u32-requires : tie.Need-get-u32-requires
 get-u32-requires c κs = search needs
@@ -49,8 +55,8 @@ add-e : tie.Need-add-e
 add-e c = search needs
 
 returns-4 : tie.Need-returns-4
-unfolding flags leftLength
-returns-4 c = sym (fit-short (c .before .before .before .before .before .before .before .args .p .now) (rw (← c .before .before .before .before .before .get-u16 .ensures) (c .before .before .before .if2 .left)) (omega arith))
+unfolding leftLength
+returns-4 c = sym (fit-short (c .before .before .before .before .before .before .before .args .p .now) (two-flagged (c .before .before .before)) (omega arith))
 
 sub-is-presence-2 : tie.Need-sub-is-presence-2
 sub-is-presence-2 c = search needs
@@ -65,11 +71,12 @@ is-presence-requires-2 : tie.Need-is-presence-requires-2
 is-presence-requires-2 c κs = search needs
 
 returns-5 : tie.Need-returns-5
-unfolding flags leftLength
+unfolding leftLength
 returns-5 c =
     let x = c .before .before .before .before .before .before .before .before .before .before .args .p .now in
-    let l = sym (ap isPresence (left-part _ x (c .before .before .before .before .get-u32 .ensures))) ∙ sym (c .before .is-presence2 .ensures) ∙ not-true _ (c .if5 .taken) in
-    sym (fit-two x (rw (← c .before .before .before .before .before .before .before .before .get-u16 .ensures) (c .before .before .before .before .before .before .if2 .left)) ∙ rw l)
+    let e = c .before .before .before .before .get-u32 .ensures in
+    let l = sym (ap isPresence (left-part _ x e)) ∙ sym (c .before .is-presence2 .ensures) ∙ not-true _ (c .if5 .taken) in
+    sym (fit-two x (two-flagged (c .before .before .before .before .before .before)) ∙ rw l)
 
 part-is-presence-start-3 : tie.Need-part-is-presence-start-3
 part-is-presence-start-3 c = search needs
@@ -81,13 +88,13 @@ is-presence-requires-3 : tie.Need-is-presence-requires-3
 is-presence-requires-3 c κs = search needs
 
 returns-6 : tie.Need-returns-6
-unfolding flags leftLength
+unfolding leftLength
 returns-6 c =
     let x = c .before .before .before .before .before .before .before .before .before .before .before .before .args .p .now in
     let e = c .before .before .before .before .before .before .get-u32 .ensures in
-    let l = sym (ap isPresence (left-part _ x e)) ∙ sym (c .before .before .before .is-presence2 .ensures) ∙ not-false _ (c .before .before .if5 .left) in
-    c .is-presence3 .ensures ∙ ap isPresence (right-part _ x e)
-    ∙ sym (fit-two x (rw (← c .before .before .before .before .before .before .before .before .before .before .get-u16 .ensures) (c .before .before .before .before .before .before .before .before .if2 .left)) ∙ rw l)
+    let t = c .before .before in
+    let l = sym (ap isPresence (left-part _ x e)) ∙ sym (t .before .is-presence2 .ensures) ∙ not-false _ (t .if5 .left) in
+    c .is-presence3 .ensures ∙ ap isPresence (right-part _ x e) ∙ sym (fit-two x (two-flagged (c .before .before .before .before .before .before .before .before)) ∙ rw l)
 
 pub neighbours-fit-spec : {M : Type 1} → statement M
 neighbours-fit-spec =

@@ -1,4 +1,5 @@
--- `verify::path::apart` meets its contract: the four tests are the definition's, in its order. Assumes nothing.
+-- `verify::path::apart` meets its contract: the four tests are the definition's, in its order.
+-- Assumes nothing.
 use mathlib.Core.Path.{sym, _∙_}
 use borrow.Author.Tests.{not-true, not-false}
 use borrow.Author.Needs.{needs}

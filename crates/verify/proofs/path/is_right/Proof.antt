@@ -1,4 +1,5 @@
--- `verify::path::is_right` meets its contract: the side is a step's first byte. Assumes nothing.
+-- `verify::path::is_right` meets its contract: the side is a step's first byte.
+-- Assumes nothing.
 use mathlib.Core.Path.{refl}
 use Rattle.verify.specs.Paths.{stepAt}
 use borrow.Author.Needs.{needs}

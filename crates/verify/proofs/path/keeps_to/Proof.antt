@@ -1,4 +1,5 @@
--- `verify::path::keeps_to` meets its contract: the side decides, else the sibling. Assumes nothing.
+-- `verify::path::keeps_to` meets its contract: the side decides, else the sibling.
+-- Assumes nothing.
 use mathlib.Core.Path.{ap, sym, _∙_}
 use Rattle.terms.specs.Bits.{Bytes, sameBytes}
 use Rattle.terms.specs.Records.{zeros}

@@ -1,4 +1,5 @@
--- `verify::path::parent` meets its contract: by the side, the sibling's hash is the left or the right one. Assumes nothing.
+-- `verify::path::parent` meets its contract: by the side, the sibling's hash is the left or the right one.
+-- Assumes nothing.
 use borrow.Author.Needs.{needs}
 use Rattle.verify.proofs.path.parent.Statement.{statement}
 use Rattle.verify.proofs.path.parent.Tie as tie

@@ -49,8 +49,9 @@ returns-3 c =
     let u = c .before .before .before in
     let t = u .before .before in
     let a = t .before .before .before .args in
+    let e = sym (c .before .before .same-step .ensures) ∙ not-true _ (c .before .if3 .taken) in
     c .apart .ensures
-    ∙ sym (t .loop .inv .2 ∙ other-tops (t .loop .i) (t .loop .j) (a .l .now) (a .r .now) (u .before .if1 .left) (u .if2 .left) (sym (c .before .before .same-step .ensures) ∙ not-true _ (c .before .if3 .taken)))
+    ∙ sym (t .loop .inv .2 ∙ other-tops (t .loop .i) (t .loop .j) (a .l .now) (a .r .now) (u .before .if1 .left) (u .if2 .left) e)
 
 loop-less : tie.Need-loop-less Inv-loop μ-loop
 loop-less c = omega arith
@@ -59,10 +60,11 @@ loop-again : tie.Need-loop-again Inv-loop μ-loop
 loop-again c =
     let u = c .before .before in
     let t = u .before .before in
-    let a = t .before .before .before .args in (
+    let a = t .before .before .before .args in
+    let e = sym (c .before .same-step .ensures) ∙ not-false _ (c .if3 .left) in (
       omega arith,
       omega arith,
-      t .loop .inv .2 ∙ equal-tops (t .loop .i) (t .loop .j) (a .l .now) (a .r .now) (u .before .if1 .left) (u .if2 .left) (sym (c .before .same-step .ensures) ∙ not-false _ (c .if3 .left)),
+      t .loop .inv .2 ∙ equal-tops (t .loop .i) (t .loop .j) (a .l .now) (a .r .now) (u .before .if1 .left) (u .if2 .left) e,
     )
 
 pub paths-part-spec : {M : Type 1} → statement M

@@ -1,4 +1,5 @@
--- `verify::path::same_step` meets its contract: the sides decide, else the siblings. Assumes nothing.
+-- `verify::path::same_step` meets its contract: the sides decide, else the siblings.
+-- Assumes nothing.
 use mathlib.Core.Path.{ap₂, sym, _∙_}
 use borrow.Author.Tests.{not-true, not-false}
 use Rattle.terms.specs.Bits.{sameBytes}

@@ -1,4 +1,5 @@
--- `verify::path::sibling` meets its contract: the sibling stands after the side. Assumes nothing.
+-- `verify::path::sibling` meets its contract: the sibling stands after the side.
+-- Assumes nothing.
 use Rattle.terms.specs.Fields.{slice}
 use Rattle.verify.specs.Paths.{stepAt}
 use borrow.Author.Needs.{needs}
