@@ -21,6 +21,7 @@ use Rattle.proofrecords.proofs.Proofs.{proof-bytes}
 use Rattle.verify.specs.declared.Checked.{Checked}
 use Rattle.verify.specs.declared.Checked.the-variants.{Refused, Present, Absent}
 use Rattle.verify.specs.Verify.{judged, verified, says}
+use Rattle.verify.specs.Boundary.{numberOf, foundAfter}
 
 -- An answer of the machine's: its numbers are in range.
 abbrev pub InRange : Checked → Type 0
@@ -54,6 +55,11 @@ says-same Absent Absent r s e = refl
 -- Two answers that the contract of `verify` allows are equal.
 pub one-answer : (root k x : Bytes) (a b : Checked) → InRange a → InRange b → says a ≡ verified root k x → says b ≡ verified root k x → a ≡ b
 one-answer root k x a b r s e d = says-same a b r s (e ∙ sym d)
+
+-- Two outcomes that the contract of `grants_verify` allows are equal, the number and every byte.
+pub one-outcome : (v : Answer Verdict) (old : Bytes) {n m : ℕ} {f g : Bytes} →
+    n ≡ numberOf v → f ≡ foundAfter v old → m ≡ numberOf v → g ≡ foundAfter v old → (n ≡ m) × (f ≡ g)
+one-outcome v old a b c d = (a ∙ sym c, b ∙ sym d)
 
 -- The bytes are a presence proof for the key with the value, whose steps lead from the leaf hash to the root.
 pub record ShowsPresent (root k v x : Bytes) (p : Presence) : Type 0 where
