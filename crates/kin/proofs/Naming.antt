@@ -160,7 +160,7 @@ lone-is d (innerBody l r) = refl
 said-as : {a c : Bool} {m n : ℕ} (t : declared-said.Said) → c ≡ a → n ≡ m → SaidOf a m t → SaidOf c n t
 said-as t e f s = rw (e, f) s
 
-none-said : (st : Store) (r : Record) (y : Slot) → ((q : Record) → y ≡ used q → (b : Side) → names b q r ≡ false) →
+pub none-said : (st : Store) (r : Record) (y : Slot) → ((q : Record) → y ≡ used q → (b : Side) → names b q r ≡ false) →
     SaidOf (byRecord true (linkTest leafHash innerHash st r) y) (byRecord 0 (lifeAbove st r) y) (Lived 0)
 none-said st r free f = (refl, refl)
 none-said st r (used q) f = (no-link st r q (f q refl), no-life st r q (f q refl))
