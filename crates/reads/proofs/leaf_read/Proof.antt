@@ -22,20 +22,20 @@ value-of-requires : tie.Need-value-of-requires
 value-of-requires c κs = search needs
 
 hash-at-requires : tie.Need-hash-at-requires
-hash-at-requires c κs = omega (arith, ap length (c .value-of .ensures) ∙ length-slice 80 32 _ (search needs))
+hash-at-requires c κs = omega (arith, ap length (c .value-of .ensures .0) ∙ length-slice 80 32 _ (search needs))
 
 returns : tie.Need-returns
 returns c =
     let d = c .before .before .before .before in
     let a = d .before .before .before .before .args in
-    leaf-present (a .i) (a .store .now) (a .key .now) (d .before .slot-of .ensures .0) (d .key-of .ensures) (c .hash-at .result) (c .before .before .before .same .ensures)
-    (c .before .before .if1 .taken) (c .before .value-of .ensures) (c .hash-at .ensures .1)
+    leaf-present (a .i) (a .store .now) (a .key .now) (d .before .slot-of .ensures .0) (d .key-of .ensures .0) (c .hash-at .result) (c .before .before .before .same .ensures)
+    (c .before .before .if1 .taken) (c .before .value-of .ensures .0) (c .hash-at .ensures .1)
 
 returns-2 : tie.Need-returns-2
 returns-2 c =
     let d = c .before .before in
     let a = d .before .before .before .before .args in
-    leaf-absent (a .i) (a .store .now) (a .key .now) (d .before .slot-of .ensures .0) (d .key-of .ensures) (c .before .same .ensures) (c .if1 .left)
+    leaf-absent (a .i) (a .store .now) (a .key .now) (d .before .slot-of .ensures .0) (d .key-of .ensures .0) (c .before .same .ensures) (c .if1 .left)
 
 pub leaf-read-spec : {M : Type 1} → statement M
 leaf-read-spec =

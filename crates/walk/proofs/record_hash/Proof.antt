@@ -15,10 +15,10 @@ grant-of-requires : tie.Need-grant-of-requires
 grant-of-requires c κs = search needs
 
 leaf-hash-requires : tie.Need-leaf-hash-requires
-leaf-hash-requires c κs = ap length (c .grant-of .ensures) ∙ length-slice 48 64 _ (search needs)
+leaf-hash-requires c κs = ap length (c .grant-of .ensures .0) ∙ length-slice 48 64 _ (search needs)
 
 returns : tie.Need-returns
-returns c = leaf-hashed _ (sym (c .before .before .before .is-leaf .ensures) ∙ c .before .before .if1 .taken) (c .before .grant-of .ensures) (c .leaf-hash .ensures)
+returns c = leaf-hashed _ (sym (c .before .before .before .is-leaf .ensures) ∙ c .before .before .if1 .taken) (c .before .grant-of .ensures .0) (c .leaf-hash .ensures)
 
 add-hash-at : tie.Need-add-hash-at
 add-hash-at c = search needs

@@ -26,7 +26,7 @@ key-of-requires : tie.Need-key-of-requires
 key-of-requires c κs = search needs
 
 begins-requires : tie.Need-begins-requires
-begins-requires c κs = (ap length (c .key-of .ensures) ∙ length-slice 48 32 _ (search needs), c .before .before .before .before .before .pre .slotted .proper)
+begins-requires c κs = (ap length (c .key-of .ensures .0) ∙ length-slice 48 32 _ (search needs), c .before .before .before .before .before .pre .slotted .proper)
 
 returns-2 : tie.Need-returns-2
 returns-2 c =
@@ -34,7 +34,7 @@ returns-2 c =
     let x = d .before .before .slot-of .ensures .0 in
     let p = placeOf (d .before .before .before .before .args .place) in
     leaf-lost (d .before .before .before .before .pre) (ap isLeaf (sym x) ∙ sym (d .before .is-leaf .ensures) ∙ not-false _ (d .if1 .left))
-    (ap (λ y. begins p (slice 48 32 y)) (sym x) ∙ ap (begins p) (sym (c .before .before .key-of .ensures)) ∙ sym (c .before .begins .ensures) ∙ not-true _ (c .if2 .taken))
+    (ap (λ y. begins p (slice 48 32 y)) (sym x) ∙ ap (begins p) (sym (c .before .before .key-of .ensures .0)) ∙ sym (c .before .begins .ensures) ∙ not-true _ (c .if2 .taken))
 
 returns-3 : tie.Need-returns-3
 returns-3 c =
@@ -42,7 +42,7 @@ returns-3 c =
     let x = d .before .before .slot-of .ensures .0 in
     let p = placeOf (d .before .before .before .before .args .place) in
     leaf-seen (d .before .before .before .before .pre) (ap isLeaf (sym x) ∙ sym (d .before .is-leaf .ensures) ∙ not-false _ (d .if1 .left))
-    (ap (λ y. begins p (slice 48 32 y)) (sym x) ∙ ap (begins p) (sym (c .before .before .key-of .ensures)) ∙ sym (c .before .begins .ensures) ∙ not-false _ (c .if2 .left))
+    (ap (λ y. begins p (slice 48 32 y)) (sym x) ∙ ap (begins p) (sym (c .before .before .key-of .ensures .0)) ∙ sym (c .before .begins .ensures) ∙ not-false _ (c .if2 .left))
 
 pub seen-in-spec : {M : Type 1} → statement M
 seen-in-spec =
