@@ -1,0 +1,63 @@
+// The public calls, for C, Rust and others to link. Each answers 0 where it is accepted, else document 01's number of refusal; a refused
+// call writes nothing, its answer included. A slice is passed as a pointer and a length, an array as a pointer alone.
+ghost use mathlib.Core.Path.{_≡_};
+ghost use Rattle.sha256.specs.Sha256.{sha256};
+ghost use Rattle.format.specs.Format.{formatAnswer, formatBytes};
+ghost use Rattle.soundness.specs.Check.{Checked};
+ghost use Rattle.reads.specs.Reads.{rootAnswer, keyAnswer};
+ghost use Rattle.reads_c.specs.Export.{numberOf, rootBytes, foundBytes};
+ghost use Rattle.verify.specs.Verify.{verified};
+ghost use Rattle.verify.specs.Boundary.{numberOf as verdictNumber, foundAfter};
+
+// Makes a fresh store of any bytes of the right length.
+#[no_mangle]
+pub extern "C" fn grants_format(store: &mut [u8]) -> u32
+    ensures answer { λ r. ⌜ r ≡ formatAnswer (now (store .entry)) ⌝ }
+    ensures bytes { λ _. ⌜ now (store .exit) ≡ formatBytes (now (store .entry)) ⌝ }
+{
+    format::format(store)
+}
+
+// Whether a store is sound.
+#[no_mangle]
+pub extern "C" fn grants_check(store: &[u8]) -> u32
+    ensures { λ r. ⌜ Checked (now (store .entry)) r ⌝ }
+{
+    soundness::check(store)
+}
+
+// The root of a version.
+#[no_mangle]
+pub extern "C" fn grants_root(store: &[u8], version: u32, root: &mut [u8; 32]) -> u32
+    ensures answer { λ r. ⌜ r ≡ numberOf (rootAnswer (now (store .entry)) version) ⌝ }
+    ensures bytes { λ _. ⌜ now (root .exit) ≡ rootBytes (rootAnswer (now (store .entry)) version) (now (root .entry)) ⌝ }
+{
+    reads_c::grants_root(store, version, root)
+}
+
+// A key in a version: 1 and its value, or 0 and 32 zero bytes where it is absent.
+#[no_mangle]
+pub extern "C" fn grants_get(store: &[u8], version: u32, key: &[u8], found: &mut [u8; 33]) -> u32
+    ensures answer { λ r. ⌜ r ≡ numberOf (keyAnswer (now (store .entry)) version (now (key .entry))) ⌝ }
+    ensures bytes { λ _. ⌜ now (found .exit) ≡ foundBytes (keyAnswer (now (store .entry)) version (now (key .entry))) (now (found .entry)) ⌝ }
+{
+    reads_c::grants_get(store, version, key, found)
+}
+
+// What a proof shows of a key against a root: 1 and the value, or 0 and 32 zero bytes for 'absent'.
+#[no_mangle]
+pub extern "C" fn grants_verify(root: &[u8], key: &[u8], proof: &[u8], found: &mut [u8; 33]) -> u32
+    ensures answer { λ r. ⌜ r ≡ verdictNumber (verified (now (root .entry)) (now (key .entry)) (now (proof .entry))) ⌝ }
+    ensures bytes { λ _. ⌜ now (found .exit) ≡ foundAfter (verified (now (root .entry)) (now (key .entry)) (now (proof .entry))) (now (found .entry)) ⌝ }
+{
+    verify::grants_verify(root, key, proof, found)
+}
+
+// SHA-256 of the bytes; never refused.
+#[no_mangle]
+pub extern "C" fn grants_sha256(bytes: &[u8], digest: &mut [u8; 32]) -> u32
+    ensures answer { λ r. ⌜ r ≡ 0 ⌝ }
+    ensures bytes { λ _. ⌜ now (digest .exit) ≡ sha256 (now (bytes .entry)) ⌝ }
+{
+    sha256_c::grants_sha256(bytes, digest)
+}
