@@ -1,5 +1,5 @@
 # The commands of the README. A fresh machine has the Rattle kit, make and cargo.
-.PHONY: demo test lib bench fmt sizes
+.PHONY: demo test lib bench soak fmt
 
 demo:
 	@tests/demo
@@ -8,10 +8,14 @@ test:
 	@tests/gate
 
 lib:
-	@rt staticlib sha256_c
+	@rt staticlib grants
 
 bench:
 	@bench/run
+
+# The comparison with the second program, some hundred times longer than in the gate; SEED picks other cases.
+soak:
+	@tests/compare/run 400000 $${SEED:-2}
 
 fmt:
 	@rt fmt

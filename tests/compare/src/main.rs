@@ -5,14 +5,48 @@ mod cases;
 mod ours;
 
 use cases::Random;
+use std::collections::BTreeMap;
 
+#[derive(Default)]
 struct Tally {
     passed: u64,
     failed: u64,
+    /// How often each call gave each answer.
+    answers: BTreeMap<String, u64>,
+}
+
+/// An answer in a word: the number of refusal, or what was accepted.
+trait Word {
+    fn word(&self) -> String;
+}
+
+impl Word for Result<(), u32> {
+    fn word(&self) -> String {
+        self.map_or_else(|n| n.to_string(), |()| "accepted".into())
+    }
+}
+
+impl Word for Result<[u8; 32], u32> {
+    fn word(&self) -> String {
+        self.map_or_else(|n| n.to_string(), |h| if h == [0; 32] { "zeros" } else { "hash" }.into())
+    }
+}
+
+impl Word for Result<Option<[u8; 32]>, u32> {
+    fn word(&self) -> String {
+        self.map_or_else(|n| n.to_string(), |v| if v.is_some() { "present" } else { "absent" }.into())
+    }
+}
+
+impl<T: Word> Word for (T, Vec<u8>) {
+    fn word(&self) -> String {
+        self.0.word()
+    }
 }
 
 impl Tally {
-    fn same<T: PartialEq + std::fmt::Debug>(&mut self, what: &str, seed: u64, ours: T, second: T) {
+    fn same<T: PartialEq + std::fmt::Debug + Word>(&mut self, what: &str, seed: u64, ours: T, second: T) {
+        *self.answers.entry(format!("{what} {}", second.word())).or_default() += 1;
         if ours == second {
             self.passed += 1;
         } else {
@@ -101,13 +135,59 @@ fn round(seed: u64, tally: &mut Tally) {
     tally.same("format", seed, (a, fresh), (c, b));
 }
 
+/// Two refusals deserved at once: the first in 01's order is given.
+fn pairs(tally: &mut Tally) {
+    let mut random = Random(3);
+    let (s, keys) = loop {
+        let (s, keys) = cases::store(&mut random);
+        let latest = s[16];
+        if latest > 2 && second::root(&s, latest as u32).map_or(false, |r| r != [0; 32]) {
+            break (s, keys);
+        }
+    };
+    let key = keys[0];
+    let short = &key[..31];
+    let bad_size = &s[..s.len() - 1];
+    let mut bad_header = s.clone();
+    bad_header[4] = 9;
+    let mut damaged = s.clone();
+    for i in 0..(s.len() - 24) / 120 {
+        damaged[24 + 120 * i] ^= 1;
+    }
+    let out = u32::from_le_bytes(s[16..20].try_into().unwrap()) + 1;
+    let mut case = |what: &str, store: &[u8], version: u32, key: &[u8], wanted: u32| {
+        tally.same(what, 0, ours::get(store, version, key), second::get(store, version, key));
+        assert_eq!(second::get(store, version, key), Err(wanted), "{what}");
+        if key.len() == 32 {
+            tally.same(what, 0, ours::root(store, version), second::root(store, version));
+        }
+    };
+    case("12 before 1", bad_size, 1, short, 12);
+    case("1 before 2", &bad_header[..s.len() - 1], 1, &key, 1);
+    case("2 before 8", &bad_header, out, &key, 2);
+    case("8 before 3", &damaged, out, &key, 8);
+    tally.same("2 before 3", 0, ours::check(&bad_header), second::check(&bad_header));
+    let root = [1; 32];
+    for (what, root, key, proof) in [
+        ("12 before 10", &root[..31], &key[..], &[0u8; 9][..]),
+        ("12 before 10", &root[..], short, &[0u8; 9][..]),
+        ("10 before 11", &root[..], &key[..], &[0u8; 71][..]),
+    ] {
+        tally.same(what, 0, ours::verify(root, key, proof), second::verify(root, key, proof));
+    }
+}
+
 fn main() {
     let mut words = std::env::args().skip(1).map(|w| w.parse::<u64>().expect("a number"));
     let rounds = words.next().unwrap_or(4000);
     let first = words.next().unwrap_or(1);
-    let mut tally = Tally { passed: 0, failed: 0 };
+    let mut tally = Tally::default();
+    pairs(&mut tally);
     for n in 0..rounds {
         round(first.wrapping_add(n).wrapping_mul(0x9E37_79B9_7F4A_7C15), &mut tally);
+    }
+    for (answer, times) in &tally.answers {
+        println!("{answer}: {times}");
     }
     println!("compared: {} passed, {} failed", tally.passed, tally.failed);
     std::process::exit((tally.failed != 0) as i32);
