@@ -15,10 +15,15 @@ pub fn format(s: &mut [u8]) -> Result<(), Refusal> {
 
 /// Version, root and count of new records.
 pub fn apply(s: &mut [u8], batch: &[u8]) -> Result<(u32, Bytes32, u32), Refusal> {
-    let store = bytes::store(s)?;
-    if !sound(&store) {
+    if !sound(&bytes::store(s)?) {
         return Err(3);
     }
+    apply_to_sound(s, batch)
+}
+
+/// The rest of apply, for a store that is known to be sound.
+pub fn apply_to_sound(s: &mut [u8], batch: &[u8]) -> Result<(u32, Bytes32, u32), Refusal> {
+    let store = bytes::store(s)?;
     let asks = bytes::batch(batch)?;
     if store.latest == u32::MAX {
         return Err(6);

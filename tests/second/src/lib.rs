@@ -5,6 +5,7 @@ pub mod bytes;
 pub mod calls;
 pub mod check;
 pub mod proof;
+#[path = "../../common/plain_sha256.rs"]
 pub mod sha256;
 pub mod sound;
 pub mod tree;

@@ -1,0 +1,48 @@
+/* The grant store: a versioned, authenticated key-value store over lent memory.
+ *
+ * Each call returns 0 where it is accepted, else a number of refusal; a refused call writes nothing, its answer included. Buffers lent to one
+ * call do not overlap. A pointer is never null, also where its length is 0. The calls keep no state, take no lock and allocate nothing; a
+ * store may be used from any thread that owns it. All numbers in buffers are little-endian. Every call takes any bytes: bad input is refused.
+ *
+ *   1  the store's length isn't 24 + 120 n, n in 1 to 16,384
+ *   2  a header field isn't right, its capacity isn't n, or oldest is above latest
+ *   3  the store isn't sound (check), or the walk says so (reads)
+ *   8  the version isn't in oldest to latest
+ *  10  the proof isn't one whole record in form, no byte over
+ *  11  the proof is in form, but doesn't hold
+ *  12  a key or root handed in isn't 32 bytes
+ */
+#ifndef GRANTS_H
+#define GRANTS_H
+
+#include <stddef.h>
+#include <stdint.h>
+
+#ifdef __cplusplus
+extern "C" {
+#endif
+
+/* Makes a fresh, empty store of any bytes of the right length. Refused: 1. */
+uint32_t grants_format(uint8_t *store, size_t store_len);
+
+/* Whether the store is sound: every kept version is a whole tree with every hash true. Refused: 1, 2, 3. */
+uint32_t grants_check(const uint8_t *store, size_t store_len);
+
+/* The root of a version, 32 zero bytes where it holds no grant. It tests the header, not soundness. Refused: 1, 2, 8. */
+uint32_t grants_root(const uint8_t *store, size_t store_len, uint32_t version, uint8_t root[32]);
+
+/* A key in a version. found: 1 and the value (32), or 0 and 32 zero bytes where the key is absent. Refused: 12, 1, 2, 8, 3. */
+uint32_t grants_get(const uint8_t *store, size_t store_len, uint32_t version, const uint8_t *key, size_t key_len, uint8_t found[33]);
+
+/* What a proof shows of a key against a root. found: 1 and the value for 'present', 0 and 32 zero bytes for 'absent'. Refused: 12, 10, 11. */
+uint32_t grants_verify(const uint8_t *root, size_t root_len, const uint8_t *key, size_t key_len, const uint8_t *proof, size_t proof_len,
+                       uint8_t found[33]);
+
+/* SHA-256 of any bytes. Never refused. */
+uint32_t grants_sha256(const uint8_t *bytes, size_t len, uint8_t digest[32]);
+
+#ifdef __cplusplus
+}
+#endif
+
+#endif
