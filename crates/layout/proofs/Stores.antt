@@ -8,11 +8,11 @@ use mathlib.Core.List.{List, [], _∷_, _++_, append-assoc}
 use lib.ListN.{length, getD, take, drop, set, length-append, length-take, length-drop, length-set, take-append-drop}
 use lib.Seq.{take-at, drop-at, drop-drop, split-at, set-split, length-take-le}
 use Rattle.terms.specs.Bits.{Bytes, Byte, All}
-use Rattle.terms.specs.Fields.{field, slice}
+use Rattle.terms.specs.Fields.{le, field, slice}
 use Rattle.terms.specs.Records.{Slot, Store, free}
 use Rattle.terms.specs.Form.{top32}
 use Rattle.terms.proofs.Lists.{all-take, all-drop, all-at}
-use Rattle.terms.proofs.Fields.{field-below}
+use Rattle.terms.proofs.Fields.{field-below, slice-between}
 use Rattle.fields.specs.Written.{written}
 use Rattle.fields.proofs.Written.{written-between}
 use Rattle.layout.specs.Sizes.{roomOf}
@@ -20,7 +20,7 @@ use Rattle.layout.specs.Headers.{header, headerOf, headerBytes}
 use Rattle.layout.specs.Slots.{slotOf, slotBytes, SlotForm}
 use Rattle.layout.specs.Stores.{slotIn, slotsOf, slotsBytes, storeOf, storeBytes, StoreForm, putSlot, putBounds}
 use Rattle.layout.proofs.Slots.{slot-said, slot-back, slot-form, length-slot}
-use Rattle.layout.proofs.Headers.{room-of, length-header, header-said, Accepted, accepted, header-back}
+use Rattle.layout.proofs.Headers.{room-of, length-header, oldest-put, header-said, Accepted, accepted, header-back}
 
 pub length-slots-bytes : (xs : List Slot) → All SlotForm xs → length (slotsBytes xs) ≡ 120 * length xs
 length-slots-bytes [] h = refl
@@ -126,6 +126,18 @@ all-set [] i x h k = tt
 all-set (y ∷ xs) zero x h k = (k, h .1)
 all-set (y ∷ xs) (suc i) x h k = (h .0, all-set xs i x (h .1) k)
 
+-- 24 bytes and slots, cut around slot i
+module _ (p : Bytes) (xs : List Slot) (i : ℕ) (l : i < length xs) where
+  slots-around : p ++ slotsBytes xs ≡ (p ++ slotsBytes (take i xs)) ++ (slotBytes (getD xs i free) ++ slotsBytes (drop (suc i) xs))
+  slots-around =
+      ap (λ z. p ++ slotsBytes z) (split-at xs i free l)
+      ∙ ap (p ++_) (slots-append (take i xs) (getD xs i free ∷ drop (suc i) xs))
+      ∙ sym (append-assoc p (slotsBytes (take i xs)) (slotBytes (getD xs i free) ++ slotsBytes (drop (suc i) xs)))
+
+  slots-before : length p ≡ 24 → All SlotForm xs → length (p ++ slotsBytes (take i xs)) ≡ 24 + 120 * i
+  slots-before e h =
+      simp length-append (omega (arith, length-slots-bytes (take i xs) (all-take SlotForm i xs h), length-take-le i xs (omega arith)))
+
 -- after 24 bytes, another slot at i
 slots-put : (p : Bytes) (xs : List Slot) (i : ℕ) (x : Slot) → length p ≡ 24 → All SlotForm xs → SlotForm x → i < length xs →
     p ++ slotsBytes (set xs i x) ≡ written (24 + 120 * i) (slotBytes x) (p ++ slotsBytes xs)
@@ -136,15 +148,19 @@ slots-put p xs i x e h k l =
     let a : p ++ slotsBytes (set xs i x) ≡ front ++ (slotBytes x ++ rest) =
     ap (λ z. p ++ slotsBytes z) (set-split xs i x l) ∙ ap (p ++_) (slots-append (take i xs) (x ∷ drop (suc i) xs)) ∙ sym (append-assoc p (slotsBytes (take i xs)) (slotBytes x ++ rest))
     in
-    let b : p ++ slotsBytes xs ≡ front ++ (slotBytes y ++ rest) =
-    ap (λ z. p ++ slotsBytes z) (split-at xs i free l) ∙ ap (p ++_) (slots-append (take i xs) (y ∷ drop (suc i) xs)) ∙ sym (append-assoc p (slotsBytes (take i xs)) (slotBytes y ++ rest))
-    in
-    let m : length front ≡ 24 + 120 * i =
-    simp length-append (omega (arith, length-slots-bytes (take i xs) (all-take SlotForm i xs h), length-take-le i xs (omega arith)))
-    in
     a
-    ∙ sym (written-between front (slotBytes y) rest (slotBytes x) (24 + 120 * i) m (length-slot x k ∙ sym (length-slot y (all-at SlotForm xs free i h l))))
-    ∙ ap (written (24 + 120 * i) (slotBytes x)) (sym b)
+    ∙ sym (written-between front (slotBytes y) rest (slotBytes x) (24 + 120 * i) (slots-before p xs i l e h) (length-slot x k ∙ sym (length-slot y (all-at SlotForm xs free i h l))))
+    ∙ ap (written (24 + 120 * i) (slotBytes x)) (sym (slots-around p xs i l))
+
+-- slot i of the bytes of a store is the bytes of its slot i
+pub slot-in-bytes : (st : Store) → StoreForm st → (i : ℕ) → i < length (st .slots) → slotIn i (storeBytes st) ≡ slotBytes (getD (st .slots) i free)
+unfolding slotIn storeBytes
+slot-in-bytes st f i l =
+    let p = headerBytes (length (st .slots)) (st .oldest) (st .latest) in
+    let y = getD (st .slots) i free in
+    ap (slice (24 + 120 * i) 120) (slots-around p (st .slots) i l)
+    ∙ slice-between (p ++ slotsBytes (take i (st .slots))) (slotBytes y) (slotsBytes (drop (suc i) (st .slots))) (24 + 120 * i) 120
+    (slots-before p (st .slots) i l (length-header _ _ _) (f .each)) (length-slot y (all-at SlotForm (st .slots) free i (f .each) l))
 
 -- another slot at i, another oldest and latest: the store stays in form, and its bytes change there and nowhere else
 module _ (st : Store) (f : StoreForm st) where
@@ -175,3 +191,7 @@ module _ (st : Store) (f : StoreForm st) where
   bounds-put-bytes o l =
       sym (written-between [] (headerBytes (length (st .slots)) (st .oldest) (st .latest)) (slotsBytes (st .slots)) (headerBytes (length (st .slots)) o l) 0 refl
       (length-header _ _ _ ∙ sym (length-header _ _ _)))
+
+  pub oldest-put-bytes : (o : ℕ) → storeBytes (putBounds o (st .latest) st) ≡ written 12 (le 4 o) (storeBytes st)
+  unfolding putBounds storeBytes
+  oldest-put-bytes o = oldest-put (length (st .slots)) (st .oldest) o (st .latest) (slotsBytes (st .slots))
