@@ -192,6 +192,7 @@ module _ (st : Store) (f : StoreForm st) where
       sym (written-between [] (headerBytes (length (st .slots)) (st .oldest) (st .latest)) (slotsBytes (st .slots)) (headerBytes (length (st .slots)) o l) 0 refl
       (length-header _ _ _ ∙ sym (length-header _ _ _)))
 
-  pub oldest-put-bytes : (o : ℕ) → storeBytes (putBounds o (st .latest) st) ≡ written 12 (le 4 o) (storeBytes st)
-  unfolding putBounds storeBytes
-  oldest-put-bytes o = oldest-put (length (st .slots)) (st .oldest) o (st .latest) (slotsBytes (st .slots))
+-- another oldest: its four bytes change, and nothing else
+pub oldest-put-bytes : (st : Store) (o : ℕ) → storeBytes (putBounds o (st .latest) st) ≡ written 12 (le 4 o) (storeBytes st)
+unfolding putBounds storeBytes
+oldest-put-bytes st o = oldest-put (length (st .slots)) (st .oldest) o (st .latest) (slotsBytes (st .slots))

@@ -1,1 +1,2 @@
 pub mod Free
+pub mod Prune

@@ -1,13 +1,29 @@
 // Pruning: every record retired since a version or earlier is freed, and oldest becomes that version.
+use fields::get_u32;
+use fields::put_u32;
 use layout::sizes::HEADER_SIZE;
+use layout::sizes::LATEST_AT;
+use layout::sizes::OLDEST_AT;
 use layout::sizes::SLOT_SIZE;
 use store::clear_slot_at;
 use store::retired_at;
 ghost use mathlib.Core.Path.{_≡_};
 ghost use Prim.Native.Nat.{_+_, _≤_};
 ghost use lib.ListN.{length};
-ghost use Rattle.layout.specs.Sizes.{slotSize, slotAt};
+ghost use Rattle.meaning.specs.Calls.{isKept};
+ghost use Rattle.layout.specs.Sizes.{headerSize, slotSize, slotAt};
+ghost use Rattle.layout.specs.Stores.{storeOf};
 ghost use Rattle.pruning.specs.Free.{freedSlot, freedCount, Readable, Frees};
+ghost use Rattle.pruning.specs.Prune.{SoundBytes, prunedSays, Prunes};
+
+// 8: the version isn't in oldest to latest.
+const NOT_KEPT: u32 = 8;
+
+// A number of refusal, or how many records were freed.
+pub enum Pruned {
+    Refused(u32),
+    Freed(u32),
+}
 
 // Frees slot i if its retired-since is the version or earlier; answers how many records it freed.
 fn free_slot(store: &mut [u8], i: usize, version: u32) -> u32
@@ -39,4 +55,28 @@ fn free_retired(store: &mut [u8], version: u32) -> u32
         i += 1;
     }
     freed
+}
+
+// Whether the version is in oldest to latest.
+fn is_kept(store: &[u8], version: u32) -> bool
+    requires { ⌜ headerSize ≤ length (now store) ⌝ }
+    ensures { λ r. ⌜ r ≡ isKept (storeOf (now (store .entry))) version ⌝ }
+{
+    if version < get_u32(store, OLDEST_AT) {
+        return false;
+    }
+    version <= get_u32(store, LATEST_AT)
+}
+
+// Prunes a sound store to a version.
+fn prune_sound(store: &mut [u8], version: u32) -> Pruned
+    requires { ⌜ SoundBytes (now store) ⌝ }
+    ensures { λ r. ⌜ Prunes version (now (store .entry)) (prunedSays r) (now (store .exit)) ⌝ }
+{
+    if !is_kept(store, version) {
+        return Pruned::Refused(NOT_KEPT);
+    }
+    let freed = free_retired(store, version);
+    put_u32(store, OLDEST_AT, version);
+    Pruned::Freed(freed)
 }
