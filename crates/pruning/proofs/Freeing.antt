@@ -1,12 +1,11 @@
 -- Freeing from slot to slot: a slot's retired-since says whether its record goes, and before slot i all are pruned, from it on none is.
 -- Assumes nothing.
-use Prim.Native.Nat.{ℕ, zero, suc, _+_, _*_, _-_, _/_, _<_, _≤_}
+use Prim.Native.Nat.{ℕ, suc, _+_, _*_, _-_, _/_, _<_, _≤_}
 use native.Mathlib.Omega.{arith}
 use native.Mathlib.Numerals.{add-one}
-use mathlib.Core.Path.{_≡_, refl, ap, ap₂, sym, _∙_, subst}
-use mathlib.Core.Logic.{_⊎_, inl, inr}
+use mathlib.Core.Path.{_≡_, refl, ap, sym, _∙_, subst}
 use mathlib.Core.Bool.{Bool, true, false, cond, _&&_}
-use mathlib.Core.List.{List, [], _∷_, _++_, map, append-nil, append-assoc, map-append}
+use mathlib.Core.List.{List, [], _∷_, _++_, append-nil, map-append}
 use lib.ListN.{length, getD, take, drop, set, length-map, length-append, length-drop, drop-of-length-le}
 use lib.Seq.{take-suc, drop-cons, append-snoc, take-all, set-at, getD-at, length-take-le}
 use lib.Dec.{leb}
@@ -14,7 +13,7 @@ use borrow.Author.Tests.{le-leb, lt-leb}
 use Rattle.terms.specs.Bits.{Bytes}
 use Rattle.terms.specs.Fields.{field, slice, zeroBytes}
 use Rattle.terms.specs.Records.{Record, Slot, free, used, spoiled, Store}
-use Rattle.terms.specs.Form.{RecordForm, top32}
+use Rattle.terms.specs.Form.{RecordForm}
 use Rattle.terms.proofs.Lists.{all-at}
 use Rattle.terms.proofs.Tests.{and-comm}
 use Rattle.fields.specs.Written.{written}
@@ -41,7 +40,7 @@ data Fate (n : ℕ) (x : Slot) : Type 0 where
 
 retired-is : (n : ℕ) (r : Record) → RecordForm r → retiredIn n (slotBytes (used r)) ≡ retiredBy n r
 unfolding retiredIn slotBytes retiredBy
-retired-is n r f = rw (retired-says r f)
+retired-is n r f = ap (λ m. leb 1 m && leb m n) (retired-says r f)
 
 fate : (n : ℕ) (x : Slot) → SlotForm x → ((y : Bytes) → x ≡ spoiled y → ⊥) → Fate n x
 unfolding pruneRecord

@@ -2,7 +2,6 @@
 use Prim.Native.Nat.{ℕ, _<_}
 use native.Mathlib.Omega.{arith}
 use mathlib.Core.Path.{_≡_, refl, ap, sym, _∙_, subst}
-use mathlib.Core.List.{List}
 use lib.ListN.{length, getD}
 use Rattle.terms.specs.Bits.{Bytes}
 use Rattle.terms.specs.Fields.{le}
@@ -13,11 +12,11 @@ use Rattle.meaning.specs.Calls.{Answer, refused, accepted, prune}
 use Rattle.nodehash.specs.Node.{leafHash, innerHash}
 use Rattle.histories.specs.Claims.{AfterPrune}
 use Rattle.histories.proofs.Theorems.{prune-keeps-sound}
-use Rattle.layout.specs.Headers.{Headed, refusal, header, headerOf}
+use Rattle.layout.specs.Headers.{Headed, refusal, header}
 use Rattle.layout.specs.Slots.{SlotForm}
-use Rattle.layout.specs.Stores.{storeOf, storeBytes, StoreForm}
+use Rattle.layout.specs.Stores.{storeOf, StoreForm}
 use Rattle.layout.proofs.Stores.{store-said}
-use Rattle.pruning.specs.Prune.{SoundBytes, Prunes, wrong-header, not-sound, refuses, frees, Exports}
+use Rattle.pruning.specs.Prune.{Prunes, wrong-header, not-sound, refuses, frees, Exports}
 use Rattle.pruning.specs.Prune as spec
 
 -- a sound store is in form

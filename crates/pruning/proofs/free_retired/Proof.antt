@@ -1,14 +1,9 @@
 -- `pruning::free_retired` meets its contract: each turn of the loop prunes one slot more. Assumes nothing.
 use Prim.Native.Nat.{_-_}
 use native.Mathlib.Omega.{arith}
-use borrow.Author.Needs.{needs}
-use mathlib.Core.Path.{_≡_, refl, sym, _∙_}
 use Rattle.pruning.proofs.Freeing.{Freeing, freeing-starts, freeing-small, freeing-long, freeing-same, freeing-next, freeing-done}
 use Rattle.pruning.proofs.free_retired.Statement.{statement}
 use Rattle.pruning.proofs.free_retired.Tie as tie
-use Rattle.pruning.proofs.free_retired.Reads as reads
-use Rattle.pruning.proofs.free_retired.Lts as lts
-use Rattle.pruning.proofs.free_slot.Reads as free-slot-reads
 
 abbrev Inv-loop : tie.InvT-loop
 Inv-loop store₀ version slots freed₀ i₀ store freed i = Freeing version store₀ store slots freed i

@@ -1,15 +1,10 @@
 -- `pruning::free_slot` meets its contract: the retired-since is 0, or later than the version, or the slot is cleared. Assumes nothing.
-use mathlib.Core.Path.{_≡_, refl, sym, ap, _∙_}
+use mathlib.Core.Path.{sym, _∙_}
 use native.Mathlib.Omega.{arith}
 use borrow.Author.Needs.{needs}
-use Rattle.pruning.specs.Free.{freedSlot, freedCount}
 use Rattle.pruning.proofs.Freeing.{kept-not-retired, kept-retired-later, freed-retired}
 use Rattle.pruning.proofs.free_slot.Statement.{statement}
 use Rattle.pruning.proofs.free_slot.Tie as tie
-use Rattle.pruning.proofs.free_slot.Reads as reads
-use Rattle.pruning.proofs.free_slot.Lts as lts
-use Rattle.store.proofs.clear_slot_at.Reads as clear-slot-at-reads
-use Rattle.store.proofs.retired_at.Reads as retired-at-reads
 
 retired-at-requires : tie.Need-retired-at-requires
 retired-at-requires c κs = search needs

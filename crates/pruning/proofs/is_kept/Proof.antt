@@ -2,13 +2,10 @@
 use borrow.Author.Needs.{needs}
 use native.Mathlib.Omega.{arith}
 use lib.Dec.{leb}
-use mathlib.Core.Path.{_≡_, ap, sym, _∙_}
+use mathlib.Core.Path.{ap, _∙_}
 use Rattle.pruning.proofs.Outcomes.{below-oldest, up-to-latest}
 use Rattle.pruning.proofs.is_kept.Statement.{statement}
 use Rattle.pruning.proofs.is_kept.Tie as tie
-use Rattle.pruning.proofs.is_kept.Reads as reads
-use Rattle.pruning.proofs.is_kept.Lts as lts
-use Rattle.fields.proofs.get_u32.Reads as get-u32-reads
 
 get-u32-requires : tie.Need-get-u32-requires
 get-u32-requires c κs = search needs

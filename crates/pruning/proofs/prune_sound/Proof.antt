@@ -1,7 +1,7 @@
 -- `pruning::prune_sound` meets its contract: the version is tested first, then the retired records are freed and oldest is set.
 -- Assumes nothing.
 use native.Mathlib.Omega.{arith}
-use mathlib.Core.Path.{_≡_, sym, _∙_}
+use mathlib.Core.Path.{sym, _∙_}
 use borrow.Author.Needs.{needs}
 use borrow.Author.Tests.{not-true, not-false}
 use Rattle.terms.specs.Bits.{Byte}
@@ -10,11 +10,6 @@ use Rattle.pruning.specs.Prune.{prunedSays}
 use Rattle.pruning.proofs.Outcomes.{sound-long, sound-readable, not-kept, pruned-to}
 use Rattle.pruning.proofs.prune_sound.Statement.{statement}
 use Rattle.pruning.proofs.prune_sound.Tie as tie
-use Rattle.pruning.proofs.prune_sound.Reads as reads
-use Rattle.pruning.proofs.prune_sound.Lts as lts
-use Rattle.fields.proofs.put_u32.Reads as put-u32-reads
-use Rattle.pruning.proofs.free_retired.Reads as free-retired-reads
-use Rattle.pruning.proofs.is_kept.Reads as is-kept-reads
 
 is-kept-requires : tie.Need-is-kept-requires
 is-kept-requires c κs = sound-long (c .before .before .pre)
