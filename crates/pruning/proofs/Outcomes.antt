@@ -15,7 +15,7 @@ use Rattle.layout.specs.Stores.{storeOf, storeBytes, putBounds}
 use Rattle.layout.proofs.Headers.{accepted as header-accepted}
 use Rattle.layout.proofs.Stores.{store-back, store-form, oldest-put-bytes}
 use Rattle.pruning.specs.Free.{Readable, emptied, Frees}
-use Rattle.pruning.specs.Prune.{SoundBytes, Prunes, refuses, frees}
+use Rattle.pruning.specs.Prune.{SoundBytes, Prunes, not-kept, freed}
 
 -- the version is kept, as the code tests it
 module _ (s : Bytes) (v : ℕ) where
@@ -40,15 +40,15 @@ module _ {s : Bytes} (w : SoundBytes s) where
         whole = w .sound .whole;
       }
 
-  pub not-kept : {n : ℕ} → isKept (storeOf s) n ≡ false → Prunes n s (refused 8) s
+  pub refused-8 : {n : ℕ} → isKept (storeOf s) n ≡ false → Prunes n s (refused 8) s
   unfolding prune refuse
-  not-kept e = refuses {m = 8} w (rw e)
+  refused-8 e = not-kept {m = 8} w (rw e)
 
   -- the retired records are freed and oldest is set
-  pub pruned-to : {n freed : ℕ} {t u : Bytes} → isKept (storeOf s) n ≡ true → Frees n s freed t → u ≡ written 12 (le 4 n) t → Prunes n s (accepted freed) u
+  pub pruned-to : {n k : ℕ} {t u : Bytes} → isKept (storeOf s) n ≡ true → Frees n s k t → u ≡ written 12 (le 4 n) t → Prunes n s (accepted k) u
   unfolding prune putBounds emptied
-  pruned-to {n} {freed} {t} {u} e f p =
+  pruned-to {n} {k} {t} {u} e f p =
       let st = storeOf s in
-      let answer : prune n st .answer ≡ accepted freed = rw (e, f .count) in
+      let answer : prune n st .answer ≡ accepted k = rw (e, f .count) in
       let after : prune n st .store ≡ putBounds n (st .latest) (emptied n st) = rw e in
-      subst (Prunes n s (accepted freed)) (ap storeBytes after ∙ oldest-put-bytes (emptied n st) n ∙ ap (written 12 (le 4 n)) (sym (f .bytes)) ∙ sym p) (frees w answer)
+      subst (Prunes n s (accepted k)) (ap storeBytes after ∙ oldest-put-bytes (emptied n st) n ∙ ap (written 12 (le 4 n)) (sym (f .bytes)) ∙ sym p) (freed w answer)
