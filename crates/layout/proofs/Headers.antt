@@ -43,7 +43,7 @@ pub room-of : (m n : ℕ) → m ≡ 24 + 120 * n → roomOf m ≡ n
 unfolding roomOf
 room-of m n e = omega arith
 
-size-right-of : (m n : ℕ) → m ≡ 24 + 120 * n → 1 ≤ n → n ≤ 16384 → sizeRight m ≡ true
+pub size-right-of : (m n : ℕ) → m ≡ 24 + 120 * n → 1 ≤ n → n ≤ 16384 → sizeRight m ≡ true
 unfolding sizeRight
 size-right-of m n e some fits =
     let r = room-of m n e in

@@ -177,11 +177,11 @@ module _ (p : Place) (v n : ℕ) (k x : Bytes) (h : RecordForm (recordOf p v n (
 
 -- and so is an inner record
 module _ (p : Place) (v n : ℕ) (l r : Child) (h : RecordForm (recordOf p v n (innerBody l r))) where
-  left-child : childIn 48 (recordBytes (recordOf p v n (innerBody l r))) ≡ l
+  pub left-child : childIn 48 (recordBytes (recordOf p v n (innerBody l r))) ≡ l
   unfolding childIn field
   left-child = ap₂ child (ap num (cut (recordOf p v n (innerBody l r)) h 6) ∙ num-le 4 (l .version) (omega (arith, h .body .0 .number))) (cut (recordOf p v n (innerBody l r)) h 7)
 
-  right-child : childIn 84 (recordBytes (recordOf p v n (innerBody l r))) ≡ r
+  pub right-child : childIn 84 (recordBytes (recordOf p v n (innerBody l r))) ≡ r
   unfolding childIn field
   right-child = ap₂ child (ap num (cut (recordOf p v n (innerBody l r)) h 8) ∙ num-le 4 (r .version) (omega (arith, h .body .1 .number))) (cut (recordOf p v n (innerBody l r)) h 9)
 

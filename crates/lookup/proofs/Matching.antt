@@ -23,11 +23,11 @@ use Rattle.layout.proofs.Slots.{slot-back, slot-form, count-says, version-says,
 use Rattle.lookup.specs.Lookup.{isUsed}
 
 -- 120 bytes that are read as a record
-record Says (x : Bytes) (r : Record) : Type 0 where
-  form : RecordForm r
-  bytes : recordBytes r ≡ x
+pub record Says (x : Bytes) (r : Record) : Type 0 where
+  pub form : RecordForm r
+  pub bytes : recordBytes r ≡ x
 
-says : (x : Bytes) → length x ≡ 120 → All Byte x → (r : Record) → slotOf x ≡ used r → Says x r
+pub says : (x : Bytes) → length x ≡ 120 → All Byte x → (r : Record) → slotOf x ≡ used r → Says x r
 unfolding slotBytes
 says x l h r e = record {
   form = subst (λ s. SlotForm s) e (slot-form x l h);
@@ -38,11 +38,11 @@ module _ (x : Bytes) (l : length x ≡ 120) (h : All Byte x) (r : Record) (e : s
   version-is : field 40 4 x ≡ r .version
   version-is = let s = says x l h r e in ap (field 40 4) (sym (s .bytes)) ∙ version-says r (s .form)
 
-  count-is : field 6 2 x ≡ length (r .place)
+  pub count-is : field 6 2 x ≡ length (r .place)
   unfolding countIn
   count-is = let s = says x l h r e in ap (field 6 2) (sym (s .bytes)) ∙ count-says r (s .form)
 
-  bits-are : slice 8 32 x ≡ pack 32 (r .place)
+  pub bits-are : slice 8 32 x ≡ pack 32 (r .place)
   bits-are = let s = says x l h r e in ap (slice 8 32) (sym (s .bytes)) ∙ bits-say r (s .form)
 
 limit-small : (b : Body) → placeLimit b ≤ 256
@@ -53,6 +53,13 @@ limit-small (innerBody l r) = omega arith
 pub same-packed : (p q : Place) → length p ≤ 256 → length q ≤ 256 → length p ≡ length q → pack 32 p ≡ pack 32 q → p ≡ q
 same-packed p q a b n e =
     sym (place-packed 32 p a) ∙ ap₂ (λ m y. take m (bits y)) n e ∙ place-packed 32 q b
+
+-- a record whose count and bits are those of a place stands there
+pub place-is : (x : Bytes) → length x ≡ 120 → All Byte x → (r : Record) → slotOf x ≡ used r → (p : Place) → length p ≤ 256 → field 6 2 x ≡ length p →
+    slice 8 32 x ≡ pack 32 p → r .place ≡ p
+place-is x l h r e p short b same =
+    let s = says x l h r e in
+    same-packed (r .place) p (omega (arith, s .form .short, limit-small (r .body))) short (sym (count-is x l h r e) ∙ b) (sym (bits-are x l h r e) ∙ same)
 
 bits-at : (x : Bytes) (j : ℕ) → j < 32 → getD (slice 8 32 x) j 0 ≡ getD x (8 + j) 0
 unfolding slice
@@ -69,26 +76,22 @@ module _ (x : Bytes) (l : length x ≡ 120) (h : All Byte x) (v : ℕ) (p : Plac
   pub off-count : (field 6 2 x ≡ length p → ⊥) → NoNode x v p
   off-count f r e = is-false (isNode v p r) (λ t. f (count-is x l h r e ∙ ap length (isNode-eq v p r t .1)))
 
-  off-bits : (slice 8 32 x ≡ pack 32 p → ⊥) → NoNode x v p
+  pub off-bits : (slice 8 32 x ≡ pack 32 p → ⊥) → NoNode x v p
   off-bits f r e = is-false (isNode v p r) (λ t. f (bits-are x l h r e ∙ ap (pack 32) (isNode-eq v p r t .1)))
 
   pub off-byte : (j : ℕ) → j < 32 → (getD x (8 + j) 0 ≡ getD (pack 32 p) j 0 → ⊥) → NoNode x v p
   off-byte j k f = off-bits (λ e. f (sym (bits-at x j k) ∙ ap (λ y. getD y j 0) e))
 
+  pub is-node : length p ≤ 256 → field 40 4 x ≡ v → field 6 2 x ≡ length p → slice 8 32 x ≡ pack 32 p → (r : Record) → slotOf x ≡ used r → isNode v p r ≡ true
+  unfolding isNode
+  is-node short a b same r e = rw (eq-eqb (r .version) v (sym (version-is x l h r e) ∙ a), place-is x l h r e p short b same) (place-same p)
+
   pub is-here : length p ≤ 256 → field 40 4 x ≡ v → field 6 2 x ≡ length p → ((j : ℕ) → j < 32 → getD x (8 + j) 0 ≡ getD (pack 32 p) j 0) →
       (r : Record) → slotOf x ≡ used r → isNode v p r ≡ true
-  unfolding isNode
-  is-here short a b c r e =
-      let s = says x l h r e in
-      let same : slice 8 32 x ≡ pack 32 p =
-      ext-getD 0 (slice 8 32 x) (pack 32 p) (length-slice 8 32 x (omega arith) ∙ sym (length-pack 32 p)) (λ i m.
-      let k : i < 32 = omega (arith, length-slice 8 32 x (omega arith)) in
-      bits-at x i k ∙ c i k)
-      in
-      let q : r .place ≡ p =
-      same-packed (r .place) p (omega (arith, s .form .short, limit-small (r .body))) short (sym (count-is x l h r e) ∙ b) (sym (bits-are x l h r e) ∙ same)
-      in
-      rw (eq-eqb (r .version) v (sym (version-is x l h r e) ∙ a), q) (place-same p)
+  is-here short a b c =
+      let m = length-slice 8 32 x (omega arith) in
+      is-node short a b
+      (ext-getD 0 (slice 8 32 x) (pack 32 p) (m ∙ sym (length-pack 32 p)) (λ i k. let n : i < 32 = omega arith in bits-at x i n ∙ c i n))
 
 -- zero bytes say 0
 zero-said : (n : ℕ) (x : Bytes) → allZero x ≡ true → num (take n x) ≡ 0

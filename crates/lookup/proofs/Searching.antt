@@ -42,12 +42,12 @@ module _ (v : ℕ) (p : Place) (s : List Slot) (i : ℕ) where
   find-end : length s ≤ i → find v p (drop i s) ≡ none
   find-end h = ap (find v p) (drop-of-length-le s {i = i} h)
 
-used-or : (x : Slot) → isUsed x ≡ true → (r : Record) × (x ≡ used r)
+pub used-or : (x : Slot) → isUsed x ≡ true → (r : Record) × (x ≡ used r)
 used-or free e = absurd (false≢true e)
 used-or (used r) e = (r, refl)
 used-or (spoiled y) e = absurd (false≢true e)
 
-unused : (x : Slot) (r : Record) → isUsed x ≡ false → x ≡ used r → {A : Type 0} → A
+pub unused : (x : Slot) (r : Record) → isUsed x ≡ false → x ≡ used r → {A : Type 0} → A
 unused x r e k = absurd (true≢false (sym (ap isUsed k) ∙ e))
 
 -- at slot i: no slot before it matches

@@ -1,0 +1,4 @@
+pub mod Scans
+pub mod Holding
+pub mod Naming
+pub mod Summing

@@ -1,0 +1,261 @@
+// One record among those of its store, document 01, 'Sound': its life, the slots that hold its node, its children, and its parents.
+use fields::get_u32;
+use hash::Hash;
+use hash::same_hash;
+use layout::sizes::BITS_AT;
+use layout::sizes::HEADER_SIZE;
+use layout::sizes::LEFT_AT;
+use layout::sizes::RIGHT_AT;
+use layout::sizes::SLOT_SIZE;
+use layout::sizes::VERSION_AT;
+use lookup::Found;
+use lookup::find;
+use lookup::holds_record;
+use place::Place;
+use place::key_bit;
+use place::same;
+use slots::Child;
+use slots::Kind;
+use slots::read_slot;
+use store::count_at;
+use store::slot_of;
+use store::version_at;
+ghost use mathlib.Core.Path.{_≡_};
+ghost use mathlib.Core.Bool.{true, false, cond, _||_};
+ghost use Prim.Native.Nat.{_-_, _≤_, _<_, max};
+ghost use lib.ListN.{length, take};
+ghost use lib.Dec.{eqb};
+ghost use Rattle.terms.specs.Bits.{bits};
+ghost use Rattle.terms.specs.Fields.{field, allOf};
+ghost use Rattle.meaning.specs.Store.{find};
+ghost use Rattle.local.specs.Test.{total, byRecord, isFound};
+ghost use Rattle.place.specs.Place.{placeOf, Proper, Stands, Grown};
+ghost use Rattle.layout.specs.Headers.{sizeRight};
+ghost use Rattle.layout.specs.Stores.{slotIn, storeOf};
+ghost use Rattle.kin.specs.Kin.{Has, Keeps, slotNo, countNode, endsAt, childAt, linkTests, couldName, SaidOf, Short, SlotSays, ParentsSay};
+
+// The kept versions of a store.
+pub struct Kept {
+    pub oldest: u32,
+    pub latest: u32,
+}
+
+fn later(a: u32, b: u32) -> u32
+    ensures { λ r. ⌜ r ≡ max a b ⌝ }
+{
+    if a < b {
+        return b;
+    }
+    a
+}
+
+// The first version after a record's life; a record that is not retired lives past latest.
+pub fn ends_before(latest: u32, retired: u32) -> u64
+    ensures { λ r. ⌜ (r ≡ endsAt latest retired) × (r ≤ 4294967296) ⌝ }
+{
+    if retired == 0 {
+        return latest as u64 + 1;
+    }
+    retired as u64
+}
+
+// How many kept versions there are from a record's version to the end of its life.
+pub fn kept_life(oldest: u32, version: u32, ends: u64) -> u64
+    ensures { λ r. ⌜ r ≡ ends - max oldest version ⌝ }
+{
+    let first = later(oldest, version) as u64;
+    if ends <= first {
+        return 0;
+    }
+    ends - first
+}
+
+// 1 where slot j holds the node (version, place), else 0: the cheap fields first.
+fn holder(store: &[u8], j: usize, version: u32, place: Place) -> usize
+    requires { ⌜ Has (now store) j × Proper place ⌝ }
+    ensures { λ r. ⌜ r ≡ byRecord 0 (countNode version (placeOf place)) (slotNo j (now (store .entry))) ⌝ }
+{
+    if version_at(store, j) != version {
+        return 0;
+    }
+    if count_at(store, j) as usize != place.count {
+        return 0;
+    }
+    let bits = place.bits;
+    let s = slot_of(store, j);
+    if !same(&s[BITS_AT..VERSION_AT], &bits) {
+        return 0;
+    }
+    if !holds_record(s) {
+        return 0;
+    }
+    1
+}
+
+// How many slots hold the node (version, place).
+pub fn holders(store: &[u8], version: u32, place: Place) -> usize
+    requires { ⌜ (sizeRight (length (now store)) ≡ true) × Proper place ⌝ }
+    ensures { λ r. ⌜ r ≡ total (byRecord 0 (countNode version (placeOf place))) (storeOf (now (store .entry)) .slots) ⌝ }
+{
+    let n = (store.len() - HEADER_SIZE) / SLOT_SIZE;
+    let mut count = 0;
+    let mut j = 0;
+    while j < n {
+        count += holder(store, j, version, place);
+        j += 1;
+    }
+    count
+}
+
+// Whether a child is missing or found.
+pub fn child_found(store: &[u8], version: u32, place: Place) -> bool
+    requires { ⌜ (sizeRight (length (now store)) ≡ true) × Proper place ⌝ }
+    ensures { λ r. ⌜ r ≡ (eqb version 0 || isFound (find version (placeOf place) (storeOf (now (store .entry)) .slots))) ⌝ }
+{
+    if version == 0 {
+        return true;
+    }
+    match find(store, version, place) {
+        Found::At(_) => true,
+        Found::Nothing => false,
+    }
+}
+
+fn longer(place: Place, right: bool) -> Place
+    requires { ⌜ Proper place × (place .count < 256) ⌝ }
+    ensures { λ r. ⌜ Grown right place r ⌝ }
+{
+    if right {
+        return place.right();
+    }
+    place.left()
+}
+
+// The place of the first bits of a key.
+pub fn front(key: &[u8], count: usize) -> Place
+    requires { ⌜ (length (now key) ≡ 32) × (count ≤ 256) ⌝ }
+    ensures { λ r. ⌜ Stands (take count (bits (now (key .entry)))) count r ⌝ }
+{
+    let mut place = Place::top();
+    let mut i = 0;
+    while i < count {
+        place = longer(place, key_bit(key, i));
+        i += 1;
+    }
+    place
+}
+
+// A record below the root, as its parents are asked about it: it stands one bit below `up`, on the left or the right.
+pub struct Below {
+    pub up: Place,
+    pub right: bool,
+    pub version: u32,
+    pub ends: u64,
+    pub leaf: bool,
+    pub hash: Hash,
+}
+
+// The version that slot j has at its left or right child, were it an inner record.
+fn version_below(store: &[u8], j: usize, right: bool) -> u32
+    requires { ⌜ Has (now store) j ⌝ }
+    ensures { λ r. ⌜ r ≡ field (childAt right) 4 (slotIn j (now (store .entry))) ⌝ }
+{
+    let at = HEADER_SIZE + SLOT_SIZE * j;
+    if right {
+        return get_u32(store, at + RIGHT_AT);
+    }
+    get_u32(store, at + LEFT_AT)
+}
+
+// Whether slot j, were it an inner record, would name the record below it: most slots have another bit count.
+fn could_name(store: &[u8], j: usize, below: Below) -> bool
+    requires { ⌜ Has (now store) j ⌝ }
+    ensures { λ r. ⌜ r ≡ couldName below (slotIn j (now (store .entry))) ⌝ }
+{
+    let up = below.up;
+    if count_at(store, j) as usize != up.count {
+        return false;
+    }
+    if version_below(store, j, below.right) != below.version {
+        return false;
+    }
+    let bits = up.bits;
+    let s = slot_of(store, j);
+    same(&s[BITS_AT..VERSION_AT], &bits)
+}
+
+// What a slot says of a record below it.
+pub enum Said {
+    // How many kept versions it lives at as a parent; it is none, or all that it says is right.
+    Lived(u64),
+    // It is a parent, and the stored hash or the life isn't the record's, or the record is a lone leaf.
+    Wrong,
+}
+
+fn lone_leaf(leaf: bool, other: u32) -> bool
+    ensures { λ r. ⌜ r ≡ cond leaf (eqb other 0) false ⌝ }
+{
+    if leaf {
+        return other == 0;
+    }
+    false
+}
+
+// What a parent of that version and end of life says, with the child that it names, beside a child of version `other`.
+fn link(kept: Kept, below: Below, version: u32, ends: u64, child: Child, other: u32) -> Said
+    requires { ⌜ ends ≤ 4294967296 ⌝ }
+    ensures { λ r. ⌜ Short r × SaidOf (allOf (linkTests kept below version ends child other)) (ends - max (kept .oldest) version) r ⌝ }
+{
+    if !same_hash(below.hash, child.hash) {
+        return Said::Wrong;
+    }
+    if later(kept.oldest, version) < below.version {
+        return Said::Wrong;
+    }
+    if below.ends < ends {
+        return Said::Wrong;
+    }
+    if lone_leaf(below.leaf, other) {
+        return Said::Wrong;
+    }
+    Said::Lived(kept_life(kept.oldest, version, ends))
+}
+
+// What slot j says of a record.
+fn parent_says(store: &[u8], j: usize, kept: Kept, below: Below) -> Said
+    requires { ⌜ Has (now store) j × Keeps (now store) kept × Proper (below .up) ⌝ }
+    ensures { λ t. ⌜ Short t × SlotSays (now (store .entry)) j below t ⌝ }
+{
+    if !could_name(store, j, below) {
+        return Said::Lived(0);
+    }
+    let slot = read_slot(slot_of(store, j));
+    let kind = slot.kind;
+    let Kind::Inner { left, right } = kind else {
+        return Said::Lived(0);
+    };
+    let version = slot.version;
+    let ends = ends_before(kept.latest, slot.retired);
+    if below.right {
+        return link(kept, below, version, ends, right, left.version);
+    }
+    link(kept, below, version, ends, left, right.version)
+}
+
+// Whether all that its parents say of a record is right, and their kept lives add up to its own.
+pub fn parents_right(store: &[u8], kept: Kept, below: Below, life: u64) -> bool
+    requires { ⌜ Keeps (now store) kept × Proper (below .up) ⌝ }
+    ensures { λ t. ⌜ ParentsSay (now (store .entry)) below life t ⌝ }
+{
+    let n = (store.len() - HEADER_SIZE) / SLOT_SIZE;
+    let mut sum = 0;
+    let mut j = 0;
+    while j < n {
+        let Said::Lived(lived) = parent_says(store, j, kept, below) else {
+            return false;
+        };
+        sum += lived;
+        j += 1;
+    }
+    life <= sum
+}

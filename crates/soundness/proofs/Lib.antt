@@ -1,0 +1,5 @@
+pub mod Alone
+pub mod Above
+pub mod Records
+pub mod Passing
+pub mod Answers
