@@ -16,8 +16,7 @@ use Rattle.layout.specs.Headers.{Headed, refusal, header}
 use Rattle.layout.specs.Slots.{SlotForm}
 use Rattle.layout.specs.Stores.{storeOf, StoreForm}
 use Rattle.layout.proofs.Stores.{store-said}
-use Rattle.pruning.specs.Prune.{Prunes, wrong-header, not-sound, refuses, frees, Exports}
-use Rattle.pruning.specs.Prune as spec
+use Rattle.pruning.specs.Prune.{Prunes, wrong-header, not-sound, not-kept, freed, Exports, refuses, accepts}
 
 -- a sound store is in form
 sound-form : (st : Store) → Sound leafHash innerHash st → StoreForm st
@@ -38,17 +37,17 @@ sound-form st w =
 
 -- Pruning a sound store leaves a sound store, in which each version that is still kept has its tree, and as many slots more are free as
 -- the answer counts.
-pub pruned-stays-sound : (n : ℕ) (s : Bytes) (freed : ℕ) (t : Bytes) → Prunes n s (accepted freed) t →
-    AfterPrune leafHash innerHash n (storeOf s) freed (storeOf t)
-pruned-stays-sound n s freed t (frees w e) =
-    let a = prune-keeps-sound leafHash innerHash n (storeOf s) freed (w .sound) e in
-    subst (AfterPrune leafHash innerHash n (storeOf s) freed) (sym (store-said (prune n (storeOf s) .store) (sound-form _ (a .sound)))) a
+pub pruned-stays-sound : (n : ℕ) (s : Bytes) (k : ℕ) (t : Bytes) → Prunes n s (accepted k) t →
+    AfterPrune leafHash innerHash n (storeOf s) k (storeOf t)
+pruned-stays-sound n s k t (freed w e) =
+    let a = prune-keeps-sound leafHash innerHash n (storeOf s) k (w .sound) e in
+    subst (AfterPrune leafHash innerHash n (storeOf s) k) (sym (store-said (prune n (storeOf s) .store) (sound-form _ (a .sound)))) a
 
 -- A refusal writes nothing.
 pub refused-writes-nothing : (n : ℕ) (s : Bytes) (m : ℕ) (t : Bytes) → Prunes n s (refused m) t → t ≡ s
 refused-writes-nothing n s m t (wrong-header e) = refl
 refused-writes-nothing n s m t (not-sound e f) = refl
-refused-writes-nothing n s m t (refuses w e) = refl
+refused-writes-nothing n s m t (not-kept w e) = refl
 
 -- a header is refused or accepted, an answer too
 not-headed : {A : Type 0} {h : Headed} {m c o l : ℕ} → h ≡ refusal m → h ≡ header c o l → A
@@ -70,24 +69,24 @@ same-count e = cc
 pub one-outcome : (n : ℕ) (s : Bytes) {a b : Answer ℕ} {t u : Bytes} → Prunes n s a t → Prunes n s b u → (a ≡ b) × (t ≡ u)
 one-outcome n s (wrong-header e) (wrong-header f) = (ap refused (same-refusal e f), refl)
 one-outcome n s (wrong-header e) (not-sound f g) = not-headed e f
-one-outcome n s (wrong-header e) (refuses w f) = not-headed e (w .headed)
-one-outcome n s (wrong-header e) (frees w f) = not-headed e (w .headed)
+one-outcome n s (wrong-header e) (not-kept w f) = not-headed e (w .headed)
+one-outcome n s (wrong-header e) (freed w f) = not-headed e (w .headed)
 one-outcome n s (not-sound e g) (wrong-header f) = not-headed f e
 one-outcome n s (not-sound e g) (not-sound f h) = (refl, refl)
-one-outcome n s (not-sound e g) (refuses w f) = absurd (g (w .sound))
-one-outcome n s (not-sound e g) (frees w f) = absurd (g (w .sound))
-one-outcome n s (refuses v e) (wrong-header f) = not-headed f (v .headed)
-one-outcome n s (refuses v e) (not-sound f g) = absurd (g (v .sound))
-one-outcome n s (refuses v e) (refuses w f) = (sym e ∙ f, refl)
-one-outcome n s (refuses v e) (frees w f) = not-answered e f
-one-outcome n s (frees v e) (wrong-header f) = not-headed f (v .headed)
-one-outcome n s (frees v e) (not-sound f g) = absurd (g (v .sound))
-one-outcome n s (frees v e) (refuses w f) = not-answered f e
-one-outcome n s (frees v e) (frees w f) = (sym e ∙ f, refl)
+one-outcome n s (not-sound e g) (not-kept w f) = absurd (g (w .sound))
+one-outcome n s (not-sound e g) (freed w f) = absurd (g (w .sound))
+one-outcome n s (not-kept v e) (wrong-header f) = not-headed f (v .headed)
+one-outcome n s (not-kept v e) (not-sound f g) = absurd (g (v .sound))
+one-outcome n s (not-kept v e) (not-kept w f) = (sym e ∙ f, refl)
+one-outcome n s (not-kept v e) (freed w f) = not-answered e f
+one-outcome n s (freed v e) (wrong-header f) = not-headed f (v .headed)
+one-outcome n s (freed v e) (not-sound f g) = absurd (g (v .sound))
+one-outcome n s (freed v e) (not-kept w f) = not-answered f e
+one-outcome n s (freed v e) (freed w f) = (sym e ∙ f, refl)
 
 -- So are two outcomes of the exported call.
 pub one-export : (n : ℕ) (s f : Bytes) {a b : ℕ} {t u g h : Bytes} → Exports n s f a t g → Exports n s f b u h → (a ≡ b) × (t ≡ u) × (g ≡ h)
-one-export n s f (spec.refuses x) (spec.refuses y) = let o = one-outcome n s x y in (same-number (o .0), o .1, refl)
-one-export n s f (spec.refuses x) (spec.accepts y) = not-answered refl (one-outcome n s x y .0)
-one-export n s f (spec.accepts x) (spec.refuses y) = not-answered refl (one-outcome n s y x .0)
-one-export n s f (spec.accepts x) (spec.accepts y) = let o = one-outcome n s x y in (refl, o .1, ap (le 4) (same-count (o .0)))
+one-export n s f (refuses x) (refuses y) = let o = one-outcome n s x y in (same-number (o .0), o .1, refl)
+one-export n s f (refuses x) (accepts y) = not-answered refl (one-outcome n s x y .0)
+one-export n s f (accepts x) (refuses y) = not-answered refl (one-outcome n s y x .0)
+one-export n s f (accepts x) (accepts y) = let o = one-outcome n s x y in (refl, o .1, ap (le 4) (same-count (o .0)))

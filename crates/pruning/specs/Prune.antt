@@ -31,14 +31,14 @@ pub data Prunes (n : ℕ) (s : Bytes) : Answer ℕ → Bytes → Type 0 where
   wrong-header : {m : ℕ} → headerOf s ≡ refusal m → Prunes n s (refused m) s
   -- 3: not sound; nothing is written
   not-sound : {c o l : ℕ} → headerOf s ≡ header c o l → (Sound leafHash innerHash (storeOf s) → ⊥) → Prunes n s (refused 3) s
-  -- of a sound store what pruning it answers: 8, and nothing is written
-  refuses : {m : ℕ} → SoundBytes s → prune n (storeOf s) .answer ≡ refused m → Prunes n s (refused m) s
-  -- or how many records were freed, and the bytes are those of the pruned store
-  frees : {freed : ℕ} → SoundBytes s → prune n (storeOf s) .answer ≡ accepted freed →
-      Prunes n s (accepted freed) (storeBytes (prune n (storeOf s) .store))
+  -- 8: the store is sound, and pruning it is refused; nothing is written
+  not-kept : {m : ℕ} → SoundBytes s → prune n (storeOf s) .answer ≡ refused m → Prunes n s (refused m) s
+  -- else how many records were freed, and the bytes are those of the pruned store
+  freed : {k : ℕ} → SoundBytes s → prune n (storeOf s) .answer ≡ accepted k →
+      Prunes n s (accepted k) (storeBytes (prune n (storeOf s) .store))
 
 -- What the exported call returns, and what it leaves of the store's bytes s and of the four bytes f: refused, its number and f as it was;
 -- accepted, 0, and f is how many were freed, little-endian.
 pub data Exports (n : ℕ) (s f : Bytes) : ℕ → Bytes → Bytes → Type 0 where
   refuses : {m : ℕ} {t : Bytes} → Prunes n s (refused m) t → Exports n s f m t f
-  accepts : {freed : ℕ} {t : Bytes} → Prunes n s (accepted freed) t → Exports n s f 0 t (le 4 freed)
+  accepts : {k : ℕ} {t : Bytes} → Prunes n s (accepted k) t → Exports n s f 0 t (le 4 k)

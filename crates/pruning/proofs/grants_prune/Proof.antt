@@ -1,6 +1,6 @@
 -- `pruning::grants_prune` meets its contract: the number of refusal goes out as it is, the count in four bytes. Assumes nothing.
 use borrow.Author.Needs.{needs}
-use Rattle.pruning.proofs.Outcomes.{export-refused, export-freed}
+use Rattle.pruning.proofs.Exporting.{export-refused, export-freed}
 use Rattle.pruning.proofs.grants_prune.Statement.{statement}
 use Rattle.pruning.proofs.grants_prune.Tie as tie
 

@@ -7,7 +7,7 @@ use borrow.Author.Tests.{not-true, not-false}
 use Rattle.terms.specs.Bits.{Byte}
 use Rattle.terms.proofs.Lists.{all-of}
 use Rattle.pruning.specs.Prune.{prunedSays}
-use Rattle.pruning.proofs.Outcomes.{sound-long, sound-readable, not-kept, pruned-to}
+use Rattle.pruning.proofs.Outcomes.{sound-long, sound-readable, refused-8, pruned-to}
 use Rattle.pruning.proofs.prune_sound.Statement.{statement}
 use Rattle.pruning.proofs.prune_sound.Tie as tie
 
@@ -19,7 +19,7 @@ same-length c = search needs
 
 returns : tie.Need-returns
 unfolding prunedSays
-returns c = not-kept (c .before .before .before .before .pre) (sym (c .before .is-kept .ensures) ∙ not-true _ (c .if1 .taken))
+returns c = refused-8 (c .before .before .before .before .pre) (sym (c .before .is-kept .ensures) ∙ not-true _ (c .if1 .taken))
 
 free-retired-requires : tie.Need-free-retired-requires
 free-retired-requires c κs =
