@@ -1,3 +1,5 @@
 pub mod Freeing
 pub mod Outcomes
+pub mod Checking
+pub mod Exporting
 pub mod Theorems

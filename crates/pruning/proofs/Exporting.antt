@@ -1,0 +1,24 @@
+-- What the exported call sends, by the cases of the answer: four bytes written over four bytes are all there is. Assumes nothing.
+use Prim.Native.Nat.{ℕ}
+use mathlib.Core.Path.{_≡_, sym, _∙_, subst}
+use mathlib.Core.List.{[], _∷_, append-nil}
+use lib.ListN.{length}
+use Rattle.terms.specs.Bits.{Bytes}
+use Rattle.terms.specs.Fields.{le}
+use Rattle.terms.proofs.Fields.{length-le}
+use Rattle.fields.specs.Written.{written}
+use Rattle.fields.proofs.Written.{fields-fill}
+use Rattle.pruning.specs.Prune.{prunedSays, Prunes, Exports, refuses, accepts}
+use Rattle.pruning.specs.declared.Pruned as declared
+use Rattle.pruning.specs.declared.Pruned.the-variants.{Refused, Freed}
+
+module _ {n : ℕ} {s f t : Bytes} {p : declared.Pruned} (o : Prunes n s (prunedSays p) t) where
+  pub export-refused : {m : ℕ} → p ≡ Refused m → Exports n s f m t f
+  unfolding prunedSays
+  export-refused {m} e = refuses (subst (λ q. Prunes n s (prunedSays q) t) e o)
+
+  pub export-freed : {k : ℕ} {g : Bytes} → p ≡ Freed k → length f ≡ 4 → g ≡ written 0 (le 4 k) f → Exports n s f 0 t g
+  unfolding prunedSays
+  export-freed {k} {g} e l q =
+      let whole : g ≡ le 4 k = q ∙ fields-fill (4 ∷ []) (le 4 k ∷ []) f (length-le 4 k, tt) (sym l) ∙ append-nil (le 4 k) in
+      subst (Exports n s f 0 t) (sym whole) (accepts (subst (λ r. Prunes n s (prunedSays r) t) e o))
