@@ -22,7 +22,7 @@ use Rattle.meaning.specs.Reading.{bodyHash}
 use Rattle.meaning.specs.Local.{endsBefore, childVersion}
 use Rattle.meaning.proofs.Finding.{used-eq}
 use Rattle.local.specs.Test.{byRecord, names, loneLeaf, firstKept, keptLife, isParent, lifeAbove, linkOn, linkTest}
-use Rattle.local.proofs.Records.{names-eq, eq-names, names-inner, names-parent}
+use Rattle.local.proofs.Naming.{names-eq, eq-names, names-inner, names-parent}
 use Rattle.hash.specs.Hash.{hashBytes}
 use Rattle.nodehash.specs.Node.{leafHash, innerHash}
 use Rattle.place.specs.Place.{placeOf, Proper}

@@ -2,11 +2,11 @@
 use Prim.Native.Nat.{ℕ, zero, suc, _+_, _-_, _*_, _<_, _≤_, max}
 use native.Mathlib.Omega.{arith}
 use mathlib.Core.Path.{_≡_, refl, ap, sym, _∙_}
-use mathlib.Core.Bool.{Bool, true, false, _&&_}
+use mathlib.Core.Bool.{Bool, true, false}
 use mathlib.Core.List.{List, [], _∷_, _++_}
 use lib.ListN.{length, getD, take}
 use lib.Seq.{take-suc}
-use lib.Dec.{eqb, leb}
+use lib.Dec.{eqb}
 use Rattle.terms.specs.Bits.{Bytes, Side, Place, bits, bit, longer, samePlace}
 use Rattle.terms.specs.Records.{Body, Record, free}
 use Rattle.terms.proofs.Tests.{is-false, same-place}
@@ -15,7 +15,7 @@ use Rattle.meaning.specs.Local.{endsBefore}
 use Rattle.meaning.specs.Reading.{bodyHash}
 use Rattle.local.specs.Test.{every, total, byRecord, names, keptLife, lifeAbove, linkTest, lifeCovered}
 use Rattle.local.proofs.Scans.{at-every}
-use Rattle.local.proofs.Records.{names-eq}
+use Rattle.local.proofs.Naming.{names-eq}
 use Rattle.hash.specs.declared.Hash.{Hash}
 use Rattle.hash.specs.Hash.{hashBytes}
 use Rattle.nodehash.specs.Node.{leafHash, innerHash}
@@ -52,12 +52,12 @@ module _ {s : Bytes} {k : declared-kept.Kept} {h : declared.Head} (w : Headed s 
         omega (arith, ap length (names-eq b q (recordOn h o) n .1), length-longer b (q .place), place-long))) .0)
 
     root-covered : {ends : ℕ} → ends ≡ endsAt (k .latest) (h .retired) →
-        lifeCovered (storeOf s) (recordOn h o) ≡ (leb (k .oldest) (h .version) && eqb ends (suc (h .version)))
+        lifeCovered (storeOf s) (recordOn h o) ≡ eqb ends (suc (h .version))
     unfolding lifeCovered
-    root-covered e = rw (ends-is e o, empty, w .keeps .oldest)
+    root-covered e = rw (ends-is e o, empty)
 
   pub root-says : h .place .count ≡ 0 → (leaf : Bool) (hash : Hash) {ends : ℕ} → ends ≡ endsAt (k .latest) (h .retired) → {t : Bool} →
-      t ≡ (leb (k .oldest) (h .version) && eqb ends (suc (h .version))) → AboveSays s h leaf hash t
+      t ≡ eqb ends (suc (h .version)) → AboveSays s h leaf hash t
   root-says z leaf hash e f o kind hashed = f ∙ sym (rw (no-parents z o, root-covered z o e))
 
   -- a record below the root

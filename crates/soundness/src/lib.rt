@@ -28,7 +28,7 @@ ghost use mathlib.Core.Path.{_≡_};
 ghost use mathlib.Core.Bool.{true, _&&_};
 ghost use Prim.Native.Nat.{suc, _≤_, _<_};
 ghost use lib.ListN.{length};
-ghost use lib.Dec.{eqb, leb};
+ghost use lib.Dec.{eqb};
 ghost use Rattle.terms.specs.Bits.{left, right};
 ghost use Rattle.terms.specs.Records.{innerBody};
 ghost use Rattle.local.specs.Test.{recordTest, slotTest, slotsTest};
@@ -84,13 +84,10 @@ fn alone_right(store: &[u8], kept: Kept, head: Head) -> bool
     holders(store, head.version, place) == 1
 }
 
-// Whether a root record lives at its own version alone, and that is kept.
-fn root_right(kept: Kept, version: u32, ends: u64) -> bool
-    ensures { λ r. ⌜ r ≡ (leb (kept .oldest) version && eqb ends (suc version)) ⌝ }
+// Whether a root record lives at its own version alone.
+fn root_right(version: u32, ends: u64) -> bool
+    ensures { λ r. ⌜ r ≡ eqb ends (suc version) ⌝ }
 {
-    if version < kept.oldest {
-        return false;
-    }
     ends == version as u64 + 1
 }
 
@@ -104,7 +101,7 @@ fn above_right(store: &[u8], kept: Kept, head: Head, leaf: bool, hash: Hash) -> 
     let count = place.count;
     let ends = ends_before(kept.latest, head.retired);
     if count == 0 {
-        return root_right(kept, version, ends);
+        return root_right(version, ends);
     }
     let bits = place.bits;
     let up = front(&bits, count - 1);

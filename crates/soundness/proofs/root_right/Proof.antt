@@ -1,25 +1,16 @@
--- `soundness::root_right` meets its contract: one early return for each test. Assumes nothing.
-use mathlib.Core.Path.{sym, ap}
+-- `soundness::root_right` meets its contract: one test. Assumes nothing.
+use mathlib.Core.Path.{ap}
 use native.Mathlib.Numerals.{add-one}
 use lib.Dec.{eqb}
-use borrow.Author.Tests.{le-leb, lt-leb}
 use borrow.Author.Needs.{needs}
 use Rattle.soundness.proofs.root_right.Statement.{statement}
 use Rattle.soundness.proofs.root_right.Tie as tie
-use Rattle.soundness.proofs.root_right.Reads as reads
-use Rattle.soundness.proofs.root_right.Lts as lts
 
--- src/lib.rt:92:9
-returns : tie.Need-returns
-returns c = sym (rw (lt-leb (c .before .before .args .kept .oldest) (c .before .before .args .version) (c .if1 .taken)))
-
--- src/lib.rt:94:13
 add-result : tie.Need-add-result
 add-result c = search needs
 
--- src/lib.rt:88:1
-returns-2 : tie.Need-returns-2
-returns-2 c = let a = c .before .before .args in sym (rw (le-leb (a .kept .oldest) (a .version) (c .if1 .left)) (ap (eqb (a .ends)) (sym (add-one (a .version)))))
+returns : tie.Need-returns
+returns c = ap (eqb (c .args .ends)) (add-one (c .args .version))
 
 pub root-right-spec : {M : Type 1} → statement M
-root-right-spec = tie.close (tie.spec returns add-result returns-2)
+root-right-spec = tie.close (tie.spec add-result returns)
