@@ -1,5 +1,4 @@
 pub mod Freeing
 pub mod Outcomes
 pub mod Checking
-pub mod Exporting
 pub mod Theorems

@@ -4,7 +4,6 @@ use native.Mathlib.Omega.{arith}
 use mathlib.Core.Path.{_≡_, refl, ap, sym, _∙_, subst}
 use lib.ListN.{length, getD}
 use Rattle.terms.specs.Bits.{Bytes}
-use Rattle.terms.specs.Fields.{le}
 use Rattle.terms.specs.Records.{Slot, free, used, spoiled, Store}
 use Rattle.terms.proofs.Lists.{all-of}
 use Rattle.meaning.specs.Sound.{At, Sound}
@@ -16,7 +15,7 @@ use Rattle.layout.specs.Headers.{Headed, refusal, header}
 use Rattle.layout.specs.Slots.{SlotForm}
 use Rattle.layout.specs.Stores.{storeOf, StoreForm}
 use Rattle.layout.proofs.Stores.{store-said}
-use Rattle.pruning.specs.Prune.{Prunes, wrong-header, not-sound, not-kept, freed, Exports, refuses, accepts}
+use Rattle.pruning.specs.Prune.{Prunes, wrong-header, not-sound, not-kept, freed}
 
 -- a sound store is in form
 sound-form : (st : Store) → Sound leafHash innerHash st → StoreForm st
@@ -59,12 +58,6 @@ same-refusal e f = let g = sym e ∙ f in cc
 not-answered : {A : Type 0} {a : Answer ℕ} {m k : ℕ} → a ≡ refused m → a ≡ accepted k → A
 not-answered e f = let g = sym e ∙ f in let z : _≡_ {A = ℕ} 0 1 = cc in absurd (omega arith)
 
-same-number : {m n : ℕ} → _≡_ {A = Answer ℕ} (refused m) (refused n) → m ≡ n
-same-number e = cc
-
-same-count : {m n : ℕ} → _≡_ {A = Answer ℕ} (accepted m) (accepted n) → m ≡ n
-same-count e = cc
-
 -- Two outcomes of pruning the same bytes to the same version are equal.
 pub one-outcome : (n : ℕ) (s : Bytes) {a b : Answer ℕ} {t u : Bytes} → Prunes n s a t → Prunes n s b u → (a ≡ b) × (t ≡ u)
 one-outcome n s (wrong-header e) (wrong-header f) = (ap refused (same-refusal e f), refl)
@@ -83,10 +76,3 @@ one-outcome n s (freed v e) (wrong-header f) = not-headed f (v .headed)
 one-outcome n s (freed v e) (not-sound f g) = absurd (g (v .sound))
 one-outcome n s (freed v e) (not-kept w f) = not-answered f e
 one-outcome n s (freed v e) (freed w f) = (sym e ∙ f, refl)
-
--- So are two outcomes of the exported call.
-pub one-export : (n : ℕ) (s f : Bytes) {a b : ℕ} {t u g h : Bytes} → Exports n s f a t g → Exports n s f b u h → (a ≡ b) × (t ≡ u) × (g ≡ h)
-one-export n s f (refuses x) (refuses y) = let o = one-outcome n s x y in (same-number (o .0), o .1, refl)
-one-export n s f (refuses x) (accepts y) = not-answered refl (one-outcome n s x y .0)
-one-export n s f (accepts x) (refuses y) = not-answered refl (one-outcome n s y x .0)
-one-export n s f (accepts x) (accepts y) = let o = one-outcome n s x y in (refl, o .1, ap (le 4) (same-count (o .0)))

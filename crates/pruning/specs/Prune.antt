@@ -3,7 +3,6 @@
 use Prim.Native.Nat.{ℕ}
 use mathlib.Core.Path.{_≡_}
 use Rattle.terms.specs.Bits.{Bytes}
-use Rattle.terms.specs.Fields.{le}
 use Rattle.meaning.specs.Sound.{Sound}
 use Rattle.meaning.specs.Calls.{Answer, refused, accepted, prune}
 use Rattle.nodehash.specs.Node.{leafHash, innerHash}
@@ -36,9 +35,3 @@ pub data Prunes (n : ℕ) (s : Bytes) : Answer ℕ → Bytes → Type 0 where
   -- else how many records were freed, and the bytes are those of the pruned store
   freed : {k : ℕ} → SoundBytes s → prune n (storeOf s) .answer ≡ accepted k →
       Prunes n s (accepted k) (storeBytes (prune n (storeOf s) .store))
-
--- What the exported call returns, and what it leaves of the store's bytes s and of the four bytes f: refused, its number and f as it was;
--- accepted, 0, and f is how many were freed, little-endian.
-pub data Exports (n : ℕ) (s f : Bytes) : ℕ → Bytes → Bytes → Type 0 where
-  refuses : {m : ℕ} {t : Bytes} → Prunes n s (refused m) t → Exports n s f m t f
-  accepts : {k : ℕ} {t : Bytes} → Prunes n s (accepted k) t → Exports n s f 0 t (le 4 k)

@@ -15,7 +15,7 @@ ghost use Rattle.meaning.specs.Calls.{isKept};
 ghost use Rattle.layout.specs.Sizes.{headerSize, slotSize, slotAt};
 ghost use Rattle.layout.specs.Stores.{storeOf};
 ghost use Rattle.pruning.specs.Free.{freedSlot, freedCount, Readable, Frees};
-ghost use Rattle.pruning.specs.Prune.{SoundBytes, prunedSays, Prunes, Exports};
+ghost use Rattle.pruning.specs.Prune.{SoundBytes, prunedSays, Prunes};
 
 // 8: the version isn't in oldest to latest.
 const NOT_KEPT: u32 = 8;
@@ -91,19 +91,4 @@ pub fn prune(store: &mut [u8], version: u32) -> Pruned
         return Pruned::Refused(refusal);
     }
     prune_sound(store, version)
-}
-
-// Pruning for C to link: 0 where it is accepted, and then the count of freed records in four bytes; else the number of refusal.
-#[no_mangle]
-pub extern "C" fn grants_prune(store: &mut [u8], version: u32, freed: &mut [u8; 4]) -> u32
-    ensures { λ r. ⌜ Exports version (now (store .entry)) (now (freed .entry)) r (now (store .exit)) (now (freed .exit)) ⌝ }
-{
-    let answer = prune(store, version);
-    match answer {
-        Pruned::Refused(number) => number,
-        Pruned::Freed(count) => {
-            put_u32(freed, 0, count);
-            0
-        }
-    }
 }

@@ -1,8 +1,8 @@
--- `pruning::grants_prune` meets its contract: the number of refusal goes out as it is, the count in four bytes. Assumes nothing.
+-- `pruning_c::grants_prune` meets its contract: the number of refusal goes out as it is, the count in four bytes. Assumes nothing.
 use borrow.Author.Needs.{needs}
-use Rattle.pruning.proofs.Exporting.{export-refused, export-freed}
-use Rattle.pruning.proofs.grants_prune.Statement.{statement}
-use Rattle.pruning.proofs.grants_prune.Tie as tie
+use Rattle.pruning_c.proofs.Exporting.{export-refused, export-freed}
+use Rattle.pruning_c.proofs.grants_prune.Statement.{statement}
+use Rattle.pruning_c.proofs.grants_prune.Tie as tie
 
 prune-requires : tie.Need-prune-requires
 prune-requires c κs = search needs
