@@ -8,10 +8,10 @@ test:
 	@tests/gate
 
 lib:
-	@rt staticlib sha256
+	@rt staticlib sha256_c
 
 bench:
-	@tests/bench
+	@bench/run
 
 fmt:
 	@rt fmt

@@ -1,7 +1,7 @@
 //! The proved code's exports, as safe Rust.
 
-/// The code is compiled for x86-64, and linked.
-#[cfg(target_arch = "x86_64")]
+/// The archive is linked.
+#[cfg(linked)]
 mod code {
     extern "C" {
         fn grants_sha256(bytes: *const u8, length: usize, digest: *mut [u8; 32]) -> u32;
@@ -35,8 +35,8 @@ mod code {
     }
 }
 
-/// On another machine it runs as the program `tests/sha256/serve.c`, which the command in PROVED_SHA256 starts.
-#[cfg(not(target_arch = "x86_64"))]
+/// The x86-64 archive on another machine: it runs as the program `tests/sha256/serve.c`, which the command in PROVED_SHA256 starts.
+#[cfg(not(linked))]
 mod code {
     use std::cell::RefCell;
     use std::io::{Read, Write};

@@ -6,10 +6,10 @@ use mathlib.Core.Path.{_≡_, refl}
 use mathlib.Core.Bool.{_&&_}
 use mathlib.Core.List.{[], _∷_}
 use lib.Dec.{eqb}
-use lib.ListN.{length, getD, take, drop}
+use lib.ListN.{length, getD, drop}
 use lib.Seq.{drop-cons}
 use Rattle.terms.specs.Bits.{Bytes}
-use Rattle.terms.specs.Fields.{le, num, slice, field, allZero}
+use Rattle.terms.specs.Fields.{le, slice, field, allZero}
 
 -- the first byte of a field, and the rest
 field-byte : (i k n : ℕ) (s : Bytes) → k ≡ i + 1 → i < length s → field i (suc n) s ≡ getD s i 0 + 256 * field k n s

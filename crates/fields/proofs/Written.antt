@@ -3,13 +3,13 @@ use Prim.Native.Nat.{ℕ, suc, _+_, _-_, _<_, _≤_}
 use native.Mathlib.Omega.{arith}
 use native.Mathlib.Nat.{add-zero}
 use native.Mathlib.Numerals.{add-one}
-use mathlib.Core.Path.{_≡_, ap, ap₂, sym, _∙_}
+use mathlib.Core.Path.{_≡_, refl, ap, ap₂, sym, _∙_}
 use mathlib.Core.List.{List, [], _∷_, _++_, append-assoc, append-nil}
 use lib.ListN.{length, getD, take, drop, set, length-append, length-take, length-drop, drop-of-length-le, take-append-drop}
 use lib.Seq.{sets, sets-eq, set-at, drop-cons, take-suc, append-snoc, take-all, length-take-le, take-at, drop-at, drop-append-add, drop-drop}
 use Rattle.terms.specs.Bits.{Bytes}
-use Rattle.terms.specs.Fields.{flat}
-use Rattle.terms.proofs.Fields.{Sized, total, length-flat}
+use Rattle.terms.specs.Fields.{flat, slice}
+use Rattle.terms.proofs.Fields.{Sized, total, length-flat, length-slice, slice-rest}
 use Rattle.fields.specs.Written.{written}
 
 -- stores one after the other
@@ -39,6 +39,36 @@ written-between p q s f i e h =
     rw (← append-assoc p q s) (drop-at (p ++ q) s (i + length f) (simp length-append (omega arith)))
     in
     rw (take-at p (q ++ s) i e, d)
+
+regroup : (p a b d r : Bytes) → p ++ ((a ++ (b ++ d)) ++ r) ≡ (p ++ a) ++ (b ++ (d ++ r))
+regroup p a b d r = simp append-assoc
+
+written-is : (i : ℕ) (f s : Bytes) → written i f s ≡ take i s ++ (f ++ drop (i + length f) s)
+unfolding written
+written-is i f s = refl
+
+-- writing inside a part
+pub written-inside : (i m j : ℕ) (f s : Bytes) → i + m ≤ length s → j + length f ≤ m → written (i + j) f s ≡ written i (written j f (slice i m s)) s
+written-inside i m j f s h k =
+    let p = take i s in
+    let q = slice i m s in
+    let r = drop (i + m) s in
+    let n = length-slice i m s h in
+    let whole : s ≡ p ++ (q ++ r) = sym (take-append-drop i s) ∙ ap (p ++_) (slice-rest i m s) in
+    let a = take j q in
+    let b = slice j (length f) q in
+    let d = drop (j + length f) q in
+    let parts : q ≡ a ++ (b ++ d) = sym (take-append-drop j q) ∙ ap (a ++_) (slice-rest j (length f) q) in
+    let long : length p ≡ i = length-take-le i s (omega arith) in
+    let front : length (p ++ a) ≡ i + j = length-append p a ∙ ap₂ _+_ long (length-take-le j q (omega arith)) in
+    let outer : written i (written j f q) s ≡ p ++ (written j f q ++ r) =
+    ap (written i (written j f q)) whole ∙ written-between p q r (written j f q) i long (length-written j f q (omega arith))
+    in
+    let inner : written (i + j) f s ≡ (p ++ a) ++ (f ++ (d ++ r)) =
+    ap (written (i + j) f) (whole ∙ ap (λ x. p ++ (x ++ r)) parts ∙ regroup p a b d r)
+    ∙ written-between (p ++ a) b (d ++ r) f (i + j) front (sym (length-slice j (length f) q (omega arith)))
+    in
+    inner ∙ sym (outer ∙ ap (λ x. p ++ (x ++ r)) (written-is j f q) ∙ regroup p a f d r)
 
 -- a part of a slice, lent and given back, was written in its place
 pub part-written : (i e : ℕ) (f s : Bytes) → i + length f ≡ e → take i s ++ (f ++ drop (e - i) (drop i s)) ≡ written i f s

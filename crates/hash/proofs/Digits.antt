@@ -1,8 +1,8 @@
 -- Bytes and numbers, the top byte first: each is got back from the other. By induction on the number of bytes.
 -- Assumes nothing.
-use Prim.Native.Nat.{ℕ, zero, suc, _+_, _*_, _-_, _/_, _%_, _^_, _≤_, _<_}
+use Prim.Native.Nat.{ℕ, zero, suc, _+_, _*_, _/_, _%_, _^_, _≤_, _<_}
 use mathlib.Core.Path.{_≡_, refl, ap, _∙_, sym}
-use mathlib.Core.List.{List, [], _∷_, _++_}
+use mathlib.Core.List.{[], _∷_, _++_}
 use native.Mathlib.Omega.{arith}
 use native.Mathlib.Nat.{mod-one, mod-eq-of-lt, mul-assoc, add-mul, zero-add, suc-add, add-assoc, add-comm, mul-add-div-right, mul-add-mod-self-right, div-lt-iff-lt-mul}
 use native.Mathlib.Numerals.{add-one, add-two, add-three}

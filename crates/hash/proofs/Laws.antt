@@ -1,9 +1,9 @@
 -- A hash and its 32 bytes: each is got back from the other, eight bytes at a time.
 -- Assumes nothing.
-use Prim.Native.Nat.{ℕ, zero, suc, _+_, _*_, _-_, _/_, _%_, _^_, _≤_, _<_}
+use Prim.Native.Nat.{ℕ, zero, suc, _+_, _*_, _/_, _%_, _^_, _≤_, _<_}
 use mathlib.Core.Path.{_≡_, refl, ap, _∙_, sym}
-use mathlib.Core.Bool.{Bool, true, false}
-use mathlib.Core.List.{List, [], _∷_, _++_, append-assoc, append-nil}
+use mathlib.Core.Bool.{true, false}
+use mathlib.Core.List.{[], _∷_, _++_, append-assoc, append-nil}
 use native.Mathlib.Omega.{arith}
 use native.Mathlib.Nat.{mod-eq-of-lt, div-one}
 use lib.ListN.{length, take, drop, getD, set, length-take, length-drop, take-append-drop, drop-of-length-le}
@@ -13,7 +13,7 @@ use Rattle.terms.specs.Bits.{Bytes, Byte, All, Whole32, sameBytes}
 use Rattle.hash.specs.declared.Hash.{Hash}
 use Rattle.hash.specs.BigEndian.{big, number, wordAt}
 use Rattle.hash.specs.Hash.{hashBytes, hashOf, Fits}
-use Rattle.hash.proofs.Digits.{length-big, bytes-big, number-big, big-number, number-append, word-number, all-bytes}
+use Rattle.hash.proofs.Digits.{bytes-big, number-big, big-number, number-append, word-number, all-bytes}
 use Rattle.hash.proofs.Same.{same-self, same-not}
 
 all-append : (x y : Bytes) → All Byte x → All Byte y → All Byte (x ++ y)

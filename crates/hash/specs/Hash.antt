@@ -1,5 +1,5 @@
 -- What the four numbers of a hash mean: its 32 bytes, eight to a number. Assumes nothing.
-use Prim.Native.Nat.{ℕ, _<_, _^_}
+use Prim.Native.Nat.{_<_, _^_}
 use mathlib.Core.List.{_++_}
 use lib.ListN.{take, drop}
 use Rattle.terms.specs.Bits.{Bytes}

@@ -1,3 +1,4 @@
+// A hash as four numbers: read from a slice, written to one, compared.
 ghost use mathlib.Core.Path.{_≡_};
 ghost use mathlib.Core.List.{_++_};
 ghost use Prim.Native.Nat.{_+_, _*_, _<_, _≤_};
@@ -5,7 +6,7 @@ ghost use lib.ListN.{length, take, drop};
 ghost use Rattle.terms.specs.Bits.{sameBytes};
 ghost use Rattle.terms.specs.Records.{zeros};
 ghost use Rattle.hash.specs.BigEndian.{big, number, wordAt};
-ghost use Rattle.hash.specs.Hash.{hashBytes, hashOf, Fits};
+ghost use Rattle.hash.specs.Hash.{hashBytes, hashOf};
 
 // Thirty-two bytes, eight to a number, the top byte first.
 pub struct Hash {

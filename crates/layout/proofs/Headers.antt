@@ -5,44 +5,25 @@ use native.Mathlib.Omega.{arith}
 use mathlib.Core.Path.{_≡_, refl, ap, sym, _∙_}
 use mathlib.Core.Bool.{Bool, true, false, cond}
 use mathlib.Core.List.{List, [], _∷_, _++_, append-assoc}
-use lib.ListN.{length, getD, take, drop, length-append, length-take}
-use lib.Seq.{take-append-le, take-all}
-use lib.Dec.{eqb, leb}
+use lib.ListN.{length, getD, take, length-append}
+use lib.Dec.{eqb}
 use borrow.Author.Tests.{eqb-true, eqb-false, eq-eqb, leb-true, le-leb}
 use Rattle.terms.specs.Bits.{Bytes, Byte, All}
-use Rattle.terms.specs.Fields.{le, num, field, slice, zeroBytes, allZero, flat, allOf}
+use Rattle.terms.specs.Fields.{le, num, field, slice, zeroBytes, allZero, flat}
 use Rattle.terms.specs.Form.{top32}
-use Rattle.terms.proofs.Lists.{all-take}
 use Rattle.terms.proofs.Tests.{is-false}
-use Rattle.terms.proofs.Fields.{
-  num-le,
-  length-le,
-  le-field,
-  field-below,
-  length-slice,
-  zero-bytes,
-  all-zero,
-  cuts,
-  total,
-  flat-front,
-  all-of-tests,
-  tests-all,
-  Sized,
-  cuts-front,
-  length-flat,
-  flat-append,
-  length-zero-bytes,
-}
+use Rattle.terms.proofs.Fields.{num-le, length-le, le-field, length-slice, zero-bytes, all-zero, cuts, flat-front, all-of-tests, tests-all, Sized, cuts-front, length-flat, flat-append, length-zero-bytes}
 use Rattle.fields.specs.Written.{written}
 use Rattle.fields.proofs.Written.{fields-written, written-between}
 use Rattle.layout.specs.Sizes.{roomOf}
-use Rattle.layout.specs.Headers.{Headed, refusal, header, sizeRight, headerRight, headerOf, headerBytes}
+use Rattle.layout.specs.Headers.{refusal, header, sizeRight, headerRight, headerOf, headerBytes}
 
 -- a store of 24 + 120n bytes has n slots
 pub room-of : (m n : ℕ) → m ≡ 24 + 120 * n → roomOf m ≡ n
 unfolding roomOf
 room-of m n e = omega arith
 
+-- the size is right exactly if it is 24 + 120n, n in 1 to 16,384
 pub size-right-of : (m n : ℕ) → m ≡ 24 + 120 * n → 1 ≤ n → n ≤ 16384 → sizeRight m ≡ true
 unfolding sizeRight
 size-right-of m n e some fits =

@@ -1,39 +1,22 @@
 -- Slots there and back: the bytes of a record in form are read as that record, every 120 bytes are the bytes of the slot that they are read
 -- as, and what is read is in form. The fields fill the slot, and each is its number or its part. Assumes nothing.
-use Prim.Native.Nat.{ℕ, zero, suc, _+_, _*_, _-_, _<_, _≤_, _^_}
+use Prim.Native.Nat.{ℕ, _+_, _-_, _<_, _≤_}
 use native.Mathlib.Omega.{arith}
-use mathlib.Core.Path.{_≡_, refl, ap, ap₂, sym, _∙_, subst}
-use mathlib.Core.Bool.{Bool, true, false, cond, _||_, false≢true, true≢false}
+use mathlib.Core.Path.{_≡_, refl, ap, ap₂, sym, _∙_}
+use mathlib.Core.Bool.{Bool, true, false, cond, _||_, false≢true}
 use mathlib.Core.List.{List, [], _∷_, _++_}
-use lib.ListN.{length, getD, take, drop, replicate, length-take}
-use lib.Dec.{eqb, leb}
+use lib.ListN.{length, getD, drop, length-take}
+use lib.Dec.{leb}
 use borrow.Author.Tests.{eqb-true, eq-eqb, ne-eqb, leb-true, leb-false, le-leb, lt-leb}
 use Rattle.terms.specs.Bits.{Bytes, Byte, Place, All, Whole32, bits, pack, noneSet}
 use Rattle.terms.specs.Fields.{le, num, field, slice, zeroBytes, allZero, flat, allOf}
 use Rattle.terms.specs.Records.{Child, child, Body, leafBody, innerBody, Record, Slot, free, used, spoiled, zeros}
 use Rattle.terms.specs.Form.{top32, placeLimit, ChildForm, BodyForm, RecordForm}
-use Rattle.terms.proofs.Places.{length-bits, length-pack, pack-bytes, pack-place, place-packed, unused-packed}
-use Rattle.terms.proofs.Fields.{
-  num-le,
-  length-le,
-  le-bytes,
-  le-field,
-  field-below,
-  length-slice,
-  all-slice,
-  zero-bytes,
-  all-zero,
-  cuts,
-  total,
-  flat-cuts,
-  all-of-tests,
-  test-failed,
-  tests-all,
-  Sized,
-  cuts-flat,
-  length-flat,
-  length-zero-bytes,
-}
+use Rattle.terms.proofs.Places.{length-bits, length-pack, pack-place, place-packed, unused-packed}
+use Rattle.terms.proofs.Tests.{is-false}
+use Rattle.terms.proofs.Fields.{num-le, length-le, le-field, field-below, length-slice, all-slice, zero-bytes, all-zero, cuts, total, flat-cuts, all-of-tests, test-failed, tests-all, Sized, cuts-flat, length-flat, length-zero-bytes, flat-append}
+use Rattle.fields.specs.Written.{written}
+use Rattle.fields.proofs.Written.{written-between}
 use Rattle.layout.specs.Slots.{lengthOf, kindOf, countIn, placeIn, leafIn, childIn, innerIn, recordOf, recordIn, headRight, isLeaf, childRight, someChild, isInner, slotOf, headFields, bodyFields, recordBytes, slotBytes, SlotForm}
 
 -- a record's fields have these sizes
@@ -230,6 +213,19 @@ slot-said free h = free-said
 slot-said (used r) h = record-said r h
 slot-said (spoiled x) h = h .2
 
+-- another retired-since: four bytes change
+pub retired-put : (r : Record) (n : ℕ) → recordBytes (recordOf (r .place) (r .version) n (r .body)) ≡ written 44 (le 4 n) (recordBytes r)
+unfolding recordBytes
+retired-put r n =
+    let b = r .body in
+    let fs = le 4 (lengthOf b) ∷ le 2 (kindOf b) ∷ le 2 (length (r .place)) ∷ pack 32 (r .place) ∷ le 4 (r .version) ∷ [] in
+    let long : length (flat fs) ≡ 44 =
+    length-flat (4 ∷ 2 ∷ 2 ∷ 32 ∷ 4 ∷ []) fs (length-le 4 _, (length-le 2 _, (length-le 2 _, (length-pack 32 _, (length-le 4 _, tt)))))
+    in
+    flat-append fs (le 4 n ∷ bodyFields b)
+    ∙ sym (written-between (flat fs) (le 4 (r .retired)) (flat (bodyFields b)) (le 4 n) 44 long (length-le 4 n ∙ sym (length-le 4 (r .retired))))
+    ∙ ap (written 44 (le 4 n)) (sym (flat-append fs (le 4 (r .retired) ∷ bodyFields b)))
+
 pub length-slot : (x : Slot) → SlotForm x → length (slotBytes x) ≡ 120
 unfolding slotBytes
 length-slot free h = length-zero-bytes 120
@@ -349,3 +345,41 @@ module _ (x : Bytes) (l : length x ≡ 120) (h : All Byte x) where
       go false true c d e f = leaf-form e
       go false false true d e f = inner-form f
       go false false false d e f = (l, h, rw (d, e, f))
+
+-- a record that was read says what the fields of its bytes say
+pub used-is : (x : Bytes) (r : Record) → slotOf x ≡ used r → recordIn x (r .body) ≡ r
+unfolding slotOf recordIn
+used-is x r = go (allZero x) (isLeaf x) (isInner x)
+  where
+    go : (a b c : Bool) → cond a free (cond b (used (recordIn x (leafIn x))) (cond c (used (recordIn x (innerIn x))) (spoiled x))) ≡ used r → recordIn x (r .body) ≡ r
+    go true b c e = let z : _≡_ {A = ℕ} 0 1 = cc in absurd (omega arith)
+    go false true c e = let m : recordIn x (leafIn x) ≡ r = cc in ap (λ q. recordIn x (q .body)) (sym m) ∙ m
+    go false false true e = let m : recordIn x (innerIn x) ≡ r = cc in ap (λ q. recordIn x (q .body)) (sym m) ∙ m
+    go false false false e = let z : _≡_ {A = ℕ} 0 1 = cc in absurd (omega arith)
+
+zeros-no-leaf : isLeaf (zeroBytes 120) ≡ false
+unfolding isLeaf headRight leafIn field slice zeroBytes allOf
+zeros-no-leaf = refl
+
+zeros-no-inner : isInner (zeroBytes 120) ≡ false
+unfolding isInner headRight innerIn field slice zeroBytes allOf
+zeros-no-inner = refl
+
+-- the tests by themselves say what is read
+module _ (x : Bytes) (l : length x ≡ 120) where
+  all-zeros : allZero x ≡ true → x ≡ zeroBytes 120
+  all-zeros e = zero-bytes x e ∙ ap zeroBytes l
+
+  pub leaf-read : isLeaf x ≡ true → slotOf x ≡ used (recordIn x (leafIn x))
+  unfolding slotOf
+  leaf-read e = rw (is-false (allZero x) (λ z. false≢true (sym zeros-no-leaf ∙ ap isLeaf (sym (all-zeros z)) ∙ e)), e)
+
+  not-leaf : isInner x ≡ true → isLeaf x ≡ false
+  unfolding isLeaf isInner headRight leafIn innerIn
+  not-leaf e =
+      let n = eqb-true (field 0 4 x) 120 (all-of-tests _ (all-of-tests _ e .0) .0) in
+      test-failed _ (test-failed _ (ne-eqb (field 0 4 x) 112 (λ k. omega arith)))
+
+  pub inner-read : isInner x ≡ true → slotOf x ≡ used (recordIn x (innerIn x))
+  unfolding slotOf
+  inner-read e = rw (is-false (allZero x) (λ z. false≢true (sym zeros-no-inner ∙ ap isInner (sym (all-zeros z)) ∙ e)), not-leaf e, e)

@@ -2,24 +2,23 @@
 -- Assumes nothing.
 use Prim.Native.Nat.{ℕ, zero, suc, _+_, _*_, _-_, _<_, _≤_}
 use native.Mathlib.Omega.{arith}
-use native.Mathlib.Nat.{mul-zero, mul-suc}
 use mathlib.Core.Path.{_≡_, refl, ap, ap₂, sym, _∙_}
 use mathlib.Core.List.{List, [], _∷_, _++_, append-assoc}
-use lib.ListN.{length, getD, take, drop, set, length-append, length-take, length-drop, length-set, take-append-drop}
+use lib.ListN.{length, getD, take, drop, set, length-append, length-drop, length-set, take-append-drop, replicate, replicate-append-replicate}
 use lib.Seq.{take-at, drop-at, drop-drop, split-at, set-split, length-take-le}
 use Rattle.terms.specs.Bits.{Bytes, Byte, All}
-use Rattle.terms.specs.Fields.{le, field, slice}
-use Rattle.terms.specs.Records.{Slot, Store, free}
-use Rattle.terms.specs.Form.{top32}
+use Rattle.terms.specs.Fields.{le, slice, zeroBytes}
+use Rattle.terms.specs.Records.{Record, Slot, Store, free, used}
+use Rattle.terms.specs.Form.{top32, RecordForm}
 use Rattle.terms.proofs.Lists.{all-take, all-drop, all-at}
-use Rattle.terms.proofs.Fields.{field-below, slice-between}
+use Rattle.terms.proofs.Fields.{field-below, length-le, slice-between}
 use Rattle.fields.specs.Written.{written}
-use Rattle.fields.proofs.Written.{written-between}
+use Rattle.fields.proofs.Written.{written-between, written-inside}
 use Rattle.layout.specs.Sizes.{roomOf}
 use Rattle.layout.specs.Headers.{header, headerOf, headerBytes}
-use Rattle.layout.specs.Slots.{slotOf, slotBytes, SlotForm}
+use Rattle.layout.specs.Slots.{recordOf, slotOf, slotBytes, SlotForm}
 use Rattle.layout.specs.Stores.{slotIn, slotsOf, slotsBytes, storeOf, storeBytes, StoreForm, putSlot, putBounds}
-use Rattle.layout.proofs.Slots.{slot-said, slot-back, slot-form, length-slot}
+use Rattle.layout.proofs.Slots.{slot-said, slot-back, slot-form, length-slot, retired-put}
 use Rattle.layout.proofs.Headers.{room-of, length-header, oldest-put, header-said, Accepted, accepted, header-back}
 
 pub length-slots-bytes : (xs : List Slot) → All SlotForm xs → length (slotsBytes xs) ≡ 120 * length xs
@@ -85,9 +84,9 @@ module _ (s : Bytes) (n o l : ℕ) (h : All Byte s) (a : Accepted s n o l) where
   slots-long : length (drop 24 s) ≡ 120 * n
   slots-long = let k = a .size in simp length-drop (omega arith)
 
-  slots-read : storeOf s .slots ≡ slotsOf n (drop 24 s)
+  pub slot-count : length (storeOf s .slots) ≡ n
   unfolding storeOf
-  slots-read = ap (λ k. slotsOf k (drop 24 s)) (room-of (length s) n (a .size))
+  slot-count = length-slots (roomOf (length s)) (drop 24 s) ∙ room-of (length s) n (a .size)
 
   pub store-back : storeBytes (storeOf s) ≡ s
   unfolding storeBytes storeOf
@@ -101,16 +100,26 @@ module _ (s : Bytes) (n o l : ℕ) (h : All Byte s) (a : Accepted s n o l) where
   pub store-form : StoreForm (storeOf s)
   unfolding storeOf
   store-form =
-      let r = room-of (length s) n (a .size) in
-      let k : length (slotsOf (roomOf (length s)) (drop 24 s)) ≡ n = length-slots (roomOf (length s)) (drop 24 s) ∙ r in
       let z = a .size in
       record {
-        some = rw k (a .some);
-        fits = rw k (a .fits);
+        some = rw slot-count (a .some);
+        fits = rw slot-count (a .fits);
         ordered = rw (a .oldest, a .latest) (a .ordered);
         number = omega (arith, field-below 16 4 s (omega arith) h);
-        each = rw r (slots-form n (drop 24 s) slots-long (all-drop Byte 24 s h));
+        each = rw (room-of (length s) n z) (slots-form n (drop 24 s) slots-long (all-drop Byte 24 s h));
       }
+
+-- free slots are zero bytes
+pub free-bytes : (n : ℕ) → slotsBytes (replicate n free) ≡ zeroBytes (120 * n)
+unfolding slotBytes zeroBytes
+free-bytes zero = refl
+free-bytes (suc n) =
+    let e : 120 + 120 * n ≡ 120 * suc n = omega arith in
+    ap (zeroBytes 120 ++_) (free-bytes n) ∙ replicate-append-replicate 120 (120 * n) 0 ∙ ap zeroBytes e
+
+pub free-form : (n : ℕ) → All SlotForm (replicate n free)
+free-form zero = tt
+free-form (suc n) = (tt, free-form n)
 
 -- slot i of bytes is what its 120 bytes are read as
 pub slot-at : (s : Bytes) (i : ℕ) → i < roomOf (length s) → getD (storeOf s .slots) i free ≡ slotOf (slotIn i s)
@@ -126,41 +135,37 @@ all-set [] i x h k = tt
 all-set (y ∷ xs) zero x h k = (k, h .1)
 all-set (y ∷ xs) (suc i) x h k = (h .0, all-set xs i x (h .1) k)
 
--- 24 bytes and slots, cut around slot i
-module _ (p : Bytes) (xs : List Slot) (i : ℕ) (l : i < length xs) where
-  slots-around : p ++ slotsBytes xs ≡ (p ++ slotsBytes (take i xs)) ++ (slotBytes (getD xs i free) ++ slotsBytes (drop (suc i) xs))
-  slots-around =
+-- after 24 bytes: what stands before slot i, slot i, and what stands after it
+module _ (p : Bytes) (xs : List Slot) (i : ℕ) (e : length p ≡ 24) (h : All SlotForm xs) (l : i < length xs) where
+  abbrev front : Bytes
+  front = p ++ slotsBytes (take i xs)
+
+  front-long : length front ≡ 24 + 120 * i
+  front-long = simp length-append (omega (arith, length-slots-bytes (take i xs) (all-take SlotForm i xs h), length-take-le i xs (omega arith)))
+
+  abbrev rest : Bytes
+  rest = slotsBytes (drop (suc i) xs)
+
+  slots-split : p ++ slotsBytes xs ≡ front ++ (slotBytes (getD xs i free) ++ rest)
+  slots-split =
       ap (λ z. p ++ slotsBytes z) (split-at xs i free l)
       ∙ ap (p ++_) (slots-append (take i xs) (getD xs i free ∷ drop (suc i) xs))
-      ∙ sym (append-assoc p (slotsBytes (take i xs)) (slotBytes (getD xs i free) ++ slotsBytes (drop (suc i) xs)))
+      ∙ sym (append-assoc p (slotsBytes (take i xs)) (slotBytes (getD xs i free) ++ rest))
 
-  slots-before : length p ≡ 24 → All SlotForm xs → length (p ++ slotsBytes (take i xs)) ≡ 24 + 120 * i
-  slots-before e h =
-      simp length-append (omega (arith, length-slots-bytes (take i xs) (all-take SlotForm i xs h), length-take-le i xs (omega arith)))
+  slot-long : length (slotBytes (getD xs i free)) ≡ 120
+  slot-long = length-slot (getD xs i free) (all-at SlotForm xs free i h l)
 
--- after 24 bytes, another slot at i
-slots-put : (p : Bytes) (xs : List Slot) (i : ℕ) (x : Slot) → length p ≡ 24 → All SlotForm xs → SlotForm x → i < length xs →
-    p ++ slotsBytes (set xs i x) ≡ written (24 + 120 * i) (slotBytes x) (p ++ slotsBytes xs)
-slots-put p xs i x e h k l =
-    let y = getD xs i free in
-    let rest = slotsBytes (drop (suc i) xs) in
-    let front = p ++ slotsBytes (take i xs) in
-    let a : p ++ slotsBytes (set xs i x) ≡ front ++ (slotBytes x ++ rest) =
-    ap (λ z. p ++ slotsBytes z) (set-split xs i x l) ∙ ap (p ++_) (slots-append (take i xs) (x ∷ drop (suc i) xs)) ∙ sym (append-assoc p (slotsBytes (take i xs)) (slotBytes x ++ rest))
-    in
-    a
-    ∙ sym (written-between front (slotBytes y) rest (slotBytes x) (24 + 120 * i) (slots-before p xs i l e h) (length-slot x k ∙ sym (length-slot y (all-at SlotForm xs free i h l))))
-    ∙ ap (written (24 + 120 * i) (slotBytes x)) (sym (slots-around p xs i l))
+  slots-put : (x : Slot) → SlotForm x → p ++ slotsBytes (set xs i x) ≡ written (24 + 120 * i) (slotBytes x) (p ++ slotsBytes xs)
+  slots-put x k =
+      ap (λ z. p ++ slotsBytes z) (set-split xs i x l)
+      ∙ ap (p ++_) (slots-append (take i xs) (x ∷ drop (suc i) xs))
+      ∙ sym (append-assoc p (slotsBytes (take i xs)) (slotBytes x ++ rest))
+      ∙ sym (written-between front (slotBytes (getD xs i free)) rest (slotBytes x) (24 + 120 * i) front-long (length-slot x k ∙ sym slot-long))
+      ∙ ap (written (24 + 120 * i) (slotBytes x)) (sym slots-split)
 
--- slot i of the bytes of a store is the bytes of its slot i
-pub slot-in-bytes : (st : Store) → StoreForm st → (i : ℕ) → i < length (st .slots) → slotIn i (storeBytes st) ≡ slotBytes (getD (st .slots) i free)
-unfolding slotIn storeBytes
-slot-in-bytes st f i l =
-    let p = headerBytes (length (st .slots)) (st .oldest) (st .latest) in
-    let y = getD (st .slots) i free in
-    ap (slice (24 + 120 * i) 120) (slots-around p (st .slots) i l)
-    ∙ slice-between (p ++ slotsBytes (take i (st .slots))) (slotBytes y) (slotsBytes (drop (suc i) (st .slots))) (24 + 120 * i) 120
-    (slots-before p (st .slots) i l (length-header _ _ _) (f .each)) (length-slot y (all-at SlotForm (st .slots) free i (f .each) l))
+  slots-in : slotIn i (p ++ slotsBytes xs) ≡ slotBytes (getD xs i free)
+  unfolding slotIn
+  slots-in = ap (slice (24 + 120 * i) 120) slots-split ∙ slice-between front (slotBytes (getD xs i free)) rest (24 + 120 * i) 120 front-long slot-long
 
 -- another slot at i, another oldest and latest: the store stays in form, and its bytes change there and nowhere else
 module _ (st : Store) (f : StoreForm st) where
@@ -180,7 +185,23 @@ module _ (st : Store) (f : StoreForm st) where
     unfolding putSlot storeBytes
     slot-put-bytes =
         rw (length-set (st .slots) i x)
-        (slots-put (headerBytes (length (st .slots)) (st .oldest) (st .latest)) (st .slots) i x (length-header _ _ _) (f .each) k l)
+        (slots-put (headerBytes (length (st .slots)) (st .oldest) (st .latest)) (st .slots) i (length-header _ _ _) (f .each) l x k)
+
+  -- the 120 bytes of slot i
+  pub slot-in : (i : ℕ) → i < length (st .slots) → slotIn i (storeBytes st) ≡ slotBytes (getD (st .slots) i free)
+  unfolding storeBytes
+  slot-in i l = slots-in (headerBytes (length (st .slots)) (st .oldest) (st .latest)) (st .slots) i (length-header _ _ _) (f .each) l
+
+  -- another retired-since for the record in slot i: four bytes change
+  pub retired-put-bytes : (i : ℕ) (r : Record) (n : ℕ) → i < length (st .slots) → getD (st .slots) i free ≡ used r → RecordForm r → n ≤ top32 →
+      storeBytes (putSlot i (used (recordOf (r .place) (r .version) n (r .body))) st) ≡ written (24 + 120 * i + 44) (le 4 n) (storeBytes st)
+  unfolding slotBytes slotIn
+  retired-put-bytes i r n l e h k =
+      let a = accepted (storeBytes st) (length (st .slots)) (st .oldest) (st .latest) (store-accepted st f) in
+      let z = a .size in
+      slot-put-bytes i (used (recordOf (r .place) (r .version) n (r .body))) (record { short = h .short; versioned = h .versioned; number = k; body = h .body }) l
+      ∙ ap (λ y. written (24 + 120 * i) y (storeBytes st)) (retired-put r n ∙ ap (written 44 (le 4 n)) (sym (slot-in i l ∙ ap slotBytes e)))
+      ∙ sym (written-inside (24 + 120 * i) 120 44 (le 4 n) (storeBytes st) (omega arith) (omega (arith, length-le 4 n)))
 
   pub bounds-put-form : (o l : ℕ) → o ≤ l → l ≤ top32 → StoreForm (putBounds o l st)
   unfolding putBounds

@@ -7,15 +7,6 @@ use fields::get_u16;
 use fields::get_u32;
 use fields::put_u16;
 use fields::put_u32;
-use sizes::CAPACITY_AT;
-use sizes::HEADER_KIND;
-use sizes::HEADER_LENGTH;
-use sizes::HEADER_SIZE;
-use sizes::KIND_AT;
-use sizes::LATEST_AT;
-use sizes::MOST_SLOTS;
-use sizes::OLDEST_AT;
-use sizes::SLOT_SIZE;
 ghost use mathlib.Core.Path.{_≡_};
 ghost use Prim.Native.Nat.{_≤_};
 ghost use lib.ListN.{length};
@@ -44,13 +35,13 @@ pub enum Header {
 pub fn size_right(n: usize) -> bool
     ensures { λ r. ⌜ r ≡ sizeRight n ⌝ }
 {
-    if n < HEADER_SIZE + SLOT_SIZE {
+    if n < sizes::HEADER_SIZE + sizes::SLOT_SIZE {
         return false;
     }
-    if HEADER_SIZE + SLOT_SIZE * MOST_SLOTS < n {
+    if sizes::HEADER_SIZE + sizes::SLOT_SIZE * sizes::MOST_SLOTS < n {
         return false;
     }
-    (n - HEADER_SIZE) % SLOT_SIZE == 0
+    (n - sizes::HEADER_SIZE) % sizes::SLOT_SIZE == 0
 }
 
 // Whether each header field is as it should be.
@@ -58,19 +49,21 @@ fn header_right(store: &[u8]) -> bool
     requires { ⌜ headerSize ≤ length (now store) ⌝ }
     ensures { λ r. ⌜ r ≡ headerRight (now (store .entry)) ⌝ }
 {
-    if get_u32(store, 0) != HEADER_LENGTH {
+    if get_u32(store, 0) != sizes::HEADER_LENGTH {
         return false;
     }
-    if get_u16(store, KIND_AT) != HEADER_KIND {
+    if get_u16(store, sizes::KIND_AT) != sizes::HEADER_KIND {
         return false;
     }
     if !all_zero(&store[6..8]) {
         return false;
     }
-    if get_u32(store, CAPACITY_AT) as usize != (store.len() - HEADER_SIZE) / SLOT_SIZE {
+    if get_u32(store, sizes::CAPACITY_AT) as usize
+        != (store.len() - sizes::HEADER_SIZE) / sizes::SLOT_SIZE
+    {
         return false;
     }
-    if get_u32(store, LATEST_AT) < get_u32(store, OLDEST_AT) {
+    if get_u32(store, sizes::LATEST_AT) < get_u32(store, sizes::OLDEST_AT) {
         return false;
     }
     all_zero(&store[20..24])
@@ -87,9 +80,9 @@ pub fn read_header(store: &[u8]) -> Header
         return Header::Refused(WRONG_HEADER);
     }
     Header::Accepted {
-        capacity: get_u32(store, CAPACITY_AT),
-        oldest: get_u32(store, OLDEST_AT),
-        latest: get_u32(store, LATEST_AT),
+        capacity: get_u32(store, sizes::CAPACITY_AT),
+        oldest: get_u32(store, sizes::OLDEST_AT),
+        latest: get_u32(store, sizes::LATEST_AT),
     }
 }
 
@@ -98,11 +91,11 @@ pub fn put_header(store: &mut [u8], capacity: u32, oldest: u32, latest: u32)
     requires { ⌜ headerSize ≤ length (now store) ⌝ }
     ensures { λ _. ⌜ now (store .exit) ≡ written 0 (headerBytes capacity oldest latest) (now (store .entry)) ⌝ }
 {
-    put_u32(store, 0, HEADER_LENGTH);
-    put_u16(store, KIND_AT, HEADER_KIND);
+    put_u32(store, 0, sizes::HEADER_LENGTH);
+    put_u16(store, sizes::KIND_AT, sizes::HEADER_KIND);
     put_u16(store, 6, 0);
-    put_u32(store, CAPACITY_AT, capacity);
-    put_u32(store, OLDEST_AT, oldest);
-    put_u32(store, LATEST_AT, latest);
+    put_u32(store, sizes::CAPACITY_AT, capacity);
+    put_u32(store, sizes::OLDEST_AT, oldest);
+    put_u32(store, sizes::LATEST_AT, latest);
     put_u32(store, 20, 0);
 }

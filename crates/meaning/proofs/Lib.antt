@@ -1,5 +1,6 @@
 pub mod Desk
 pub mod Finding
+pub mod Nodes
 pub mod Sides
 pub mod Runs
 pub mod Versions

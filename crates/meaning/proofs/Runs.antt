@@ -10,15 +10,9 @@ use Rattle.terms.specs.Form.{GrantForm, AskForm}
 use Rattle.terms.proofs.Tests.{is-true}
 use Rattle.terms.proofs.Lists.{filter-append, filter-comm, filter-all, filter-none, all-filter, all-map, all-append, filter-passed}
 use Rattle.terms.proofs.Order.{before-trans, before-asym, before-total}
+use Rattle.meaning.specs.Runs.{asksFor, run}
 use Rattle.meaning.specs.Tree.{withAsk, withBatch, smaller, greater}
 use Rattle.meaning.proofs.Sides.{goes, side}
-
-abbrev pub asksFor : ℕ → Bool → Ask → Bool
-asksFor i b a = Bool·beq b (bit i (askKey a))
-
--- the run of a batch for a child
-abbrev pub run : ℕ → Bool → List Ask → List Ask
-run i b batch = filter (asksFor i b) batch
 
 abbrev pub Ahead : Grant → Grant → Type 0
 Ahead g h = before (g .key) (h .key) ≡ true

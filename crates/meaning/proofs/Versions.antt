@@ -24,7 +24,7 @@ sameGrants-eq (g ∷ gs) (x ∷ hs) h =
     ap₂ _∷_ (λ j. record { key = k j; value = w j }) (sameGrants-eq gs hs (and-right (a && b) c h))
 
 -- two tests that pass together are equal
-same-test : (a b : Bool) → (a ≡ true → b ≡ true) → (b ≡ true → a ≡ true) → a ≡ b
+pub same-test : (a b : Bool) → (a ≡ true → b ≡ true) → (b ≡ true → a ≡ true) → a ≡ b
 same-test true b f g = sym (f refl)
 same-test false true f g = g refl
 same-test false false f g = refl

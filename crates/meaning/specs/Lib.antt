@@ -1,4 +1,5 @@
 pub mod Tree
+pub mod Runs
 pub mod Store
 pub mod Sound
 pub mod Calls

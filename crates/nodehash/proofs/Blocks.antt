@@ -1,14 +1,14 @@
 -- The two blocks of a node's message of 65 bytes, word by word: each word lies within one number of a hash, or on the seam of two.
 -- Assumes nothing.
-use Prim.Native.Nat.{ℕ, zero, suc, _+_, _*_, _/_, _%_, _^_, _≤_, _<_}
-use mathlib.Core.Path.{_≡_, refl, ap, _∙_, sym}
-use mathlib.Core.List.{List, [], _∷_, _++_}
+use Prim.Native.Nat.{ℕ, _+_, _*_, _/_, _%_, _^_, _<_}
+use mathlib.Core.Path.{_≡_, ap, _∙_, sym}
+use mathlib.Core.List.{_∷_}
 use native.Mathlib.Omega.{arith}
 use native.Mathlib.Nat.{div-one, mod-eq-of-lt}
 use Rattle.terms.specs.Bits.{Bytes}
 use Rattle.hash.specs.declared.Hash.{Hash}
 use Rattle.hash.specs.Hash.{hashBytes}
-use Rattle.hash.specs.BigEndian.{big, number, wordAt}
+use Rattle.hash.specs.BigEndian.{big, wordAt}
 use Rattle.hash.proofs.Digits.{big-split, number-big, word-number, word-big}
 use Rattle.sha256.specs.declared.State.{State}
 use Rattle.sha256.specs.declared.Words.{Words}

@@ -1,5 +1,4 @@
 -- Document 01, 'The tree of a set of grants': the hash of a leaf and of an inner node. Assumes nothing.
-use Prim.Native.Nat.{ℕ}
 use mathlib.Core.List.{_∷_, _++_}
 use Rattle.terms.specs.Bits.{Bytes}
 use Rattle.sha256.specs.Sha256.{sha256}

@@ -22,7 +22,7 @@ use Rattle.layout.specs.Slots.{slotBytes, SlotForm}
 use Rattle.layout.specs.Stores.{slotIn, storeOf, storeBytes, StoreForm, putSlot}
 use Rattle.layout.proofs.Slots.{retired-says}
 use Rattle.layout.proofs.Headers.{length-header}
-use Rattle.layout.proofs.Stores.{length-slots-bytes, slot-in-bytes, slot-put-form, slot-put-bytes}
+use Rattle.layout.proofs.Stores.{length-slots-bytes, slot-in, slot-put-form, slot-put-bytes}
 use Rattle.pruning.specs.Free.{retiredIn, freedSlot, freedCount, Readable, emptied, Frees}
 
 -- what pruning leaves in a slot
@@ -147,7 +147,7 @@ module _ {n : ℕ} {s₀ s : Bytes} {m freed i : ℕ} (w : Freeing n s₀ s m fr
     unfolding partlyPruned
     slot-is =
         ap (slotIn i) (w .bytes)
-        ∙ slot-in-bytes (partlyPruned n i (storeOf s₀)) (w .form) i (omega (arith, inside, partly-long n slots₀ i (omega (arith, inside))))
+        ∙ slot-in (partlyPruned n i (storeOf s₀)) (w .form) i (omega (arith, inside, partly-long n slots₀ i (omega (arith, inside))))
         ∙ ap slotBytes (slot-here n slots₀ i inside)
 
     next-as : {b : Bool} {t : Bytes} {r : ℕ} → retiredIn n (slotBytes (getD slots₀ i free)) ≡ b → t ≡ freedSlot n i s → r ≡ freedCount n i s →

@@ -1,10 +1,7 @@
 // Pruning: every record retired since a version or earlier is freed, and oldest becomes that version.
 use fields::get_u32;
 use fields::put_u32;
-use layout::sizes::HEADER_SIZE;
-use layout::sizes::LATEST_AT;
-use layout::sizes::OLDEST_AT;
-use layout::sizes::SLOT_SIZE;
+use layout::sizes;
 use soundness::check;
 use store::clear_slot_at;
 use store::retired_at;
@@ -48,7 +45,7 @@ fn free_retired(store: &mut [u8], version: u32) -> u32
     requires { ⌜ Readable (now store) ⌝ }
     ensures { λ r. ⌜ Frees version (now (store .entry)) r (now (store .exit)) ⌝ }
 {
-    let slots = (store.len() - HEADER_SIZE) / SLOT_SIZE;
+    let slots = (store.len() - sizes::HEADER_SIZE) / sizes::SLOT_SIZE;
     let mut freed = 0;
     let mut i = 0;
     while i < slots {
@@ -63,10 +60,10 @@ fn is_kept(store: &[u8], version: u32) -> bool
     requires { ⌜ headerSize ≤ length (now store) ⌝ }
     ensures { λ r. ⌜ r ≡ isKept (storeOf (now (store .entry))) version ⌝ }
 {
-    if version < get_u32(store, OLDEST_AT) {
+    if version < get_u32(store, sizes::OLDEST_AT) {
         return false;
     }
-    version <= get_u32(store, LATEST_AT)
+    version <= get_u32(store, sizes::LATEST_AT)
 }
 
 // Prunes a sound store to a version.
@@ -78,7 +75,7 @@ fn prune_sound(store: &mut [u8], version: u32) -> Pruned
         return Pruned::Refused(NOT_KEPT);
     }
     let freed = free_retired(store, version);
-    put_u32(store, OLDEST_AT, version);
+    put_u32(store, sizes::OLDEST_AT, version);
     Pruned::Freed(freed)
 }
 

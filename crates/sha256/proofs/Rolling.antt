@@ -1,16 +1,14 @@
 -- The rounds that the code makes, sixteen words at a time, are FIPS's rounds: the words that it holds at round t are W(t) to W(t + 15).
 -- Assumes nothing.
-use Prim.Native.Nat.{ℕ, zero, suc, _+_, _*_, _-_, _≤_, _<_}
-use mathlib.Core.Path.{_≡_, refl, ap, _∙_, sym}
-use mathlib.Core.Bool.{true, false, cond}
-use mathlib.Core.List.{List, [], _∷_, _++_}
+use Prim.Native.Nat.{ℕ, zero, suc, _+_, _-_, _≤_, _<_}
+use mathlib.Core.Path.{_≡_, refl, ap, _∙_}
+use mathlib.Core.List.{List, []}
 use native.Mathlib.Omega.{arith}
 use native.Mathlib.Numerals.{add-one}
 use native.Mathlib.Nat.{zero-add, suc-add, add-zero, add-suc, add-assoc}
-use lib.Dec.{ltb}
 use lib.ListN.{length, getD, length-append, List·getD-append}
 use lib.Seq.{getD-at}
-use borrow.Author.Tests.{lt-ltb, le-ltb}
+use borrow.Author.Tests.{le-ltb}
 use Rattle.sha256.specs.declared.State.{State}
 use Rattle.sha256.specs.declared.Words.{Words}
 use Rattle.sha256.specs.Sha256.{K, W, scheduled, round, rounds, added, compressed}

@@ -1,6 +1,6 @@
 -- The words of a block, and the rounds as the code goes through them: it holds sixteen words of the message schedule at a time.
 -- `proofs/Rolling.antt` shows that this comes to FIPS's rounds. Assumes nothing.
-use Prim.Native.Nat.{ℕ, zero, suc, _+_, _*_, _/_, _%_, _^_}
+use Prim.Native.Nat.{ℕ, zero, suc, _+_}
 use lib.ListN.{getD}
 use Rattle.terms.specs.Bits.{Bytes}
 use Rattle.hash.specs.BigEndian.{wordAt}
@@ -64,26 +64,4 @@ blockAt l p =
       w13 = wordAt l (p + 52);
       w14 = wordAt l (p + 56);
       w15 = wordAt l (p + 60);
-    }
-
--- The words x with the number of bits of a message of n bytes in the last two.
-abbrev pub lastOf : Words → ℕ → Words
-lastOf x n =
-    record {
-      w0 = x .w0;
-      w1 = x .w1;
-      w2 = x .w2;
-      w3 = x .w3;
-      w4 = x .w4;
-      w5 = x .w5;
-      w6 = x .w6;
-      w7 = x .w7;
-      w8 = x .w8;
-      w9 = x .w9;
-      w10 = x .w10;
-      w11 = x .w11;
-      w12 = x .w12;
-      w13 = x .w13;
-      w14 = n / 2 ^ 29 % 2 ^ 32;
-      w15 = n % 2 ^ 29 * 8;
     }

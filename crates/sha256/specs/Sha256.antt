@@ -10,19 +10,19 @@ use Rattle.terms.specs.Bits.{Bytes}
 use Rattle.hash.specs.BigEndian.{big, wordAt}
 use Rattle.sha256.specs.declared.State.{State}
 
-infixl 40 _⊕_
-infixl 50 _⊞_
-infixl 60 _&_
 -- 2.2.2: bitwise and, exclusive or, complement, and the sum modulo 2 ^ 32.
+infixl 60 _&_
 abbrev pub _&_ : ℕ → ℕ → ℕ
 x & y = bitAnd x y
 
+infixl 40 _⊕_
 abbrev pub _⊕_ : ℕ → ℕ → ℕ
 x ⊕ y = bitXor x y
 
 abbrev pub complement : ℕ → ℕ
 complement x = (2 ^ 32 - 1) - x
 
+infixl 50 _⊞_
 abbrev pub _⊞_ : ℕ → ℕ → ℕ
 x ⊞ y = (x + y) % 2 ^ 32
 

@@ -1,7 +1,9 @@
 -- Worked examples of SHA-256: the empty message, and the messages of one block and of two blocks in NIST's examples to FIPS 180-4.
--- Each is computed. Assumes nothing.
+-- Each is computed. Last, the number of zeros in the padding. Assumes nothing.
+use Prim.Native.Nat.{ℕ, _+_, _*_, _-_, _%_, _<_}
 use mathlib.Core.Path.{_≡_, refl}
 use mathlib.Core.List.{[], _∷_}
+use native.Mathlib.Omega.{arith}
 use Rattle.hash.specs.BigEndian.{wordAt}
 use Rattle.sha256.specs.Sha256.{Σ₀, Σ₁, σ₀, σ₁, K, padded, scheduled, round, added, compressed, sha256}
 
@@ -29,3 +31,7 @@ two-blocks :
     0xa3 ∷ 0x3c ∷ 0xe4 ∷ 0x59 ∷ 0x64 ∷ 0xff ∷ 0x21 ∷ 0x67 ∷ 0xf6 ∷ 0xec ∷ 0xed ∷ 0xd4 ∷ 0x19 ∷ 0xdb ∷ 0x06 ∷ 0xc1 ∷ []
 unfolding sha256 padded compressed added round scheduled Σ₀ Σ₁ σ₀ σ₁ K wordAt
 two-blocks = refl
+
+-- 5.1.1 asks for the least k with l + 1 + k = 448 modulo 512, for a message of l bits: seven zero bits end the byte 128, eight make a byte.
+zero-bits : (n : ℕ) → let k = 7 + (119 - n % 64) % 64 * 8 in (k < 512) × ((n * 8 + 1 + k) % 512 ≡ 448)
+zero-bits n = (omega arith, omega arith)

@@ -12,7 +12,7 @@ pub extern "C" fn grants_sha256(bytes: &[u8], digest: &mut [u8; 32]) -> u32
     ensures { λ r. ⌜ r ≡ 0 ⌝ }
     ensures { λ _. ⌜ now (digest .exit) ≡ sha256 (now (bytes .entry)) ⌝ }
 {
-    put_hash(digest, sha256::digest(bytes));
+    put_hash(digest, digest::digest(bytes));
     0
 }
 

@@ -1,14 +1,13 @@
 -- Writing a record field by field is writing its bytes: the fields fill the 120 bytes, one after the other. Assumes nothing.
 use Prim.Native.Nat.{ℕ, _+_, _-_, _≤_}
 use native.Mathlib.Omega.{arith}
-use native.Mathlib.Nat.{add-sub-cancel-left}
-use mathlib.Core.Path.{_≡_, refl, ap, sym, _∙_}
-use mathlib.Core.List.{List, [], _∷_, _++_, append-assoc, append-nil}
-use lib.ListN.{length, take, drop, drop-of-length-le, length-append, length-take, length-drop, take-append-drop}
+use mathlib.Core.Path.{_≡_, ap, sym, _∙_}
+use mathlib.Core.List.{[], _∷_, _++_, append-assoc, append-nil}
+use lib.ListN.{length, take, drop, drop-of-length-le, length-take, length-drop, take-append-drop}
 use lib.Seq.{take-all}
 use Rattle.terms.specs.Bits.{Bytes, Place, pack}
 use Rattle.terms.specs.Fields.{le, slice, zeroBytes, flat}
-use Rattle.terms.specs.Records.{Child, innerBody, leafBody, used}
+use Rattle.terms.specs.Records.{Child, innerBody, used}
 use Rattle.terms.proofs.Places.{length-pack}
 use Rattle.terms.proofs.Fields.{length-le, length-zero-bytes, Sized, length-flat, flat-append}
 use Rattle.fields.specs.Written.{written}

@@ -1,7 +1,6 @@
 -- Document 01, 'Forms to follow': what a slot that was read says, case by case; its hashes are four numbers, its key and value stay in its
 -- bytes. Assumes nothing.
 use mathlib.Core.Path.{_≡_}
-use lib.ListN.{length}
 use Rattle.terms.specs.Bits.{Bytes}
 use Rattle.terms.specs.Fields.{slice}
 use Rattle.terms.specs.Records.{Child, child, Body, leafBody, innerBody, Record, Slot, free, used, spoiled}

@@ -9,39 +9,21 @@ use fields::put_u32;
 use hash::Hash;
 use hash::hash_at;
 use hash::put_hash;
-use layout::sizes::BITS_AT;
-use layout::sizes::COUNT_AT;
-use layout::sizes::INNER_BITS;
-use layout::sizes::INNER_KIND;
-use layout::sizes::INNER_LENGTH;
-use layout::sizes::KEY_AT;
-use layout::sizes::KIND_AT;
-use layout::sizes::LEAF_BITS;
-use layout::sizes::LEAF_KIND;
-use layout::sizes::LEAF_LENGTH;
-use layout::sizes::LEFT_AT;
-use layout::sizes::RETIRED_AT;
-use layout::sizes::RIGHT_AT;
-use layout::sizes::SLOT_SIZE;
-use layout::sizes::TAIL_AT;
-use layout::sizes::VALUE_AT;
-use layout::sizes::VERSION_AT;
+use layout::sizes;
 use place::Place;
 use place::place_at;
 use place::unused_zero;
 ghost use mathlib.Core.Path.{_≡_};
 ghost use mathlib.Core.Bool.{true};
-ghost use mathlib.Core.List.{_++_};
 ghost use Prim.Native.Nat.{_+_, _≤_};
 ghost use lib.ListN.{length, drop};
 ghost use Rattle.terms.specs.Bits.{bits, noneSet};
 ghost use Rattle.terms.specs.Fields.{le, slice, flat, allOf};
 ghost use Rattle.terms.specs.Records.{used, free, innerBody};
 ghost use Rattle.fields.specs.Written.{written};
-ghost use Rattle.hash.specs.Hash.{hashBytes};
-ghost use Rattle.place.specs.Place.{placeOf, Proper, Stands};
+ghost use Rattle.place.specs.Place.{placeOf, Proper};
 ghost use Rattle.layout.specs.Sizes.{slotSize, grantSize, childSize, bitsAt, retiredAt, keyAt, valueAt};
-ghost use Rattle.layout.specs.Slots.{countIn, placeIn, childIn, recordOf, headTests, isLeaf, childRight, isInner, headFields, childFields, slotBytes};
+ghost use Rattle.layout.specs.Slots.{countIn, childIn, recordOf, headTests, isLeaf, childRight, isInner, headFields, childFields, slotBytes};
 ghost use Rattle.slots.specs.Answer.{childSays, Made, Held, Read, grantBody};
 
 // What an inner record says of a child; version 0: there is no child.
@@ -74,27 +56,28 @@ fn head_right(s: &[u8], len: u32, kind: u16, limit: u16) -> bool
     if get_u32(s, 0) != len {
         return false;
     }
-    if get_u16(s, KIND_AT) != kind {
+    if get_u16(s, sizes::KIND_AT) != kind {
         return false;
     }
-    let count = get_u16(s, COUNT_AT);
+    let count = get_u16(s, sizes::COUNT_AT);
     if limit < count {
         return false;
     }
-    if !unused_zero(&s[BITS_AT..VERSION_AT], count as usize) {
+    if !unused_zero(&s[sizes::BITS_AT..sizes::VERSION_AT], count as usize) {
         return false;
     }
-    1 <= get_u32(s, VERSION_AT)
+    1 <= get_u32(s, sizes::VERSION_AT)
 }
 
+// Whether the 120 bytes are a leaf in form.
 pub fn is_leaf(s: &[u8]) -> bool
     requires { ⌜ length (now s) ≡ slotSize ⌝ }
     ensures { λ r. ⌜ r ≡ isLeaf (now (s .entry)) ⌝ }
 {
-    if !head_right(s, LEAF_LENGTH, LEAF_KIND, LEAF_BITS) {
+    if !head_right(s, sizes::LEAF_LENGTH, sizes::LEAF_KIND, sizes::LEAF_BITS) {
         return false;
     }
-    all_zero(&s[TAIL_AT..SLOT_SIZE])
+    all_zero(&s[sizes::TAIL_AT..sizes::SLOT_SIZE])
 }
 
 // Whether a child that is missing has no hash.
@@ -110,23 +93,24 @@ fn child_right(s: &[u8], at: usize) -> bool
     all_zero(&s[hash..end])
 }
 
+// Whether they are an inner record in form.
 pub fn is_inner(s: &[u8]) -> bool
     requires { ⌜ length (now s) ≡ slotSize ⌝ }
     ensures { λ r. ⌜ r ≡ isInner (now (s .entry)) ⌝ }
 {
-    if !head_right(s, INNER_LENGTH, INNER_KIND, INNER_BITS) {
+    if !head_right(s, sizes::INNER_LENGTH, sizes::INNER_KIND, sizes::INNER_BITS) {
         return false;
     }
-    if !child_right(s, LEFT_AT) {
+    if !child_right(s, sizes::LEFT_AT) {
         return false;
     }
-    if !child_right(s, RIGHT_AT) {
+    if !child_right(s, sizes::RIGHT_AT) {
         return false;
     }
-    if 1 <= get_u32(s, LEFT_AT) {
+    if 1 <= get_u32(s, sizes::LEFT_AT) {
         return true;
     }
-    1 <= get_u32(s, RIGHT_AT)
+    1 <= get_u32(s, sizes::RIGHT_AT)
 }
 
 fn child_at(s: &[u8], at: usize) -> Child
@@ -156,10 +140,10 @@ fn held(s: &[u8], kind: Kind) -> Slot
     requires { ⌜ (length (now s) ≡ slotSize) × (countIn (now s) ≤ 256) × (noneSet (drop (countIn (now s)) (bits (slice bitsAt 32 (now s)))) ≡ true) ⌝ }
     ensures { λ r. ⌜ Held kind (now (s .entry)) r ⌝ }
 {
-    let count = get_u16(s, COUNT_AT);
-    let place = place_at(&s[BITS_AT..VERSION_AT], count as usize);
-    let version = get_u32(s, VERSION_AT);
-    let retired = get_u32(s, RETIRED_AT);
+    let count = get_u16(s, sizes::COUNT_AT);
+    let place = place_at(&s[sizes::BITS_AT..sizes::VERSION_AT], count as usize);
+    let version = get_u32(s, sizes::VERSION_AT);
+    let retired = get_u32(s, sizes::RETIRED_AT);
     Slot {
         kind,
         place,
@@ -180,8 +164,8 @@ pub fn read_slot(s: &[u8]) -> Slot
         return held(s, Kind::Leaf);
     }
     if is_inner(s) {
-        let left = child_at(s, LEFT_AT);
-        let right = child_at(s, RIGHT_AT);
+        let left = child_at(s, sizes::LEFT_AT);
+        let right = child_at(s, sizes::RIGHT_AT);
         return held(s, Kind::Inner { left, right });
     }
     bare(Kind::Spoiled)
@@ -195,11 +179,11 @@ fn put_head(s: &mut [u8], len: u32, kind: u16, place: Place, version: u32, retir
     let count = place.count as u16;
     let bits = place.bits;
     put_u32(s, 0, len);
-    put_u16(s, KIND_AT, kind);
-    put_u16(s, COUNT_AT, count);
-    copy(&mut s[BITS_AT..VERSION_AT], &bits);
-    put_u32(s, VERSION_AT, version);
-    put_u32(s, RETIRED_AT, retired);
+    put_u16(s, sizes::KIND_AT, kind);
+    put_u16(s, sizes::COUNT_AT, count);
+    copy(&mut s[sizes::BITS_AT..sizes::VERSION_AT], &bits);
+    put_u32(s, sizes::VERSION_AT, version);
+    put_u32(s, sizes::RETIRED_AT, retired);
 }
 
 fn put_child(s: &mut [u8], at: usize, c: Child)
@@ -217,9 +201,16 @@ pub fn put_leaf(s: &mut [u8], place: Place, version: u32, retired: u32, grant: &
     requires { ⌜ (length (now s) ≡ slotSize) × Proper place × (length (now grant) ≡ grantSize) ⌝ }
     ensures { λ _. ⌜ now (s .exit) ≡ slotBytes (used (recordOf (placeOf place) version retired (grantBody (now (grant .entry))))) ⌝ }
 {
-    put_head(s, LEAF_LENGTH, LEAF_KIND, place, version, retired);
-    copy(&mut s[KEY_AT..TAIL_AT], grant);
-    clear(&mut s[TAIL_AT..SLOT_SIZE]);
+    put_head(
+        s,
+        sizes::LEAF_LENGTH,
+        sizes::LEAF_KIND,
+        place,
+        version,
+        retired,
+    );
+    copy(&mut s[sizes::KEY_AT..sizes::TAIL_AT], grant);
+    clear(&mut s[sizes::TAIL_AT..sizes::SLOT_SIZE]);
 }
 
 // Writes an inner record over the 120 bytes of a slot.
@@ -227,9 +218,16 @@ pub fn put_inner(s: &mut [u8], place: Place, version: u32, retired: u32, left: C
     requires { ⌜ (length (now s) ≡ slotSize) × Proper place ⌝ }
     ensures { λ _. ⌜ now (s .exit) ≡ slotBytes (used (recordOf (placeOf place) version retired (innerBody (childSays left) (childSays right)))) ⌝ }
 {
-    put_head(s, INNER_LENGTH, INNER_KIND, place, version, retired);
-    put_child(s, LEFT_AT, left);
-    put_child(s, RIGHT_AT, right);
+    put_head(
+        s,
+        sizes::INNER_LENGTH,
+        sizes::INNER_KIND,
+        place,
+        version,
+        retired,
+    );
+    put_child(s, sizes::LEFT_AT, left);
+    put_child(s, sizes::RIGHT_AT, right);
 }
 
 // Frees the 120 bytes of a slot.
@@ -245,27 +243,29 @@ pub fn put_retired(s: &mut [u8], since: u32)
     requires { ⌜ length (now s) ≡ slotSize ⌝ }
     ensures { λ _. ⌜ now (s .exit) ≡ written retiredAt (le 4 since) (now (s .entry)) ⌝ }
 {
-    put_u32(s, RETIRED_AT, since);
+    put_u32(s, sizes::RETIRED_AT, since);
 }
 
 // The grant of a leaf, in the slot's own bytes: key and value.
 pub fn grant_of(s: &[u8]) -> &[u8]
     requires { ⌜ length (now s) ≡ slotSize ⌝ }
-    ensures { λ r. ⌜ now r ≡ slice keyAt grantSize (now (s .entry)) ⌝ }
+    ensures { λ r. ⌜ (now r ≡ slice keyAt grantSize (now (s .entry))) × (length (now r) ≡ grantSize) ⌝ }
 {
-    &s[KEY_AT..TAIL_AT]
+    &s[sizes::KEY_AT..sizes::TAIL_AT]
 }
 
+// Its key alone.
 pub fn key_of(s: &[u8]) -> &[u8]
     requires { ⌜ length (now s) ≡ slotSize ⌝ }
-    ensures { λ r. ⌜ now r ≡ slice keyAt 32 (now (s .entry)) ⌝ }
+    ensures { λ r. ⌜ (now r ≡ slice keyAt 32 (now (s .entry))) × (length (now r) ≡ 32) ⌝ }
 {
-    &s[KEY_AT..VALUE_AT]
+    &s[sizes::KEY_AT..sizes::VALUE_AT]
 }
 
+// Its value alone.
 pub fn value_of(s: &[u8]) -> &[u8]
     requires { ⌜ length (now s) ≡ slotSize ⌝ }
-    ensures { λ r. ⌜ now r ≡ slice valueAt 32 (now (s .entry)) ⌝ }
+    ensures { λ r. ⌜ (now r ≡ slice valueAt 32 (now (s .entry))) × (length (now r) ≡ 32) ⌝ }
 {
-    &s[VALUE_AT..TAIL_AT]
+    &s[sizes::VALUE_AT..sizes::TAIL_AT]
 }

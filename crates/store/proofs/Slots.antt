@@ -1,10 +1,9 @@
 -- Slot i of a store in lent memory: the part that holds it, and what writing that part leaves of the store. Assumes nothing.
-use Prim.Native.Nat.{ℕ, _+_, _*_, _-_, _≤_}
-use native.Mathlib.Omega.{arith}
+use Prim.Native.Nat.{ℕ, _+_, _-_, _≤_}
 use native.Mathlib.Nat.{add-sub-cancel-left}
-use mathlib.Core.Path.{_≡_, refl, ap, sym, _∙_}
+use mathlib.Core.Path.{_≡_, ap, sym, _∙_}
 use mathlib.Core.List.{_++_}
-use lib.ListN.{length, take, drop, length-take, length-drop}
+use lib.ListN.{length, take, drop}
 use Rattle.terms.specs.Bits.{Bytes}
 use Rattle.terms.specs.Fields.{field, slice}
 use Rattle.terms.proofs.Fields.{length-slice, field-slice}

@@ -2,11 +2,7 @@
 use fields::get_u16;
 use fields::get_u32;
 use fields::put_u32;
-use layout::sizes::COUNT_AT;
-use layout::sizes::HEADER_SIZE;
-use layout::sizes::RETIRED_AT;
-use layout::sizes::SLOT_SIZE;
-use layout::sizes::VERSION_AT;
+use layout::sizes;
 use place::Place;
 use slots::Child;
 use slots::clear_slot;
@@ -29,8 +25,8 @@ pub fn slot_of(store: &[u8], i: usize) -> &[u8]
     requires { ⌜ slotAt i + slotSize ≤ length (now store) ⌝ }
     ensures { λ r. ⌜ (now r ≡ slotIn i (now (store .entry))) × (length (now r) ≡ slotSize) ⌝ }
 {
-    let start = HEADER_SIZE + SLOT_SIZE * i;
-    let end = start + SLOT_SIZE;
+    let start = sizes::HEADER_SIZE + sizes::SLOT_SIZE * i;
+    let end = start + sizes::SLOT_SIZE;
     &store[start..end]
 }
 
@@ -39,7 +35,7 @@ pub fn version_at(store: &[u8], i: usize) -> u32
     requires { ⌜ slotAt i + slotSize ≤ length (now store) ⌝ }
     ensures { λ r. ⌜ r ≡ field versionAt 4 (slotIn i (now (store .entry))) ⌝ }
 {
-    let at = HEADER_SIZE + SLOT_SIZE * i + VERSION_AT;
+    let at = sizes::HEADER_SIZE + sizes::SLOT_SIZE * i + sizes::VERSION_AT;
     get_u32(store, at)
 }
 
@@ -47,7 +43,7 @@ pub fn retired_at(store: &[u8], i: usize) -> u32
     requires { ⌜ slotAt i + slotSize ≤ length (now store) ⌝ }
     ensures { λ r. ⌜ r ≡ field retiredAt 4 (slotIn i (now (store .entry))) ⌝ }
 {
-    let at = HEADER_SIZE + SLOT_SIZE * i + RETIRED_AT;
+    let at = sizes::HEADER_SIZE + sizes::SLOT_SIZE * i + sizes::RETIRED_AT;
     get_u32(store, at)
 }
 
@@ -55,7 +51,7 @@ pub fn count_at(store: &[u8], i: usize) -> u16
     requires { ⌜ slotAt i + slotSize ≤ length (now store) ⌝ }
     ensures { λ r. ⌜ r ≡ countIn (slotIn i (now (store .entry))) ⌝ }
 {
-    let at = HEADER_SIZE + SLOT_SIZE * i + COUNT_AT;
+    let at = sizes::HEADER_SIZE + sizes::SLOT_SIZE * i + sizes::COUNT_AT;
     get_u16(store, at)
 }
 
@@ -71,8 +67,8 @@ pub fn put_leaf_at(
     requires { ⌜ (slotAt i + slotSize ≤ length (now store)) × Proper place × (length (now grant) ≡ grantSize) ⌝ }
     ensures { λ _. ⌜ now (store .exit) ≡ written (slotAt i) (slotBytes (used (recordOf (placeOf place) version retired (grantBody (now (grant .entry)))))) (now (store .entry)) ⌝ }
 {
-    let start = HEADER_SIZE + SLOT_SIZE * i;
-    let end = start + SLOT_SIZE;
+    let start = sizes::HEADER_SIZE + sizes::SLOT_SIZE * i;
+    let end = start + sizes::SLOT_SIZE;
     put_leaf(&mut store[start..end], place, version, retired, grant);
 }
 
@@ -88,8 +84,8 @@ pub fn put_inner_at(
     requires { ⌜ (slotAt i + slotSize ≤ length (now store)) × Proper place ⌝ }
     ensures { λ _. ⌜ now (store .exit) ≡ written (slotAt i) (slotBytes (used (recordOf (placeOf place) version retired (innerBody (childSays left) (childSays right))))) (now (store .entry)) ⌝ }
 {
-    let start = HEADER_SIZE + SLOT_SIZE * i;
-    let end = start + SLOT_SIZE;
+    let start = sizes::HEADER_SIZE + sizes::SLOT_SIZE * i;
+    let end = start + sizes::SLOT_SIZE;
     put_inner(&mut store[start..end], place, version, retired, left, right);
 }
 
@@ -97,8 +93,8 @@ pub fn clear_slot_at(store: &mut [u8], i: usize)
     requires { ⌜ slotAt i + slotSize ≤ length (now store) ⌝ }
     ensures { λ _. ⌜ now (store .exit) ≡ written (slotAt i) (slotBytes free) (now (store .entry)) ⌝ }
 {
-    let start = HEADER_SIZE + SLOT_SIZE * i;
-    let end = start + SLOT_SIZE;
+    let start = sizes::HEADER_SIZE + sizes::SLOT_SIZE * i;
+    let end = start + sizes::SLOT_SIZE;
     clear_slot(&mut store[start..end]);
 }
 
@@ -106,6 +102,6 @@ pub fn put_retired_at(store: &mut [u8], i: usize, since: u32)
     requires { ⌜ slotAt i + slotSize ≤ length (now store) ⌝ }
     ensures { λ _. ⌜ now (store .exit) ≡ written (slotAt i + retiredAt) (le 4 since) (now (store .entry)) ⌝ }
 {
-    let at = HEADER_SIZE + SLOT_SIZE * i + RETIRED_AT;
+    let at = sizes::HEADER_SIZE + sizes::SLOT_SIZE * i + sizes::RETIRED_AT;
     put_u32(store, at, since);
 }

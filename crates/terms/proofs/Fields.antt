@@ -1,14 +1,14 @@
 -- Fields there and back: a number is the bytes that stand for it, and fields that fill a string are the string. Assumes nothing.
-use Prim.Native.Nat.{ℕ, zero, suc, _+_, _*_, _-_, _<_, _≤_, _/_, _%_, _^_}
+use Prim.Native.Nat.{ℕ, zero, suc, _+_, _-_, _<_, _≤_, _/_, _^_}
 use native.Mathlib.Omega.{arith}
 use mathlib.Core.Path.{_≡_, refl, ap, ap₂, sym, _∙_}
-use mathlib.Core.Bool.{Bool, true, false, _&&_}
+use mathlib.Core.Bool.{Bool, true, false}
 use mathlib.Core.List.{List, [], _∷_, _++_, append-assoc, append-nil}
-use lib.ListN.{length, take, drop, replicate, take-append-drop, drop-of-length-le, length-append, length-take, length-drop, length-replicate}
+use lib.ListN.{length, take, drop, take-append-drop, drop-of-length-le, length-append, length-take, length-drop, length-replicate}
 use lib.Seq.{drop-drop, take-take, take-add, take-at, drop-at}
 use lib.Dec.{eqb}
 use native.Mathlib.Nat.{pow-suc, add-sub-cancel-left}
-use borrow.Author.Tests.{eqb-true, eq-eqb}
+use borrow.Author.Tests.{eqb-true}
 use Rattle.terms.specs.Bits.{Bytes, Byte, All}
 use Rattle.terms.specs.Fields.{le, num, slice, field, zeroBytes, allZero, flat, allOf}
 use Rattle.terms.proofs.Tests.{and-left, and-right, and-true}
@@ -170,3 +170,7 @@ length-zero-bytes n = length-replicate n 0
 pub part-slice : (i n : ℕ) (s : Bytes) → take (i + n - i) (drop i s) ≡ slice i n s
 unfolding slice
 part-slice i n s = rw (add-sub-cancel-left i n)
+
+-- what follows the first fields
+pub drop-fields : (ns : List ℕ) (fs gs : List Bytes) → Sized ns fs → drop (total ns) (flat (fs ++ gs)) ≡ flat gs
+drop-fields ns fs gs h = ap (drop (total ns)) (flat-append fs gs) ∙ drop-at (flat fs) (flat gs) (total ns) (length-flat ns fs h)

@@ -11,7 +11,7 @@ use lib.Seq.{take-all, getD-append-add, getD-drop, getD-take, ext-getD}
 use lib.Dec.{eqb, ltb}
 use borrow.Author.Tests.{ltb-true, ltb-false}
 use Rattle.terms.specs.Bits.{Bytes, Byte, Side, Place, All, left, longer, bits, byteBits, odd, bit, prefix, begins, noneSet, digit, packed, pack, samePlace}
-use Rattle.terms.proofs.Tests.{and-left, and-right, and-true, and-assoc, same-bit, bothBits, both-bits, same-place}
+use Rattle.terms.proofs.Tests.{and-left, and-right, and-true, and-assoc, same-bit, bit-same, bothBits, both-bits, same-place}
 
 pub length-byteBits : (x : ℕ) → length (byteBits x) ≡ 8
 unfolding byteBits
@@ -66,6 +66,10 @@ prefix-longer b (x ∷ p) [] h = absurd (false≢true h)
 prefix-longer b (x ∷ p) (c ∷ bs) h =
     let rest = prefix-longer b p bs (and-right (Bool·beq x c) (prefix (p ++ (b ∷ [])) bs) h) in
     (rw (and-left (Bool·beq x c) (prefix (p ++ (b ∷ [])) bs) h) (rest .0), rest .1)
+
+pub prefix-self : (p : Place) → prefix p p ≡ true
+prefix-self [] = refl
+prefix-self (b ∷ p) = rw (bit-same b) (prefix-self p)
 
 pub prefix-length : (p : Place) (bs : List Side) → prefix p bs ≡ true → length p ≤ length bs
 prefix-length [] bs h = omega arith

@@ -101,7 +101,27 @@ fn against_plain(tally: &mut Tally) {
     }
 }
 
+/// The examples of FIPS 180-4: what it says, and what the proved code gives.
+fn demo() {
+    let examples = [
+        ("", "e3b0c44298fc1c149afbf4c8996fb92427ae41e4649b934ca495991b7852b855"),
+        ("abc", "ba7816bf8f01cfea414140de5dae2223b00361a396177a9cb410ff61f20015ad"),
+        (
+            "abcdbcdecdefdefgefghfghighijhijkijkljklmklmnlmnomnopnopq",
+            "248d6a61d20638b8e5c026930c3e6039a33ce45964ff2167f6ecedd419db06c1",
+        ),
+    ];
+    for (message, says) in examples {
+        let came: String = proved::sha256(message.as_bytes()).iter().map(|b| format!("{b:02x}")).collect();
+        println!("SHA-256 of {message:?}\n  FIPS 180-4 says {says}\n  the proved code {came}");
+        assert_eq!(came, says);
+    }
+}
+
 fn main() {
+    if std::env::args().any(|word| word == "--demo") {
+        return demo();
+    }
     let mut tally = Tally::default();
     messages(SHORT, &mut tally);
     messages(LONG, &mut tally);

@@ -1,7 +1,7 @@
 -- `fields::copy` meets its contract. The loop's invariant: the first i bytes are those copied, the others as they were. The measure is
 -- what is left of the length. Assumes nothing.
-use Prim.Native.Nat.{_≤_, _-_}
-use mathlib.Core.Path.{_≡_, refl}
+use Prim.Native.Nat.{_-_}
+use mathlib.Core.Path.{refl}
 use native.Mathlib.Omega.{arith}
 use lib.ListN.{length}
 use Rattle.fields.proofs.Written.{Filling, filling-next, filling-length, filling-done}

@@ -1,3 +1,5 @@
+-- Four numbers read one after the other are the hash of their 32 bytes, which are bytes since the slice holds them.
+-- Assumes nothing.
 use mathlib.Core.Path.{ap, _∙_}
 use native.Mathlib.Omega.{arith}
 use lib.ListN.{take, drop}
@@ -6,7 +8,6 @@ use Rattle.hash.proofs.Laws.{hash-of-numbers, whole-part, bytes-of-hash
 use borrow.Author.Needs.{needs}
 use Rattle.hash.proofs.hash_at.Statement.{statement}
 use Rattle.hash.proofs.hash_at.Tie as tie
-use Rattle.hash.proofs.number_at.Reads as number-at-reads
 
 number-at-requires : tie.Need-number-at-requires
 number-at-requires c κs = search needs

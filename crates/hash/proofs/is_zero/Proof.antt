@@ -1,8 +1,8 @@
+-- The comparison's contract, with the 32 zero bytes in place of the second hash's.
+-- Assumes nothing.
 use borrow.Author.Needs.{needs}
 use Rattle.hash.proofs.is_zero.Statement.{statement}
 use Rattle.hash.proofs.is_zero.Tie as tie
-use Rattle.hash.proofs.no_hash.Reads as no-hash-reads
-use Rattle.hash.proofs.same_hash.Reads as same-hash-reads
 
 no-hash-requires : tie.Need-no-hash-requires
 no-hash-requires c κs = search needs

@@ -1,3 +1,5 @@
+-- A number below 2 ^ 32 does not reach the bytes above it.
+-- Assumes nothing.
 use mathlib.Core.Path.{refl}
 use native.Mathlib.Omega.{arith}
 use Rattle.hash.proofs.Digits.{big-join}

@@ -1,3 +1,5 @@
+-- Four zeros have 32 zero bytes: computed.
+-- Assumes nothing.
 use mathlib.Core.Path.{refl}
 use Rattle.terms.specs.Records.{zeros}
 use Rattle.hash.specs.Hash.{hashBytes}

@@ -1,9 +1,9 @@
+-- Two words one after the other spell the number of their eight bytes.
+-- Assumes nothing.
 use Rattle.hash.proofs.Laws.{number-of-words}
 use borrow.Author.Needs.{needs}
 use Rattle.hash.proofs.number_at.Statement.{statement}
 use Rattle.hash.proofs.number_at.Tie as tie
-use Rattle.hash.proofs.join.Reads as join-reads
-use Rattle.hash.proofs.word_at.Reads as word-at-reads
 
 word-at-requires : tie.Need-word-at-requires
 word-at-requires c κs = search needs

@@ -1,8 +1,9 @@
+-- Four numbers written one after the other are the bytes of the hash.
+-- Assumes nothing.
 use Rattle.hash.proofs.Laws.{four-puts}
 use borrow.Author.Needs.{needs}
 use Rattle.hash.proofs.put_hash.Statement.{statement}
 use Rattle.hash.proofs.put_hash.Tie as tie
-use Rattle.hash.proofs.put_number.Reads as put-number-reads
 
 put-number-requires : tie.Need-put-number-requires
 put-number-requires c κs = search needs

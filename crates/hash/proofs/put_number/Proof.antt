@@ -1,3 +1,5 @@
+-- Eight stores in a row write the eight bytes and nothing else.
+-- Assumes nothing.
 use native.Mathlib.Omega.{arith}
 use lib.ListN.{length-set}
 use Rattle.hash.proofs.Laws.{eight-stores}

@@ -1,3 +1,5 @@
+-- Hashes with equal numbers have equal bytes; hashes with unequal numbers have unequal bytes, since the numbers come back from the bytes.
+-- Assumes nothing.
 use mathlib.Core.Path.{ap, sym}
 use borrow.Author.Needs.{needs}
 use Rattle.hash.specs.declared.Hash.{Hash}

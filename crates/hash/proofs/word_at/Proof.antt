@@ -1,9 +1,9 @@
+-- The four bytes read, packed as the definition packs them.
+-- Assumes nothing.
 use Rattle.hash.specs.BigEndian.{wordAt}
 use borrow.Author.Needs.{needs}
 use Rattle.hash.proofs.word_at.Statement.{statement}
 use Rattle.hash.proofs.word_at.Tie as tie
-use Rattle.hash.proofs.pack.Reads as pack-reads
-use Rattle.hash.proofs.wide.Reads as wide-reads
 
 shared-slice-read-wide : tie.Need-shared-slice-read-wide
 shared-slice-read-wide c = search needs

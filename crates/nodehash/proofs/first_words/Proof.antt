@@ -1,9 +1,9 @@
+-- The sixteen words are those of the message's first block.
+-- Assumes nothing.
 use Rattle.nodehash.proofs.Blocks.{first-block}
 use borrow.Author.Needs.{needs}
 use Rattle.nodehash.proofs.first_words.Statement.{statement}
 use Rattle.nodehash.proofs.first_words.Tie as tie
-use Rattle.nodehash.proofs.middle.Reads as middle-reads
-use Rattle.nodehash.proofs.seam.Reads as seam-reads
 
 seam-requires : tie.Need-seam-requires
 seam-requires c κs = search needs

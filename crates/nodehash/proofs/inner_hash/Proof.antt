@@ -1,8 +1,9 @@
+-- The node's hash with the byte 0.
+-- Assumes nothing.
 use Rattle.nodehash.specs.Node.{innerHash}
 use borrow.Author.Needs.{needs}
 use Rattle.nodehash.proofs.inner_hash.Statement.{statement}
 use Rattle.nodehash.proofs.inner_hash.Tie as tie
-use Rattle.nodehash.proofs.node_hash.Reads as node-hash-reads
 
 node-hash-requires : tie.Need-node-hash-requires
 node-hash-requires c κs = search needs

@@ -1,3 +1,5 @@
+-- The two hashes that are read have the bytes of the key and of the value.
+-- Assumes nothing.
 use mathlib.Core.Path.{_∙_}
 use native.Mathlib.Omega.{arith}
 use lib.ListN.{drop, length-drop}
@@ -6,8 +8,6 @@ use Rattle.nodehash.specs.Node.{leafHash}
 use borrow.Author.Needs.{needs}
 use Rattle.nodehash.proofs.leaf_hash.Statement.{statement}
 use Rattle.nodehash.proofs.leaf_hash.Tie as tie
-use Rattle.hash.proofs.hash_at.Reads as hash-at-reads
-use Rattle.nodehash.proofs.node_hash.Reads as node-hash-reads
 
 hash-at-requires : tie.Need-hash-at-requires
 hash-at-requires c κs = search needs

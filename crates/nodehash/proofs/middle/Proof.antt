@@ -1,3 +1,5 @@
+-- The definition computes to the code.
+-- Assumes nothing.
 use mathlib.Core.Path.{refl}
 use Rattle.nodehash.specs.Words.{middleWord}
 use borrow.Author.Needs.{needs}

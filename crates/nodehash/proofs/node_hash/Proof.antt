@@ -1,3 +1,5 @@
+-- The message of 65 bytes has two blocks, and the words are theirs.
+-- Assumes nothing.
 use mathlib.Core.Path.{ap, _∙_}
 use Rattle.hash.specs.Hash.{hashBytes}
 use Rattle.sha256.specs.Sha256.{padded, stateBytes, sha256}
@@ -5,11 +7,6 @@ use Rattle.nodehash.proofs.Blocks.{two-blocks}
 use borrow.Author.Needs.{needs}
 use Rattle.nodehash.proofs.node_hash.Statement.{statement}
 use Rattle.nodehash.proofs.node_hash.Tie as tie
-use Rattle.nodehash.proofs.first_words.Reads as first-words-reads
-use Rattle.nodehash.proofs.second_words.Reads as second-words-reads
-use Rattle.sha256.proofs.compress.Reads as compress-reads
-use Rattle.sha256.proofs.start.Reads as start-reads
-use Rattle.sha256.proofs.to_hash.Reads as to-hash-reads
 
 start-requires : tie.Need-start-requires
 start-requires c κs = search needs

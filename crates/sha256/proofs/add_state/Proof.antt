@@ -1,8 +1,9 @@
+-- Eight sums, as the definition has them.
+-- Assumes nothing.
 use Rattle.sha256.specs.Sha256.{added}
 use borrow.Author.Needs.{needs}
 use Rattle.sha256.proofs.add_state.Statement.{statement}
 use Rattle.sha256.proofs.add_state.Tie as tie
-use Rattle.sha256.proofs.add.Reads as add-reads
 
 add-requires : tie.Need-add-requires
 add-requires c κs = search needs

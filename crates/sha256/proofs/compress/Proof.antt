@@ -1,3 +1,5 @@
+-- The 64 rounds, added to the hash value before them.
+-- Assumes nothing.
 use mathlib.Core.Path.{ap, _∙_}
 use Rattle.sha256.specs.declared.State.{State}
 use Rattle.sha256.specs.Sha256.{added}
@@ -5,8 +7,6 @@ use Rattle.sha256.specs.Rolling.{folded}
 use borrow.Author.Needs.{needs}
 use Rattle.sha256.proofs.compress.Statement.{statement}
 use Rattle.sha256.proofs.compress.Tie as tie
-use Rattle.sha256.proofs.add_state.Reads as add-state-reads
-use Rattle.sha256.proofs.rounds.Reads as rounds-reads
 
 rounds-requires : tie.Need-rounds-requires
 rounds-requires c κs = search needs

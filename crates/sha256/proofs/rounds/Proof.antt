@@ -1,11 +1,9 @@
+-- Four times sixteen rounds are 64.
+-- Assumes nothing.
 use Rattle.sha256.proofs.Rolling.{four-times}
 use borrow.Author.Needs.{needs}
 use Rattle.sha256.proofs.rounds.Statement.{statement}
 use Rattle.sha256.proofs.rounds.Tie as tie
-use Rattle.sha256.proofs.rounds0.Reads as rounds0-reads
-use Rattle.sha256.proofs.rounds1.Reads as rounds1-reads
-use Rattle.sha256.proofs.rounds2.Reads as rounds2-reads
-use Rattle.sha256.proofs.rounds3.Reads as rounds3-reads
 
 rounds0-requires : tie.Need-rounds0-requires
 rounds0-requires c κs = search needs

@@ -1,9 +1,10 @@
+-- Sixteen rounds, each from the one before it; the constants are those of the table, by computing.
+-- Assumes nothing.
 use Rattle.sha256.specs.Sha256.{K}
 use Rattle.sha256.proofs.Rolling.{sixteen-rounds}
 use borrow.Author.Needs.{needs}
 use Rattle.sha256.proofs.rounds0.Statement.{statement}
 use Rattle.sha256.proofs.rounds0.Tie as tie
-use Rattle.sha256.proofs.step.Reads as step-reads
 
 step-requires : tie.Need-step-requires
 step-requires c κs = search needs

@@ -1,10 +1,10 @@
+-- Sixteen words and sixteen rounds, each from the one before it; the constants are those of the table, by computing.
+-- Assumes nothing.
 use Rattle.sha256.specs.Sha256.{K}
 use Rattle.sha256.proofs.Rolling.{sixteen-words, sixteen-rounds}
 use borrow.Author.Needs.{needs}
 use Rattle.sha256.proofs.rounds1.Statement.{statement}
 use Rattle.sha256.proofs.rounds1.Tie as tie
-use Rattle.sha256.proofs.schedule.Reads as schedule-reads
-use Rattle.sha256.proofs.step.Reads as step-reads
 
 schedule-requires : tie.Need-schedule-requires
 schedule-requires c κs = search needs

@@ -1,10 +1,9 @@
+-- The sums in FIPS's order.
+-- Assumes nothing.
 use Rattle.sha256.specs.Sha256.{scheduled}
 use borrow.Author.Needs.{needs}
 use Rattle.sha256.proofs.schedule.Statement.{statement}
 use Rattle.sha256.proofs.schedule.Tie as tie
-use Rattle.sha256.proofs.add.Reads as add-reads
-use Rattle.sha256.proofs.sigma0.Reads as sigma0-reads
-use Rattle.sha256.proofs.sigma1.Reads as sigma1-reads
 
 sigma1-requires : tie.Need-sigma1-requires
 sigma1-requires c κs = search needs

@@ -1,12 +1,9 @@
+-- T1 and T2 in FIPS's order of sums.
+-- Assumes nothing.
 use Rattle.sha256.specs.Sha256.{round}
 use borrow.Author.Needs.{needs}
 use Rattle.sha256.proofs.step.Statement.{statement}
 use Rattle.sha256.proofs.step.Tie as tie
-use Rattle.sha256.proofs.add.Reads as add-reads
-use Rattle.sha256.proofs.big_sigma0.Reads as big-sigma0-reads
-use Rattle.sha256.proofs.big_sigma1.Reads as big-sigma1-reads
-use Rattle.sha256.proofs.ch.Reads as ch-reads
-use Rattle.sha256.proofs.maj.Reads as maj-reads
 
 big-sigma1-requires : tie.Need-big-sigma1-requires
 big-sigma1-requires c κs = search needs

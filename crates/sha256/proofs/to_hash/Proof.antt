@@ -1,8 +1,9 @@
+-- Two words joined have the bytes of the one and then of the other.
+-- Assumes nothing.
 use Rattle.hash.proofs.Laws.{hash-in-parts}
 use borrow.Author.Needs.{needs}
 use Rattle.sha256.proofs.to_hash.Statement.{statement}
 use Rattle.sha256.proofs.to_hash.Tie as tie
-use Rattle.hash.proofs.join.Reads as join-reads
 
 join-requires : tie.Need-join-requires
 join-requires c κs = search needs

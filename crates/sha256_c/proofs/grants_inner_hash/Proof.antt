@@ -1,12 +1,11 @@
+-- The hash is written over all 32 bytes; the two hashes that are read have the children's bytes.
+-- Assumes nothing.
 use mathlib.Core.Path.{refl, _∙_}
 use Rattle.hash.proofs.Laws.{put-over}
 use lib.Seq.{take-all}
 use borrow.Author.Needs.{needs}
 use Rattle.sha256_c.proofs.grants_inner_hash.Statement.{statement}
 use Rattle.sha256_c.proofs.grants_inner_hash.Tie as tie
-use Rattle.hash.proofs.hash_at.Reads as hash-at-reads
-use Rattle.hash.proofs.put_hash.Reads as put-hash-reads
-use Rattle.nodehash.proofs.inner_hash.Reads as inner-hash-reads
 
 hash-at-requires : tie.Need-hash-at-requires
 hash-at-requires c κs = search needs

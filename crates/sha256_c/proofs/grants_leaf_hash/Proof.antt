@@ -1,10 +1,10 @@
+-- The hash is written over all 32 bytes.
+-- Assumes nothing.
 use mathlib.Core.Path.{refl, _∙_}
 use Rattle.hash.proofs.Laws.{put-over}
 use borrow.Author.Needs.{needs}
 use Rattle.sha256_c.proofs.grants_leaf_hash.Statement.{statement}
 use Rattle.sha256_c.proofs.grants_leaf_hash.Tie as tie
-use Rattle.hash.proofs.put_hash.Reads as put-hash-reads
-use Rattle.nodehash.proofs.leaf_hash.Reads as leaf-hash-reads
 
 leaf-hash-requires : tie.Need-leaf-hash-requires
 leaf-hash-requires c κs = search needs

@@ -1,10 +1,10 @@
+-- The digest is written over all 32 bytes.
+-- Assumes nothing.
 use mathlib.Core.Path.{refl, _∙_}
 use Rattle.hash.proofs.Laws.{put-over}
 use borrow.Author.Needs.{needs}
 use Rattle.sha256_c.proofs.grants_sha256.Statement.{statement}
 use Rattle.sha256_c.proofs.grants_sha256.Tie as tie
-use Rattle.hash.proofs.put_hash.Reads as put-hash-reads
-use Rattle.sha256.proofs.digest.Reads as digest-reads
 
 digest-requires : tie.Need-digest-requires
 digest-requires c κs = search needs

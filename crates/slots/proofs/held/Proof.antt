@@ -1,5 +1,5 @@
 -- `slots::held` meets its contract: place, version and retired-since are the fields of the head. Assumes nothing.
-use mathlib.Core.Path.{_≡_, refl, ap, _∙_}
+use mathlib.Core.Path.{refl, ap, _∙_}
 use native.Mathlib.Omega.{arith}
 use lib.ListN.{take, drop}
 use Rattle.terms.specs.Bits.{bits, noneSet}

@@ -1,7 +1,6 @@
 -- `slots::is_inner` meets its contract: after each test that passed, the tests that are left decide. Assumes nothing.
-use mathlib.Core.Path.{_≡_, refl, ap, sym, _∙_}
-use mathlib.Core.Bool.{Bool, true, _||_}
-use mathlib.Core.List.{List}
+use mathlib.Core.Path.{_≡_, ap, sym, _∙_}
+use mathlib.Core.Bool.{_||_}
 use native.Mathlib.Omega.{arith}
 use lib.ListN.{drop}
 use lib.Dec.{leb}

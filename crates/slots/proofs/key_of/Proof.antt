@@ -1,6 +1,8 @@
 -- `slots::key_of` meets its contract: the key is the part that is handed out. Assumes nothing.
 use mathlib.Core.Path.{refl}
+use native.Mathlib.Omega.{arith}
 use Rattle.terms.specs.Fields.{slice}
+use Rattle.terms.proofs.Fields.{length-slice}
 use borrow.Author.Needs.{needs}
 use Rattle.slots.proofs.key_of.Statement.{statement}
 use Rattle.slots.proofs.key_of.Tie as tie
@@ -16,7 +18,7 @@ part-result-end c = search needs
 
 returns : tie.Need-returns
 unfolding slice
-returns c = refl
+returns c = (refl, length-slice 48 32 (c .before .args .s .now) (omega arith))
 
 pub key-of-spec : {M : Type 1} → statement M
 key-of-spec = tie.close (tie.spec sub-result part-result-start part-result-end returns)

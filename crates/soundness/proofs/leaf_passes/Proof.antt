@@ -34,14 +34,14 @@ key-of-requires c κs = search needs
 
 -- src/lib.rt:142:9
 begins-requires : tie.Need-begins-requires
-begins-requires c κs = let a = c .before .before .before .before .before .before in (ap length (c .key-of .ensures) ∙ length-slice 48 32 (a .args .s .now) (omega (arith, a .pre .1)), a .pre .0 .proper)
+begins-requires c κs = let a = c .before .before .before .before .before .before in (ap length (c .key-of .ensures .0) ∙ length-slice 48 32 (a .args .s .now) (omega (arith, a .pre .1)), a .pre .0 .proper)
 
 -- src/lib.rt:143:9
 returns-2 : tie.Need-returns-2
 returns-2 c =
     let a = c .before .before .before .before .before .before .before .before in
     fails-body (a .args .store .now) (a .args .head) (leafIn (a .args .s .now)) (c .before .before .before .before .before .alone-right .ensures) (not-false _ (c .before .before .before .before .if1 .left))
-    (leaf-body (a .args .s .now) (storeOf (a .args .store .now)) (placeOf (a .args .head .place)) (c .before .before .key-of .ensures) (c .before .begins .ensures) ∙ not-true _ (c .if2 .taken))
+    (leaf-body (a .args .s .now) (storeOf (a .args .store .now)) (placeOf (a .args .head .place)) (c .before .before .key-of .ensures .0) (c .before .begins .ensures) ∙ not-true _ (c .if2 .taken))
 
 -- src/lib.rt:145:52
 grant-of-requires : tie.Need-grant-of-requires
@@ -49,7 +49,7 @@ grant-of-requires c κs = search needs
 
 -- src/lib.rt:145:42
 leaf-hash-requires : tie.Need-leaf-hash-requires
-leaf-hash-requires c κs = let a = c .before .before .before .before .before .before .before .before .before in ap length (c .grant-of .ensures) ∙ length-slice 48 64 (a .args .s .now) (omega (arith, a .pre .1))
+leaf-hash-requires c κs = let a = c .before .before .before .before .before .before .before .before .before in ap length (c .grant-of .ensures .0) ∙ length-slice 48 64 (a .args .s .now) (omega (arith, a .pre .1))
 
 -- src/lib.rt:145:5
 above-right-requires : tie.Need-above-right-requires
@@ -60,8 +60,8 @@ returns-3 : tie.Need-returns-3
 returns-3 c =
     let a = c .before .before .before .before .before .before .before .before .before .before .before in
     passes-body (a .args .store .now) (a .args .head) (leafIn (a .args .s .now)) (c .before .before .before .before .before .before .before .before .alone-right .ensures) (not-false _ (c .before .before .before .before .before .before .before .if1 .left))
-    (leaf-body (a .args .s .now) (storeOf (a .args .store .now)) (placeOf (a .args .head .place)) (c .before .before .before .before .before .key-of .ensures) (c .before .before .before .before .begins .ensures) ∙ not-false _ (c .before .before .before .if2 .left))
-    (c .above-right .ensures (leafIn (a .args .s .now)) (leaf-kind (a .args .s .now)) (leaf-hashed (a .args .s .now) (c .before .before .grant-of .ensures) (c .before .leaf-hash .result) (c .before .leaf-hash .ensures)))
+    (leaf-body (a .args .s .now) (storeOf (a .args .store .now)) (placeOf (a .args .head .place)) (c .before .before .before .before .before .key-of .ensures .0) (c .before .before .before .before .begins .ensures) ∙ not-false _ (c .before .before .before .if2 .left))
+    (c .above-right .ensures (leafIn (a .args .s .now)) (leaf-kind (a .args .s .now)) (leaf-hashed (a .args .s .now) (c .before .before .grant-of .ensures .0) (c .before .leaf-hash .result) (c .before .leaf-hash .ensures)))
 
 pub leaf-passes-spec : {M : Type 1} → statement M
 leaf-passes-spec =

@@ -1,10 +1,12 @@
--- `soundness::root_right` meets its contract: one test. Assumes nothing.
+-- `soundness::root_right` meets its contract: one more than the version. Assumes nothing.
 use mathlib.Core.Path.{ap}
 use native.Mathlib.Numerals.{add-one}
 use lib.Dec.{eqb}
 use borrow.Author.Needs.{needs}
 use Rattle.soundness.proofs.root_right.Statement.{statement}
 use Rattle.soundness.proofs.root_right.Tie as tie
+use Rattle.soundness.proofs.root_right.Reads as reads
+use Rattle.soundness.proofs.root_right.Lts as lts
 
 add-result : tie.Need-add-result
 add-result c = search needs

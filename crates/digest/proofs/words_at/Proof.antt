@@ -1,0 +1,156 @@
+-- Sixteen words read one after the other are the block.
+-- Assumes nothing.
+use Rattle.sha256.proofs.Blocks.{block-of-words}
+use borrow.Author.Needs.{needs}
+use Rattle.digest.proofs.words_at.Statement.{statement}
+use Rattle.digest.proofs.words_at.Tie as tie
+
+word-at-requires : tie.Need-word-at-requires
+word-at-requires c κs = search needs
+
+add-word-at : tie.Need-add-word-at
+add-word-at c = search needs
+
+word-at-requires-2 : tie.Need-word-at-requires-2
+word-at-requires-2 c κs = search needs
+
+add-word-at-2 : tie.Need-add-word-at-2
+add-word-at-2 c = search needs
+
+word-at-requires-3 : tie.Need-word-at-requires-3
+word-at-requires-3 c κs = search needs
+
+add-word-at-3 : tie.Need-add-word-at-3
+add-word-at-3 c = search needs
+
+word-at-requires-4 : tie.Need-word-at-requires-4
+word-at-requires-4 c κs = search needs
+
+add-word-at-4 : tie.Need-add-word-at-4
+add-word-at-4 c = search needs
+
+word-at-requires-5 : tie.Need-word-at-requires-5
+word-at-requires-5 c κs = search needs
+
+add-word-at-5 : tie.Need-add-word-at-5
+add-word-at-5 c = search needs
+
+word-at-requires-6 : tie.Need-word-at-requires-6
+word-at-requires-6 c κs = search needs
+
+add-word-at-6 : tie.Need-add-word-at-6
+add-word-at-6 c = search needs
+
+word-at-requires-7 : tie.Need-word-at-requires-7
+word-at-requires-7 c κs = search needs
+
+add-word-at-7 : tie.Need-add-word-at-7
+add-word-at-7 c = search needs
+
+word-at-requires-8 : tie.Need-word-at-requires-8
+word-at-requires-8 c κs = search needs
+
+add-word-at-8 : tie.Need-add-word-at-8
+add-word-at-8 c = search needs
+
+word-at-requires-9 : tie.Need-word-at-requires-9
+word-at-requires-9 c κs = search needs
+
+add-word-at-9 : tie.Need-add-word-at-9
+add-word-at-9 c = search needs
+
+word-at-requires-10 : tie.Need-word-at-requires-10
+word-at-requires-10 c κs = search needs
+
+add-word-at-10 : tie.Need-add-word-at-10
+add-word-at-10 c = search needs
+
+word-at-requires-11 : tie.Need-word-at-requires-11
+word-at-requires-11 c κs = search needs
+
+add-word-at-11 : tie.Need-add-word-at-11
+add-word-at-11 c = search needs
+
+word-at-requires-12 : tie.Need-word-at-requires-12
+word-at-requires-12 c κs = search needs
+
+add-word-at-12 : tie.Need-add-word-at-12
+add-word-at-12 c = search needs
+
+word-at-requires-13 : tie.Need-word-at-requires-13
+word-at-requires-13 c κs = search needs
+
+add-word-at-13 : tie.Need-add-word-at-13
+add-word-at-13 c = search needs
+
+word-at-requires-14 : tie.Need-word-at-requires-14
+word-at-requires-14 c κs = search needs
+
+add-word-at-14 : tie.Need-add-word-at-14
+add-word-at-14 c = search needs
+
+word-at-requires-15 : tie.Need-word-at-requires-15
+word-at-requires-15 c κs = search needs
+
+add-word-at-15 : tie.Need-add-word-at-15
+add-word-at-15 c = search needs
+
+word-at-requires-16 : tie.Need-word-at-requires-16
+word-at-requires-16 c κs = search needs
+
+returns : tie.Need-returns
+returns c =
+    block-of-words _ _
+    (c .before .before .before .before .before .before .before .before .before .before .before .before .before .before .before .word-at .ensures)
+    (c .before .before .before .before .before .before .before .before .before .before .before .before .before .before .word-at2 .ensures)
+    (c .before .before .before .before .before .before .before .before .before .before .before .before .before .word-at3 .ensures)
+    (c .before .before .before .before .before .before .before .before .before .before .before .before .word-at4 .ensures)
+    (c .before .before .before .before .before .before .before .before .before .before .before .word-at5 .ensures)
+    (c .before .before .before .before .before .before .before .before .before .before .word-at6 .ensures)
+    (c .before .before .before .before .before .before .before .before .before .word-at7 .ensures)
+    (c .before .before .before .before .before .before .before .before .word-at8 .ensures)
+    (c .before .before .before .before .before .before .before .word-at9 .ensures)
+    (c .before .before .before .before .before .before .word-at10 .ensures)
+    (c .before .before .before .before .before .word-at11 .ensures)
+    (c .before .before .before .before .word-at12 .ensures)
+    (c .before .before .before .word-at13 .ensures)
+    (c .before .before .word-at14 .ensures)
+    (c .before .word-at15 .ensures)
+    (c .word-at16 .ensures)
+
+pub words-at-spec : {M : Type 1} → statement M
+words-at-spec =
+    tie.close
+    (tie.spec
+    word-at-requires
+    add-word-at
+    word-at-requires-2
+    add-word-at-2
+    word-at-requires-3
+    add-word-at-3
+    word-at-requires-4
+    add-word-at-4
+    word-at-requires-5
+    add-word-at-5
+    word-at-requires-6
+    add-word-at-6
+    word-at-requires-7
+    add-word-at-7
+    word-at-requires-8
+    add-word-at-8
+    word-at-requires-9
+    add-word-at-9
+    word-at-requires-10
+    add-word-at-10
+    word-at-requires-11
+    add-word-at-11
+    word-at-requires-12
+    add-word-at-12
+    word-at-requires-13
+    add-word-at-13
+    word-at-requires-14
+    add-word-at-14
+    word-at-requires-15
+    add-word-at-15
+    word-at-requires-16
+    returns)

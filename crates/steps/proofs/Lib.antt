@@ -1,0 +1,13 @@
+pub mod Inserts
+pub mod Among
+pub mod Becoming
+pub mod Fitting
+pub mod Growing
+pub mod Leaf
+pub mod Inner
+pub mod Steps
+pub mod Marking
+pub mod Writing
+pub mod Root
+pub mod Idle
+pub mod Desk

@@ -1,0 +1,5 @@
+pub mod Step
+pub mod Given
+pub mod Writing
+pub mod Apply
+pub mod Desk

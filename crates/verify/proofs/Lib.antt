@@ -1,0 +1,5 @@
+pub mod Steps
+pub mod Forms
+pub mod Checks
+pub mod Boundary
+pub mod Acceptance

@@ -1,0 +1,59 @@
+-- `verify::grants_verify` meets its contract: each case of the answer is written out.
+-- Assumes nothing.
+use mathlib.Core.Path.{ap, sym, _∙_}
+use Rattle.meaning.specs.Calls.{Answer}
+use Rattle.meaning.specs.Reading.{Verdict}
+use Rattle.verify.specs.Verify.{says}
+use Rattle.verify.specs.Boundary.{numberOf, foundAfter}
+use Rattle.verify.proofs.Boundary.{zeros-found}
+use borrow.Author.Needs.{needs}
+use Rattle.verify.proofs.grants_verify.Statement.{statement}
+use Rattle.verify.proofs.grants_verify.Tie as tie
+
+verify-requires : tie.Need-verify-requires
+verify-requires c κs = search needs
+
+enum-known-answer : tie.Need-enum-known-answer
+enum-known-answer c = search needs
+
+enum-known-answer-2 : tie.Need-enum-known-answer-2
+enum-known-answer-2 c = search needs
+
+put-present-requires : tie.Need-put-present-requires
+put-present-requires c κs = search needs
+
+enum-told : tie.Need-enum-told
+enum-told c = search needs
+
+clear-requires : tie.Need-clear-requires
+clear-requires c κs = search needs
+
+returns : tie.Need-returns
+returns c =
+    let e = ap says (sym (c .before .answer .given .1)) ∙ c .before .before .before .verify .ensures in
+    (ap numberOf e, ap (λ (v : Answer Verdict). foundAfter v (c .before .before .before .before .before .before .before .args .found .now)) e)
+
+returns-2 : tie.Need-returns-2
+returns-2 c =
+    let e = ap says (sym (c .before .before .before .answer2 .given .1)) ∙ c .before .before .before .before .before .verify .ensures in
+    (ap numberOf e, c .put-present .ensures ∙ ap (λ (v : Answer Verdict). foundAfter v (c .before .before .before .before .before .before .before .before .before .args .found .now)) e)
+
+returns-3 : tie.Need-returns-3
+returns-3 c =
+    let e = ap says (sym (c .before .before .enum-told .given .1)) ∙ c .before .before .before .before .verify .ensures in
+    let f = c .before .before .before .before .before .before .before .before .args .found .now in
+    (ap numberOf e, c .clear .ensures ∙ zeros-found f (search needs) ∙ ap (λ (v : Answer Verdict). foundAfter v f) e)
+
+pub grants-verify-spec : {M : Type 1} → statement M
+grants-verify-spec =
+    tie.close
+    (tie.spec
+    verify-requires
+    enum-known-answer
+    enum-known-answer-2
+    put-present-requires
+    enum-told
+    clear-requires
+    returns
+    returns-2
+    returns-3)

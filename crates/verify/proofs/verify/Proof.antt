@@ -1,0 +1,90 @@
+-- `verify::verify` meets its contract: the lengths, then which form the proof has, then whether it holds.
+-- Assumes nothing.
+use native.Mathlib.Omega.{arith}
+use mathlib.Core.Path.{sym, _∙_}
+use lib.Seq.{take-all}
+use Rattle.terms.specs.Fields.{slice}
+use Rattle.verify.proofs.Forms.{presence-whole}
+use Rattle.verify.proofs.Checks.{presence-answer, absence-answer, root-off, key-off, as-presence, as-absence, off-form}
+use borrow.Author.Needs.{needs}
+use Rattle.verify.proofs.verify.Statement.{statement}
+use Rattle.verify.proofs.verify.Tie as tie
+
+returns : tie.Need-returns
+returns c = let a = c .before .before .before .before .args in sym (root-off (a .root .now) (a .key .now) (a .proof .now) (c .if1 .taken))
+
+returns-2 : tie.Need-returns-2
+returns-2 c =
+    let a = c .before .before .before .before .before .args in
+    sym (key-off (a .root .now) (a .key .now) (a .proof .now) (c .before .if1 .left) (c .if2 .taken))
+
+hash-at-requires : tie.Need-hash-at-requires
+hash-at-requires c κs = search needs
+
+is-presence-requires : tie.Need-is-presence-requires
+is-presence-requires c κs = search needs
+
+hash-at-requires-2 : tie.Need-hash-at-requires-2
+hash-at-requires-2 c κs =
+    let w = presence-whole (c .before .before .before .before .before .before .before .before .args .proof .now) (sym (c .before .is-presence .ensures) ∙ c .if3 .taken) in
+    omega arith
+
+presence-holds-requires : tie.Need-presence-holds-requires
+presence-holds-requires c κs = sym (c .before .before .is-presence .ensures) ∙ c .before .if3 .taken
+
+held-requires : tie.Need-held-requires
+held-requires c κs = search needs
+
+returns-3 : tie.Need-returns-3
+unfolding slice
+returns-3 c =
+    let a = c .before .before .before .before .before .before .before .before .before .before .before .args in
+    let u = c .before .before .before in
+    let s = u .before .before in
+    c .held .ensures
+    ∙ presence-answer (a .root .now) (a .key .now) (a .proof .now) (s .hash-at .ensures .1 ∙ take-all 32 (a .root .now) (omega (arith, s .before .before .if1 .left))) (c .before .before .hash-at2 .ensures .1) (c .before .presence-holds .ensures)
+    ∙ sym (as-presence (a .root .now) (a .key .now) (a .proof .now) (s .before .before .if1 .left) (s .before .if2 .left) (sym (u .before .is-presence .ensures) ∙ u .if3 .taken))
+
+is-absence-requires : tie.Need-is-absence-requires
+is-absence-requires c κs = search needs
+
+absence-holds-requires : tie.Need-absence-holds-requires
+absence-holds-requires c κs = sym (c .before .is-absence .ensures) ∙ c .if4 .taken
+
+held-requires-2 : tie.Need-held-requires-2
+held-requires-2 c κs = search needs
+
+returns-4 : tie.Need-returns-4
+returns-4 c =
+    let a = c .before .before .before .before .before .before .before .before .before .before .before .before .args in
+    let w = c .before .before in
+    let u = w .before .before in
+    let s = u .before .before in
+    c .held2 .ensures
+    ∙ absence-answer (a .root .now) (a .key .now) (a .proof .now) (s .hash-at .ensures .1 ∙ take-all 32 (a .root .now) (omega (arith, s .before .before .if1 .left))) (c .before .absence-holds .ensures)
+    ∙ sym (as-absence (a .root .now) (a .key .now) (a .proof .now) (s .before .before .if1 .left) (s .before .if2 .left) (sym (u .before .is-presence .ensures) ∙ u .if3 .left) (sym (w .before .is-absence .ensures) ∙ w .if4 .taken))
+
+returns-5 : tie.Need-returns-5
+returns-5 c =
+    let a = c .before .before .before .before .before .before .before .before .before .before .args in
+    let u = c .before .before in
+    let s = u .before .before in
+    sym (off-form (a .root .now) (a .key .now) (a .proof .now) (s .before .before .if1 .left) (s .before .if2 .left) (sym (u .before .is-presence .ensures) ∙ u .if3 .left) (sym (c .before .is-absence .ensures) ∙ c .if4 .left))
+
+pub verify-spec : {M : Type 1} → statement M
+verify-spec =
+    tie.close
+    (tie.spec
+    returns
+    returns-2
+    hash-at-requires
+    is-presence-requires
+    hash-at-requires-2
+    presence-holds-requires
+    held-requires
+    returns-3
+    is-absence-requires
+    absence-holds-requires
+    held-requires-2
+    returns-4
+    returns-5)

@@ -1,0 +1,4 @@
+pub mod Paths
+pub mod Holding
+pub mod Verify
+pub mod Boundary

@@ -1,0 +1,195 @@
+//! Random stores, damage and forgery, from one seed.
+
+use second::bytes::{ask_bytes, Ask, HEADER, SLOT};
+use second::Bytes32;
+
+/// A linear congruential generator, its high bits.
+pub struct Random(pub u64);
+
+impl Random {
+    pub fn next(&mut self) -> u32 {
+        self.0 = self.0.wrapping_mul(6364136223846793005).wrapping_add(1442695040888963407);
+        (self.0 >> 33) as u32
+    }
+
+    pub fn below(&mut self, n: usize) -> usize {
+        self.next() as usize % n
+    }
+
+    /// True one time in n.
+    pub fn one_in(&mut self, n: usize) -> bool {
+        self.below(n) == 0
+    }
+
+    pub fn byte(&mut self) -> u8 {
+        self.next() as u8
+    }
+
+    pub fn hash(&mut self) -> Bytes32 {
+        let mut h = [0; 32];
+        h.iter_mut().for_each(|b| *b = self.byte());
+        h
+    }
+}
+
+/// Keys that share long or short beginnings.
+pub fn keys(random: &mut Random) -> Vec<Bytes32> {
+    let n = 2 + random.below(12);
+    let mut keys: Vec<Bytes32> = (0..n)
+        .map(|_| {
+            let mut k = [0; 32];
+            match random.below(8) {
+                0 => k[31] = random.below(8) as u8,
+                1 => k[3] = random.byte(),
+                2 => k = [0xFF; 32],
+                _ => k[0] = random.byte() & 0xF8,
+            }
+            if random.one_in(6) {
+                k[1] = 0x80;
+            }
+            k
+        })
+        .collect();
+    keys.sort();
+    keys.dedup();
+    keys
+}
+
+pub fn batch(random: &mut Random, keys: &[Bytes32]) -> Vec<u8> {
+    let share = 1 + random.below(4);
+    let mut out = vec![];
+    for k in keys {
+        if random.below(4) < share {
+            let value = (!random.one_in(3)).then(|| [random.below(4) as u8; 32]);
+            out.extend(ask_bytes(&Ask { key: *k, value }));
+        }
+    }
+    out
+}
+
+/// A store made by calls, and the keys used.
+pub fn store(random: &mut Random) -> (Vec<u8>, Vec<Bytes32>) {
+    let keys = keys(random);
+    let capacity = if random.one_in(10) { 300 } else { 4 + random.below(40) };
+    let mut s = vec![random.byte(); HEADER + SLOT * capacity];
+    second::format(&mut s).unwrap();
+    if random.one_in(12) {
+        let high = u32::MAX - random.below(4) as u32;
+        second::bytes::put_header(&mut s, high, high);
+    }
+    for _ in 0..random.below(9) {
+        if random.one_in(4) {
+            let st = second::bytes::store(&s).unwrap();
+            let to = st.oldest.saturating_add(random.below(4) as u32);
+            let _ = second::prune(&mut s, to);
+        } else {
+            let b = batch(random, &keys);
+            let _ = second::apply(&mut s, &b);
+        }
+    }
+    (s, keys)
+}
+
+fn used(s: &[u8]) -> Vec<usize> {
+    (0..(s.len() - HEADER) / SLOT).filter(|i| s[HEADER + SLOT * i..][..SLOT].iter().any(|&b| b != 0)).collect()
+}
+
+fn slot(i: usize) -> std::ops::Range<usize> {
+    HEADER + SLOT * i..HEADER + SLOT * (i + 1)
+}
+
+/// One thing changed.
+pub fn damage(random: &mut Random, s: &mut Vec<u8>) {
+    let n = (s.len() - HEADER) / SLOT;
+    let used = used(s);
+    let some = if used.is_empty() { random.below(n) } else { used[random.below(used.len())] };
+    let other = random.below(n);
+    match random.below(12) {
+        0 => {
+            let at = slot(some).start + random.below(SLOT);
+            s[at] ^= 1 << random.below(8);
+        }
+        1 => {
+            let at = random.below(HEADER);
+            s[at] ^= 1 << random.below(8);
+        }
+        2 => {
+            let copy = s[slot(some)].to_vec();
+            s[slot(other)].copy_from_slice(&copy);
+        }
+        3 => {
+            let (a, b) = (s[slot(some)].to_vec(), s[slot(other)].to_vec());
+            s[slot(other)].copy_from_slice(&a);
+            s[slot(some)].copy_from_slice(&b);
+        }
+        4 => s[slot(some)].fill(0),
+        // version, retired-since, a child's version, bit count: small numbers
+        5 => s[slot(some)][40] = random.below(6) as u8,
+        6 => s[slot(some)][44] = random.below(8) as u8,
+        7 => s[slot(some)][48] = random.below(6) as u8,
+        8 => s[slot(some)][84] = random.below(6) as u8,
+        9 => s[slot(some)][6] = random.below(10) as u8,
+        10 => {
+            let (oldest, latest) = (random.below(6) as u32, random.below(12) as u32);
+            s[12..16].copy_from_slice(&oldest.to_le_bytes());
+            s[16..20].copy_from_slice(&latest.to_le_bytes());
+        }
+        _ => {
+            let at = slot(some).start + 52 + random.below(60);
+            s[at] = random.byte();
+        }
+    }
+}
+
+/// A proof changed in some way.
+pub fn forge(random: &mut Random, p: &mut Vec<u8>, others: &[Vec<u8>]) {
+    match random.below(9) {
+        0 if !p.is_empty() => {
+            let at = random.below(p.len());
+            p[at] ^= 1 << random.below(8);
+        }
+        1 if !p.is_empty() => {
+            let at = random.below(p.len().min(48));
+            p[at] = random.below(4) as u8;
+        }
+        2 => p.push(random.byte()),
+        3 => {
+            p.pop();
+        }
+        // the length field made to fit
+        4 => {
+            let n = p.len() as u32;
+            if p.len() >= 4 {
+                p[..4].copy_from_slice(&n.to_le_bytes());
+            }
+        }
+        // one step fewer or more, with its numbers
+        5 if p.len() >= 105 && p[4] == 16 => {
+            p.truncate(p.len() - 33);
+            let n = p.len();
+            p[..4].copy_from_slice(&(n as u32).to_le_bytes());
+            p[6..8].copy_from_slice(&(((n - 72) / 33) as u16).to_le_bytes());
+        }
+        6 if p.len() >= 72 && p[4] == 16 => {
+            p.push(random.below(3) as u8);
+            let fill = if random.one_in(2) { 0 } else { random.byte() };
+            p.extend([fill; 32]);
+            let n = p.len();
+            p[..4].copy_from_slice(&(n as u32).to_le_bytes());
+            p[6..8].copy_from_slice(&(((n - 72) / 33) as u16).to_le_bytes());
+        }
+        // another proof's neighbours
+        7 if !others.is_empty() => {
+            let q = &others[random.below(others.len())];
+            let mut made = (40 + q.len() as u32).to_le_bytes().to_vec();
+            made.extend([17, 0, random.below(5) as u8, 0]);
+            made.extend(random.hash());
+            made.extend(q);
+            *p = made;
+        }
+        _ => {
+            let n = random.below(120);
+            *p = (0..n).map(|_| random.byte()).collect();
+        }
+    }
+}
