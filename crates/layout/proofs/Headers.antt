@@ -4,7 +4,7 @@ use Prim.Native.Nat.{ℕ, _+_, _*_, _-_, _<_, _≤_, _/_, _%_}
 use native.Mathlib.Omega.{arith}
 use mathlib.Core.Path.{_≡_, refl, ap, sym, _∙_}
 use mathlib.Core.Bool.{Bool, true, false, cond}
-use mathlib.Core.List.{List, [], _∷_, _++_}
+use mathlib.Core.List.{List, [], _∷_, _++_, append-assoc}
 use lib.ListN.{length, getD, take, length-append}
 use lib.Dec.{eqb}
 use borrow.Author.Tests.{eqb-true, eqb-false, eq-eqb, leb-true, le-leb}
@@ -12,9 +12,9 @@ use Rattle.terms.specs.Bits.{Bytes, Byte, All}
 use Rattle.terms.specs.Fields.{le, num, field, slice, zeroBytes, allZero, flat}
 use Rattle.terms.specs.Form.{top32}
 use Rattle.terms.proofs.Tests.{is-false}
-use Rattle.terms.proofs.Fields.{num-le, length-le, le-field, length-slice, zero-bytes, all-zero, cuts, flat-front, all-of-tests, tests-all, Sized, cuts-front, length-flat, length-zero-bytes}
+use Rattle.terms.proofs.Fields.{num-le, length-le, le-field, length-slice, zero-bytes, all-zero, cuts, flat-front, all-of-tests, tests-all, Sized, cuts-front, length-flat, flat-append, length-zero-bytes}
 use Rattle.fields.specs.Written.{written}
-use Rattle.fields.proofs.Written.{fields-written}
+use Rattle.fields.proofs.Written.{fields-written, written-between}
 use Rattle.layout.specs.Sizes.{roomOf}
 use Rattle.layout.specs.Headers.{refusal, header, sizeRight, headerRight, headerOf, headerBytes}
 
@@ -59,6 +59,26 @@ pub header-put : {a b c d e f g : Bytes} (n o l : ℕ) (s : Bytes) → 24 ≤ le
     d ≡ written 8 (le 4 n) c → e ≡ written 12 (le 4 o) d → f ≡ written 16 (le 4 l) e → g ≡ written 20 (le 4 0) f → g ≡ written 0 (headerBytes n o l) s
 unfolding headerBytes
 header-put n o l s h p q r t u v w = rw (w, v, u, t, r, q, p, zero-two, zero-four) (fields-written sizes 0 (fields n o l) s (sized n o l) h)
+
+-- a header and what follows it, cut around oldest
+oldest-between : (n o l : ℕ) (xs : Bytes) →
+    headerBytes n o l ++ xs ≡ flat (le 4 24 ∷ le 2 1 ∷ zeroBytes 2 ∷ le 4 n ∷ []) ++ (le 4 o ++ (flat (le 4 l ∷ zeroBytes 4 ∷ []) ++ xs))
+unfolding headerBytes
+oldest-between n o l xs =
+    let front = le 4 24 ∷ le 2 1 ∷ zeroBytes 2 ∷ le 4 n ∷ [] in
+    let rest = le 4 l ∷ zeroBytes 4 ∷ [] in
+    ap (_++ xs) (flat-append front (le 4 o ∷ rest))
+    ∙ append-assoc (flat front) (le 4 o ++ flat rest) xs
+    ∙ ap (flat front ++_) (append-assoc (le 4 o) (flat rest) xs)
+
+-- another oldest, written in its place
+pub oldest-put : (n o q l : ℕ) (xs : Bytes) → headerBytes n q l ++ xs ≡ written 12 (le 4 q) (headerBytes n o l ++ xs)
+oldest-put n o q l xs =
+    let front = le 4 24 ∷ le 2 1 ∷ zeroBytes 2 ∷ le 4 n ∷ [] in
+    let m = length-flat (4 ∷ 2 ∷ 2 ∷ 4 ∷ []) front (length-le 4 _, (length-le 2 _, (length-zero-bytes 2, (length-le 4 n, tt)))) in
+    oldest-between n q l xs
+    ∙ sym (written-between (flat front) (le 4 o) (flat (le 4 l ∷ zeroBytes 4 ∷ []) ++ xs) (le 4 q) 12 m (length-le 4 q ∙ sym (length-le 4 o)))
+    ∙ ap (written 12 (le 4 q)) (sym (oldest-between n o l xs))
 
 -- bytes that begin with those of a header, and are as many as it says
 module _ (s : Bytes) (n o l : ℕ) (xs : Bytes) (is : s ≡ headerBytes n o l ++ xs) (long : length xs ≡ 120 * n) where

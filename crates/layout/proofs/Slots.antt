@@ -80,7 +80,7 @@ module _ (r : Record) (h : RecordForm r) where
   unfolding field
   version-says = ap num (cut r h 4) ∙ num-le 4 _ (omega (arith, h .versioned .1))
 
-  retired-says : field 44 4 (recordBytes r) ≡ r .retired
+  pub retired-says : field 44 4 (recordBytes r) ≡ r .retired
   unfolding field
   retired-says = ap num (cut r h 5) ∙ num-le 4 _ (omega (arith, h .number))
 

@@ -19,7 +19,7 @@ use Rattle.layout.specs.Headers.{header, headerOf, headerBytes}
 use Rattle.layout.specs.Slots.{recordOf, slotOf, slotBytes, SlotForm}
 use Rattle.layout.specs.Stores.{slotIn, slotsOf, slotsBytes, storeOf, storeBytes, StoreForm, putSlot, putBounds}
 use Rattle.layout.proofs.Slots.{slot-said, slot-back, slot-form, length-slot, retired-put}
-use Rattle.layout.proofs.Headers.{room-of, length-header, header-said, Accepted, accepted, header-back}
+use Rattle.layout.proofs.Headers.{room-of, length-header, oldest-put, header-said, Accepted, accepted, header-back}
 
 pub length-slots-bytes : (xs : List Slot) → All SlotForm xs → length (slotsBytes xs) ≡ 120 * length xs
 length-slots-bytes [] h = refl
@@ -212,3 +212,8 @@ module _ (st : Store) (f : StoreForm st) where
   bounds-put-bytes o l =
       sym (written-between [] (headerBytes (length (st .slots)) (st .oldest) (st .latest)) (slotsBytes (st .slots)) (headerBytes (length (st .slots)) o l) 0 refl
       (length-header _ _ _ ∙ sym (length-header _ _ _)))
+
+-- another oldest: its four bytes change, and nothing else
+pub oldest-put-bytes : (st : Store) (o : ℕ) → storeBytes (putBounds o (st .latest) st) ≡ written 12 (le 4 o) (storeBytes st)
+unfolding putBounds storeBytes
+oldest-put-bytes st o = oldest-put (length (st .slots)) (st .oldest) o (st .latest) (slotsBytes (st .slots))

@@ -1,0 +1,4 @@
+pub mod Freeing
+pub mod Outcomes
+pub mod Checking
+pub mod Theorems

@@ -1,0 +1,54 @@
+-- The outcome of each way through the call: the header and soundness first, then whether the version is kept; freeing the retired records
+-- and setting oldest is pruning. Assumes nothing.
+use Prim.Native.Nat.{ℕ, _≤_, _<_}
+use native.Mathlib.Omega.{arith}
+use mathlib.Core.Path.{_≡_, ap, sym, _∙_, subst}
+use mathlib.Core.Bool.{true, false}
+use lib.ListN.{length}
+use lib.Dec.{leb}
+use borrow.Author.Tests.{le-leb, lt-leb}
+use Rattle.terms.specs.Bits.{Bytes, Byte, All}
+use Rattle.terms.specs.Fields.{le, field}
+use Rattle.fields.specs.Written.{written}
+use Rattle.meaning.specs.Calls.{refused, accepted, refuse, isKept, prune}
+use Rattle.layout.specs.Stores.{storeOf, storeBytes, putBounds}
+use Rattle.layout.proofs.Headers.{accepted as header-accepted}
+use Rattle.layout.proofs.Stores.{store-back, store-form, oldest-put-bytes}
+use Rattle.pruning.specs.Free.{Readable, emptied, Frees}
+use Rattle.pruning.specs.Prune.{SoundBytes, Prunes, not-kept, freed}
+
+-- the version is kept, as the code tests it
+module _ (s : Bytes) (v : ℕ) where
+  pub below-oldest : v < field 12 4 s → false ≡ isKept (storeOf s) v
+  unfolding isKept storeOf
+  below-oldest h = rw (lt-leb (field 12 4 s) v h)
+
+  pub up-to-latest : field 12 4 s ≤ v → leb v (field 16 4 s) ≡ isKept (storeOf s) v
+  unfolding isKept storeOf
+  up-to-latest h = rw (le-leb (field 12 4 s) v h)
+
+module _ {s : Bytes} (w : SoundBytes s) where
+  pub sound-long : 24 ≤ length s
+  sound-long = omega (arith, header-accepted s (w .capacity) (w .oldest) (w .latest) (w .headed) .size)
+
+  pub sound-readable : All Byte s → Readable s
+  sound-readable h =
+      let a = header-accepted s (w .capacity) (w .oldest) (w .latest) (w .headed) in
+      record {
+        form = store-form s (w .capacity) (w .oldest) (w .latest) h a;
+        back = store-back s (w .capacity) (w .oldest) (w .latest) h a;
+        whole = w .sound .whole;
+      }
+
+  pub refused-8 : {n : ℕ} → isKept (storeOf s) n ≡ false → Prunes n s (refused 8) s
+  unfolding prune refuse
+  refused-8 e = not-kept {m = 8} w (rw e)
+
+  -- the retired records are freed and oldest is set
+  pub pruned-to : {n k : ℕ} {t u : Bytes} → isKept (storeOf s) n ≡ true → Frees n s k t → u ≡ written 12 (le 4 n) t → Prunes n s (accepted k) u
+  unfolding prune putBounds emptied
+  pruned-to {n} {k} {t} {u} e f p =
+      let st = storeOf s in
+      let answer : prune n st .answer ≡ accepted k = rw (e, f .count) in
+      let after : prune n st .store ≡ putBounds n (st .latest) (emptied n st) = rw e in
+      subst (Prunes n s (accepted k)) (ap storeBytes after ∙ oldest-put-bytes (emptied n st) n ∙ ap (written 12 (le 4 n)) (sym (f .bytes)) ∙ sym p) (freed w answer)

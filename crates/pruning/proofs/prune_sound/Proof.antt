@@ -1,0 +1,55 @@
+-- `pruning::prune_sound` meets its contract: the version is tested first, then the retired records are freed and oldest is set.
+-- Assumes nothing.
+use native.Mathlib.Omega.{arith}
+use mathlib.Core.Path.{sym, _∙_}
+use borrow.Author.Needs.{needs}
+use borrow.Author.Tests.{not-true, not-false}
+use Rattle.terms.specs.Bits.{Byte}
+use Rattle.terms.proofs.Lists.{all-of}
+use Rattle.pruning.specs.Prune.{prunedSays}
+use Rattle.pruning.proofs.Outcomes.{sound-long, sound-readable, refused-8, pruned-to}
+use Rattle.pruning.proofs.prune_sound.Statement.{statement}
+use Rattle.pruning.proofs.prune_sound.Tie as tie
+
+is-kept-requires : tie.Need-is-kept-requires
+is-kept-requires c κs = sound-long (c .before .before .pre)
+
+same-length : tie.Need-same-length
+same-length c = search needs
+
+returns : tie.Need-returns
+unfolding prunedSays
+returns c = refused-8 (c .before .before .before .before .pre) (sym (c .before .is-kept .ensures) ∙ not-true _ (c .if1 .taken))
+
+free-retired-requires : tie.Need-free-retired-requires
+free-retired-requires c κs =
+    let d = c .before .before .before .before in
+    sound-readable (d .before .pre) (all-of Byte (d .before .args .store .now) 0 (λ i _. omega (arith, d .slice-known .given i)))
+
+put-u32-requires : tie.Need-put-u32-requires
+put-u32-requires c κs =
+    let d = c .before .before .before in
+    omega (arith, d .free-retired .kept .0, sound-long (d .before .before .before .before .before .before .pre))
+
+same-length-2 : tie.Need-same-length-2
+same-length-2 c = search needs
+
+returns-2 : tie.Need-returns-2
+unfolding prunedSays
+returns-2 c =
+    let d = c .before .before .before .before .before .before in
+    let k = d .before .before in
+    pruned-to (k .before .before .before .before .pre) (sym (k .before .is-kept .ensures) ∙ not-false _ (k .if1 .left)) (d .free-retired .ensures)
+    (c .before .before .put-u32 .ensures)
+
+pub prune-sound-spec : {M : Type 1} → statement M
+prune-sound-spec =
+    tie.close
+    (tie.spec
+    is-kept-requires
+    same-length
+    returns
+    free-retired-requires
+    put-u32-requires
+    same-length-2
+    returns-2)
