@@ -6,7 +6,7 @@
  *
  *   1  the store's length isn't 24 + 120 n, n in 1 to 16,384
  *   2  a header field isn't right, its capacity isn't n, or oldest is above latest
- *   3  the store isn't sound (check), or the walk says so (reads)
+ *   3  the store isn't sound (check, prune), or the walk says so (reads)
  *   8  the version isn't in oldest to latest
  *  10  the proof isn't one whole record in form, no byte over
  *  11  the proof is in form, but doesn't hold
@@ -27,6 +27,10 @@ uint32_t grants_format(uint8_t *store, size_t store_len);
 
 /* Whether the store is sound: every kept version is a whole tree with every hash true. Refused: 1, 2, 3. */
 uint32_t grants_check(const uint8_t *store, size_t store_len);
+
+/* Frees every record retired since the version or earlier, and keeps no older version. freed: how many records were freed, 4 bytes.
+   Refused: 1, 2, 3, 8. */
+uint32_t grants_prune(uint8_t *store, size_t store_len, uint32_t version, uint8_t freed[4]);
 
 /* The root of a version, 32 zero bytes where it holds no grant. It tests the header, not soundness. Refused: 1, 2, 8. */
 uint32_t grants_root(const uint8_t *store, size_t store_len, uint32_t version, uint8_t root[32]);

@@ -4,6 +4,7 @@ ghost use mathlib.Core.Path.{_≡_};
 ghost use Rattle.sha256.specs.Sha256.{sha256};
 ghost use Rattle.format.specs.Format.{formatAnswer, formatBytes};
 ghost use Rattle.soundness.specs.Check.{Checked};
+ghost use Rattle.pruning_c.specs.Export.{Exports};
 ghost use Rattle.reads.specs.Reads.{rootAnswer, keyAnswer};
 ghost use Rattle.reads_c.specs.Export.{numberOf, rootBytes, foundBytes};
 ghost use Rattle.verify.specs.Verify.{verified};
@@ -24,6 +25,14 @@ pub extern "C" fn grants_check(store: &[u8]) -> u32
     ensures { λ r. ⌜ Checked (now (store .entry)) r ⌝ }
 {
     soundness::check(store)
+}
+
+// Frees every record retired since a version or earlier; freed: how many, little-endian.
+#[no_mangle]
+pub extern "C" fn grants_prune(store: &mut [u8], version: u32, freed: &mut [u8; 4]) -> u32
+    ensures { λ r. ⌜ Exports version (now (store .entry)) (now (freed .entry)) r (now (store .exit)) (now (freed .exit)) ⌝ }
+{
+    pruning_c::grants_prune(store, version, freed)
 }
 
 // The root of a version.

@@ -38,6 +38,12 @@ impl Word for Result<Option<[u8; 32]>, u32> {
     }
 }
 
+impl Word for Result<u32, u32> {
+    fn word(&self) -> String {
+        self.map_or_else(|n| n.to_string(), |n| if n == 0 { "none freed" } else { "some freed" }.into())
+    }
+}
+
 impl<T: Word> Word for (T, Vec<u8>) {
     fn word(&self) -> String {
         self.0.word()
@@ -129,6 +135,12 @@ fn round(seed: u64, tally: &mut Tally) {
             tally.same("forged", seed, ours::verify(&root, &k, &p), second::verify(&root, &k, &p));
         }
     }
+    for _ in 0..3 {
+        let v = version(&mut random, &s);
+        let (mut a, mut b) = (s.clone(), s.clone());
+        let (x, y) = (ours::prune(&mut a, v), second::prune(&mut b, v));
+        tally.same("prune", seed, (x, a), (y, b));
+    }
     let mut fresh = s.clone();
     let (a, mut b) = (ours::format(&mut fresh), s.clone());
     let c = second::format(&mut b);
@@ -167,6 +179,11 @@ fn pairs(tally: &mut Tally) {
     case("2 before 8", &bad_header, out, &key, 2);
     case("8 before 3", &damaged, out, &key, 8);
     tally.same("2 before 3", 0, ours::check(&bad_header), second::check(&bad_header));
+    for (what, store, version) in [("1 before 2", &bad_header[..s.len() - 1], 1), ("2 before 3", &bad_header[..], 1), ("3 before 8", &damaged[..], out)] {
+        let (mut a, mut b) = (store.to_vec(), store.to_vec());
+        let (x, y) = (ours::prune(&mut a, version), second::prune(&mut b, version));
+        tally.same(what, 0, (x, a), (y, b));
+    }
     let root = [1; 32];
     for (what, root, key, proof) in [
         ("12 before 10", &root[..31], &key[..], &[0u8; 9][..]),

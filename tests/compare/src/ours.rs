@@ -6,6 +6,7 @@ use second::{Bytes32, Refusal};
 extern "C" {
     fn grants_format(store: *mut u8, store_len: usize) -> u32;
     fn grants_check(store: *const u8, store_len: usize) -> u32;
+    fn grants_prune(store: *mut u8, store_len: usize, version: u32, freed: *mut [u8; 4]) -> u32;
     fn grants_root(store: *const u8, store_len: usize, version: u32, root: *mut [u8; 32]) -> u32;
     fn grants_get(store: *const u8, store_len: usize, version: u32, key: *const u8, key_len: usize, found: *mut [u8; 33]) -> u32;
     fn grants_verify(
@@ -54,6 +55,13 @@ pub fn check(store: &[u8]) -> Result<(), Refusal> {
         0 => Ok(()),
         number => Err(number),
     }
+}
+
+/// How many records were freed.
+pub fn prune(store: &mut [u8], version: u32) -> Result<u32, Refusal> {
+    let mut freed = [MARK; 4];
+    let number = unsafe { grants_prune(store.as_mut_ptr(), store.len(), version, &mut freed) };
+    answered(number, freed).map(u32::from_le_bytes)
 }
 
 pub fn root(store: &[u8], version: u32) -> Result<Bytes32, Refusal> {
