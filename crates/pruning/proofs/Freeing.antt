@@ -26,8 +26,8 @@ use Rattle.layout.proofs.Stores.{length-slots-bytes, slot-in, slot-put-form, sl
 use Rattle.pruning.specs.Free.{retiredIn, freedSlot, freedCount, Readable, emptied, Frees}
 
 -- what pruning leaves in a slot
-abbrev left : ℕ → Slot → Slot
-left n x = onRecord (pruneRecord n) x
+abbrev prunedSlot : ℕ → Slot → Slot
+prunedSlot n x = onRecord (pruneRecord n) x
 
 free-not-retired : (n : ℕ) → retiredIn n (slotBytes free) ≡ false
 unfolding retiredIn slotBytes field slice zeroBytes
@@ -35,8 +35,8 @@ free-not-retired n = refl
 
 -- a slot is freed, and it held a record; or it stays
 data Fate (n : ℕ) (x : Slot) : Type 0 where
-  goes : retiredIn n (slotBytes x) ≡ true → (r : Record) → x ≡ used r → left n x ≡ free → Fate n x
-  stays : retiredIn n (slotBytes x) ≡ false → left n x ≡ x → Fate n x
+  goes : retiredIn n (slotBytes x) ≡ true → (r : Record) → x ≡ used r → prunedSlot n x ≡ free → Fate n x
+  stays : retiredIn n (slotBytes x) ≡ false → prunedSlot n x ≡ x → Fate n x
 
 retired-is : (n : ℕ) (r : Record) → RecordForm r → retiredIn n (slotBytes (used r)) ≡ retiredBy n r
 unfolding retiredIn slotBytes retiredBy
@@ -77,15 +77,15 @@ module _ (n : ℕ) (xs : List Slot) (i : ℕ) (h : i < length xs) where
   partly-here : partly n i xs ≡ pruned n (take i xs) ++ getD xs i free ∷ drop (suc i) xs
   partly-here = ap (pruned n (take i xs) ++_) (drop-cons xs i free h)
 
-  partly-next : partly n (i + 1) xs ≡ pruned n (take i xs) ++ left n (getD xs i free) ∷ drop (suc i) xs
+  partly-next : partly n (i + 1) xs ≡ pruned n (take i xs) ++ prunedSlot n (getD xs i free) ∷ drop (suc i) xs
   partly-next =
       rw (add-one i, take-suc xs i free h, map-append (onRecord (pruneRecord n)) (take i xs) (getD xs i free ∷ []))
-      (append-snoc (pruned n (take i xs)) (left n (getD xs i free)) (drop (suc i) xs))
+      (append-snoc (pruned n (take i xs)) (prunedSlot n (getD xs i free)) (drop (suc i) xs))
 
   slot-here : getD (partly n i xs) i free ≡ getD xs i free
   slot-here = ap (λ l. getD l i free) partly-here ∙ getD-at (pruned n (take i xs)) (getD xs i free) (drop (suc i) xs) free i long
 
-  one-goes : (r : Record) → getD xs i free ≡ used r → left n (getD xs i free) ≡ free →
+  one-goes : (r : Record) → getD xs i free ≡ used r → prunedSlot n (getD xs i free) ≡ free →
       (partly n (i + 1) xs ≡ set (partly n i xs) i free) × (freeSlots (partly n (i + 1) xs) ≡ freeSlots (partly n i xs) + 1)
   one-goes r e f =
       let a = pruned n (take i xs) in
@@ -96,7 +96,7 @@ module _ (n : ℕ) (xs : List Slot) (i : ℕ) (h : i < length xs) where
         ap freeSlots p ∙ free-more a r b ∙ ap (λ l. freeSlots l + 1) (sym q),
       )
 
-  one-stays : left n (getD xs i free) ≡ getD xs i free → partly n (i + 1) xs ≡ partly n i xs
+  one-stays : prunedSlot n (getD xs i free) ≡ getD xs i free → partly n (i + 1) xs ≡ partly n i xs
   one-stays f = partly-next ∙ ap (λ y. pruned n (take i xs) ++ y ∷ drop (suc i) xs) f ∙ sym partly-here
 
 partly-all : (n : ℕ) (xs : List Slot) (i : ℕ) → length xs ≤ i → partly n i xs ≡ pruned n xs
@@ -164,7 +164,7 @@ module _ {n : ℕ} {s₀ s : Bytes} {m freed i : ℕ} (w : Freeing n s₀ s m fr
     unfolding partlyPruned putSlot
     put-is e = ap with-slots e
 
-    freeing-goes : {t : Bytes} {k : ℕ} (r : Record) → getD slots₀ i free ≡ used r → left n (getD slots₀ i free) ≡ free →
+    freeing-goes : {t : Bytes} {k : ℕ} (r : Record) → getD slots₀ i free ≡ used r → prunedSlot n (getD slots₀ i free) ≡ free →
         t ≡ written (24 + 120 * i) (slotBytes free) s → k ≡ 1 → Freeing n s₀ t m (freed + k) (i + 1)
     unfolding partlyPruned
     freeing-goes r e f p q =
@@ -182,7 +182,7 @@ module _ {n : ℕ} {s₀ s : Bytes} {m freed i : ℕ} (w : Freeing n s₀ s m fr
           count = omega (arith, w .count, o .1);
         }
 
-    freeing-stays : {t : Bytes} {k : ℕ} → left n (getD slots₀ i free) ≡ getD slots₀ i free → t ≡ s → k ≡ 0 → Freeing n s₀ t m (freed + k) (i + 1)
+    freeing-stays : {t : Bytes} {k : ℕ} → prunedSlot n (getD slots₀ i free) ≡ getD slots₀ i free → t ≡ s → k ≡ 0 → Freeing n s₀ t m (freed + k) (i + 1)
     unfolding partlyPruned
     freeing-stays f p q =
         let e = one-stays n slots₀ i inside f in
