@@ -1,0 +1,54 @@
+-- `walk::record_hash` meets its contract: a leaf's grant and an inner record's two hashes are hashed where they lie. Assumes nothing.
+use native.Mathlib.Omega.{arith}
+use mathlib.Core.Path.{_≡_, refl, ap, sym, _∙_}
+use lib.ListN.{length}
+use Rattle.terms.proofs.Fields.{length-slice}
+use Rattle.walk.proofs.Hashing.{leaf-hashed, inner-hashed}
+use borrow.Author.Needs.{needs}
+use Rattle.walk.proofs.record_hash.Statement.{statement}
+use Rattle.walk.proofs.record_hash.Tie as tie
+
+is-leaf-requires : tie.Need-is-leaf-requires
+is-leaf-requires c κs = search needs
+
+grant-of-requires : tie.Need-grant-of-requires
+grant-of-requires c κs = search needs
+
+leaf-hash-requires : tie.Need-leaf-hash-requires
+leaf-hash-requires c κs = ap length (c .grant-of .ensures) ∙ length-slice 48 64 _ (search needs)
+
+returns : tie.Need-returns
+returns c = leaf-hashed _ (sym (c .before .before .before .is-leaf .ensures) ∙ c .before .before .if1 .taken) (c .before .grant-of .ensures) (c .leaf-hash .ensures)
+
+add-hash-at : tie.Need-add-hash-at
+add-hash-at c = search needs
+
+hash-at-requires : tie.Need-hash-at-requires
+hash-at-requires c κs = search needs
+
+add-hash-at-2 : tie.Need-add-hash-at-2
+add-hash-at-2 c = search needs
+
+hash-at-requires-2 : tie.Need-hash-at-requires-2
+hash-at-requires-2 c κs = search needs
+
+inner-hash-requires : tie.Need-inner-hash-requires
+inner-hash-requires c κs = search needs
+
+returns-2 : tie.Need-returns-2
+returns-2 c = inner-hashed _ (sym (c .before .before .before .before .is-leaf .ensures) ∙ c .before .before .before .if1 .left) (c .before .before .hash-at .ensures .1) (c .before .hash-at2 .ensures .1) (c .inner-hash .ensures)
+
+pub record-hash-spec : {M : Type 1} → statement M
+record-hash-spec =
+    tie.close
+    (tie.spec
+    is-leaf-requires
+    grant-of-requires
+    leaf-hash-requires
+    returns
+    add-hash-at
+    hash-at-requires
+    add-hash-at-2
+    hash-at-requires-2
+    inner-hash-requires
+    returns-2)
