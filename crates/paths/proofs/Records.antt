@@ -17,9 +17,11 @@ use Rattle.place.specs.Place.{placeOf}
 use Rattle.layout.specs.Sizes.{slotAt}
 use Rattle.layout.specs.Slots.{childIn}
 use Rattle.layout.specs.Stores.{slotIn}
+use Rattle.meaning.specs.Store.{childOn}
 use Rattle.meaning.specs.Proving.{presenceOf}
 use Rattle.proofrecords.specs.ProofBytes.{stepsBytes, presenceBytes, neighbourBytes, flagsOf, absenceBytes}
-use Rattle.paths.specs.Paths.{kidIn, stepAt, stepsOf, pathSteps, presenceAt, PathIn}
+use Rattle.walk.specs.Walk.{kidIn}
+use Rattle.paths.specs.Paths.{stepAt, stepsOf, pathSteps, presenceAt, PathIn}
 use Rattle.paths.specs.Neighbours.{wayAt, found, neighbourAt, WayIn, NeighbourIn, wayRoom, roomFor, wayFlag, flagFor, absentOf}
 use Rattle.paths.specs.declared.Path as declared-path
 use Rattle.paths.specs.declared.Way as declared-way
@@ -42,8 +44,8 @@ slot-long : (i : ℕ) (s : Bytes) → slotAt i + 120 ≤ length s → length (sl
 unfolding slotIn
 slot-long i s h = length-slice (slotAt i) 120 s h
 
-kid-long : (b : Side) (x : Bytes) → length x ≡ 120 → length (kidIn b x .hash) ≡ 32
-unfolding kidIn childIn
+kid-long : (b : Side) (x : Bytes) → length x ≡ 120 → length (childOn b (childIn 48 x) (childIn 84 x) .hash) ≡ 32
+unfolding childIn
 kid-long false x h = length-slice 52 32 x (omega arith)
 kid-long true x h = length-slice 88 32 x (omega arith)
 
@@ -53,7 +55,7 @@ steps-count s slots p (suc n) = ap suc (steps-count s slots p n)
 
 steps-long : (s : Bytes) (slots : List ℕ) (p : Place) (n : ℕ) → ((j : ℕ) → j < n → slotAt (getD slots j 0) + 120 ≤ length s) →
     length (stepsBytes (stepsOf s slots p n)) ≡ 33 * n
-unfolding stepAt
+unfolding stepAt kidIn
 steps-long s slots p zero h = refl
 steps-long s slots p (suc n) h =
     let k = kid-long (not (getD p n left)) (slotIn (getD slots n 0) s) (slot-long (getD slots n 0) s (h n (omega arith))) in

@@ -2,7 +2,7 @@
 -- hashes are taken as stored. Assumes nothing.
 use Prim.Native.Nat.{ℕ, zero, suc, _+_, _≤_, _<_}
 use mathlib.Core.Path.{_≡_}
-use mathlib.Core.Bool.{not, true, false}
+use mathlib.Core.Bool.{not}
 use mathlib.Core.List.{List, [], _∷_, _++_}
 use lib.ListN.{length, getD}
 use Rattle.terms.specs.Bits.{Bytes, Side, left, Place, digit}
@@ -10,18 +10,10 @@ use Rattle.terms.specs.Fields.{slice}
 use Rattle.terms.specs.Records.{Child, Step, Presence}
 use Rattle.meaning.specs.Proving.{step, presenceOf}
 use Rattle.place.specs.Place.{placeOf, Proper}
-use Rattle.layout.specs.Sizes.{slotSize, slotAt, leftAt, rightAt, keyAt, valueAt}
-use Rattle.layout.specs.Slots.{childIn}
+use Rattle.layout.specs.Sizes.{slotSize, slotAt, keyAt, valueAt}
 use Rattle.layout.specs.Stores.{slotIn}
+use Rattle.walk.specs.Walk.{kidIn}
 use Rattle.paths.specs.declared.Path as declared
-
--- What the bytes of an inner record say of the child on a side.
-abbrev pub kidAt : Side → ℕ
-kidAt false = leftAt
-kidAt true = rightAt
-
-unfoldable pub kidIn : Side → Bytes → Child
-kidIn b x = childIn (kidAt b) x
 
 -- A step is a side and the sibling's hash.
 unfoldable pub stepBytes : Step → Bytes
@@ -29,7 +21,7 @@ stepBytes s = digit (s .side) ∷ s .sibling
 
 -- The step up from the child on side b of the inner node in slot i.
 unfoldable pub stepAt : Bytes → ℕ → Side → Step
-stepAt s i b = step b (kidIn (not b) (slotIn i s) .hash)
+stepAt s i b = step b (kidIn i s (not b) .hash)
 
 -- The steps from depth n upwards, where slots has the slot of the inner node at each depth, and p the side taken there.
 abbrev pub stepsOf : Bytes → List ℕ → Place → ℕ → List Step

@@ -11,9 +11,11 @@ ghost use mathlib.Core.Bool.{not};
 ghost use Prim.Native.Nat.{_+_, _*_, _≤_};
 ghost use lib.ListN.{length};
 ghost use Rattle.terms.specs.Bits.{digit};
-ghost use Rattle.layout.specs.Sizes.{slotSize, slotAt};
+ghost use Rattle.layout.specs.Sizes.{slotSize, slotAt, leftAt, rightAt};
+ghost use Rattle.layout.specs.Slots.{childIn};
+ghost use Rattle.meaning.specs.Store.{childOn};
 ghost use Rattle.proofrecords.specs.ProofBytes.{stepSize, presenceHead, absenceHead, stepsBytes, presenceBytes, neighbourBytes, absenceBytes};
-ghost use Rattle.paths.specs.Paths.{kidIn, stepBytes, stepAt, pathSteps, presenceAt, PathIn};
+ghost use Rattle.paths.specs.Paths.{stepBytes, stepAt, pathSteps, presenceAt, PathIn};
 ghost use Rattle.paths.specs.Neighbours.{roomFor, flagFor, neighbourAt, NeighbourIn, absentOf};
 
 // Where an inner record has its hashes, and the sizes and kinds of proofs and steps.
@@ -55,7 +57,7 @@ fn digit(side: bool) -> u8
 // The hash of the sibling of the child on a side, as the inner record has it.
 fn sibling(s: &[u8], side: bool) -> &[u8]
     requires { ⌜ length (now s) ≡ slotSize ⌝ }
-    ensures { λ r. ⌜ (now r ≡ kidIn (not side) (now (s .entry)) .hash) × (length (now r) ≡ 32) ⌝ }
+    ensures { λ r. ⌜ (now r ≡ childOn (not side) (childIn leftAt (now (s .entry))) (childIn rightAt (now (s .entry))) .hash) × (length (now r) ≡ 32) ⌝ }
 {
     if side {
         return &s[LEFT_HASH_AT..RIGHT_AT];

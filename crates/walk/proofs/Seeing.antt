@@ -13,7 +13,7 @@ use Rattle.terms.specs.Records.{Child, Body, leafBody, innerBody, Record, Slot,
 use Rattle.terms.specs.Form.{RecordForm, placeLimit}
 use Rattle.terms.proofs.Fields.{length-slice, all-slice}
 use Rattle.meaning.specs.Store.{find, isNode, rootOf, childOn}
-use Rattle.meaning.specs.Reading.{Seen, lost, gap, leafSeen, fork, seenBody, seenAt, seen}
+use Rattle.meaning.specs.Reading.{Seen, lost, gap, leafSeen, fork, seenBody, seenAt, seen, bodyHash, rootHash}
 use Rattle.meaning.proofs.Finding.{isNode-eq, Hit, hit, hits, used-eq}
 use Rattle.shown.proofs.SeenAt.{root-gap, root-leaf, root-fork, child-gap, child-lost, child-leaf, child-fork}
 use Rattle.place.specs.declared.Place as declared-place
@@ -79,7 +79,7 @@ bodySeen s p b = seenBody p b (λ c d. seenAt (255 - length p) (storeOf s .slots
 -- the slot i that was found
 module _ (s : Bytes) (size : sizeRight (length s) ≡ true) (bytes : All Byte s) (v : ℕ) (p : declared-place.Place) (proper : Proper p) (i : ℕ)
     (f : FoundIn (storeOf s .slots) v (placeOf p) (At i)) where
-  inside : i < roomOf (length s)
+  pub inside : i < roomOf (length s)
   unfolding storeOf
   inside = rw (length-slots (roomOf (length s)) (drop 24 s)) at (f .0)
 
@@ -130,6 +130,14 @@ module _ (s : Bytes) (size : sizeRight (length s) ≡ true) (bytes : All Byte s)
           root-fork (storeOf s) v (255 - length (placeOf p)) (f .1 .0) l r n found (body ∙ b)
           ∙ ap (λ q. fork (λ c. childOn c l r .hash) (λ c. seenAt (255 - length (placeOf p)) (storeOf s .slots) (longer c q) (childOn c l r))) (sym top)
           ∙ ap (bodySeen s (placeOf p)) (sym b)
+
+  pub root-hash : (leafHash innerHash : Bytes → Bytes → Bytes) → placeOf p ≡ [] →
+      rootHash leafHash innerHash (rootOf (storeOf s) v) ≡ bodyHash leafHash innerHash (bodyIn (slotIn i s))
+  unfolding rootOf
+  root-hash leafHash innerHash top =
+      ap (λ q. rootHash leafHash innerHash (find v q (storeOf s .slots))) (sym top)
+      ∙ ap (rootHash leafHash innerHash) (f .1 .2)
+      ∙ ap (bodyHash leafHash innerHash) body
 
   pub child-found : (c : Child) → c .version ≡ v → 1 ≤ v → seenBelow s (placeOf p) c ≡ bodySeen s (placeOf p) (bodyIn (slotIn i s))
   unfolding seenBelow

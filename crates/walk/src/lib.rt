@@ -26,7 +26,7 @@ ghost use Rattle.terms.specs.Bits.{longer};
 ghost use Rattle.meaning.specs.Reading.{seenBody, seenAt, seen, bodyHash};
 ghost use Rattle.hash.specs.Hash.{hashBytes};
 ghost use Rattle.nodehash.specs.Node.{leafHash, innerHash};
-ghost use Rattle.place.specs.Place.{placeOf};
+ghost use Rattle.place.specs.Place.{placeOf, Proper, Grown};
 ghost use Rattle.layout.specs.Sizes.{slotSize, roomOf};
 ghost use Rattle.layout.specs.Headers.{sizeRight};
 ghost use Rattle.layout.specs.Stores.{slotIn, storeOf};
@@ -116,7 +116,7 @@ pub fn root(store: &[u8], version: u32) -> Seen
 }
 
 // The version of the child on a side of the inner node in slot i.
-fn child_version(store: &[u8], i: usize, right: bool) -> u32
+pub fn child_version(store: &[u8], i: usize, right: bool) -> u32
     requires { ⌜ (sizeRight (length (now store)) ≡ true) × (i < roomOf (length (now store))) ⌝ }
     ensures { λ r. ⌜ r ≡ kidIn i (now (store .entry)) right .version ⌝ }
 {
@@ -125,6 +125,17 @@ fn child_version(store: &[u8], i: usize, right: bool) -> u32
         return get_u32(slot, RIGHT_AT);
     }
     get_u32(slot, LEFT_AT)
+}
+
+// The place of the child on a side.
+pub fn child_place(place: Place, right: bool) -> Place
+    requires { ⌜ Proper place × (place .count < 256) ⌝ }
+    ensures { λ r. ⌜ Grown right place r ⌝ }
+{
+    if right {
+        return place.right();
+    }
+    place.left()
 }
 
 // What is seen on a side of the inner node in slot i; the place is the child's, one bit longer than the node's.

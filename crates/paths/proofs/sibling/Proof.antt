@@ -2,7 +2,6 @@
 use mathlib.Core.Path.{refl}
 use Rattle.layout.specs.Slots.{childIn}
 use Rattle.terms.specs.Fields.{slice}
-use Rattle.paths.specs.Paths.{kidIn}
 use borrow.Author.Needs.{needs}
 use Rattle.paths.proofs.sibling.Statement.{statement}
 use Rattle.paths.proofs.sibling.Tie as tie
@@ -23,7 +22,7 @@ part-result-end c = search needs
 
 -- src/lib.rt:41:9
 returns : tie.Need-returns
-unfolding kidIn childIn slice
+unfolding childIn slice
 returns c = rw (c .before .if1 .taken) (refl, search needs)
 
 -- src/lib.rt:43:5
@@ -40,7 +39,7 @@ part-result-end-2 c = search needs
 
 -- src/lib.rt:36:1
 returns-2 : tie.Need-returns-2
-unfolding kidIn childIn slice
+unfolding childIn slice
 returns-2 c = rw (c .before .if1 .left) (refl, search needs)
 
 pub sibling-spec : {M : Type 1} → statement M
