@@ -1,0 +1,46 @@
+-- `reads::get` meets its contract: the key's length, what is tested first, then the walk. Assumes nothing.
+use mathlib.Core.Path.{_≡_}
+use Rattle.reads.proofs.Answers.{size-kept, key-wrong, key-refused, key-read}
+use borrow.Author.Needs.{needs}
+use Rattle.reads.proofs.get.Statement.{statement}
+use Rattle.reads.proofs.get.Tie as tie
+
+returns : tie.Need-returns
+returns c = let a = c .before .before .before .args in key-wrong (a .store .now) (a .version) (a .key .now) (c .if1 .taken)
+
+open-requires : tie.Need-open-requires
+open-requires c κs = search needs
+
+enum-known-opened : tie.Need-enum-known-opened
+enum-known-opened c = search needs
+
+returns-2 : tie.Need-returns-2
+returns-2 c =
+    let a = c .before .before .before .before .before .before .before .args in
+    key-refused (a .store .now) (a .version) (c .before .before .before .«open» .ensures) (a .key .now) (c .before .before .before .before .if1 .left) (c .before .opened .given .1)
+
+enum-told : tie.Need-enum-told
+enum-told c = search needs
+
+walk-read-requires : tie.Need-walk-read-requires
+walk-read-requires c κs =
+    let a = c .before .before .before .before .before .before .args in
+    (size-kept (a .store .now) (a .version) (c .before .before .«open» .ensures) (c .enum-told .given .1), c .before .before .before .if1 .left)
+
+returns-3 : tie.Need-returns-3
+returns-3 c =
+    let a = c .before .before .before .before .before .before .before .args in
+    key-read (a .store .now) (a .version) (c .before .before .before .«open» .ensures) (a .key .now) (c .before .before .before .before .if1 .left) (c .walk-read .result)
+    (c .before .enum-told .given .1) (c .walk-read .ensures)
+
+pub get-spec : {M : Type 1} → statement M
+get-spec =
+    tie.close
+    (tie.spec
+    returns
+    open-requires
+    enum-known-opened
+    returns-2
+    enum-told
+    walk-read-requires
+    returns-3)

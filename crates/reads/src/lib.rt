@@ -1,0 +1,121 @@
+// The root read and the key read of a store in lent memory, document 01, 'Reading and proving'. A read tests the header, not soundness, and
+// writes nothing.
+use hash::Hash;
+use hash::hash_at;
+use hash::no_hash;
+use lookup::Found;
+use lookup::find;
+use place::Place;
+use place::key_bit;
+use place::same;
+use slots::key_of;
+use slots::value_of;
+use store::slot_of;
+use walk::Opened;
+use walk::Seen;
+use walk::child;
+use walk::child_place;
+use walk::open;
+use walk::record_hash;
+ghost use mathlib.Core.Path.{_≡_};
+ghost use mathlib.Core.Bool.{true};
+ghost use Prim.Native.Nat.{_<_};
+ghost use lib.ListN.{length};
+ghost use Rattle.meaning.specs.Reading.{rootHash};
+ghost use Rattle.meaning.specs.Store.{rootOf};
+ghost use Rattle.hash.specs.Hash.{hashBytes};
+ghost use Rattle.nodehash.specs.Node.{leafHash, innerHash};
+ghost use Rattle.layout.specs.Sizes.{roomOf};
+ghost use Rattle.layout.specs.Headers.{sizeRight};
+ghost use Rattle.layout.specs.Stores.{storeOf};
+ghost use Rattle.reads.specs.Reads.{rootAnswer, keyAnswer, rootSays, readSays, leafRead, walkRead};
+
+// 3: the walk says that the store is not sound.
+const NOT_SOUND: u32 = 3;
+
+// 12: a key handed in isn't 32 bytes.
+const WRONG_KEY: u32 = 12;
+
+// What a root read answers.
+pub enum RootRead {
+    Refused(u32),
+    Hash(Hash),
+}
+
+// What a key read answers.
+pub enum KeyRead {
+    Refused(u32),
+    // The key's value.
+    Present(Hash),
+    Absent,
+}
+
+// The hash of a version's root record, or zeros.
+fn root_hash(store: &[u8], version: u32) -> Hash
+    requires { ⌜ sizeRight (length (now store)) ≡ true ⌝ }
+    ensures { λ r. ⌜ hashBytes r ≡ rootHash leafHash innerHash (rootOf (storeOf (now (store .entry))) version) ⌝ }
+{
+    let found = find(store, version, Place::top());
+    let Found::At(i) = found else {
+        return no_hash();
+    };
+    record_hash(slot_of(store, i))
+}
+
+// Reads the root of a version.
+pub fn root(store: &[u8], version: u32) -> RootRead
+    ensures { λ r. ⌜ rootSays r ≡ rootAnswer (now (store .entry)) version ⌝ }
+{
+    let opened = open(store, version);
+    if let Opened::Refused(n) = opened {
+        return RootRead::Refused(n);
+    }
+    RootRead::Hash(root_hash(store, version))
+}
+
+// What the leaf in slot i says of a key: its value if the key is its own.
+fn leaf_read(store: &[u8], i: usize, key: &[u8]) -> KeyRead
+    requires { ⌜ (sizeRight (length (now store)) ≡ true) × (i < roomOf (length (now store))) ⌝ }
+    ensures { λ r. ⌜ readSays r ≡ leafRead i (now (store .entry)) (now (key .entry)) ⌝ }
+{
+    let slot = slot_of(store, i);
+    if same(key, key_of(slot)) {
+        return KeyRead::Present(hash_at(value_of(slot), 0));
+    }
+    KeyRead::Absent
+}
+
+// Walks by the key's bits from the root of a version to a leaf or a missing child.
+fn walk_read(store: &[u8], version: u32, key: &[u8]) -> KeyRead
+    requires { ⌜ (sizeRight (length (now store)) ≡ true) × (length (now key) ≡ 32) ⌝ }
+    ensures { λ r. ⌜ readSays r ≡ walkRead (now (store .entry)) version (now (key .entry)) ⌝ }
+{
+    let mut place = Place::top();
+    let mut seen = walk::root(store, version);
+    loop {
+        match seen {
+            Seen::Gap => return KeyRead::Absent,
+            Seen::Lost => return KeyRead::Refused(NOT_SOUND),
+            Seen::Leaf(i) => return leaf_read(store, i, key),
+            Seen::Inner(i) => {
+                let side = key_bit(key, place.count);
+                place = child_place(place, side);
+                seen = child(store, i, side, place);
+            }
+        }
+    }
+}
+
+// Reads a key in a version.
+pub fn get(store: &[u8], version: u32, key: &[u8]) -> KeyRead
+    ensures { λ r. ⌜ readSays r ≡ keyAnswer (now (store .entry)) version (now (key .entry)) ⌝ }
+{
+    if key.len() != 32 {
+        return KeyRead::Refused(WRONG_KEY);
+    }
+    let opened = open(store, version);
+    if let Opened::Refused(n) = opened {
+        return KeyRead::Refused(n);
+    }
+    walk_read(store, version, key)
+}
