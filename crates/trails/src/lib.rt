@@ -21,7 +21,8 @@ ghost use Rattle.layout.specs.Headers.{sizeRight};
 ghost use Rattle.walk.specs.Walk.{kidIn};
 ghost use Rattle.layout.specs.Sizes.{roomOf};
 ghost use Rattle.meaning.specs.Proving.{beyond};
-ghost use Rattle.trails.specs.Trails.{AtInner, Further, Started, forkAfter, Walks};
+ghost use Rattle.trails.specs.Trails.{TrailIn, AtInner, Further, Started, forkAfter, ForkIn, forkSays, forkOn, Walks};
+ghost use Rattle.trails.specs.Searches.{soughtOf, Finds, descentSays, WalkedIn, neighbourSays};
 
 // The way so far: what is seen at its end, the slots of the inner nodes passed, the root's first, and the place of its end.
 pub struct Trail {
@@ -106,4 +107,107 @@ pub fn walk(store: &[u8], version: u32, key: &[u8]) -> Walked
         right = deepest(store, right, place, i, turn, true);
         trail = further(store, trail, i, turn);
     }
+}
+
+// A search's answer of a trail that ends in slot i.
+fn answer(trail: Trail, way: Way, i: usize) -> Sought
+    ensures { λ r. ⌜ r ≡ soughtOf trail way i ⌝ }
+{
+    let slots = trail.slots;
+    let place = trail.place;
+    let path = Path {
+        slots,
+        place,
+        at: i,
+    };
+    Sought { way, path }
+}
+
+// Where a descent goes on from the inner node in slot i: to a side where there is a child on that side, else to the other.
+fn towards(store: &[u8], i: usize, side: bool) -> bool
+    requires { ⌜ (sizeRight (length (now store)) ≡ true) × (i < roomOf (length (now store))) ⌝ }
+    ensures { λ r. ⌜ r ≡ cond (eqb (kidIn i (now (store .entry)) side .version) 0) (not side) side ⌝ }
+{
+    if child_version(store, i, side) == 0 {
+        return !side;
+    }
+    side
+}
+
+// Descends from the end of a trail, to a side where it can, until a leaf.
+fn descend(store: &[u8], trail: Trail, side: bool) -> Sought
+    requires { ⌜ TrailIn (now store) trail ⌝ }
+    ensures { λ r. ⌜ Finds (now (store .entry)) (descentSays (now (store .entry)) trail side) r ⌝ }
+{
+    let mut here = trail;
+    loop {
+        let seen = here.seen;
+        match seen {
+            Seen::Inner(i) => {
+                let turn = towards(store, i, side);
+                here = further(store, here, i, turn);
+            }
+            Seen::Leaf(i) => return answer(here, Way::Somebody, i),
+            Seen::Gap => return answer(here, Way::Lost, 0),
+            Seen::Lost => return answer(here, Way::Lost, 0),
+        }
+    }
+}
+
+// Searches from a fork of a trail, where there is one.
+fn from_fork(store: &[u8], trail: Trail, fork: Fork, side: bool) -> Sought
+    requires { ⌜ TrailIn (now store) trail × ForkIn (trail .place .count) fork ⌝ }
+    ensures { λ r. ⌜ Finds (now (store .entry)) (forkSays (now (store .entry)) (trail .slots) side fork) r ⌝ }
+{
+    let there = fork.there;
+    if !there {
+        return answer(trail, Way::Nobody, 0);
+    }
+    let slots = trail.slots;
+    let place = fork.place;
+    let depth = place.count;
+    let i = slots[depth] as usize;
+    let back = Trail {
+        seen: Seen::Inner(i),
+        slots,
+        place,
+    };
+    let next = further(store, back, i, side);
+    descend(store, next, !side)
+}
+
+// Whether a key is on a side of another: smaller on the left, greater on the right.
+fn beyond(other: &[u8], key: &[u8], side: bool) -> bool
+    ensures { λ r. ⌜ r ≡ beyond side (now (other .entry)) (now (key .entry)) ⌝ }
+{
+    if side {
+        return before(key, other);
+    }
+    before(other, key)
+}
+
+fn fork_towards(walked: Walked, side: bool) -> Fork
+    ensures { λ r. ⌜ r ≡ forkOn side (walked .left) (walked .right) ⌝ }
+{
+    if side {
+        return walked.right;
+    }
+    walked.left
+}
+
+// The neighbour of a key on a side: the leaf at the end of its walk, if it is on that side; else from the fork.
+pub fn neighbour(store: &[u8], key: &[u8], walked: Walked, side: bool) -> Sought
+    requires { ⌜ WalkedIn (now store) walked ⌝ }
+    ensures { λ r. ⌜ Finds (now (store .entry)) (neighbourSays (now (store .entry)) (now (key .entry)) walked side) r ⌝ }
+{
+    let trail = walked.trail;
+    let fork = fork_towards(walked, side);
+    let seen = trail.seen;
+    let Seen::Leaf(i) = seen else {
+        return from_fork(store, trail, fork, side);
+    };
+    if beyond(key_of(slot_of(store, i)), key, side) {
+        return answer(trail, Way::Somebody, i);
+    }
+    from_fork(store, trail, fork, side)
 }
