@@ -93,8 +93,14 @@ pub fn walk(store: &[u8], version: u32, key: &[u8]) -> Walked
 {
     let top = Place::top();
     let mut trail = start(store, version);
-    let mut left = Fork { there: false, place: top };
-    let mut right = Fork { there: false, place: top };
+    let mut left = Fork {
+        there: false,
+        place: top,
+    };
+    let mut right = Fork {
+        there: false,
+        place: top,
+    };
     loop {
         let seen = trail.seen;
         let Seen::Inner(i) = seen else {
