@@ -2,23 +2,28 @@
 -- bytes. Assumes nothing.
 use Prim.Native.Nat.{ℕ}
 use native.Mathlib.Omega.{arith}
-use mathlib.Core.Path.{_≡_, refl, ap, sym, _∙_, subst}
-use mathlib.Core.Logic.{_↔_}
+use mathlib.Core.Path.{_≡_, refl, ap, sym, _∙_}
+use mathlib.Core.Logic.{_⊎_, inl, inr}
+use mathlib.Core.Bool.{Bool, true, false, cond}
+use mathlib.Core.List.{List, [], _∷_}
 use lib.ListN.{length}
+use lib.Dec.{eqb}
 use borrow.Author.Tests.{eq-eqb}
 use Rattle.terms.specs.Bits.{Bytes, Whole32}
+use Rattle.terms.specs.Fields.{field}
 use Rattle.meaning.specs.Tree.{hash, unversioned, grantsIn}
 use Rattle.meaning.specs.Store.{treeAtVersion}
 use Rattle.meaning.specs.Sound.{Sound, Kept}
-use Rattle.meaning.specs.Calls.{Answer, refused, accepted}
-use Rattle.meaning.specs.Reading.{Verdict, present, absent, answerOf}
+use Rattle.meaning.specs.Calls.{Answer, refused, accepted, isKept}
+use Rattle.meaning.specs.Reading.{seen, End, broken, atLeaf, atGap, walk, readEnd, answerOf, readRoot, readKey}
 use Rattle.shown.proofs.Theorems.{root-read-is-hash, key-read-is-answer}
 use Rattle.hash.specs.declared.Hash.{Hash}
 use Rattle.hash.specs.Hash.{hashBytes, Fits}
 use Rattle.hash.proofs.Laws.{hash-bytes-injective}
 use Rattle.nodehash.specs.Node.{leafHash, innerHash}
-use Rattle.layout.specs.Headers.{header, headerOf}
+use Rattle.layout.specs.Headers.{refusal, header, sizeRight, headerRight, headerOf}
 use Rattle.layout.specs.Stores.{storeOf}
+use Rattle.walk.specs.Walk.{byHeader}
 use Rattle.reads.specs.Reads.{rootAnswer, keyAnswer, rootSays, readSays}
 use Rattle.reads.specs.declared.RootRead as declared-root
 use Rattle.reads.specs.declared.RootRead.the-variants as root
@@ -78,3 +83,43 @@ module _ (s : Bytes) {n o l : ℕ} (right : headerOf s ≡ header n o l) (ok : S
   pub key-read-of-sound : (k : Bytes) → Whole32 k → keyAnswer s v k ≡ accepted (answerOf k (grantsIn (treeAtVersion (storeOf s) v)))
   unfolding keyAnswer
   key-read-of-sound k whole = rw (right, eq-eqb (length k) 32 (whole .0)) (key-read-is-answer leafHash innerHash (storeOf s) ok v kept k whole)
+
+-- One of the numbers in a list.
+abbrev pub OneOf : List ℕ → ℕ → Type 0
+OneOf [] n = ⊥
+OneOf (m ∷ ms) n = (n ≡ m) ⊎ OneOf ms n
+
+refused-with : {A : Type 0} {m n : ℕ} → _≡_ {A = Answer A} (refused m) (refused n) → n ≡ m
+refused-with e = cc
+
+accepted-refused : {A B : Type 0} {a : A} {n : ℕ} → _≡_ {A = Answer A} (accepted a) (refused n) → B
+accepted-refused e = clash (cc)
+
+-- A root read refuses with 1, 2 or 8.
+pub root-refusals : (s : Bytes) (v n : ℕ) → rootAnswer s v ≡ refused n → OneOf (1 ∷ 2 ∷ 8 ∷ []) n
+unfolding rootAnswer readRoot headerOf
+root-refusals s v n = go (sizeRight (length s)) (headerRight s) (isKept (storeOf s) v) _
+  where
+    go : (a b c : Bool) (root : Bytes) →
+        byHeader (cond a (cond b (header (field 8 4 s) (field 12 4 s) (field 16 4 s)) (refusal 2)) (refusal 1)) (cond c (accepted root) (refused 8)) ≡ refused n →
+        OneOf (1 ∷ 2 ∷ 8 ∷ []) n
+    go false b c root e = inl (refused-with e)
+    go true false c root e = inr (inl (refused-with e))
+    go true true false root e = inr (inr (inl (refused-with e)))
+    go true true true root e = accepted-refused e
+
+-- A key read refuses with 12, 1, 2, 8 or 3.
+pub key-refusals : (s : Bytes) (v : ℕ) (k : Bytes) (n : ℕ) → keyAnswer s v k ≡ refused n → OneOf (12 ∷ 1 ∷ 2 ∷ 8 ∷ 3 ∷ []) n
+unfolding keyAnswer readKey headerOf
+key-refusals s v k n = go (eqb (length k) 32) (sizeRight (length s)) (headerRight s) (isKept (storeOf s) v) (walk k 0 [] (seen (storeOf s) v))
+  where
+    go : (w a b c : Bool) (end : End) →
+        cond w (byHeader (cond a (cond b (header (field 8 4 s) (field 12 4 s) (field 16 4 s)) (refusal 2)) (refusal 1)) (cond c (readEnd k end) (refused 8))) (refused 12) ≡ refused n →
+        OneOf (12 ∷ 1 ∷ 2 ∷ 8 ∷ 3 ∷ []) n
+    go false a b c end e = inl (refused-with e)
+    go true false b c end e = inr (inl (refused-with e))
+    go true true false c end e = inr (inr (inl (refused-with e)))
+    go true true true false end e = inr (inr (inr (inl (refused-with e))))
+    go true true true true broken e = inr (inr (inr (inr (inl (refused-with e)))))
+    go true true true true (atLeaf l x trail) e = accepted-refused e
+    go true true true true (atGap trail) e = accepted-refused e

@@ -70,7 +70,8 @@ pub fn root(store: &[u8], version: u32) -> RootRead
     if let Opened::Refused(n) = opened {
         return RootRead::Refused(n);
     }
-    RootRead::Hash(root_hash(store, version))
+    let hash = root_hash(store, version);
+    RootRead::Hash(hash)
 }
 
 // What the leaf in slot i says of a key: its value if the key is its own.
@@ -80,7 +81,8 @@ fn leaf_read(store: &[u8], i: usize, key: &[u8]) -> KeyRead
 {
     let slot = slot_of(store, i);
     if same(key, key_of(slot)) {
-        return KeyRead::Present(hash_at(value_of(slot), 0));
+        let value = hash_at(value_of(slot), 0);
+        return KeyRead::Present(value);
     }
     KeyRead::Absent
 }
