@@ -3,7 +3,7 @@
 use Prim.Native.Nat.{ℕ}
 use native.Mathlib.Omega.{arith}
 use mathlib.Core.Path.{_≡_, refl, ap, sym, _∙_}
-use mathlib.Core.Logic.{_⊎_, inl, inr}
+use mathlib.Core.Logic.{_↔_, _⊎_, inl, inr}
 use mathlib.Core.Bool.{Bool, true, false, cond}
 use mathlib.Core.List.{List, [], _∷_}
 use lib.ListN.{length}
@@ -11,11 +11,14 @@ use lib.Dec.{eqb}
 use borrow.Author.Tests.{eq-eqb}
 use Rattle.terms.specs.Bits.{Bytes, Whole32}
 use Rattle.terms.specs.Fields.{field}
+use Rattle.terms.specs.Records.{grant}
 use Rattle.meaning.specs.Tree.{hash, unversioned, grantsIn}
 use Rattle.meaning.specs.Store.{treeAtVersion}
 use Rattle.meaning.specs.Sound.{Sound, Kept}
 use Rattle.meaning.specs.Calls.{Answer, refused, accepted, isKept}
-use Rattle.meaning.specs.Reading.{seen, End, broken, atLeaf, atGap, walk, readEnd, answerOf, readRoot, readKey}
+use Rattle.meaning.specs.Reading.{seen, End, broken, atLeaf, atGap, walk, present, readEnd, answerOf, readRoot, readKey}
+use Rattle.shown.proofs.Standing.{version-seated}
+use Rattle.shown.proofs.Verdicts.{accepted-same}
 use Rattle.shown.proofs.Theorems.{root-read-is-hash, key-read-is-answer}
 use Rattle.hash.specs.declared.Hash.{Hash}
 use Rattle.hash.specs.Hash.{hashBytes, Fits}
@@ -25,6 +28,7 @@ use Rattle.layout.specs.Headers.{Headed, refusal, header, sizeRight, headerRigh
 use Rattle.layout.specs.Stores.{storeOf}
 use Rattle.walk.specs.Walk.{byHeader}
 use Rattle.reads.specs.Reads.{rootAnswer, keyAnswer, rootSays, readSays}
+use Rattle.reads.proofs.Granted.{Among, answered-among, among-answered}
 use Rattle.reads.specs.declared.RootRead as declared-root
 use Rattle.reads.specs.declared.RootRead.the-variants as root
 use Rattle.reads.specs.declared.KeyRead as declared-read
@@ -84,6 +88,14 @@ module _ (s : Bytes) {n o l : ℕ} (right : headerOf s ≡ header n o l) (ok : S
   pub key-read-of-sound : (k : Bytes) → Whole32 k → keyAnswer s v k ≡ accepted (answerOf k (grantsIn (treeAtVersion (storeOf s) v)))
   unfolding keyAnswer
   key-read-of-sound k whole = rw (right, eq-eqb (length k) 32 (whole .0)) (key-read-is-answer leafHash innerHash (storeOf s) ok v kept k whole)
+
+  -- So it answers a value exactly if the version's tree has the key with that value.
+  pub value-exactly-if-granted : (k x : Bytes) → Whole32 k →
+      (keyAnswer s v k ≡ accepted (present x)) ↔ Among (grant k x) (grantsIn (treeAtVersion (storeOf s) v))
+  value-exactly-if-granted k x whole = (
+    λ e. answered-among k x _ (accepted-same _ _ (sym (key-read-of-sound k whole) ∙ e)),
+    λ m. key-read-of-sound k whole ∙ ap accepted (among-answered k x [] _ (version-seated leafHash innerHash (storeOf s) ok v kept) m),
+  )
 
 -- One of the numbers in a list.
 abbrev pub OneOf : List ℕ → ℕ → Type 0
