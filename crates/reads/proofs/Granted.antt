@@ -1,5 +1,4 @@
 -- A key has a value in a version's tree exactly if that grant is among the tree's: the walk by a grant's key leads to it. Assumes nothing.
-use Prim.Native.Nat.{ℕ}
 use native.Mathlib.Omega.{arith}
 use mathlib.Core.Path.{_≡_, refl, ap, ap₂, sym, _∙_, subst}
 use mathlib.Core.Logic.{_⊎_, inl, inr, ⊎-elim}
@@ -13,7 +12,7 @@ use Rattle.terms.proofs.Places.{begins-longer}
 use Rattle.meaning.specs.Tree.{Tree, none, leaf, inner, grants}
 use Rattle.meaning.specs.Reading.{present, absent, answerOf}
 use Rattle.shown.proofs.Views.{onSide, Seat, Seated, child-seated, grants-seated}
-use Rattle.shown.proofs.Walks.{Reached, present-absent, answer-on-walk}
+use Rattle.shown.proofs.Walks.{present-absent, answer-on-walk}
 
 -- A grant is among those of a list.
 abbrev pub Among : Grant → List Grant → Type 0

@@ -12,7 +12,7 @@ use borrow.Author.Tests.{eq-eqb}
 use Rattle.terms.specs.Bits.{Bytes, Whole32}
 use Rattle.terms.specs.Fields.{field}
 use Rattle.terms.specs.Records.{grant}
-use Rattle.meaning.specs.Tree.{hash, unversioned, grantsIn}
+use Rattle.meaning.specs.Tree.{grants, hash, unversioned, grantsIn}
 use Rattle.meaning.specs.Store.{treeAtVersion}
 use Rattle.meaning.specs.Sound.{Sound, Kept}
 use Rattle.meaning.specs.Calls.{Answer, refused, accepted, isKept}
@@ -92,10 +92,12 @@ module _ (s : Bytes) {n o l : ℕ} (right : headerOf s ≡ header n o l) (ok : S
   -- So it answers a value exactly if the version's tree has the key with that value.
   pub value-exactly-if-granted : (k x : Bytes) → Whole32 k →
       (keyAnswer s v k ≡ accepted (present x)) ↔ Among (grant k x) (grantsIn (treeAtVersion (storeOf s) v))
-  value-exactly-if-granted k x whole = (
-    λ e. answered-among k x _ (accepted-same _ _ (sym (key-read-of-sound k whole) ∙ e)),
-    λ m. key-read-of-sound k whole ∙ ap accepted (among-answered k x [] _ (version-seated leafHash innerHash (storeOf s) ok v kept) m),
-  )
+  value-exactly-if-granted k x whole =
+      let t = unversioned (treeAtVersion (storeOf s) v) in
+      let seated = version-seated leafHash innerHash (storeOf s) ok v kept in (
+        λ e. answered-among k x (grants t) (accepted-same _ _ (sym (key-read-of-sound k whole) ∙ e)),
+        λ m. key-read-of-sound k whole ∙ ap accepted (among-answered k x [] t seated m),
+      )
 
 -- One of the numbers in a list.
 abbrev pub OneOf : List ℕ → ℕ → Type 0

@@ -34,6 +34,12 @@ ghost use Rattle.walk.specs.Walk.{opened, openedSays, bodyIn, kidIn, see
 // 8: the version isn't in oldest to latest.
 const NOT_KEPT: u32 = 8;
 
+// 3: the walk says that the store is not sound.
+pub const NOT_SOUND: u32 = 3;
+
+// 12: a key handed in isn't 32 bytes.
+pub const WRONG_KEY: u32 = 12;
+
 // What a read tests first.
 pub enum Opened {
     Refused(u32),
