@@ -1,7 +1,7 @@
 -- The answers of the two reads, by the case of what was tested first and of what was found. Assumes nothing.
 use Prim.Native.Nat.{ℕ}
 use native.Mathlib.Omega.{arith}
-use mathlib.Core.Path.{_≡_, refl, ap, sym, _∙_}
+use mathlib.Core.Path.{_≡_, ap, sym, _∙_}
 use mathlib.Core.Bool.{Bool, true, false}
 use lib.ListN.{length, take, drop}
 use lib.Seq.{take-take}
@@ -10,7 +10,7 @@ use Rattle.terms.specs.Bits.{Bytes, sameBytes}
 use Rattle.terms.specs.Fields.{slice}
 use Rattle.meaning.specs.Store.{rootOf}
 use Rattle.meaning.specs.Calls.{refused, accepted}
-use Rattle.meaning.specs.Reading.{present, absent, readRoot, readKey, rootHash}
+use Rattle.meaning.specs.Reading.{present, readRoot, readKey, rootHash}
 use Rattle.hash.specs.declared.Hash.{Hash}
 use Rattle.hash.specs.Hash.{hashBytes}
 use Rattle.nodehash.specs.Node.{leafHash, innerHash}
@@ -40,9 +40,11 @@ module _ (s : Bytes) (v : ℕ) {o : declared-opened.Opened} (says : openedSays o
   unfolding rootSays rootAnswer readRoot
   root-refused e = opening.refused-first (accepted (rootHash leafHash innerHash (rootOf (storeOf s) v))) s v (first-refused e)
 
-  pub root-hashed : (h : Hash) → o ≡ Kept → hashBytes h ≡ rootHash leafHash innerHash (rootOf (storeOf s) v) → rootSays (root.Hash h) ≡ rootAnswer s v
+  pub root-hashed : (h : Hash) → o ≡ Kept → hashBytes h ≡ rootHash leafHash innerHash (rootOf (storeOf s) v) →
+      rootSays (root.Hash h) ≡ rootAnswer s v
   unfolding rootSays rootAnswer readRoot
-  root-hashed h e f = ap accepted f ∙ sym (opening.rest-decides (accepted (rootHash leafHash innerHash (rootOf (storeOf s) v))) s v (first-kept e))
+  root-hashed h e f =
+      ap accepted f ∙ sym (opening.rest-decides (accepted (rootHash leafHash innerHash (rootOf (storeOf s) v))) s v (first-kept e))
 
   module _ (k : Bytes) (whole : length k ≡ 32) where
     pub key-refused : {n : ℕ} → o ≡ Refused n → readSays (read.Refused n) ≡ keyAnswer s v k
@@ -66,10 +68,12 @@ module _ (i : ℕ) (s k : Bytes) {x l : Bytes} (slot : x ≡ slotIn i s) (its : 
   key-is : {b : Bool} → b ≡ sameBytes k l → sameBytes k (slice 48 32 (slotIn i s)) ≡ b
   key-is e = ap (λ y. sameBytes k (slice 48 32 y)) (sym slot) ∙ ap (sameBytes k) (sym its) ∙ sym e
 
-  pub leaf-present : {b : Bool} {y : Bytes} (h : Hash) → b ≡ sameBytes k l → b ≡ true → y ≡ slice 80 32 x → hashBytes h ≡ take 32 (drop 0 y) →
-      readSays (read.Present h) ≡ leafRead i s k
+  pub leaf-present : {b : Bool} {y : Bytes} (h : Hash) → b ≡ sameBytes k l → b ≡ true → y ≡ slice 80 32 x →
+      hashBytes h ≡ take 32 (drop 0 y) → readSays (read.Present h) ≡ leafRead i s k
   unfolding readSays leafRead leafAt
-  leaf-present {y = y} h e t f g = rw (key-is e, t) (ap (λ z. accepted (present z)) (g ∙ ap (take 32) f ∙ value-whole x ∙ ap (slice 80 32) slot))
+  leaf-present h e t f g =
+      let value = g ∙ ap (take 32) f ∙ value-whole x ∙ ap (slice 80 32) slot in
+      rw (key-is e, t) (ap (λ z. accepted (present z)) value)
 
   pub leaf-absent : {b : Bool} → b ≡ sameBytes k l → b ≡ false → readSays read.Absent ≡ leafRead i s k
   unfolding readSays leafRead leafAt

@@ -1,6 +1,6 @@
 -- The walk by a key's bits, turn by turn: what is said from the node where it stands is what is said from the root, and no read looks at the
 -- trail. Assumes nothing.
-use Prim.Native.Nat.{ℕ, suc, _+_, _-_, _<_}
+use Prim.Native.Nat.{ℕ, suc, _-_, _<_}
 use native.Mathlib.Omega.{arith}
 use native.Mathlib.Numerals.{add-one}
 use mathlib.Core.Path.{_≡_, refl, ap, sym, _∙_, subst}
@@ -8,7 +8,6 @@ use mathlib.Core.Bool.{true}
 use mathlib.Core.List.{List, [], _∷_}
 use lib.ListN.{length}
 use Rattle.terms.specs.Bits.{Bytes, Side, longer, bit}
-use Rattle.terms.proofs.Places.{length-longer}
 use Rattle.meaning.specs.Calls.{Answer}
 use Rattle.meaning.specs.Reading.{Seen, lost, gap, leafSeen, fork, seenAt, seen, Pass, walk, Verdict, readEnd}
 use Rattle.place.specs.declared.Place as declared-place
@@ -20,6 +19,7 @@ use Rattle.layout.specs.Stores.{storeOf}
 use Rattle.walk.specs.Walk.{kidIn, seenBelow, leafAt, forkAt, Sees, Slotted}
 use Rattle.walk.specs.declared.Seen as declared
 use Rattle.walk.specs.declared.Seen.the-variants.{Gap, Lost, Leaf, Inner}
+use Rattle.walk.proofs.Seeing.{kid-seen}
 use Rattle.reads.specs.Reads.{readSays, leafRead, walkRead}
 use Rattle.reads.specs.declared.KeyRead.the-variants as read
 
@@ -34,7 +34,8 @@ trail-unread k i a b gap = refl
 trail-unread k i a b (leafSeen l x) = refl
 trail-unread k i a b (fork hashes kids) = trail-unread k (suc i) _ _ (kids (bit i k))
 
-one-turn : (k : Bytes) (i : ℕ) (hashes : Side → Bytes) (kids : Side → Seen) → saidFrom k i (fork hashes kids) ≡ saidFrom k (suc i) (kids (bit i k))
+one-turn : (k : Bytes) (i : ℕ) (hashes : Side → Bytes) (kids : Side → Seen) →
+    saidFrom k i (fork hashes kids) ≡ saidFrom k (suc i) (kids (bit i k))
 one-turn k i hashes kids = trail-unread k (suc i) (record { turn = bit i k; hashes = hashes; kids = kids } ∷ []) [] (kids (bit i k))
 
 -- The walk by k has come to the place p, where r was seen.
@@ -47,8 +48,8 @@ pub record Walked (s : Bytes) (v : ℕ) (k : Bytes) (p : declared-place.Place) (
   pub rest : walkRead s v k ≡ saidFrom k (p .count) here
 
 -- at the root
-pub set-out : {s : Bytes} {v : ℕ} {k : Bytes} {p : declared-place.Place} {r : declared.Seen} → sizeRight (length s) ≡ true → length k ≡ 32 → Stands [] 0 p →
-    Sees s [] (seen (storeOf s) v) r → Walked s v k p r
+pub set-out : {s : Bytes} {v : ℕ} {k : Bytes} {p : declared-place.Place} {r : declared.Seen} → sizeRight (length s) ≡ true →
+    length k ≡ 32 → Stands [] 0 p → Sees s [] (seen (storeOf s) v) r → Walked s v k p r
 unfolding walkRead
 set-out {s} {v} {k} {p} {r} size whole top sees = record {
   size = size;
@@ -92,7 +93,7 @@ module _ {s : Bytes} {v : ℕ} {k : Bytes} {p : declared-place.Place} {r : decla
     -- one turn: to the child on the side of the key's bit
     pub goes-on : {b : Side} {q : declared-place.Place} {t : declared.Seen} → b ≡ bit (p .count) k → Grown b p q →
         Sees s (placeOf q) (seenBelow s (placeOf q) (kidIn i s b)) t → Walked s v k q t
-    unfolding forkAt seenBelow
+    unfolding forkAt
     goes-on {b} {q} {t} f g h =
         record {
           size = w .size;
@@ -103,15 +104,12 @@ module _ {s : Bytes} {v : ℕ} {k : Bytes} {p : declared-place.Place} {r : decla
           rest = turned;
         }
       where
-        one-less : 255 - length (placeOf p) ≡ 256 - length (placeOf q)
-        one-less = omega (arith, ap length (g .place) ∙ length-longer b (placeOf p))
-
         turned : walkRead s v k ≡ saidFrom k (q .count) (seenBelow s (placeOf q) (kidIn i s b))
         turned =
+            let kids : Side → Seen = λ c. seenAt (255 - length (placeOf p)) (storeOf s .slots) (longer c (placeOf p)) (kidIn i s c) in
             w .rest
             ∙ ap (saidFrom k (p .count)) (sees-as e .2)
-            ∙ one-turn k (p .count) (λ c. kidIn i s c .hash) (λ c. seenAt (255 - length (placeOf p)) (storeOf s .slots) (longer c (placeOf p)) (kidIn i s c))
-            ∙ ap (λ c. saidFrom k (suc (p .count)) (seenAt (255 - length (placeOf p)) (storeOf s .slots) (longer c (placeOf p)) (kidIn i s c))) (sym f)
-            ∙ ap (λ l. saidFrom k (suc (p .count)) (seenAt (255 - length (placeOf p)) (storeOf s .slots) l (kidIn i s b))) (sym (g .place))
-            ∙ ap (λ n. saidFrom k (suc (p .count)) (seenAt n (storeOf s .slots) (placeOf q) (kidIn i s b))) one-less
-            ∙ ap (λ n. saidFrom k n (seenAt (256 - length (placeOf q)) (storeOf s .slots) (placeOf q) (kidIn i s b))) (sym (g .count ∙ add-one (p .count)))
+            ∙ one-turn k (p .count) (λ c. kidIn i s c .hash) kids
+            ∙ ap (λ c. saidFrom k (suc (p .count)) (kids c)) (sym f)
+            ∙ ap (saidFrom k (suc (p .count))) (kid-seen s (kidIn i s b) g)
+            ∙ ap (λ n. saidFrom k n (seenBelow s (placeOf q) (kidIn i s b))) (sym (g .count ∙ add-one (p .count)))

@@ -11,8 +11,10 @@ use place::same;
 use slots::key_of;
 use slots::value_of;
 use store::slot_of;
+use walk::NOT_SOUND;
 use walk::Opened;
 use walk::Seen;
+use walk::WRONG_KEY;
 use walk::child;
 use walk::child_place;
 use walk::open;
@@ -29,12 +31,6 @@ ghost use Rattle.layout.specs.Sizes.{roomOf};
 ghost use Rattle.layout.specs.Headers.{sizeRight};
 ghost use Rattle.layout.specs.Stores.{storeOf};
 ghost use Rattle.reads.specs.Reads.{rootAnswer, keyAnswer, rootSays, readSays, leafRead, walkRead};
-
-// 3: the walk says that the store is not sound.
-const NOT_SOUND: u32 = 3;
-
-// 12: a key handed in isn't 32 bytes.
-const WRONG_KEY: u32 = 12;
 
 // What a root read answers.
 pub enum RootRead {

@@ -30,7 +30,8 @@ module _ {a : Answer Bytes} {r : declared-root.RootRead} (says : rootSays r ≡ 
   unfolding rootSays
   root-refused e = let z : a ≡ refused _ = sym says ∙ ap rootSays e in rw (z) (refl, refl)
 
-  pub root-written : {h : Hash} {new : Bytes} → r ≡ root.Hash h → length old ≡ 32 → new ≡ hashBytes h ++ drop 32 old → RootLeft a old 0 new
+  pub root-written : {h : Hash} {new : Bytes} → r ≡ root.Hash h → length old ≡ 32 → new ≡ hashBytes h ++ drop 32 old →
+      RootLeft a old 0 new
   unfolding rootSays
   root-written {h} {new} e l w = let z : a ≡ accepted (hashBytes h) = sym says ∙ ap rootSays e in rw (z) (refl, put-over h old new l w)
 
@@ -48,8 +49,8 @@ module _ {a : Answer Verdict} {r : declared-read.KeyRead} (says : readSays r ≡
   key-absent h e z w = let q = sym says ∙ ap readSays e in rw (q) (refl, w ∙ ap (0 ∷_) z)
 
 -- one byte in front, then a hash
-pub found-put : (h : Hash) (p : ℕ) (f : Bytes) {y : Bytes} → length f ≡ 33 → y ≡ hashBytes h ++ drop 32 (take (33 - 1) (drop 1 (set f 0 p))) →
-    take 1 (set f 0 p) ++ (y ++ drop (33 - 1) (drop 1 (set f 0 p))) ≡ p ∷ hashBytes h
+pub found-put : (h : Hash) (p : ℕ) (f : Bytes) {y : Bytes} → length f ≡ 33 →
+    y ≡ hashBytes h ++ drop 32 (take (33 - 1) (drop 1 (set f 0 p))) → take 1 (set f 0 p) ++ (y ++ drop (33 - 1) (drop 1 (set f 0 p))) ≡ p ∷ hashBytes h
 found-put h p [] l e = absurd (omega arith)
 found-put h p (x ∷ f) {y} l e =
     let n : length (take (33 - 1) f) ≡ 32 = simp length-take (omega arith) in

@@ -8,7 +8,7 @@ use lib.ListN.{length}
 use borrow.Author.Tests.{le-leb, lt-leb}
 use Rattle.terms.specs.Bits.{Bytes}
 use Rattle.meaning.specs.Calls.{Answer, refused, accepted, isKept}
-use Rattle.layout.specs.Headers.{Headed, refusal, header, sizeRight, headerRight, headerOf}
+use Rattle.layout.specs.Headers.{Headed, refusal, header, sizeRight, headerOf}
 use Rattle.layout.specs.Stores.{storeOf}
 use Rattle.layout.specs.Answer.{headerSays}
 use Rattle.layout.specs.declared.Header as declared

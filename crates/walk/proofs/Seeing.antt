@@ -5,19 +5,20 @@ use native.Mathlib.Omega.{arith}
 use mathlib.Core.Path.{_≡_, refl, ap, sym, _∙_, subst}
 use mathlib.Core.Bool.{Bool, true, false, cond}
 use mathlib.Core.List.{List, []}
-use mathlib.Core.Option.{Option, none, some}
-use lib.ListN.{length, getD, drop}
+use mathlib.Core.Option.{none, some}
+use lib.ListN.{length, drop}
 use Rattle.terms.specs.Bits.{Bytes, Byte, All, Side, Place, longer, begins}
 use Rattle.terms.specs.Fields.{slice, allZero}
-use Rattle.terms.specs.Records.{Child, Body, leafBody, innerBody, Record, Slot, free, used, spoiled}
+use Rattle.terms.specs.Records.{Child, leafBody, innerBody, Record, Slot, free, used, spoiled, zeros}
 use Rattle.terms.specs.Form.{RecordForm, placeLimit}
 use Rattle.terms.proofs.Fields.{length-slice, all-slice}
+use Rattle.terms.proofs.Places.{length-longer}
 use Rattle.meaning.specs.Store.{find, isNode, rootOf, childOn}
-use Rattle.meaning.specs.Reading.{Seen, lost, gap, leafSeen, fork, seenBody, seenAt, seen, bodyHash, rootHash}
+use Rattle.meaning.specs.Reading.{lost, gap, leafSeen, fork, seenAt, seen, bodyHash, rootHash}
 use Rattle.meaning.proofs.Finding.{isNode-eq, Hit, hit, hits, used-eq}
 use Rattle.shown.proofs.SeenAt.{root-gap, root-leaf, root-fork, child-gap, child-lost, child-leaf, child-fork}
 use Rattle.place.specs.declared.Place as declared-place
-use Rattle.place.specs.Place.{placeOf, Proper}
+use Rattle.place.specs.Place.{placeOf, Proper, Grown}
 use Rattle.place.proofs.Places.{proper-count}
 use Rattle.layout.specs.Sizes.{roomOf}
 use Rattle.layout.specs.Headers.{sizeRight}
@@ -29,9 +30,9 @@ use Rattle.layout.proofs.Stores.{slot-at, length-slots}
 use Rattle.lookup.specs.Lookup.{FoundIn}
 use Rattle.lookup.specs.declared.Found as declared-found
 use Rattle.lookup.specs.declared.Found.the-variants.{At, Nothing}
-use Rattle.walk.specs.Walk.{bodyIn, kidIn, seenBelow, leafAt, forkAt, Sees, Slotted, Holds}
+use Rattle.walk.specs.Walk.{bodyIn, kidIn, seenBelow, bodySeen, leafAt, forkAt, Sees, Holds}
 use Rattle.walk.specs.declared.Seen as declared
-use Rattle.walk.specs.declared.Seen.the-variants.{Gap, Lost, Leaf, Inner}
+use Rattle.walk.specs.declared.Seen.the-variants.{Lost, Leaf, Inner}
 
 -- a slot of a store of the right size
 module _ (s : Bytes) (size : sizeRight (length s) ≡ true) (i : ℕ) (inside : i < roomOf (length s)) where
@@ -62,128 +63,175 @@ pub inner-body : (x : Bytes) → isLeaf x ≡ false → bodyIn x ≡ innerBody (
 unfolding bodyIn innerIn
 inner-body x e = rw e
 
+by-kind : {A : Type 0} (b : Bool) → (b ≡ true → A) → (b ≡ false → A) → A
+by-kind true f g = f refl
+by-kind false f g = g refl
+
 hit-node : {s : List Slot} {v : ℕ} {p : Place} {r : Record} → Hit s v p (some r) → isNode v p r ≡ true
 hit-node (hit i r l e n) = n
 
--- what was found, by the case of the answer
-pub found-at : (s : List Slot) (v : ℕ) (p : Place) (i : ℕ) {r : declared-found.Found} → FoundIn s v p r → r ≡ At i → FoundIn s v p (At i)
-found-at s v p i f e = subst (FoundIn s v p) e f
+-- what was found of a version and place
+module _ (s : Bytes) (size : sizeRight (length s) ≡ true) (bytes : All Byte s) (v : ℕ) (p : declared-place.Place) (proper : Proper p)
+    {r : declared-found.Found} (found-in : FoundIn (storeOf s .slots) v (placeOf p) r) where
+  -- nothing
+  module _ (nothing : r ≡ Nothing) where
+    none-found : find v (placeOf p) (storeOf s .slots) ≡ none
+    none-found = subst (FoundIn (storeOf s .slots) v (placeOf p)) nothing found-in
 
-pub found-nothing : (s : List Slot) (v : ℕ) (p : Place) {r : declared-found.Found} → FoundIn s v p r → r ≡ Nothing → find v p s ≡ none
-found-nothing s v p f e = subst (FoundIn s v p) e f
+    no-root : placeOf p ≡ [] → rootOf (storeOf s) v ≡ none
+    unfolding rootOf
+    no-root top = ap (λ q. find v q (storeOf s .slots)) (sym top) ∙ none-found
 
--- What is seen at a place whose record holds b.
-abbrev pub bodySeen : Bytes → Place → Body → Seen
-bodySeen s p b = seenBody p b (λ c d. seenAt (255 - length p) (storeOf s .slots) (longer c p) d)
+    pub root-nothing : placeOf p ≡ [] → seen (storeOf s) v ≡ gap
+    root-nothing top = root-gap (storeOf s) v (no-root top)
 
--- the slot i that was found
-module _ (s : Bytes) (size : sizeRight (length s) ≡ true) (bytes : All Byte s) (v : ℕ) (p : declared-place.Place) (proper : Proper p) (i : ℕ)
-    (f : FoundIn (storeOf s .slots) v (placeOf p) (At i)) where
-  pub inside : i < roomOf (length s)
-  unfolding storeOf
-  inside = rw (length-slots (roomOf (length s)) (drop 24 s)) at (f .0)
+    pub no-root-hash : (leafHash innerHash : Bytes → Bytes → Bytes) → placeOf p ≡ [] →
+        zeros ≡ rootHash leafHash innerHash (rootOf (storeOf s) v)
+    no-root-hash leafHash innerHash top = ap (rootHash leafHash innerHash) (sym (no-root top))
 
-  slot-is : slotOf (slotIn i s) ≡ used (f .1 .0)
-  slot-is = sym (slot-at s i inside) ∙ f .1 .1
+    pub child-nothing : (c : Child) → v ≡ c .version → 1 ≤ v → seenBelow s (placeOf p) c ≡ lost
+    unfolding seenBelow
+    child-nothing c w h =
+        child-lost (storeOf s .slots) (placeOf p) c (256 - length (placeOf p)) (omega arith)
+        (ap (λ m. find m (placeOf p) (storeOf s .slots)) (sym w) ∙ none-found)
 
-  body : f .1 .0 .body ≡ bodyIn (slotIn i s)
-  body = body-is (slotIn i s) (f .1 .0) slot-is
+  -- a record, in slot i
+  module _ {i : ℕ} (at-i : r ≡ At i) where
+    found : FoundIn (storeOf s .slots) v (placeOf p) (At i)
+    found = subst (FoundIn (storeOf s .slots) v (placeOf p)) at-i found-in
 
-  form : RecordForm (f .1 .0)
-  unfolding slotIn
-  form = subst SlotForm slot-is (slot-form (slotIn i s) (slot-long s size i inside) (all-slice (24 + 120 * i) 120 s bytes))
+    abbrev it : Record
+    it = found .1 .0
 
-  place : f .1 .0 .place ≡ placeOf p
-  place = isNode-eq v (placeOf p) (f .1 .0) (hit-node (subst (Hit (storeOf s .slots) v (placeOf p)) (f .1 .2) (hits (storeOf s .slots) v (placeOf p)))) .1
+    is-found : find v (placeOf p) (storeOf s .slots) ≡ some it
+    is-found = found .1 .2
 
-  short : isLeaf (slotIn i s) ≡ false → length (placeOf p) ≤ 255
-  short e =
-      let limit : placeLimit (f .1 .0 .body) ≡ 255 = ap placeLimit (body ∙ inner-body (slotIn i s) e) in
-      omega (arith, form .short, ap length place)
+    pub inside : i < roomOf (length s)
+    unfolding storeOf
+    inside = rw (length-slots (roomOf (length s)) (drop 24 s)) at (found .0)
 
-  pub holds-found : Holds s i p
-  holds-found = record {
-    slotted = record { size = size; inside = inside; proper = proper };
-    short = λ e. omega (arith, short e, proper-count p proper);
-  }
+    slot-is : slotOf (slotIn i s) ≡ used it
+    slot-is = sym (slot-at s i inside) ∙ found .1 .1
 
-  pub root-found : placeOf p ≡ [] → seen (storeOf s) v ≡ bodySeen s (placeOf p) (bodyIn (slotIn i s))
-  unfolding rootOf begins
-  root-found top = go (isLeaf (slotIn i s)) refl
-    where
-      found : find v [] (storeOf s .slots) ≡ some (f .1 .0)
-      found = ap (λ q. find v q (storeOf s .slots)) (sym top) ∙ f .1 .2
+    body : it .body ≡ bodyIn (slotIn i s)
+    body = body-is (slotIn i s) it slot-is
 
-      go : (b : Bool) → isLeaf (slotIn i s) ≡ b → seen (storeOf s) v ≡ bodySeen s (placeOf p) (bodyIn (slotIn i s))
-      go true e =
+    form : RecordForm it
+    unfolding slotIn
+    form = subst SlotForm slot-is (slot-form (slotIn i s) (slot-long s size i inside) (all-slice (24 + 120 * i) 120 s bytes))
+
+    place : it .place ≡ placeOf p
+    place =
+        let h = subst (Hit (storeOf s .slots) v (placeOf p)) is-found (hits (storeOf s .slots) v (placeOf p)) in
+        isNode-eq v (placeOf p) it (hit-node h) .1
+
+    short : isLeaf (slotIn i s) ≡ false → length (placeOf p) ≤ 255
+    short e =
+        let limit : placeLimit (it .body) ≡ 255 = ap placeLimit (body ∙ inner-body (slotIn i s) e) in
+        omega (arith, form .short, ap length place)
+
+    pub holds-found : Holds s i p
+    holds-found = record {
+      slotted = record { size = size; inside = inside; proper = proper };
+      short = λ e. omega (arith, short e, proper-count p proper);
+    }
+
+    -- the root
+    module _ (top : placeOf p ≡ []) where
+      root-is : rootOf (storeOf s) v ≡ some it
+      unfolding rootOf
+      root-is = ap (λ q. find v q (storeOf s .slots)) (sym top) ∙ is-found
+
+      pub root-hash : (leafHash innerHash : Bytes → Bytes → Bytes) →
+          bodyHash leafHash innerHash (bodyIn (slotIn i s)) ≡ rootHash leafHash innerHash (rootOf (storeOf s) v)
+      root-hash leafHash innerHash = ap (bodyHash leafHash innerHash) (sym body) ∙ ap (rootHash leafHash innerHash) (sym root-is)
+
+      root-leaf-is : isLeaf (slotIn i s) ≡ true → seen (storeOf s) v ≡ bodySeen s (placeOf p) (bodyIn (slotIn i s))
+      unfolding begins
+      root-leaf-is e =
           let k = slice 48 32 (slotIn i s) in
-          let x = slice 80 32 (slotIn i s) in
+          let y = slice 80 32 (slotIn i s) in
           let b = leaf-body (slotIn i s) e in
-          root-leaf (storeOf s) v (f .1 .0) k x found (body ∙ b)
-          ∙ ap (λ q. cond (begins q k) (leafSeen k x) lost) (sym top)
+          root-leaf (storeOf s) v it k y root-is (body ∙ b)
+          ∙ ap (λ q. cond (begins q k) (leafSeen k y) lost) (sym top)
           ∙ ap (bodySeen s (placeOf p)) (sym b)
-      go false e =
+
+      root-fork-is : isLeaf (slotIn i s) ≡ false → seen (storeOf s) v ≡ bodySeen s (placeOf p) (bodyIn (slotIn i s))
+      root-fork-is e =
+          let n = 255 - length (placeOf p) in
           let l = childIn 48 (slotIn i s) in
-          let r = childIn 84 (slotIn i s) in
-          let n : 255 - length (placeOf p) ≡ 255 = omega (arith, ap length top) in
+          let m = childIn 84 (slotIn i s) in
           let b = inner-body (slotIn i s) e in
-          root-fork (storeOf s) v (255 - length (placeOf p)) (f .1 .0) l r n found (body ∙ b)
-          ∙ ap (λ q. fork (λ c. childOn c l r .hash) (λ c. seenAt (255 - length (placeOf p)) (storeOf s .slots) (longer c q) (childOn c l r))) (sym top)
+          let w : 255 - length (placeOf p) ≡ 255 = omega (arith, ap length top) in
+          root-fork (storeOf s) v n it l m w root-is (body ∙ b)
+          ∙ ap (λ q. fork (λ c. childOn c l m .hash) (λ c. seenAt n (storeOf s .slots) (longer c q) (childOn c l m))) (sym top)
           ∙ ap (bodySeen s (placeOf p)) (sym b)
 
-  pub root-hash : (leafHash innerHash : Bytes → Bytes → Bytes) → placeOf p ≡ [] →
-      rootHash leafHash innerHash (rootOf (storeOf s) v) ≡ bodyHash leafHash innerHash (bodyIn (slotIn i s))
-  unfolding rootOf
-  root-hash leafHash innerHash top =
-      ap (λ q. rootHash leafHash innerHash (find v q (storeOf s .slots))) (sym top)
-      ∙ ap (rootHash leafHash innerHash) (f .1 .2)
-      ∙ ap (bodyHash leafHash innerHash) body
+      pub root-sees : (t : declared.Seen) → Sees s (placeOf p) (bodySeen s (placeOf p) (bodyIn (slotIn i s))) t → Sees s [] (seen (storeOf s) v) t
+      root-sees t h =
+          let e = by-kind (isLeaf (slotIn i s)) root-leaf-is root-fork-is in
+          subst (λ q. Sees s q (seen (storeOf s) v) t) top (subst (λ y. Sees s (placeOf p) y t) (sym e) h)
 
-  pub child-found : (c : Child) → c .version ≡ v → 1 ≤ v → seenBelow s (placeOf p) c ≡ bodySeen s (placeOf p) (bodyIn (slotIn i s))
-  unfolding seenBelow
-  child-found c w h = go (isLeaf (slotIn i s)) refl
-    where
-      found : find (c .version) (placeOf p) (storeOf s .slots) ≡ some (f .1 .0)
-      found = ap (λ m. find m (placeOf p) (storeOf s .slots)) w ∙ f .1 .2
+    -- a child
+    module _ (c : Child) (version : v ≡ c .version) (present : 1 ≤ v) where
+      child-is : find (c .version) (placeOf p) (storeOf s .slots) ≡ some it
+      child-is = ap (λ m. find m (placeOf p) (storeOf s .slots)) (sym version) ∙ is-found
 
-      go : (b : Bool) → isLeaf (slotIn i s) ≡ b → seenAt (256 - length (placeOf p)) (storeOf s .slots) (placeOf p) c ≡ bodySeen s (placeOf p) (bodyIn (slotIn i s))
-      go true e =
-          rw (leaf-body (slotIn i s) e)
-          (child-leaf (storeOf s .slots) (placeOf p) c (256 - length (placeOf p)) (f .1 .0) _ _ (omega arith) found (body ∙ leaf-body (slotIn i s) e))
-      go false e =
+      child-leaf-is : isLeaf (slotIn i s) ≡ true → seenBelow s (placeOf p) c ≡ bodySeen s (placeOf p) (bodyIn (slotIn i s))
+      unfolding seenBelow
+      child-leaf-is e =
+          let b = leaf-body (slotIn i s) e in
+          rw b (child-leaf (storeOf s .slots) (placeOf p) c (256 - length (placeOf p)) it _ _ (omega arith) child-is (body ∙ b))
+
+      child-fork-is : isLeaf (slotIn i s) ≡ false → seenBelow s (placeOf p) c ≡ bodySeen s (placeOf p) (bodyIn (slotIn i s))
+      unfolding seenBelow
+      child-fork-is e =
+          let b = inner-body (slotIn i s) e in
           let n : 256 - length (placeOf p) ≡ suc (255 - length (placeOf p)) = omega (arith, short e) in
-          rw (inner-body (slotIn i s) e, n)
-          (child-fork (storeOf s .slots) (placeOf p) c (255 - length (placeOf p)) (f .1 .0) _ _ (omega arith) found (body ∙ inner-body (slotIn i s) e))
+          rw (b, n) (child-fork (storeOf s .slots) (placeOf p) c (255 - length (placeOf p)) it _ _ (omega arith) child-is (body ∙ b))
+
+      pub child-sees : (t : declared.Seen) → Sees s (placeOf p) (bodySeen s (placeOf p) (bodyIn (slotIn i s))) t →
+          Sees s (placeOf p) (seenBelow s (placeOf p) c) t
+      child-sees t h = subst (λ y. Sees s (placeOf p) y t) (sym (by-kind (isLeaf (slotIn i s)) child-leaf-is child-fork-is)) h
+
+-- what an inner node has on a side is what is seen at the child's place
+pub kid-seen : {b : Side} {p q : declared-place.Place} (s : Bytes) (c : Child) → Grown b p q →
+    seenAt (255 - length (placeOf p)) (storeOf s .slots) (longer b (placeOf p)) c ≡ seenBelow s (placeOf q) c
+unfolding seenBelow
+kid-seen {b} {p} {q} s c g =
+    let n : 255 - length (placeOf p) ≡ 256 - length (placeOf q) = omega (arith, ap length (g .place) ∙ length-longer b (placeOf p)) in
+    ap (λ l. seenAt (255 - length (placeOf p)) (storeOf s .slots) l c) (sym (g .place)) ∙ ap (λ m. seenAt m (storeOf s .slots) (placeOf q) c) n
+
+-- version 0 is no child
+pub child-none : (s : Bytes) (p : Place) (c : Child) → c .version ≡ 0 → seenBelow s p c ≡ gap
+unfolding seenBelow
+child-none s p c e = child-gap (storeOf s .slots) p c (256 - length p) e
 
 -- an inner node, a leaf whose key does not begin with its place, and one whose key does
 module _ {s : Bytes} {i : ℕ} {p : declared-place.Place} (h : Holds s i p) where
-  pub inner-seen : isLeaf (slotIn i s) ≡ false → Sees s (placeOf p) (bodySeen s (placeOf p) (bodyIn (slotIn i s))) (Inner i)
+  -- What is seen there.
+  abbrev Here : declared.Seen → Type 0
+  Here t = Sees s (placeOf p) (bodySeen s (placeOf p) (bodyIn (slotIn i s))) t
+
+  pub inner-seen : {x : Bytes} {b : Bool} → x ≡ slotIn i s → b ≡ isLeaf x → b ≡ false → Here (Inner i)
   unfolding forkAt kidIn
-  inner-seen e = (
-    h .slotted .inside,
-    omega (arith, h .short e, proper-count p (h .slotted .proper)),
-    ap (bodySeen s (placeOf p)) (inner-body (slotIn i s) e),
-  )
+  inner-seen q d e =
+      let f = ap isLeaf (sym q) ∙ sym d ∙ e in (
+        h .slotted .inside,
+        omega (arith, h .short f, proper-count p (h .slotted .proper)),
+        ap (bodySeen s (placeOf p)) (inner-body (slotIn i s) f),
+      )
 
-  pub leaf-lost : isLeaf (slotIn i s) ≡ true → begins (placeOf p) (slice 48 32 (slotIn i s)) ≡ false →
-      Sees s (placeOf p) (bodySeen s (placeOf p) (bodyIn (slotIn i s))) Lost
-  leaf-lost e f = rw (leaf-body (slotIn i s) e, f)
+  module _ {x k : Bytes} {b : Bool} (q : x ≡ slotIn i s) (d : b ≡ isLeaf x) (e : b ≡ true) (key : k ≡ slice 48 32 x) where
+    its-body : bodyIn (slotIn i s) ≡ leafBody (slice 48 32 (slotIn i s)) (slice 80 32 (slotIn i s))
+    its-body = leaf-body (slotIn i s) (ap isLeaf (sym q) ∙ sym d ∙ e)
 
-  pub leaf-seen : isLeaf (slotIn i s) ≡ true → begins (placeOf p) (slice 48 32 (slotIn i s)) ≡ true →
-      Sees s (placeOf p) (bodySeen s (placeOf p) (bodyIn (slotIn i s))) (Leaf i)
-  unfolding leafAt
-  leaf-seen e f = (h .slotted .inside, rw (leaf-body (slotIn i s) e, f))
+    its-key : {a : Bool} → a ≡ begins (placeOf p) k → begins (placeOf p) (slice 48 32 (slotIn i s)) ≡ a
+    its-key f = ap (λ y. begins (placeOf p) (slice 48 32 y)) (sym q) ∙ ap (begins (placeOf p)) (sym key) ∙ sym f
 
--- no root, no child, a child that is not found
-pub root-nothing : (s : Bytes) (v : ℕ) → find v [] (storeOf s .slots) ≡ none → seen (storeOf s) v ≡ gap
-unfolding rootOf
-root-nothing s v e = root-gap (storeOf s) v e
+    pub leaf-lost : {a : Bool} → a ≡ begins (placeOf p) k → a ≡ false → Here Lost
+    leaf-lost f g = rw (its-body, its-key f, g)
 
-module _ (s : Bytes) (p : Place) (c : Child) where
-  pub child-none : c .version ≡ 0 → seenBelow s p c ≡ gap
-  unfolding seenBelow
-  child-none e = child-gap (storeOf s .slots) p c (256 - length p) e
-
-  pub child-nothing : (v : ℕ) → c .version ≡ v → 1 ≤ v → find v p (storeOf s .slots) ≡ none → seenBelow s p c ≡ lost
-  unfolding seenBelow
-  child-nothing v w h e = child-lost (storeOf s .slots) p c (256 - length p) (omega arith) (ap (λ m. find m p (storeOf s .slots)) w ∙ e)
+    pub leaf-seen : {a : Bool} → a ≡ begins (placeOf p) k → a ≡ true → Here (Leaf i)
+    unfolding leafAt
+    leaf-seen f g = (h .slotted .inside, rw (its-body, its-key f, g))

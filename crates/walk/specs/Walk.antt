@@ -9,13 +9,13 @@ use Rattle.terms.specs.Fields.{slice}
 use Rattle.terms.specs.Records.{Child, Body}
 use Rattle.meaning.specs.Store.{childOn}
 use Rattle.meaning.specs.Calls.{Answer, refused, accepted, isKept}
-use Rattle.meaning.specs.Reading.{Seen, lost, gap, leafSeen, fork, seenAt}
+use Rattle.meaning.specs.Reading.{Seen, lost, gap, leafSeen, fork, seenBody, seenAt}
 use Rattle.layout.specs.Sizes.{keyAt, valueAt, leftAt, rightAt, roomOf}
 use Rattle.layout.specs.Headers.{Headed, refusal, header, sizeRight, headerOf}
 use Rattle.layout.specs.Slots.{isLeaf, leafIn, innerIn, childIn}
 use Rattle.layout.specs.Stores.{slotIn, storeOf}
 use Rattle.place.specs.declared.Place as declared-place
-use Rattle.place.specs.Place.{placeOf, Proper}
+use Rattle.place.specs.Place.{Proper}
 use Rattle.walk.specs.declared.Opened as declared-opened
 use Rattle.walk.specs.declared.Opened.the-variants.{Refused, Kept}
 use Rattle.walk.specs.declared.Seen as declared
@@ -45,6 +45,10 @@ kidIn i s b = childOn b (childIn leftAt (slotIn i s)) (childIn rightAt (slotIn i
 -- What is seen at a child that stands at a place.
 unfoldable pub seenBelow : Bytes → Place → Child → Seen
 seenBelow s p c = seenAt (256 - length p) (storeOf s .slots) p c
+
+-- What is seen at a place whose record holds a body.
+abbrev pub bodySeen : Bytes → Place → Body → Seen
+bodySeen s p b = seenBody p b (λ c d. seenAt (255 - length p) (storeOf s .slots) (longer c p) d)
 
 -- The leaf in slot i; the inner node in slot i, which stands at a place.
 unfoldable pub leafAt : ℕ → Bytes → Seen

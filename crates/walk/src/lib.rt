@@ -20,20 +20,25 @@ use store::slot_of;
 ghost use mathlib.Core.Path.{_≡_};
 ghost use mathlib.Core.Bool.{true};
 ghost use mathlib.Core.List.{[]};
-ghost use Prim.Native.Nat.{_-_, _<_};
+ghost use Prim.Native.Nat.{_<_};
 ghost use lib.ListN.{length};
-ghost use Rattle.terms.specs.Bits.{longer};
-ghost use Rattle.meaning.specs.Reading.{seenBody, seenAt, seen, bodyHash};
+ghost use Rattle.meaning.specs.Reading.{seen, bodyHash};
 ghost use Rattle.hash.specs.Hash.{hashBytes};
 ghost use Rattle.nodehash.specs.Node.{leafHash, innerHash};
 ghost use Rattle.place.specs.Place.{placeOf, Proper, Grown};
 ghost use Rattle.layout.specs.Sizes.{slotSize, roomOf};
 ghost use Rattle.layout.specs.Headers.{sizeRight};
 ghost use Rattle.layout.specs.Stores.{slotIn, storeOf};
-ghost use Rattle.walk.specs.Walk.{opened, openedSays, bodyIn, kidIn, seenBelow, Sees, Slotted, Holds};
+ghost use Rattle.walk.specs.Walk.{opened, openedSays, bodyIn, kidIn, seenBelow, bodySeen, Sees, Slotted, Holds};
 
 // 8: the version isn't in oldest to latest.
 const NOT_KEPT: u32 = 8;
+
+// 3: the walk says that the store is not sound.
+pub const NOT_SOUND: u32 = 3;
+
+// 12: a key handed in isn't 32 bytes.
+pub const WRONG_KEY: u32 = 12;
 
 // What a read tests first.
 pub enum Opened {
@@ -90,7 +95,7 @@ pub fn record_hash(slot: &[u8]) -> Hash
 // What is seen at a place whose record was found in slot i.
 fn seen_in(store: &[u8], i: usize, place: Place) -> Seen
     requires { ⌜ Holds (now store) i place ⌝ }
-    ensures { λ r. ⌜ Sees (now (store .entry)) (placeOf place) (seenBody (placeOf place) (bodyIn (slotIn i (now (store .entry)))) (λ b d. seenAt (255 - length (placeOf place)) (storeOf (now (store .entry)) .slots) (longer b (placeOf place)) d)) r ⌝ }
+    ensures { λ r. ⌜ Sees (now (store .entry)) (placeOf place) (bodySeen (now (store .entry)) (placeOf place) (bodyIn (slotIn i (now (store .entry))))) r ⌝ }
 {
     let slot = slot_of(store, i);
     if !is_leaf(slot) {
@@ -116,7 +121,7 @@ pub fn root(store: &[u8], version: u32) -> Seen
 }
 
 // The version of the child on a side of the inner node in slot i.
-fn child_version(store: &[u8], i: usize, right: bool) -> u32
+pub fn child_version(store: &[u8], i: usize, right: bool) -> u32
     requires { ⌜ (sizeRight (length (now store)) ≡ true) × (i < roomOf (length (now store))) ⌝ }
     ensures { λ r. ⌜ r ≡ kidIn i (now (store .entry)) right .version ⌝ }
 {

@@ -1,5 +1,4 @@
 -- `reads::get` meets its contract: the key's length, what is tested first, then the walk. Assumes nothing.
-use mathlib.Core.Path.{_≡_}
 use Rattle.reads.proofs.Answers.{size-kept, key-wrong, key-refused, key-read}
 use borrow.Author.Needs.{needs}
 use Rattle.reads.proofs.get.Statement.{statement}
@@ -17,7 +16,8 @@ enum-known-opened c = search needs
 returns-2 : tie.Need-returns-2
 returns-2 c =
     let a = c .before .before .before .before .before .before .before .args in
-    key-refused (a .store .now) (a .version) (c .before .before .before .«open» .ensures) (a .key .now) (c .before .before .before .before .if1 .left) (c .before .opened .given .1)
+    let o = c .before .before .before in
+    key-refused (a .store .now) (a .version) (o .«open» .ensures) (a .key .now) (o .before .if1 .left) (c .before .opened .given .1)
 
 enum-told : tie.Need-enum-told
 enum-told c = search needs
@@ -25,12 +25,14 @@ enum-told c = search needs
 walk-read-requires : tie.Need-walk-read-requires
 walk-read-requires c κs =
     let a = c .before .before .before .before .before .before .args in
-    (size-kept (a .store .now) (a .version) (c .before .before .«open» .ensures) (c .enum-told .given .1), c .before .before .before .if1 .left)
+    let o = c .before .before in
+    (size-kept (a .store .now) (a .version) (o .«open» .ensures) (c .enum-told .given .1), o .before .if1 .left)
 
 returns-3 : tie.Need-returns-3
 returns-3 c =
     let a = c .before .before .before .before .before .before .before .args in
-    key-read (a .store .now) (a .version) (c .before .before .before .«open» .ensures) (a .key .now) (c .before .before .before .before .if1 .left) (c .walk-read .result)
+    let o = c .before .before .before in
+    key-read (a .store .now) (a .version) (o .«open» .ensures) (a .key .now) (o .before .if1 .left) (c .walk-read .result)
     (c .before .enum-told .given .1) (c .walk-read .ensures)
 
 pub get-spec : {M : Type 1} → statement M

@@ -1,6 +1,6 @@
 -- `reads::leaf_read` meets its contract: key and value are read where they lie in the slot. Assumes nothing.
 use native.Mathlib.Omega.{arith}
-use mathlib.Core.Path.{_≡_, ap, _∙_}
+use mathlib.Core.Path.{ap, _∙_}
 use lib.ListN.{length}
 use Rattle.terms.proofs.Fields.{length-slice}
 use Rattle.walk.proofs.Seeing.{slot-fits}
@@ -10,7 +10,9 @@ use Rattle.reads.proofs.leaf_read.Statement.{statement}
 use Rattle.reads.proofs.leaf_read.Tie as tie
 
 slot-of-requires : tie.Need-slot-of-requires
-slot-of-requires c κs = let a = c .before .before .args in slot-fits (a .store .now) (c .before .before .pre .0) (a .i) (c .before .before .pre .1)
+slot-of-requires c κs =
+    let d = c .before .before in
+    slot-fits (d .args .store .now) (d .pre .0) (d .args .i) (d .pre .1)
 
 key-of-requires : tie.Need-key-of-requires
 key-of-requires c κs = search needs
@@ -28,14 +30,15 @@ returns : tie.Need-returns
 returns c =
     let d = c .before .before .before .before in
     let a = d .before .before .before .before .args in
-    leaf-present (a .i) (a .store .now) (a .key .now) (d .before .slot-of .ensures .0) (d .key-of .ensures .0) (c .hash-at .result) (c .before .before .before .same .ensures)
-    (c .before .before .if1 .taken) (c .before .value-of .ensures .0) (c .hash-at .ensures .1)
+    leaf-present (a .i) (a .store .now) (a .key .now) (d .before .slot-of .ensures .0) (d .key-of .ensures .0) (c .hash-at .result)
+    (c .before .before .before .same .ensures) (c .before .before .if1 .taken) (c .before .value-of .ensures .0) (c .hash-at .ensures .1)
 
 returns-2 : tie.Need-returns-2
 returns-2 c =
     let d = c .before .before in
     let a = d .before .before .before .before .args in
-    leaf-absent (a .i) (a .store .now) (a .key .now) (d .before .slot-of .ensures .0) (d .key-of .ensures .0) (c .before .same .ensures) (c .if1 .left)
+    leaf-absent (a .i) (a .store .now) (a .key .now) (d .before .slot-of .ensures .0) (d .key-of .ensures .0) (c .before .same .ensures)
+    (c .if1 .left)
 
 pub leaf-read-spec : {M : Type 1} → statement M
 leaf-read-spec =

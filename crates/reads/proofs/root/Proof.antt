@@ -1,5 +1,4 @@
 -- `reads::root` meets its contract: what is tested first is refused first. Assumes nothing.
-use mathlib.Core.Path.{_≡_}
 use Rattle.reads.proofs.Answers.{size-kept, root-refused, root-hashed}
 use borrow.Author.Needs.{needs}
 use Rattle.reads.proofs.root.Statement.{statement}
@@ -12,16 +11,26 @@ enum-known-opened : tie.Need-enum-known-opened
 enum-known-opened c = search needs
 
 returns : tie.Need-returns
-returns c = let a = c .before .before .before .before .before .args in root-refused (a .store .now) (a .version) (c .before .before .before .«open» .ensures) (c .before .opened .given .1)
+returns c =
+    let o = c .before .before .before in
+    let a = o .before .before .args in
+    root-refused (a .store .now) (a .version) (o .«open» .ensures) (c .before .opened .given .1)
 
 enum-told : tie.Need-enum-told
 enum-told c = search needs
 
 root-hash-requires : tie.Need-root-hash-requires
-root-hash-requires c κs = let a = c .before .before .before .before .args in size-kept (a .store .now) (a .version) (c .before .before .«open» .ensures) (c .enum-told .given .1)
+root-hash-requires c κs =
+    let o = c .before .before in
+    let a = o .before .before .args in
+    size-kept (a .store .now) (a .version) (o .«open» .ensures) (c .enum-told .given .1)
 
 returns-2 : tie.Need-returns-2
-returns-2 c = let a = c .before .before .before .before .before .args in root-hashed (a .store .now) (a .version) (c .before .before .before .«open» .ensures) (c .root-hash .result) (c .before .enum-told .given .1) (c .root-hash .ensures)
+returns-2 c =
+    let o = c .before .before .before in
+    let a = o .before .before .args in
+    let h = c .root-hash in
+    root-hashed (a .store .now) (a .version) (o .«open» .ensures) (h .result) (c .before .enum-told .given .1) (h .ensures)
 
 pub root-spec : {M : Type 1} → statement M
 root-spec =

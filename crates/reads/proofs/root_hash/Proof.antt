@@ -1,16 +1,12 @@
 -- `reads::root_hash` meets its contract: the record found at the empty place is the root record. Assumes nothing.
 use native.Mathlib.Omega.{arith}
-use mathlib.Core.Path.{_≡_, ap, sym, _∙_}
-use mathlib.Core.List.{[]}
+use mathlib.Core.Path.{ap, _∙_}
 use Rattle.terms.specs.Bits.{Byte}
 use Rattle.terms.proofs.Lists.{all-of}
-use Rattle.meaning.specs.Store.{find, rootOf}
-use Rattle.meaning.specs.Reading.{rootHash, bodyHash}
-use Rattle.place.specs.Place.{placeOf}
+use Rattle.meaning.specs.Reading.{bodyHash}
 use Rattle.nodehash.specs.Node.{leafHash, innerHash}
-use Rattle.layout.specs.Stores.{storeOf}
 use Rattle.walk.specs.Walk.{bodyIn}
-use Rattle.walk.proofs.Seeing.{slot-fits, found-at, found-nothing, inside, root-hash}
+use Rattle.walk.proofs.Seeing.{slot-fits, inside, root-hash, no-root-hash}
 use borrow.Author.Needs.{needs}
 use Rattle.reads.proofs.root_hash.Statement.{statement}
 use Rattle.reads.proofs.root_hash.Tie as tie
@@ -31,40 +27,42 @@ no-hash-requires : tie.Need-no-hash-requires
 no-hash-requires c κs = search needs
 
 returns : tie.Need-returns
-unfolding rootOf
 returns c =
     let d = c .before .before .before .before in
     let a = d .before .before .args in
-    let s = storeOf (a .store .now) .slots in
-    let f = found-nothing s (a .version) (placeOf (d .top .result)) (c .before .before .before .find .ensures) (c .before .enum-told .given .1) in
-    c .no-hash .ensures ∙ ap (rootHash leafHash innerHash) (sym f ∙ ap (λ p. find (a .version) p s) (d .top .ensures .place))
+    let s = a .store .now in
+    let b = all-of Byte s 0 (λ i _. omega (arith, d .before .shared-slice-known .given i)) in
+    let top = d .top .ensures in
+    c .no-hash .ensures
+    ∙ no-root-hash s (d .before .before .pre) b (a .version) (d .top .result) (top .proper) (c .before .before .before .find .ensures)
+    (c .before .enum-told .given .1) leafHash innerHash (top .place)
 
 slot-of-requires : tie.Need-slot-of-requires
 slot-of-requires c κs =
     let d = c .before .before .before .before in
     let a = d .before .before .args in
     let s = a .store .now in
-    let p = d .top .result in
-    let j = c .before .found .given .0 .0 in
-    let f = found-at (storeOf s .slots) (a .version) (placeOf p) j (c .before .before .before .find .ensures) (c .before .found .given .1) in
     let b = all-of Byte s 0 (λ i _. omega (arith, d .before .shared-slice-known .given i)) in
-    slot-fits s (d .before .before .pre) j (inside s (d .before .before .pre) b (a .version) p (d .top .ensures .proper) j f)
+    let top = d .top .ensures in
+    slot-fits s (d .before .before .pre) _
+    (inside s (d .before .before .pre) b (a .version) (d .top .result) (top .proper) (c .before .before .before .find .ensures)
+    (c .before .found .given .1))
 
 record-hash-requires : tie.Need-record-hash-requires
 record-hash-requires c κs = search needs
 
 returns-2 : tie.Need-returns-2
 returns-2 c =
-    let d = c .before .before .before .before .before .before in
+    let f = c .before .before .before in
+    let d = f .before .before .before in
     let a = d .before .before .args in
     let s = a .store .now in
-    let p = d .top .result in
-    let j = c .before .before .before .found .given .0 .0 in
-    let f = found-at (storeOf s .slots) (a .version) (placeOf p) j (c .before .before .before .before .before .find .ensures) (c .before .before .before .found .given .1) in
     let b = all-of Byte s 0 (λ i _. omega (arith, d .before .shared-slice-known .given i)) in
+    let top = d .top .ensures in
     c .record-hash .ensures
     ∙ ap (λ x. bodyHash leafHash innerHash (bodyIn x)) (c .before .slot-of .ensures .0)
-    ∙ sym (root-hash s (d .before .before .pre) b (a .version) p (d .top .ensures .proper) j f leafHash innerHash (d .top .ensures .place))
+    ∙ root-hash s (d .before .before .pre) b (a .version) (d .top .result) (top .proper) (f .before .before .find .ensures) (f .found .given .1)
+    (top .place) leafHash innerHash
 
 pub root-hash-spec : {M : Type 1} → statement M
 root-hash-spec =

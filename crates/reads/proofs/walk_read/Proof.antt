@@ -1,8 +1,18 @@
 -- `reads::walk_read` meets its contract: each turn goes to the child on the side of the key's next bit. Assumes nothing.
 use native.Mathlib.Omega.{arith}
 use Prim.Native.Nat.{_-_}
-use mathlib.Core.Path.{_≡_, sym, _∙_}
-use Rattle.reads.proofs.Walking.{Walked, set-out, ends-at-gap, ends-lost, leaf-inside, ends-at-leaf, inner-short, inner-slotted, goes-on}
+use mathlib.Core.Path.{_∙_}
+use Rattle.reads.proofs.Walking.{
+  Walked,
+  set-out,
+  ends-at-gap,
+  ends-lost,
+  leaf-inside,
+  ends-at-leaf,
+  inner-short,
+  inner-slotted,
+  goes-on,
+}
 use borrow.Author.Needs.{needs}
 use Rattle.reads.proofs.walk_read.Statement.{statement}
 use Rattle.reads.proofs.walk_read.Tie as tie
@@ -47,24 +57,32 @@ enum-known-seen-2 : tie.Need-enum-known-seen-2 Inv-loop μ-loop
 enum-known-seen-2 c = search needs
 
 key-bit-requires : tie.Need-key-bit-requires Inv-loop μ-loop
-key-bit-requires c κs = let w = c .before .before .before .loop .inv in let h = inner-short w (c .before .seen2 .given .1) in omega (arith, w .whole)
+key-bit-requires c κs =
+    let w = c .before .before .before .loop .inv in
+    let h = inner-short w (c .before .seen2 .given .1) in
+    omega (arith, w .whole)
 
 child-place-requires : tie.Need-child-place-requires Inv-loop μ-loop
-child-place-requires c κs = let w = c .before .before .before .before .loop .inv in (w .proper, inner-short w (c .before .before .seen2 .given .1))
+child-place-requires c κs =
+    let w = c .before .before .before .before .loop .inv in
+    (w .proper, inner-short w (c .before .before .seen2 .given .1))
 
 child-requires : tie.Need-child-requires Inv-loop μ-loop
-child-requires c κs = inner-slotted (c .before .before .before .before .before .loop .inv) (c .before .before .before .seen2 .given .1) (c .child-place .ensures .proper)
+child-requires c κs =
+    let d = c .before .before .before in
+    inner-slotted (d .before .before .loop .inv) (d .seen2 .given .1) (c .child-place .ensures .proper)
 
 loop-less : tie.Need-loop-less Inv-loop μ-loop
 loop-less c =
-    let w = c .before .before .before .before .before .before .loop .inv in
-    let h = inner-short w (c .before .before .before .before .seen2 .given .1) in
+    let d = c .before .before .before .before in
+    let h = inner-short (d .before .before .loop .inv) (d .seen2 .given .1) in
     omega (arith, c .before .child-place .ensures .count)
 
 loop-again : tie.Need-loop-again Inv-loop μ-loop
 loop-again c =
-    goes-on (c .before .before .before .before .before .before .loop .inv) (c .before .before .before .before .seen2 .given .1) (c .before .before .key-bit .ensures)
-    (c .before .child-place .ensures) (c .child .ensures)
+    let d = c .before .before .before .before in
+    goes-on (d .before .before .loop .inv) (d .seen2 .given .1) (c .before .before .key-bit .ensures) (c .before .child-place .ensures)
+    (c .child .ensures)
 
 pub walk-read-spec : {M : Type 1} → statement M
 walk-read-spec =

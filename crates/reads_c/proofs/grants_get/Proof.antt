@@ -1,5 +1,4 @@
 -- `reads_c::grants_get` meets its contract: the case of the read decides the number and the bytes. Assumes nothing.
-use mathlib.Core.Path.{_≡_}
 use Rattle.reads_c.proofs.Exported.{key-refused, key-present, key-absent}
 use borrow.Author.Needs.{needs}
 use Rattle.reads_c.proofs.grants_get.Statement.{statement}
@@ -27,13 +26,23 @@ put-found-requires-2 : tie.Need-put-found-requires-2
 put-found-requires-2 c κs = search needs
 
 returns : tie.Need-returns
-returns c = key-refused (c .before .before .before .get .ensures) (c .before .before .before .before .before .before .args .found .now) (c .before .read .given .1)
+returns c =
+    let d = c .before .before .before in
+    key-refused (d .get .ensures) (d .before .before .before .args .found .now) (c .before .read .given .1)
 
 returns-2 : tie.Need-returns-2
-returns-2 c = let d = c .before .before .before .before .before in key-present (d .get .ensures) (d .before .before .before .args .found .now) (c .before .before .before .read2 .given .1) (c .put-found .ensures)
+returns-2 c =
+    let r = c .before .before .before in
+    let d = r .before .before in
+    key-present (d .get .ensures) (d .before .before .before .args .found .now) (r .read2 .given .1) (c .put-found .ensures)
 
 returns-3 : tie.Need-returns-3
-returns-3 c = let d = c .before .before .before .before .before in key-absent (d .get .ensures) (d .before .before .before .args .found .now) (c .before .no-hash .result) (c .before .before .before .enum-told .given .1) (c .before .no-hash .ensures) (c .put-found2 .ensures)
+returns-3 c =
+    let h = c .before in
+    let r = h .before .before in
+    let d = r .before .before in
+    key-absent (d .get .ensures) (d .before .before .before .args .found .now) (h .no-hash .result) (r .enum-told .given .1) (h .no-hash .ensures)
+    (c .put-found2 .ensures)
 
 pub grants-get-spec : {M : Type 1} → statement M
 grants-get-spec =

@@ -1,5 +1,4 @@
 -- `reads_c::grants_root` meets its contract: the case of the read decides the number and the bytes. Assumes nothing.
-use mathlib.Core.Path.{_≡_}
 use Rattle.reads_c.proofs.Exported.{root-refused, root-written}
 use borrow.Author.Needs.{needs}
 use Rattle.reads_c.proofs.grants_root.Statement.{statement}
@@ -18,10 +17,15 @@ put-hash-requires : tie.Need-put-hash-requires
 put-hash-requires c κs = search needs
 
 returns : tie.Need-returns
-returns c = root-refused (c .before .before .before .root .ensures) (c .before .before .before .before .before .args .root .now) (c .before .read .given .1)
+returns c =
+    let d = c .before .before .before in
+    root-refused (d .root .ensures) (d .before .before .args .root .now) (c .before .read .given .1)
 
 returns-2 : tie.Need-returns-2
-returns-2 c = let d = c .before .before .before .before .before in root-written (d .root .ensures) (d .before .before .args .root .now) (c .before .before .before .read2 .given .1) (search needs) (c .put-hash .ensures)
+returns-2 c =
+    let r = c .before .before .before in
+    let d = r .before .before in
+    root-written (d .root .ensures) (d .before .before .args .root .now) (r .read2 .given .1) (search needs) (c .put-hash .ensures)
 
 pub grants-root-spec : {M : Type 1} → statement M
 grants-root-spec =

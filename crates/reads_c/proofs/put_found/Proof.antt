@@ -1,7 +1,7 @@
 -- `reads_c::put_found` meets its contract: the first byte, and the hash over the other 32. Assumes nothing.
 use Prim.Native.Nat.{suc}
 use native.Mathlib.Omega.{arith}
-use mathlib.Core.Path.{_≡_, ap, sym, _∙_}
+use mathlib.Core.Path.{ap, sym, _∙_}
 use lib.ListN.{length, length-set}
 use Rattle.hash.proofs.Laws.{hash-whole}
 use Rattle.reads_c.proofs.Exported.{found-put}
@@ -27,7 +27,9 @@ put-hash-requires c κs = search needs
 same-length : tie.Need-same-length
 same-length c =
     let d = c .before .before .before .before .before in
-    ap length (found-put (d .args .value) (d .args .present) (d .args .found .now) (d .pre) (c .before .before .put-hash .ensures)) ∙ ap suc (hash-whole (d .args .value) .0) ∙ sym (d .pre)
+    ap length (found-put (d .args .value) (d .args .present) (d .args .found .now) (d .pre) (c .before .before .put-hash .ensures))
+    ∙ ap suc (hash-whole (d .args .value) .0)
+    ∙ sym (d .pre)
 
 returns : tie.Need-returns
 returns c =

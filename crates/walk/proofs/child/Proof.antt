@@ -1,12 +1,11 @@
 -- `walk::child` meets its contract: version 0 is no child, else the child is sought at its version and place. Assumes nothing.
 use native.Mathlib.Omega.{arith}
-use mathlib.Core.Path.{_≡_, sym, _∙_, subst}
+use mathlib.Core.Path.{sym, _∙_}
 use Rattle.terms.specs.Bits.{Byte}
 use Rattle.terms.proofs.Lists.{all-of}
 use Rattle.place.specs.Place.{placeOf}
-use Rattle.layout.specs.Stores.{storeOf}
-use Rattle.walk.specs.Walk.{kidIn, Sees}
-use Rattle.walk.proofs.Seeing.{found-at, found-nothing, holds-found, child-found, child-none, child-nothing}
+use Rattle.walk.specs.Walk.{kidIn}
+use Rattle.walk.proofs.Seeing.{holds-found, child-none, child-nothing, child-sees}
 use borrow.Author.Needs.{needs}
 use Rattle.walk.proofs.child.Statement.{statement}
 use Rattle.walk.proofs.child.Tie as tie
@@ -17,7 +16,8 @@ child-version-requires c κs = search needs
 returns : tie.Need-returns
 returns c =
     let a = c .before .before .before .args in
-    child-none (a .store .now) (placeOf (a .place)) (kidIn (a .i) (a .store .now) (a .right)) (sym (c .before .child-version .ensures) ∙ c .if1 .taken)
+    let s = a .store .now in
+    child-none s (placeOf (a .place)) (kidIn (a .i) s (a .right)) (sym (c .before .child-version .ensures) ∙ c .if1 .taken)
 
 find-requires : tie.Need-find-requires
 find-requires c κs = search needs
@@ -31,9 +31,13 @@ enum-told c = search needs
 returns-2 : tie.Need-returns-2
 returns-2 c =
     let d = c .before .before .before in
+    let w = d .before .child-version in
     let a = d .before .before .before .args in
-    let f = found-nothing (storeOf (a .store .now) .slots) (d .before .child-version .result) (placeOf (a .place)) (c .before .before .find .ensures) (c .enum-told .given .1) in
-    child-nothing (a .store .now) (placeOf (a .place)) (kidIn (a .i) (a .store .now) (a .right)) _ (sym (d .before .child-version .ensures)) (omega (arith, d .if1 .left)) f
+    let h = d .before .before .before .pre in
+    let s = a .store .now in
+    let b = all-of Byte s 0 (λ i _. omega (arith, d .before .before .shared-slice-known .given i)) in
+    child-nothing s (h .size) b (w .result) (a .place) (h .proper) (c .before .before .find .ensures) (c .enum-told .given .1)
+    (kidIn (a .i) s (a .right)) (w .ensures) (omega (arith, d .if1 .left))
 
 seen-in-requires : tie.Need-seen-in-requires
 seen-in-requires c κs =
@@ -41,22 +45,21 @@ seen-in-requires c κs =
     let a = d .before .before .before .args in
     let h = d .before .before .before .pre in
     let s = a .store .now in
-    let j = c .before .found .given .0 .0 in
-    let f = found-at (storeOf s .slots) (d .before .child-version .result) (placeOf (a .place)) j (c .before .before .before .find .ensures) (c .before .found .given .1) in
-    holds-found s (h .size) (all-of Byte s 0 (λ i _. omega (arith, d .before .before .shared-slice-known .given i))) _ (a .place) (h .proper) j f
+    let b = all-of Byte s 0 (λ i _. omega (arith, d .before .before .shared-slice-known .given i)) in
+    holds-found s (h .size) b (d .before .child-version .result) (a .place) (h .proper) (c .before .before .before .find .ensures)
+    (c .before .found .given .1)
 
 returns-3 : tie.Need-returns-3
 returns-3 c =
     let d = c .before .before .before .before .before in
+    let w = d .before .child-version in
     let a = d .before .before .before .args in
     let h = d .before .before .before .pre in
     let s = a .store .now in
-    let j = c .before .before .found .given .0 .0 in
-    let w = d .before .child-version in
-    let f = found-at (storeOf s .slots) (w .result) (placeOf (a .place)) j (c .before .before .before .before .find .ensures) (c .before .before .found .given .1) in
     let b = all-of Byte s 0 (λ i _. omega (arith, d .before .before .shared-slice-known .given i)) in
-    let e = child-found s (h .size) b (w .result) (a .place) (h .proper) j f (kidIn (a .i) s (a .right)) (sym (w .ensures)) (omega (arith, d .if1 .left)) in
-    subst (λ x. Sees s (placeOf (a .place)) x (c .seen-in .result)) (sym e) (c .seen-in .ensures)
+    child-sees s (h .size) b (w .result) (a .place) (h .proper) (c .before .before .before .before .find .ensures)
+    (c .before .before .found .given .1) (kidIn (a .i) s (a .right)) (w .ensures) (omega (arith, d .if1 .left))
+    (c .seen-in .result) (c .seen-in .ensures)
 
 pub child-spec : {M : Type 1} → statement M
 child-spec =

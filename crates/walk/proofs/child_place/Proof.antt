@@ -1,5 +1,5 @@
 -- `walk::child_place` meets its contract: the place is longer by the side's bit. Assumes nothing.
-use mathlib.Core.Path.{_≡_, sym, subst}
+use mathlib.Core.Path.{sym, subst}
 use Rattle.place.specs.Place.{Grown}
 use borrow.Author.Needs.{needs}
 use Rattle.walk.proofs.child_place.Statement.{statement}

@@ -1,9 +1,6 @@
 -- `walk::child_version` meets its contract: the version is the first field of what an inner record says of a child. Assumes nothing.
-use native.Mathlib.Omega.{arith}
-use mathlib.Core.Path.{_≡_, refl, ap, _∙_}
-use Rattle.terms.specs.Fields.{field}
+use mathlib.Core.Path.{_∙_}
 use Rattle.layout.specs.Slots.{childIn}
-use Rattle.layout.specs.Stores.{slotIn}
 use Rattle.walk.specs.Walk.{kidIn}
 use Rattle.walk.proofs.Seeing.{slot-fits}
 use borrow.Author.Needs.{needs}

@@ -1,5 +1,4 @@
 -- `walk::open` meets its contract: the header, oldest and latest are tested in the order of the definition. Assumes nothing.
-use mathlib.Core.Path.{_≡_, refl}
 use Rattle.walk.proofs.Opening.{header-refused, before-oldest, after-latest, version-kept}
 use borrow.Author.Needs.{needs}
 use Rattle.walk.proofs.open.Statement.{statement}
@@ -15,16 +14,22 @@ enum-known-header-2 : tie.Need-enum-known-header-2
 enum-known-header-2 c = search needs
 
 returns : tie.Need-returns
-returns c = let g = c .before .before .header2 .given in let h = c .before .before .before .before .read-header .ensures in before-oldest _ _ h (g .1) (c .if1 .taken)
+returns c =
+    let d = c .before .before in
+    before-oldest _ _ (d .before .before .read-header .ensures) (d .header2 .given .1) (c .if1 .taken)
 
 returns-2 : tie.Need-returns-2
-returns-2 c = let g = c .before .before .before .header2 .given in let h = c .before .before .before .before .before .read-header .ensures in after-latest _ _ h (g .1) (c .before .if1 .left) (c .if2 .taken)
+returns-2 c =
+    let d = c .before .before .before in
+    after-latest _ _ (d .before .before .read-header .ensures) (d .header2 .given .1) (c .before .if1 .left) (c .if2 .taken)
 
 returns-3 : tie.Need-returns-3
 returns-3 c = header-refused _ _ (c .before .before .before .read-header .ensures) (c .before .header .given .1)
 
 returns-4 : tie.Need-returns-4
-returns-4 c = let g = c .before .before .before .header2 .given in let h = c .before .before .before .before .before .read-header .ensures in version-kept _ _ h (g .1) (c .before .if1 .left) (c .if2 .left)
+returns-4 c =
+    let d = c .before .before .before in
+    version-kept _ _ (d .before .before .read-header .ensures) (d .header2 .given .1) (c .before .if1 .left) (c .if2 .left)
 
 pub open-spec : {M : Type 1} → statement M
 open-spec =

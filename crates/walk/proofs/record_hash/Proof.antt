@@ -1,6 +1,5 @@
 -- `walk::record_hash` meets its contract: a leaf's grant and an inner record's two hashes are hashed where they lie. Assumes nothing.
-use native.Mathlib.Omega.{arith}
-use mathlib.Core.Path.{_≡_, refl, ap, sym, _∙_}
+use mathlib.Core.Path.{ap, sym, _∙_}
 use lib.ListN.{length}
 use Rattle.terms.proofs.Fields.{length-slice}
 use Rattle.walk.proofs.Hashing.{leaf-hashed, inner-hashed}
@@ -18,7 +17,9 @@ leaf-hash-requires : tie.Need-leaf-hash-requires
 leaf-hash-requires c κs = ap length (c .grant-of .ensures .0) ∙ length-slice 48 64 _ (search needs)
 
 returns : tie.Need-returns
-returns c = leaf-hashed _ (sym (c .before .before .before .is-leaf .ensures) ∙ c .before .before .if1 .taken) (c .before .grant-of .ensures .0) (c .leaf-hash .ensures)
+returns c =
+    let d = c .before .before in
+    leaf-hashed _ (sym (d .before .is-leaf .ensures) ∙ d .if1 .taken) (c .before .grant-of .ensures .0) (c .leaf-hash .ensures)
 
 add-hash-at : tie.Need-add-hash-at
 add-hash-at c = search needs
@@ -36,7 +37,10 @@ inner-hash-requires : tie.Need-inner-hash-requires
 inner-hash-requires c κs = search needs
 
 returns-2 : tie.Need-returns-2
-returns-2 c = inner-hashed _ (sym (c .before .before .before .before .is-leaf .ensures) ∙ c .before .before .before .if1 .left) (c .before .before .hash-at .ensures .1) (c .before .hash-at2 .ensures .1) (c .inner-hash .ensures)
+returns-2 c =
+    let l = c .before .before in
+    inner-hashed _ (sym (l .before .before .is-leaf .ensures) ∙ l .before .if1 .left) (l .hash-at .ensures .1) (c .before .hash-at2 .ensures .1)
+    (c .inner-hash .ensures)
 
 pub record-hash-spec : {M : Type 1} → statement M
 record-hash-spec =

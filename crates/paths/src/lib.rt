@@ -1,0 +1,181 @@
+// Paths in lent memory and the proofs that they are written as, document 01, 'Bytes', presence and absence proof.
+use fields::copy;
+use fields::put_u16;
+use fields::put_u32;
+use place::Place;
+use place::key_bit;
+use slots::grant_of;
+use store::slot_of;
+ghost use mathlib.Core.Path.{_≡_};
+ghost use mathlib.Core.Bool.{not};
+ghost use Prim.Native.Nat.{_+_, _*_, _≤_};
+ghost use lib.ListN.{length};
+ghost use Rattle.terms.specs.Bits.{digit};
+ghost use Rattle.layout.specs.Sizes.{slotSize, slotAt, leftAt, rightAt};
+ghost use Rattle.layout.specs.Slots.{childIn};
+ghost use Rattle.meaning.specs.Store.{childOn};
+ghost use Rattle.proofrecords.specs.ProofBytes.{stepSize, presenceHead, absenceHead, stepsBytes, presenceBytes, neighbourBytes, absenceBytes};
+ghost use Rattle.paths.specs.Paths.{stepBytes, stepAt, pathSteps, presenceAt, PathIn};
+ghost use Rattle.paths.specs.Neighbours.{roomFor, flagFor, neighbourAt, NeighbourIn, absentOf};
+
+// Where an inner record has its hashes, and the sizes and kinds of proofs and steps.
+const LEFT_HASH_AT: usize = 52;
+
+const RIGHT_AT: usize = 84;
+
+const RIGHT_HASH_AT: usize = 88;
+
+const SLOT_SIZE: usize = 120;
+
+const STEP_SIZE: usize = 33;
+
+const PRESENCE_HEAD: usize = 72;
+
+const PRESENCE_KIND: u16 = 16;
+
+const ABSENCE_HEAD: usize = 40;
+
+const ABSENCE_KIND: u16 = 17;
+
+// The way to a node: the slots of the inner nodes above it, the root's first; its place, whose bits are the sides taken; and its own slot.
+pub struct Path {
+    pub slots: [u16; 256],
+    pub place: Place,
+    pub at: usize,
+}
+
+// The byte of a side.
+fn digit(side: bool) -> u8
+    ensures { λ r. ⌜ r ≡ digit side ⌝ }
+{
+    if side {
+        return 1;
+    }
+    0
+}
+
+// The hash of the sibling of the child on a side, as the inner record has it.
+fn sibling(s: &[u8], side: bool) -> &[u8]
+    requires { ⌜ length (now s) ≡ slotSize ⌝ }
+    ensures { λ r. ⌜ (now r ≡ childOn (not side) (childIn leftAt (now (s .entry))) (childIn rightAt (now (s .entry))) .hash) × (length (now r) ≡ 32) ⌝ }
+{
+    if side {
+        return &s[LEFT_HASH_AT..RIGHT_AT];
+    }
+    &s[RIGHT_HASH_AT..SLOT_SIZE]
+}
+
+// Writes the step up from the child on a side of the inner node in slot i.
+fn put_step(part: &mut [u8], store: &[u8], i: usize, side: bool)
+    requires { ⌜ (length (now part) ≡ stepSize) × (slotAt i + slotSize ≤ length (now store)) ⌝ }
+    ensures { λ _. ⌜ now (part .exit) ≡ stepBytes (stepAt (now (store .entry)) i side) ⌝ }
+{
+    copy(&mut part[1..STEP_SIZE], sibling(slot_of(store, i), side));
+    part[0] = digit(side);
+}
+
+// Writes the steps of a path, from its end upwards.
+fn put_steps(part: &mut [u8], store: &[u8], path: Path)
+    requires { ⌜ PathIn (now store) path × (length (now part) ≡ stepSize * path .place .count) ⌝ }
+    ensures { λ _. ⌜ now (part .exit) ≡ stepsBytes (pathSteps (now (store .entry)) path) ⌝ }
+{
+    let slots = path.slots;
+    let place = path.place;
+    let bits = place.bits;
+    let mut depth = place.count;
+    let mut start = 0;
+    while 0 < depth {
+        depth -= 1;
+        let end = start + STEP_SIZE;
+        let i = slots[depth] as usize;
+        put_step(&mut part[start..end], store, i, key_bit(&bits, depth));
+        start = end;
+    }
+}
+
+// Writes the presence proof of the leaf at the end of a path.
+pub fn put_presence(part: &mut [u8], store: &[u8], path: Path)
+    requires { ⌜ PathIn (now store) path × (length (now part) ≡ presenceHead + stepSize * path .place .count) ⌝ }
+    ensures { λ _. ⌜ now (part .exit) ≡ presenceBytes (presenceAt (now (store .entry)) path) ⌝ }
+{
+    let place = path.place;
+    let count = place.count as u16;
+    let at = path.at;
+    let len = part.len();
+    put_u32(part, 0, len as u32);
+    put_u16(part, 4, PRESENCE_KIND);
+    put_u16(part, 6, count);
+    copy(&mut part[8..PRESENCE_HEAD], grant_of(slot_of(store, at)));
+    put_steps(&mut part[PRESENCE_HEAD..len], store, path);
+}
+
+// How a search for a neighbour ended.
+pub enum Way {
+    // A record on the way was lost.
+    Lost,
+    Nobody,
+    Somebody,
+}
+
+// What a search found; the path counts where there is somebody.
+pub struct Sought {
+    pub way: Way,
+    pub path: Path,
+}
+
+// How many bytes a neighbour's record has, 0 where there is nobody.
+pub fn neighbour_length(n: Sought) -> usize
+    requires { ⌜ n .path .place .count ≤ 256 ⌝ }
+    ensures { λ r. ⌜ r ≡ roomFor n ⌝ }
+{
+    let way = n.way;
+    let path = n.path;
+    let place = path.place;
+    match way {
+        Way::Somebody => PRESENCE_HEAD + STEP_SIZE * place.count,
+        Way::Nobody => 0,
+        Way::Lost => 0,
+    }
+}
+
+// The flag where there is somebody, else 0.
+fn flag(n: Sought, bit: u16) -> u16
+    ensures { λ r. ⌜ r ≡ flagFor n bit ⌝ }
+{
+    let way = n.way;
+    match way {
+        Way::Somebody => bit,
+        Way::Nobody => 0,
+        Way::Lost => 0,
+    }
+}
+
+// Writes a neighbour's record where there is somebody.
+fn put_neighbour(part: &mut [u8], store: &[u8], n: Sought)
+    requires { ⌜ NeighbourIn (now store) n × (length (now part) ≡ roomFor n) ⌝ }
+    ensures { λ _. ⌜ now (part .exit) ≡ neighbourBytes (neighbourAt (now (store .entry)) n) ⌝ }
+{
+    let way = n.way;
+    let path = n.path;
+    match way {
+        Way::Somebody => put_presence(part, store, path),
+        Way::Nobody => {}
+        Way::Lost => {}
+    }
+}
+
+// Writes the absence proof of a key with these neighbours.
+pub fn put_absence(part: &mut [u8], store: &[u8], key: &[u8], left: Sought, right: Sought)
+    requires { ⌜ (NeighbourIn (now store) left × NeighbourIn (now store) right) × (length (now key) ≡ 32) × (length (now part) ≡ absenceHead + roomFor left + roomFor right) ⌝ }
+    ensures { λ _. ⌜ now (part .exit) ≡ absenceBytes (absentOf (now (key .entry)) (neighbourAt (now (store .entry)) left) (neighbourAt (now (store .entry)) right)) ⌝ }
+{
+    let flags = flag(left, 1) + flag(right, 2);
+    let middle = ABSENCE_HEAD + neighbour_length(left);
+    let len = part.len();
+    put_u32(part, 0, len as u32);
+    put_u16(part, 4, ABSENCE_KIND);
+    put_u16(part, 6, flags);
+    copy(&mut part[8..ABSENCE_HEAD], key);
+    put_neighbour(&mut part[ABSENCE_HEAD..middle], store, left);
+    put_neighbour(&mut part[middle..len], store, right);
+}
