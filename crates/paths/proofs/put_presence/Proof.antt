@@ -59,7 +59,7 @@ grant-of-requires c κs = search needs
 -- src/lib.rt:106:5
 copy-requires : tie.Need-copy-requires
 copy-requires c κs =
-    let g : length (c .grant-of .result .now) ≡ 64 = ap length (c .grant-of .ensures) ∙ length-slice 48 64 (c .before .slot-of .result .now) (omega (arith, c .before .slot-of .ensures .1)) in
+    let g : length (c .grant-of .result .now) ≡ 64 = ap length (c .grant-of .ensures .0) ∙ length-slice 48 64 (c .before .slot-of .result .now) (omega (arith, c .before .slot-of .ensures .1)) in
     simp (length-take, length-drop) (omega arith)
 
 -- src/lib.rt:107:15
@@ -88,7 +88,7 @@ returns c =
     let start = c .before .before .before .before .before .before .before .before .before .before .before .before .before .before .before .before .before .before .before .before .before .before .before .before .before .before in
     let a = start .args in
     presence-put (a .store .now) (a .path) (a .part .now) (start .pre .0) (start .pre .1) (c .before .before .before .before .before .before .before .before .before .before .before .before .before .before .before .before .before .before .before .before .put-u32 .ensures) (c .before .before .before .before .before .before .before .before .before .before .before .before .before .before .before .before .put-u16 .ensures) (c .before .before .before .before .before .before .before .before .before .before .before .before .put-u162 .ensures)
-    (c .before .before .before .before .before .before .before .before .slot-of .ensures .0) (c .before .before .before .before .before .before .before .grant-of .ensures) (c .before .before .before .before .before .before .copy .ensures) (c .before .before .put-steps .ensures)
+    (c .before .before .before .before .before .before .before .before .slot-of .ensures .0) (c .before .before .before .before .before .before .before .grant-of .ensures .0) (c .before .before .before .before .before .before .copy .ensures) (c .before .before .put-steps .ensures)
 
 pub put-presence-spec : {M : Type 1} → statement M
 put-presence-spec =

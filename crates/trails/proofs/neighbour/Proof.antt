@@ -50,7 +50,7 @@ answer-requires c κs = search needs
 returns-2 : tie.Need-returns-2
 returns-2 c =
     let a = c .before .before .before .before .before .before .before .before .before .before .before .before .args in
-    end-beyond (a .store .now) (a .key .now) (a .walked) (a .side) _ (c .before .before .before .before .before .before .seen .given .1) (c .before .before .before .before .slot-of .ensures .0) (c .before .before .before .key-of .ensures) (c .before .before .beyond .ensures) (c .before .if1 .taken) (c .before .before .before .before .before .before .before .before .before .before .before .before .pre .trail) (c .answer .ensures)
+    end-beyond (a .store .now) (a .key .now) (a .walked) (a .side) _ (c .before .before .before .before .before .before .seen .given .1) (c .before .before .before .before .slot-of .ensures .0) (c .before .before .before .key-of .ensures .0) (c .before .before .beyond .ensures) (c .before .if1 .taken) (c .before .before .before .before .before .before .before .before .before .before .before .before .pre .trail) (c .answer .ensures)
 
 -- src/lib.rt:212:5
 from-fork-requires-2 : tie.Need-from-fork-requires-2
@@ -60,7 +60,7 @@ from-fork-requires-2 c κs = let a = c .before .before .before .before .before .
 returns-3 : tie.Need-returns-3
 returns-3 c =
     let a = c .before .before .before .before .before .before .before .before .before .before .before .before .args in
-    end-before (a .store .now) (a .key .now) (a .walked) (a .side) _ (c .before .before .before .before .before .before .seen .given .1) (c .before .before .before .before .slot-of .ensures .0) (c .before .before .before .key-of .ensures) (c .before .before .beyond .ensures) (c .before .if1 .left) (c .before .before .before .before .before .before .before .before .fork-towards .ensures) (c .from-fork2 .ensures)
+    end-before (a .store .now) (a .key .now) (a .walked) (a .side) _ (c .before .before .before .before .before .before .seen .given .1) (c .before .before .before .before .slot-of .ensures .0) (c .before .before .before .key-of .ensures .0) (c .before .before .beyond .ensures) (c .before .if1 .left) (c .before .before .before .before .before .before .before .before .fork-towards .ensures) (c .from-fork2 .ensures)
 
 pub neighbour-spec : {M : Type 1} → statement M
 neighbour-spec =
