@@ -1,44 +1,33 @@
 -- `soundness::check` meets its contract: of an accepted header the test of the slots decides soundness. Assumes nothing.
 use native.Mathlib.Omega.{arith}
 use borrow.Author.Tests.{not-true, not-false}
+use borrow.Author.Needs.{needs}
 use Rattle.terms.specs.Bits.{Byte}
 use Rattle.terms.proofs.Lists.{all-of}
 use Rattle.soundness.proofs.Answers.{says-refused, says-kept, says-unsound, says-sound}
-use borrow.Author.Needs.{needs}
 use Rattle.soundness.proofs.check.Statement.{statement}
 use Rattle.soundness.proofs.check.Tie as tie
-use Rattle.soundness.proofs.check.Reads as reads
-use Rattle.soundness.proofs.check.Lts as lts
-use Rattle.layout.proofs.read_header.Reads as read-header-reads
-use Rattle.soundness.proofs.slots_pass.Reads as slots-pass-reads
 
--- src/lib.rt:204:9
 read-header-requires : tie.Need-read-header-requires
 read-header-requires c κs = search needs
 
--- src/lib.rt:206:25
 enum-known-header : tie.Need-enum-known-header
 enum-known-header c = search needs
 
--- src/lib.rt:209:13
 enum-known-header-2 : tie.Need-enum-known-header-2
 enum-known-header-2 c = search needs
 
--- src/lib.rt:213:17
 slots-pass-requires : tie.Need-slots-pass-requires
 slots-pass-requires c κs = says-kept (c .before .before .before .before .before .args .store .now) (c .before .before .before .read-header .ensures) (c .before .header2 .given .1)
 
--- src/lib.rt:214:17
 returns : tie.Need-returns
 returns c =
     let s = c .before .before .before .before .before .before .before .args .store .now in
     says-unsound s (c .before .before .before .before .before .read-header .ensures) (c .before .before .before .header2 .given .1) (all-of Byte s 0 (λ i _. omega (arith, c .before .before .before .before .before .before .shared-slice-known .given i))) (c .before .slots-pass .ensures) (not-true _ (c .if1 .taken))
 
--- src/lib.rt:201:1
 returns-2 : tie.Need-returns-2
 returns-2 c = says-refused (c .before .before .before .before .before .args .store .now) (c .before .before .before .read-header .ensures) (c .before .header .given .1)
 
--- src/lib.rt:201:1
 returns-3 : tie.Need-returns-3
 returns-3 c =
     let s = c .before .before .before .before .before .before .before .args .store .now in

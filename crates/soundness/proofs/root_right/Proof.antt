@@ -1,23 +1,18 @@
 -- `soundness::root_right` meets its contract: one early return for each test. Assumes nothing.
-use mathlib.Core.Path.{sym, ap}
 use native.Mathlib.Numerals.{add-one}
+use mathlib.Core.Path.{sym, ap}
 use lib.Dec.{eqb}
 use borrow.Author.Tests.{le-leb, lt-leb}
 use borrow.Author.Needs.{needs}
 use Rattle.soundness.proofs.root_right.Statement.{statement}
 use Rattle.soundness.proofs.root_right.Tie as tie
-use Rattle.soundness.proofs.root_right.Reads as reads
-use Rattle.soundness.proofs.root_right.Lts as lts
 
--- src/lib.rt:92:9
 returns : tie.Need-returns
 returns c = sym (rw (lt-leb (c .before .before .args .kept .oldest) (c .before .before .args .version) (c .if1 .taken)))
 
--- src/lib.rt:94:13
 add-result : tie.Need-add-result
 add-result c = search needs
 
--- src/lib.rt:88:1
 returns-2 : tie.Need-returns-2
 returns-2 c = let a = c .before .before .args in sym (rw (le-leb (a .kept .oldest) (a .version) (c .if1 .left)) (ap (eqb (a .ends)) (sym (add-one (a .version)))))
 
