@@ -22,12 +22,14 @@ enum-told-2 c = search needs
 returns-2 : tie.Need-returns-2
 returns-2 c =
     let d = c .before .before .before .before .before .args in
-    rw (ne-eqb (d .version) 0 (c .before .before .before .if1 .left), is-found (storeOf (d .store .now) .slots) (d .version) (placeOf (d .place)) _ (c .enum-told .given .1) (c .before .before .find .ensures))
+    rw
+    (ne-eqb (d .version) 0 (c .before .before .before .if1 .left), is-found (storeOf (d .store .now) .slots) (d .version) (placeOf (d .place)) _ (c .enum-told .given .1) (c .before .before .find .ensures))
 
 returns-3 : tie.Need-returns-3
 returns-3 c =
     let d = c .before .before .before .before .before .args in
-    rw (ne-eqb (d .version) 0 (c .before .before .before .if1 .left), not-found (storeOf (d .store .now) .slots) (d .version) (placeOf (d .place)) _ (c .enum-told2 .given .1) (c .before .before .find .ensures))
+    rw
+    (ne-eqb (d .version) 0 (c .before .before .before .if1 .left), not-found (storeOf (d .store .now) .slots) (d .version) (placeOf (d .place)) _ (c .enum-told2 .given .1) (c .before .before .find .ensures))
 
 pub child-found-spec : {M : Type 1} → statement M
 child-found-spec =

@@ -52,8 +52,10 @@ same-requires c κs = search needs
 returns-3 : tie.Need-returns-3
 returns-3 c =
     let d = c .before .before .before .before .before .before .before .before in
-    could-be (c .before .before .before .before .before .before .before .before .before .before .before .before .before .args .below) _ _ (c .before .before .before .slot-of .ensures .0) (sym (d .before .before .count-at .ensures) ∙ d .if1 .left)
-    (sym (c .before .before .before .before .before .before .before .version-below .ensures) ∙ c .before .before .before .before .before .if2 .left) (c .same .ensures)
+    could-be (c .before .before .before .before .before .before .before .before .before .before .before .before .before .args .below) _ _
+    (c .before .before .before .slot-of .ensures .0) (sym (d .before .before .count-at .ensures) ∙ d .if1 .left)
+    (sym (c .before .before .before .before .before .before .before .version-below .ensures) ∙ c .before .before .before .before .before .if2 .left)
+    (c .same .ensures)
 
 pub could-name-spec : {M : Type 1} → statement M
 could-name-spec =

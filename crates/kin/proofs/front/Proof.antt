@@ -26,7 +26,8 @@ key-bit-requires : tie.Need-key-bit-requires Inv-loop μ-loop
 key-bit-requires c κs = omega (arith, c .before .before .before .before .pre .0, c .before .before .before .before .pre .1, c .before .loop .inv .0)
 
 longer-requires : tie.Need-longer-requires Inv-loop μ-loop
-longer-requires c κs = (c .before .before .loop .inv .1 .proper, omega (arith, c .before .before .before .before .before .pre .1, c .before .before .loop .inv .1 .count))
+longer-requires c κs =
+    (c .before .before .loop .inv .1 .proper, omega (arith, c .before .before .before .before .before .pre .1, c .before .before .loop .inv .1 .count))
 
 add-i : tie.Need-add-i Inv-loop μ-loop
 add-i c = omega (arith, c .before .before .before .before .before .before .pre .1)

@@ -15,7 +15,8 @@ version-at-requires c κs = slot-fits (c .before .pre .0)
 returns : tie.Need-returns
 returns c =
     let a = c .before .before .before in
-    other-version (a .pre .0) (all-of Byte (a .args .store .now) 0 (λ i _. omega (arith, c .before .before .shared-slice-known .given i))) (a .args .version) (a .args .place) (a .pre .1)
+    other-version (a .pre .0) (all-of Byte (a .args .store .now) 0 (λ i _. omega (arith, c .before .before .shared-slice-known .given i)))
+    (a .args .version) (a .args .place) (a .pre .1)
     (λ e. c .if1 .taken (c .before .version-at .ensures ∙ e))
 
 count-at-requires : tie.Need-count-at-requires
@@ -26,8 +27,10 @@ cast-if2 c = search needs
 
 returns-2 : tie.Need-returns-2
 returns-2 c =
-    let a = c .before .before .before .before .before .before in
-    other-count (a .pre .0) (all-of Byte (a .args .store .now) 0 (λ i _. omega (arith, c .before .before .before .before .before .shared-slice-known .given i))) (a .args .version) (a .args .place) (a .pre .1)
+    let d = c .before .before .before .before .before in
+    let a = d .before in
+    other-count (a .pre .0) (all-of Byte (a .args .store .now) 0 (λ i _. omega (arith, d .shared-slice-known .given i))) (a .args .version)
+    (a .args .place) (a .pre .1)
     (λ e. c .if2 .taken (c .before .before .count-at .ensures ∙ e))
 
 slot-of-requires : tie.Need-slot-of-requires
@@ -50,8 +53,10 @@ same-requires c κs = search needs
 
 returns-3 : tie.Need-returns-3
 returns-3 c =
-    let a = c .before .before .before .before .before .before .before .before .before .before .before .before in
-    other-bits (a .pre .0) (all-of Byte (a .args .store .now) 0 (λ i _. omega (arith, c .before .before .before .before .before .before .before .before .before .before .before .shared-slice-known .given i))) (a .args .version) (a .args .place) (a .pre .1)
+    let d = c .before .before .before .before .before .before .before .before .before .before .before in
+    let a = d .before in
+    other-bits (a .pre .0) (all-of Byte (a .args .store .now) 0 (λ i _. omega (arith, d .shared-slice-known .given i))) (a .args .version)
+    (a .args .place) (a .pre .1)
     (c .before .before .before .before .slot-of .ensures .0) (sym (c .before .same .ensures) ∙ not-true _ (c .if3 .taken))
 
 holds-record-requires : tie.Need-holds-record-requires
@@ -59,16 +64,23 @@ holds-record-requires c κs = search needs
 
 returns-4 : tie.Need-returns-4
 returns-4 c =
-    let a = c .before .before .before .before .before .before .before .before .before .before .before .before .before .before in
-    no-record (a .pre .0) (all-of Byte (a .args .store .now) 0 (λ i _. omega (arith, c .before .before .before .before .before .before .before .before .before .before .before .before .before .shared-slice-known .given i))) (a .args .version) (a .args .place) (a .pre .1)
+    let d = c .before .before .before .before .before .before .before .before .before .before .before .before .before in
+    let a = d .before in
+    no-record (a .pre .0) (all-of Byte (a .args .store .now) 0 (λ i _. omega (arith, d .shared-slice-known .given i))) (a .args .version)
+    (a .args .place) (a .pre .1)
     (c .before .before .before .before .before .before .slot-of .ensures .0) (sym (c .before .holds-record .ensures) ∙ not-true _ (c .if4 .taken))
 
 returns-5 : tie.Need-returns-5
 returns-5 c =
-    let a = c .before .before .before .before .before .before .before .before .before .before .before .before .before .before in
-    held (a .pre .0) (all-of Byte (a .args .store .now) 0 (λ i _. omega (arith, c .before .before .before .before .before .before .before .before .before .before .before .before .before .shared-slice-known .given i))) (a .args .version) (a .args .place) (a .pre .1)
-    (c .before .before .before .before .before .before .slot-of .ensures .0) (sym (c .before .before .before .before .before .before .before .before .before .before .before .before .version-at .ensures) ∙ c .before .before .before .before .before .before .before .before .before .before .before .if1 .left) (sym (c .before .before .before .before .before .before .before .before .before .before .count-at .ensures) ∙ c .before .before .before .before .before .before .before .before .if2 .left)
-    (sym (c .before .before .before .same .ensures) ∙ not-false _ (c .before .before .if3 .left)) (sym (c .before .holds-record .ensures) ∙ not-false _ (c .if4 .left))
+    let d = c .before .before .before .before .before .before .before .before .before .before .before .before .before in
+    let a = d .before in
+    held (a .pre .0) (all-of Byte (a .args .store .now) 0 (λ i _. omega (arith, d .shared-slice-known .given i))) (a .args .version) (a .args .place)
+    (a .pre .1)
+    (c .before .before .before .before .before .before .slot-of .ensures .0)
+    (sym (c .before .before .before .before .before .before .before .before .before .before .before .before .version-at .ensures) ∙ c .before .before .before .before .before .before .before .before .before .before .before .if1 .left)
+    (sym (c .before .before .before .before .before .before .before .before .before .before .count-at .ensures) ∙ c .before .before .before .before .before .before .before .before .if2 .left)
+    (sym (c .before .before .before .same .ensures) ∙ not-false _ (c .before .before .if3 .left))
+    (sym (c .before .holds-record .ensures) ∙ not-false _ (c .if4 .left))
 
 pub holder-spec : {M : Type 1} → statement M
 holder-spec =

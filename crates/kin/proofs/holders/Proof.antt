@@ -25,7 +25,9 @@ holder-requires : tie.Need-holder-requires Inv-loop μ-loop
 holder-requires c κs = (count-slot (c .before .loop .inv) (c .loop-test .taken), c .before .before .before .pre .1)
 
 add-count : tie.Need-add-count Inv-loop μ-loop
-add-count c = omega (arith, count-few (c .before .before .loop .inv) (c .holder .ensures), c .before .before .loop .inv .few, c .before .before .loop .inv .small)
+add-count c =
+    omega
+    (arith, count-few (c .before .before .loop .inv) (c .holder .ensures), c .before .before .loop .inv .few, c .before .before .loop .inv .small)
 
 add-j : tie.Need-add-j Inv-loop μ-loop
 add-j c = omega (arith, c .before .before .loop .inv .small)

@@ -63,7 +63,8 @@ returns-5 c =
         tests-all _ (
           sym (d .before .before .same-hash .ensures) ∙ not-false _ (d .before .if1 .left),
           (
-            le-leb (a .below .version) (max (a .kept .oldest) (a .version)) (omega (arith, d .later .ensures, c .before .before .before .before .before .if2 .left)),
+            le-leb (a .below .version) (max (a .kept .oldest) (a .version))
+                (omega (arith, d .later .ensures, c .before .before .before .before .before .if2 .left)),
             (le-leb _ _ (c .before .before .before .if3 .left), (ap not (sym (c .before .before .lone-leaf .ensures) ∙ c .before .if4 .left), tt)),
           ),
         ),

@@ -19,7 +19,8 @@ returns : tie.Need-returns
 returns c =
     let a = c .before .before .before in (
       omega arith,
-      no-parent (a .pre .0) (all-of Byte (a .args .store .now) 0 (λ i _. omega (arith, c .before .before .shared-slice-known .given i))) (a .args .below) (a .pre .2)
+      no-parent (a .pre .0) (all-of Byte (a .args .store .now) 0 (λ i _. omega (arith, c .before .before .shared-slice-known .given i)))
+          (a .args .below) (a .pre .2)
           (sym (c .before .could-name .ensures) ∙ not-true _ (c .if1 .taken)),
     )
 
@@ -34,10 +35,13 @@ enum-known-kind c = search needs
 
 returns-2 : tie.Need-returns-2
 returns-2 c =
-    let a = c .before .before .before .before .before .before in (
+    let d = c .before .before .before .before .before in
+    let a = d .before in (
       omega arith,
-      no-inner (a .pre .0) (all-of Byte (a .args .store .now) 0 (λ i _. omega (arith, c .before .before .before .before .before .shared-slice-known .given i))) (a .args .below) (a .pre .2)
-          (c .before .read-slot .result) (subst (λ x. Read x (c .before .read-slot .result)) (c .before .before .slot-of .ensures .0) (c .before .read-slot .ensures)) (c .match .keys2),
+      no-inner (a .pre .0) (all-of Byte (a .args .store .now) 0 (λ i _. omega (arith, d .shared-slice-known .given i))) (a .args .below) (a .pre .2)
+          (c .before .read-slot .result)
+          (subst (λ x. Read x (c .before .read-slot .result)) (c .before .before .slot-of .ensures .0) (c .before .read-slot .ensures))
+          (c .match .keys2),
     )
 
 ends-before-requires : tie.Need-ends-before-requires
@@ -48,12 +52,18 @@ link-requires c κs = c .before .ends-before .ensures .1
 
 returns-3 : tie.Need-returns-3
 returns-3 c =
-    let a = c .before .before .before .before .before .before .before .before .before .before .before in (
+    let d = c .before .before .before .before .before .before .before .before .before .before in
+    let a = d .before in (
       c .link .ensures .0,
-      parent-said (a .pre .0) (all-of Byte (a .args .store .now) 0 (λ i _. omega (arith, c .before .before .before .before .before .before .before .before .before .before .shared-slice-known .given i))) (a .args .below) (a .pre .2)
-          (c .before .before .before .before .before .before .read-slot .result) (subst (λ x. Read x (c .before .before .before .before .before .before .read-slot .result)) (c .before .before .before .before .before .before .before .slot-of .ensures .0) (c .before .before .before .before .before .before .read-slot .ensures))
-          (a .args .kept) (a .pre .1) (sym (c .before .before .before .before .before .before .before .before .before .could-name .ensures) ∙ not-false _ (c .before .before .before .before .before .before .before .before .if1 .left)) _ _ (c .before .before .before .before .kind .given .1)
-          true (c .before .if2 .taken) (c .before .before .ends-before .result) (c .before .before .ends-before .ensures .0) (c .link .result) (c .link .ensures .1),
+      parent-said (a .pre .0) (all-of Byte (a .args .store .now) 0 (λ i _. omega (arith, d .shared-slice-known .given i))) (a .args .below)
+          (a .pre .2)
+          (c .before .before .before .before .before .before .read-slot .result)
+          (subst (λ x. Read x (c .before .before .before .before .before .before .read-slot .result)) (c .before .before .before .before .before .before .before .slot-of .ensures .0) (c .before .before .before .before .before .before .read-slot .ensures))
+          (a .args .kept) (a .pre .1)
+          (sym (c .before .before .before .before .before .before .before .before .before .could-name .ensures) ∙ not-false _ (c .before .before .before .before .before .before .before .before .if1 .left)) _ _
+          (c .before .before .before .before .kind .given .1)
+          true (c .before .if2 .taken) (c .before .before .ends-before .result) (c .before .before .ends-before .ensures .0) (c .link .result)
+          (c .link .ensures .1),
     )
 
 link-requires-2 : tie.Need-link-requires-2
@@ -61,12 +71,18 @@ link-requires-2 c κs = c .before .ends-before .ensures .1
 
 returns-4 : tie.Need-returns-4
 returns-4 c =
-    let a = c .before .before .before .before .before .before .before .before .before .before .before in (
+    let d = c .before .before .before .before .before .before .before .before .before .before in
+    let a = d .before in (
       c .link2 .ensures .0,
-      parent-said (a .pre .0) (all-of Byte (a .args .store .now) 0 (λ i _. omega (arith, c .before .before .before .before .before .before .before .before .before .before .shared-slice-known .given i))) (a .args .below) (a .pre .2)
-          (c .before .before .before .before .before .before .read-slot .result) (subst (λ x. Read x (c .before .before .before .before .before .before .read-slot .result)) (c .before .before .before .before .before .before .before .slot-of .ensures .0) (c .before .before .before .before .before .before .read-slot .ensures))
-          (a .args .kept) (a .pre .1) (sym (c .before .before .before .before .before .before .before .before .before .could-name .ensures) ∙ not-false _ (c .before .before .before .before .before .before .before .before .if1 .left)) _ _ (c .before .before .before .before .kind .given .1)
-          false (c .before .if2 .left) (c .before .before .ends-before .result) (c .before .before .ends-before .ensures .0) (c .link2 .result) (c .link2 .ensures .1),
+      parent-said (a .pre .0) (all-of Byte (a .args .store .now) 0 (λ i _. omega (arith, d .shared-slice-known .given i))) (a .args .below)
+          (a .pre .2)
+          (c .before .before .before .before .before .before .read-slot .result)
+          (subst (λ x. Read x (c .before .before .before .before .before .before .read-slot .result)) (c .before .before .before .before .before .before .before .slot-of .ensures .0) (c .before .before .before .before .before .before .read-slot .ensures))
+          (a .args .kept) (a .pre .1)
+          (sym (c .before .before .before .before .before .before .before .before .before .could-name .ensures) ∙ not-false _ (c .before .before .before .before .before .before .before .before .if1 .left)) _ _
+          (c .before .before .before .before .kind .given .1)
+          false (c .before .if2 .left) (c .before .before .ends-before .result) (c .before .before .ends-before .ensures .0) (c .link2 .result)
+          (c .link2 .ensures .1),
     )
 
 pub parent-says-spec : {M : Type 1} → statement M

@@ -22,7 +22,8 @@ unfolding roomOf
 loop-holds c = sum-start (c .before .args .store .now) (c .before .args .below) (c .before .pre .0 .size)
 
 parent-says-requires : tie.Need-parent-says-requires Inv-loop μ-loop
-parent-says-requires c κs = (sum-slot (c .before .loop .inv) (c .loop-test .taken), c .before .before .before .pre .0, c .before .before .before .pre .1)
+parent-says-requires c κs =
+    (sum-slot (c .before .loop .inv) (c .loop-test .taken), c .before .before .before .pre .0, c .before .before .before .pre .1)
 
 enum-known-lived : tie.Need-enum-known-lived Inv-loop μ-loop
 enum-known-lived c = search needs
@@ -31,10 +32,14 @@ enum-told : tie.Need-enum-told Inv-loop μ-loop
 enum-told c = search needs
 
 returns : tie.Need-returns Inv-loop μ-loop
-returns c = sum-wrong (c .before .before .before .before .loop .inv) (c .before .before .before .loop-test .taken) (c .enum-told .given .1) (c .before .before .parent-says .ensures .1) (c .before .before .before .before .before .before .args .life)
+returns c =
+    sum-wrong (c .before .before .before .before .loop .inv) (c .before .before .before .loop-test .taken) (c .enum-told .given .1)
+    (c .before .before .parent-says .ensures .1) (c .before .before .before .before .before .before .args .life)
 
 add-sum : tie.Need-add-sum Inv-loop μ-loop
-add-sum c = omega (arith, sum-short (c .before .before .before .before .before .loop .inv) (c .before .lived .given .1) (c .before .before .before .parent-says .ensures .0), c .before .before .before .before .before .loop .inv .fits, c .before .before .before .before .before .loop .inv .small)
+add-sum c =
+    omega
+    (arith, sum-short (c .before .before .before .before .before .loop .inv) (c .before .lived .given .1) (c .before .before .before .parent-says .ensures .0), c .before .before .before .before .before .loop .inv .fits, c .before .before .before .before .before .loop .inv .small)
 
 add-j : tie.Need-add-j Inv-loop μ-loop
 add-j c = omega (arith, c .before .before .before .before .before .loop .inv .small)
@@ -43,7 +48,9 @@ loop-less : tie.Need-loop-less Inv-loop μ-loop
 loop-less c = omega arith
 
 loop-again : tie.Need-loop-again Inv-loop μ-loop
-loop-again c = sum-next (c .before .before .before .before .before .loop .inv) (c .before .before .before .before .loop-test .taken) (c .before .lived .given .1) (c .before .before .before .parent-says .ensures .0) (c .before .before .before .parent-says .ensures .1)
+loop-again c =
+    sum-next (c .before .before .before .before .before .loop .inv) (c .before .before .before .before .loop-test .taken)
+    (c .before .lived .given .1) (c .before .before .before .parent-says .ensures .0) (c .before .before .before .parent-says .ensures .1)
 
 returns-2 : tie.Need-returns-2 Inv-loop μ-loop
 returns-2 c = sum-end (c .before .loop .inv) (c .loop-test .left) (c .before .before .before .args .life)

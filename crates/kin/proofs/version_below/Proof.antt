@@ -19,7 +19,9 @@ get-u32-requires : tie.Need-get-u32-requires
 get-u32-requires c κs = omega (arith, slot-fits (c .before .before .pre))
 
 returns : tie.Need-returns
-returns c = let a = c .before .before .before .args in rw (c .before .if1 .taken) (c .get-u32 .ensures ∙ field-at (a .j) 84 4 (a .store .now) (omega arith))
+returns c =
+    let a = c .before .before .before .args in
+    rw (c .before .if1 .taken) (c .get-u32 .ensures ∙ field-at (a .j) 84 4 (a .store .now) (omega arith))
 
 add-get-u32-2 : tie.Need-add-get-u32-2
 add-get-u32-2 c = omega (arith, slot-fits (c .before .before .pre))
@@ -28,7 +30,9 @@ get-u32-requires-2 : tie.Need-get-u32-requires-2
 get-u32-requires-2 c κs = omega (arith, slot-fits (c .before .before .pre))
 
 returns-2 : tie.Need-returns-2
-returns-2 c = let a = c .before .before .before .args in rw (c .before .if1 .left) (c .get-u322 .ensures ∙ field-at (a .j) 48 4 (a .store .now) (omega arith))
+returns-2 c =
+    let a = c .before .before .before .args in
+    rw (c .before .if1 .left) (c .get-u322 .ensures ∙ field-at (a .j) 48 4 (a .store .now) (omega arith))
 
 pub version-below-spec : {M : Type 1} → statement M
 version-below-spec =

@@ -13,7 +13,9 @@ root-right-requires : tie.Need-root-right-requires
 root-right-requires c κs = search needs
 
 returns : tie.Need-returns
-returns c = let a = c .before .before .before .before .before in root-says (a .pre) (c .before .if1 .taken) (a .args .leaf) (a .args .hash) (c .before .before .ends-before .ensures .0) (c .root-right .ensures)
+returns c =
+    let a = c .before .before .before .before .before in
+    root-says (a .pre) (c .before .if1 .taken) (a .args .leaf) (a .args .hash) (c .before .before .ends-before .ensures .0) (c .root-right .ensures)
 
 slice-aggregate-front : tie.Need-slice-aggregate-front
 slice-aggregate-front c = search needs
@@ -31,7 +33,9 @@ sub-key-bit : tie.Need-sub-key-bit
 sub-key-bit c = search needs
 
 key-bit-requires : tie.Need-key-bit-requires
-key-bit-requires c κs = let a = c .before .before .before .before .before .before .before .before in omega (arith, proper-whole (a .args .head .place) (a .pre .proper), a .pre .proper .short, c .before .before .before .before .if1 .left)
+key-bit-requires c κs =
+    let a = c .before .before .before .before .before .before .before .before in
+    omega (arith, proper-whole (a .args .head .place) (a .pre .proper), a .pre .proper .short, c .before .before .before .before .if1 .left)
 
 kept-life-requires : tie.Need-kept-life-requires
 kept-life-requires c κs = search needs
@@ -42,8 +46,10 @@ parents-right-requires c κs = search needs
 returns-2 : tie.Need-returns-2
 returns-2 c =
     let a = c .before .before .before .before .before .before .before .before .before .before .before in
-    below-says (a .pre) (c .before .before .before .before .before .before .before .if1 .left) (c .before .before .before .before .front .result) (c .before .before .key-bit .result) (c .before .before .before .before .front .ensures) (c .before .before .key-bit .ensures)
-    (a .args .leaf) (a .args .hash) (c .before .before .before .before .before .before .before .before .ends-before .result) (c .before .before .before .before .before .before .before .before .ends-before .ensures .0) (c .before .kept-life .result)
+    below-says (a .pre) (c .before .before .before .before .before .before .before .if1 .left) (c .before .before .before .before .front .result)
+    (c .before .before .key-bit .result) (c .before .before .before .before .front .ensures) (c .before .before .key-bit .ensures)
+    (a .args .leaf) (a .args .hash) (c .before .before .before .before .before .before .before .before .ends-before .result)
+    (c .before .before .before .before .before .before .before .before .ends-before .ensures .0) (c .before .kept-life .result)
     (c .before .kept-life .ensures) (c .parents-right .result) (c .parents-right .ensures)
 
 pub above-right-spec : {M : Type 1} → statement M

@@ -13,13 +13,17 @@ life-right-requires : tie.Need-life-right-requires
 life-right-requires c κs = search needs
 
 returns-2 : tie.Need-returns-2
-returns-2 c = λ o. wrong-life (c .before .before .before .before .before .before .pre) o (c .before .before .if1 .left) (sym (c .before .life-right .ensures) ∙ not-true _ (c .if2 .taken))
+returns-2 c =
+    λ o. wrong-life (c .before .before .before .before .before .before .pre) o (c .before .before .if1 .left)
+    (sym (c .before .life-right .ensures) ∙ not-true _ (c .if2 .taken))
 
 holders-requires : tie.Need-holders-requires
 holders-requires c κs = search needs
 
 returns-3 : tie.Need-returns-3
-returns-3 c = λ o. counted (c .before .before .before .before .before .before .before .before .pre) o (c .before .before .before .before .if1 .left) (sym (c .before .before .before .life-right .ensures) ∙ not-false _ (c .before .before .if2 .left)) (c .holders .result) (c .holders .ensures)
+returns-3 c =
+    λ o. counted (c .before .before .before .before .before .before .before .before .pre) o (c .before .before .before .before .if1 .left)
+    (sym (c .before .before .before .life-right .ensures) ∙ not-false _ (c .before .before .if2 .left)) (c .holders .result) (c .holders .ensures)
 
 pub alone-right-spec : {M : Type 1} → statement M
 alone-right-spec =

@@ -16,7 +16,8 @@ child-found-requires c κs = search needs
 returns : tie.Need-returns
 returns c =
     let a = c .before .before .before .before in
-    sym (rw (found-as (a .args .store .now) (a .args .place) (c .before .before .left .result) false (a .args .a) (c .before .before .left .ensures) (c .before .child-found .ensures) ∙ not-true _ (c .if1 .taken)))
+    sym
+    (rw (found-as (a .args .store .now) (a .args .place) (c .before .before .left .result) false (a .args .a) (c .before .before .left .ensures) (c .before .child-found .ensures) ∙ not-true _ (c .if1 .taken)))
 
 right-requires : tie.Need-right-requires
 right-requires c κs = search needs

@@ -12,7 +12,10 @@ alone-right-requires : tie.Need-alone-right-requires
 alone-right-requires c κs = search needs
 
 returns : tie.Need-returns
-returns c = let a = c .before .before .before in fails-alone (a .args .store .now) (a .args .head) (innerBody (childSays (a .args .left)) (childSays (a .args .right))) (c .before .alone-right .ensures) (not-true _ (c .if1 .taken))
+returns c =
+    let a = c .before .before .before in
+    fails-alone (a .args .store .now) (a .args .head) (innerBody (childSays (a .args .left)) (childSays (a .args .right)))
+    (c .before .alone-right .ensures) (not-true _ (c .if1 .taken))
 
 children-found-requires : tie.Need-children-found-requires
 children-found-requires c κs = search needs
@@ -20,7 +23,8 @@ children-found-requires c κs = search needs
 returns-2 : tie.Need-returns-2
 returns-2 c =
     let a = c .before .before .before .before .before .before in
-    fails-body (a .args .store .now) (a .args .head) (innerBody (childSays (a .args .left)) (childSays (a .args .right))) (c .before .before .before .before .alone-right .ensures) (not-false _ (c .before .before .before .if1 .left))
+    fails-body (a .args .store .now) (a .args .head) (innerBody (childSays (a .args .left)) (childSays (a .args .right)))
+    (c .before .before .before .before .alone-right .ensures) (not-false _ (c .before .before .before .if1 .left))
     (inner-body (a .args .left) (a .args .right) (a .args .store .now) (a .args .head .place) ∙ sym (c .before .children-found .ensures) ∙ not-true _ (c .if2 .taken))
 
 inner-hash-requires : tie.Need-inner-hash-requires
@@ -32,7 +36,9 @@ above-right-requires c κs = search needs
 returns-3 : tie.Need-returns-3
 returns-3 c =
     let a = c .before .before .before .before .before .before .before .before .before .before in
-    passes-body (a .args .store .now) (a .args .head) (innerBody (childSays (a .args .left)) (childSays (a .args .right))) (c .before .before .before .before .before .before .before .before .alone-right .ensures) (not-false _ (c .before .before .before .before .before .before .before .if1 .left))
+    passes-body (a .args .store .now) (a .args .head) (innerBody (childSays (a .args .left)) (childSays (a .args .right)))
+    (c .before .before .before .before .before .before .before .before .alone-right .ensures)
+    (not-false _ (c .before .before .before .before .before .before .before .if1 .left))
     (inner-body (a .args .left) (a .args .right) (a .args .store .now) (a .args .head .place) ∙ sym (c .before .before .before .before .before .children-found .ensures) ∙ not-false _ (c .before .before .before .before .if2 .left))
     (c .above-right .ensures (innerBody (childSays (a .args .left)) (childSays (a .args .right))) refl (inner-hashed (a .args .left) (a .args .right) (c .before .inner-hash .result) (c .before .inner-hash .ensures)))
 

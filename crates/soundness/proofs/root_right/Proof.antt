@@ -14,7 +14,9 @@ add-result : tie.Need-add-result
 add-result c = search needs
 
 returns-2 : tie.Need-returns-2
-returns-2 c = let a = c .before .before .args in sym (rw (le-leb (a .kept .oldest) (a .version) (c .if1 .left)) (ap (eqb (a .ends)) (sym (add-one (a .version)))))
+returns-2 c =
+    let a = c .before .before .args in
+    sym (rw (le-leb (a .kept .oldest) (a .version) (c .if1 .left)) (ap (eqb (a .ends)) (sym (add-one (a .version)))))
 
 pub root-right-spec : {M : Type 1} → statement M
 root-right-spec = tie.close (tie.spec returns add-result returns-2)

@@ -25,7 +25,9 @@ slot-passes-requires : tie.Need-slot-passes-requires Inv-loop μ-loop
 slot-passes-requires c κs = (pass-slot (c .before .loop .inv) (c .loop-test .taken), c .before .before .before .pre)
 
 returns : tie.Need-returns Inv-loop μ-loop
-returns c = pass-off (c .before .before .before .loop .inv) (c .before .before .loop-test .taken) (c .before .slot-passes .ensures) (not-true _ (c .if1 .taken))
+returns c =
+    pass-off (c .before .before .before .loop .inv) (c .before .before .loop-test .taken) (c .before .slot-passes .ensures)
+    (not-true _ (c .if1 .taken))
 
 add-i : tie.Need-add-i Inv-loop μ-loop
 add-i c = omega (arith, c .before .before .before .loop .inv .small)
@@ -34,7 +36,9 @@ loop-less : tie.Need-loop-less Inv-loop μ-loop
 loop-less c = omega arith
 
 loop-again : tie.Need-loop-again Inv-loop μ-loop
-loop-again c = pass-next (c .before .before .before .loop .inv) (c .before .before .loop-test .taken) (c .before .slot-passes .ensures) (not-false _ (c .if1 .left))
+loop-again c =
+    pass-next (c .before .before .before .loop .inv) (c .before .before .loop-test .taken) (c .before .slot-passes .ensures)
+    (not-false _ (c .if1 .left))
 
 returns-2 : tie.Need-returns-2 Inv-loop μ-loop
 returns-2 c = pass-end (c .before .loop .inv) (c .loop-test .left)
