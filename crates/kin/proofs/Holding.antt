@@ -1,15 +1,14 @@
 -- The slots that hold a node, counted: a record in form is its own bytes, so version, bit count and bits decide. Assumes nothing.
-use Prim.Native.Nat.{ℕ, suc, _+_, _*_, _<_, _≤_}
+use Prim.Native.Nat.{ℕ, _+_, _*_, _<_, _≤_}
 use native.Mathlib.Omega.{arith}
 use mathlib.Core.Path.{_≡_, refl, ap, sym, _∙_, subst}
-use mathlib.Core.Bool.{Bool, true, false, cond, true≢false}
+use mathlib.Core.Bool.{true, false, cond, true≢false}
 use mathlib.Core.List.{List}
-use mathlib.Core.Option.{none, some}
-use lib.ListN.{length, getD, take, drop}
+use lib.ListN.{length, take, drop}
 use lib.Seq.{take-suc}
 use native.Mathlib.Numerals.{add-one}
 use native.Mathlib.Nat.{zero-add}
-use Rattle.terms.specs.Bits.{Bytes, Byte, All, Side, Place, bits, bit, longer, sameBytes}
+use Rattle.terms.specs.Bits.{Bytes, Byte, All, Place, bits, bit, longer, sameBytes}
 use Rattle.terms.specs.Fields.{field, slice}
 use Rattle.terms.specs.Records.{Record, Slot, free, used, spoiled}
 use Rattle.terms.proofs.Tests.{same-bytes, bytes-same}

@@ -1,11 +1,11 @@
 -- Whether a slot names a record below it, from its bytes, and what it then says of it. A place one bit longer has one place above it and
 -- one side; so a parent names a record on that side alone. Assumes nothing.
-use Prim.Native.Nat.{ℕ, suc, _-_, _≤_, max}
+use Prim.Native.Nat.{ℕ, _-_, _≤_, max}
 use native.Mathlib.Omega.{arith}
 use mathlib.Core.Path.{_≡_, refl, ap, sym, _∙_, subst}
-use mathlib.Core.Bool.{Bool, true, false, cond, not, _&&_, _||_, true≢false, false≢true}
+use mathlib.Core.Bool.{Bool, true, false, cond, not, _&&_, true≢false, false≢true}
 use mathlib.Core.List.{List, [], _∷_}
-use mathlib.Core.Logic.{_⊎_, ⊎-elim}
+use mathlib.Core.Logic.{⊎-elim}
 use lib.ListN.{length, take, drop}
 use lib.Dec.{eqb, leb}
 use borrow.Author.Tests.{eqb-true, eq-eqb}
@@ -23,7 +23,6 @@ use Rattle.meaning.specs.Local.{endsBefore, childVersion}
 use Rattle.meaning.proofs.Finding.{used-eq}
 use Rattle.local.specs.Test.{byRecord, names, loneLeaf, firstKept, keptLife, isParent, lifeAbove, linkOn, linkTest}
 use Rattle.local.proofs.Naming.{names-eq, eq-names, names-inner, names-parent}
-use Rattle.hash.specs.Hash.{hashBytes}
 use Rattle.nodehash.specs.Node.{leafHash, innerHash}
 use Rattle.place.specs.Place.{placeOf, Proper}
 use Rattle.place.proofs.Places.{proper-count}
@@ -40,7 +39,7 @@ use Rattle.lookup.proofs.Matching.{says, count-is, bits-are, place-is}
 use Rattle.kin.specs.declared.Kept as declared-kept
 use Rattle.kin.specs.declared.Below as declared-below
 use Rattle.kin.specs.declared.Said as declared-said
-use Rattle.kin.specs.declared.Said.the-variants.{Lived, Wrong}
+use Rattle.kin.specs.declared.Said.the-variants.{Lived}
 use Rattle.kin.specs.Kin.{Has, Keeps, slotNo, endsAt, childAt, isLeafBody, Is, couldName, linkTests, SaidOf, SlotSays}
 use Rattle.kin.proofs.Holding.{slot-is, slot-long, slot-bytes}
 

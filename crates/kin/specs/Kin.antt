@@ -54,6 +54,7 @@ abbrev pub childAt : Side → ℕ
 childAt false = leftAt
 childAt true = rightAt
 
+-- The body is a leaf's.
 abbrev pub isLeafBody : Body → Bool
 isLeafBody (leafBody k x) = true
 isLeafBody (innerBody l r) = false

@@ -40,6 +40,7 @@ pub struct Kept {
     pub latest: u32,
 }
 
+// The larger of two versions.
 fn later(a: u32, b: u32) -> u32
     ensures { λ r. ⌜ r ≡ max a b ⌝ }
 {
@@ -121,6 +122,7 @@ pub fn child_found(store: &[u8], version: u32, place: Place) -> bool
     }
 }
 
+// The place one bit longer, on a side.
 fn longer(place: Place, right: bool) -> Place
     requires { ⌜ Proper place × (place .count < 256) ⌝ }
     ensures { λ r. ⌜ Grown right place r ⌝ }
@@ -192,6 +194,7 @@ pub enum Said {
     Wrong,
 }
 
+// Whether a record of that kind, beside a child of version `other`, is a lone leaf.
 fn lone_leaf(leaf: bool, other: u32) -> bool
     ensures { λ r. ⌜ r ≡ cond leaf (eqb other 0) false ⌝ }
 {

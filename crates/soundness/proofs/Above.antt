@@ -1,34 +1,31 @@
 -- What stands above a record: nothing above a root, which no record names; else its parents, one bit shorter. Assumes nothing.
-use Prim.Native.Nat.{ℕ, zero, suc, _+_, _-_, _*_, _<_, _≤_, max}
+use Prim.Native.Nat.{ℕ, zero, suc, _-_, _<_, max}
 use native.Mathlib.Omega.{arith}
 use mathlib.Core.Path.{_≡_, refl, ap, sym, _∙_}
 use mathlib.Core.Bool.{Bool, true, false, _&&_}
-use mathlib.Core.List.{List, [], _∷_, _++_}
-use lib.ListN.{length, getD, take}
+use mathlib.Core.List.{[]}
+use lib.ListN.{length, take}
 use lib.Seq.{take-suc}
 use lib.Dec.{eqb, leb}
 use Rattle.terms.specs.Bits.{Bytes, Side, Place, bits, bit, longer, samePlace}
-use Rattle.terms.specs.Records.{Body, Record, free}
+use Rattle.terms.specs.Records.{Body, free}
 use Rattle.terms.proofs.Tests.{is-false, same-place}
 use Rattle.terms.proofs.Places.{length-bits, length-longer}
 use Rattle.meaning.specs.Local.{endsBefore}
-use Rattle.meaning.specs.Reading.{bodyHash}
-use Rattle.local.specs.Test.{every, total, byRecord, names, keptLife, lifeAbove, linkTest, lifeCovered}
+use Rattle.local.specs.Test.{every, byRecord, names, keptLife, linkTest, lifeCovered}
 use Rattle.local.proofs.Scans.{at-every}
 use Rattle.local.proofs.Naming.{names-eq}
 use Rattle.hash.specs.declared.Hash.{Hash}
-use Rattle.hash.specs.Hash.{hashBytes}
 use Rattle.nodehash.specs.Node.{leafHash, innerHash}
 use Rattle.place.specs.declared.Place as declared-place
 use Rattle.place.specs.Place.{placeOf, Stands}
 use Rattle.place.proofs.Places.{proper-whole, proper-count}
 use Rattle.layout.specs.Stores.{storeOf}
 use Rattle.kin.specs.declared.Kept as declared-kept
-use Rattle.kin.specs.declared.Below as declared-below
-use Rattle.kin.specs.Kin.{slotNo, endsAt, isLeafBody, Is, ParentsSay}
+use Rattle.kin.specs.Kin.{slotNo, endsAt, Is, ParentsSay}
 use Rattle.kin.proofs.Naming.{none-said}
 use Rattle.soundness.specs.declared.Head as declared
-use Rattle.soundness.specs.Parts.{recordOn, Headed, aboveTest, AboveSays}
+use Rattle.soundness.specs.Parts.{recordOn, Headed, AboveSays}
 
 module _ {s : Bytes} {k : declared-kept.Kept} {h : declared.Head} (w : Headed s k h) where
   ends-is : {ends : ℕ} → ends ≡ endsAt (k .latest) (h .retired) → (o : Body) → endsBefore (storeOf s) (recordOn h o) ≡ ends

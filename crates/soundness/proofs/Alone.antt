@@ -1,7 +1,7 @@
 -- A record by itself: its version, its life, and how many slots hold its node, as the code tests them. Assumes nothing.
-use Prim.Native.Nat.{ℕ, suc, _<_, _≤_}
+use Prim.Native.Nat.{ℕ, _<_, _≤_}
 use native.Mathlib.Omega.{arith}
-use mathlib.Core.Path.{_≡_, refl, ap, sym, _∙_}
+use mathlib.Core.Path.{_≡_, ap, sym, _∙_}
 use mathlib.Core.Bool.{Bool, true, false, _||_}
 use lib.Dec.{eqb, leb}
 use borrow.Author.Tests.{le-leb, lt-leb}
@@ -15,7 +15,7 @@ use Rattle.place.specs.declared.Place as declared-place
 use Rattle.place.specs.Place.{placeOf, Grown}
 use Rattle.layout.specs.Stores.{storeOf}
 use Rattle.kin.specs.declared.Kept as declared-kept
-use Rattle.kin.specs.Kin.{Keeps, countNode}
+use Rattle.kin.specs.Kin.{countNode}
 use Rattle.soundness.specs.declared.Head as declared
 use Rattle.soundness.specs.Parts.{recordOn, Headed, lifeRight, foundOn, aloneTests}
 

@@ -5,8 +5,7 @@ use mathlib.Core.Path.{_≡_, refl, ap, sym, _∙_, subst}
 use mathlib.Core.Bool.{Bool, true, false}
 use lib.ListN.{length, drop}
 use Rattle.terms.specs.Bits.{Bytes, Byte, All}
-use Rattle.terms.specs.Records.{innerBody, Slot, free, used, spoiled}
-use Rattle.terms.specs.Form.{RecordForm}
+use Rattle.terms.specs.Records.{innerBody, Slot, free}
 use Rattle.local.specs.Test.{every, recordTest, slotTest, slotsTest}
 use Rattle.nodehash.specs.Node.{leafHash, innerHash}
 use Rattle.place.proofs.Places.{proper-count}

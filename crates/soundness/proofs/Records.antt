@@ -1,10 +1,9 @@
 -- The tests of one record, in the order of the code: alone, its body, above. Assumes nothing.
-use Prim.Native.Nat.{ℕ}
 use native.Mathlib.Omega.{arith}
 use mathlib.Core.Path.{_≡_, refl, ap, ap₂, sym, _∙_}
-use mathlib.Core.Bool.{Bool, true, false, _&&_, _||_}
+use mathlib.Core.Bool.{Bool, true, false, _&&_}
 use mathlib.Core.List.{[], _∷_}
-use lib.ListN.{length, take, drop}
+use lib.ListN.{take, drop}
 use lib.Seq.{drop-drop}
 use Rattle.terms.specs.Bits.{Bytes, left, right, Place, begins}
 use Rattle.terms.specs.Fields.{slice, allOf}

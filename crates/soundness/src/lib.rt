@@ -26,7 +26,7 @@ use slots::read_slot;
 use store::slot_of;
 ghost use mathlib.Core.Path.{_≡_};
 ghost use mathlib.Core.Bool.{true, _&&_};
-ghost use Prim.Native.Nat.{suc, _≤_, _<_};
+ghost use Prim.Native.Nat.{suc, _<_};
 ghost use lib.ListN.{length};
 ghost use lib.Dec.{eqb, leb};
 ghost use Rattle.terms.specs.Bits.{left, right};
@@ -128,6 +128,7 @@ fn children_found(store: &[u8], place: Place, a: u32, b: u32) -> bool
     child_found(store, b, place.right())
 }
 
+// Whether a leaf, whose slot is s, passes its tests.
 fn leaf_passes(store: &[u8], kept: Kept, head: Head, s: &[u8]) -> bool
     requires { ⌜ Headed (now store) kept head × (length (now s) ≡ slotSize) ⌝ }
     ensures { λ r. ⌜ r ≡ recordTest leafHash innerHash (storeOf (now (store .entry))) (recordOn head (leafIn (now (s .entry)))) ⌝ }
@@ -142,6 +143,7 @@ fn leaf_passes(store: &[u8], kept: Kept, head: Head, s: &[u8]) -> bool
     above_right(store, kept, head, true, leaf_hash(grant_of(s)))
 }
 
+// Whether an inner record with these children passes its tests.
 fn inner_passes(store: &[u8], kept: Kept, head: Head, left: Child, right: Child) -> bool
     requires { ⌜ Headed (now store) kept head × (head .place .count < 256) ⌝ }
     ensures { λ r. ⌜ r ≡ recordTest leafHash innerHash (storeOf (now (store .entry))) (recordOn head (innerBody (childSays left) (childSays right))) ⌝ }
@@ -158,6 +160,7 @@ fn inner_passes(store: &[u8], kept: Kept, head: Head, left: Child, right: Child)
     above_right(store, kept, head, false, inner_hash(a, b))
 }
 
+// Whether slot i is free, or holds a record that passes its tests.
 fn slot_passes(store: &[u8], i: usize, kept: Kept) -> bool
     requires { ⌜ Has (now store) i × Keeps (now store) kept ⌝ }
     ensures { λ r. ⌜ r ≡ slotTest leafHash innerHash (storeOf (now (store .entry))) (slotNo i (now (store .entry))) ⌝ }
@@ -179,6 +182,7 @@ fn slot_passes(store: &[u8], i: usize, kept: Kept) -> bool
     }
 }
 
+// Whether each slot passes.
 fn slots_pass(store: &[u8], kept: Kept) -> bool
     requires { ⌜ Keeps (now store) kept ⌝ }
     ensures { λ r. ⌜ r ≡ slotsTest leafHash innerHash (storeOf (now (store .entry))) ⌝ }

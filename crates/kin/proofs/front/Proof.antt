@@ -1,19 +1,14 @@
 -- `kin::front` meets its contract: at bit i the place is that of the first i bits. Assumes nothing.
-use native.Mathlib.Omega.{arith}
-use borrow.Author.Needs.{needs}
 use Prim.Native.Nat.{_-_, _≤_}
+use native.Mathlib.Omega.{arith}
 use mathlib.Core.Path.{_≡_, subst}
 use lib.ListN.{take}
+use borrow.Author.Needs.{needs}
 use Rattle.terms.specs.Bits.{bits}
 use Rattle.place.specs.Place.{Stands, Grown}
 use Rattle.kin.proofs.Holding.{front-next}
 use Rattle.kin.proofs.front.Statement.{statement}
 use Rattle.kin.proofs.front.Tie as tie
-use Rattle.kin.proofs.front.Reads as reads
-use Rattle.kin.proofs.front.Lts as lts
-use Rattle.kin.proofs.longer.Reads as longer-reads
-use Rattle.place.proofs.Place.top.Reads as top-reads
-use Rattle.place.proofs.key_bit.Reads as key-bit-reads
 
 abbrev Inv-loop : tie.InvT-loop
 Inv-loop key count place₀ i₀ place i = (i ≤ count) × Stands (take i (bits key)) i place
@@ -21,31 +16,25 @@ Inv-loop key count place₀ i₀ place i = (i ≤ count) × Stands (take i (bits
 abbrev μ-loop : tie.MeasureT-loop
 μ-loop key count place₀ i₀ place i = count - i
 
--- src/lib.rt:144:9
 top-requires : tie.Need-top-requires Inv-loop μ-loop
 top-requires c κs = search needs
 
--- src/lib.rt:146:5
 loop-holds : tie.Need-loop-holds Inv-loop μ-loop
 loop-holds c = (omega arith, c .top .ensures)
 
--- src/lib.rt:147:31
 key-bit-requires : tie.Need-key-bit-requires Inv-loop μ-loop
 key-bit-requires c κs = omega (arith, c .before .before .before .before .pre .0, c .before .before .before .before .pre .1, c .before .loop .inv .0)
 
--- src/lib.rt:147:9
 longer-requires : tie.Need-longer-requires Inv-loop μ-loop
-longer-requires c κs = (c .before .before .loop .inv .1 .proper, omega (arith, c .before .before .before .before .before .pre .1, c .before .before .loop .inv .1 .count))
+longer-requires c κs =
+    (c .before .before .loop .inv .1 .proper, omega (arith, c .before .before .before .before .before .pre .1, c .before .before .loop .inv .1 .count))
 
--- src/lib.rt:148:9
 add-i : tie.Need-add-i Inv-loop μ-loop
 add-i c = omega (arith, c .before .before .before .before .before .before .pre .1)
 
--- src/lib.rt:146:5
 loop-less : tie.Need-loop-less Inv-loop μ-loop
 loop-less c = omega arith
 
--- src/lib.rt:146:5
 loop-again : tie.Need-loop-again Inv-loop μ-loop
 loop-again c =
     let w = c .before .before .before .loop in
@@ -55,7 +44,6 @@ loop-again c =
           (subst (λ t. Grown t (w .place) (c .longer .result)) (c .before .key-bit .ensures) (c .longer .ensures)),
     )
 
--- src/lib.rt:140:1
 returns : tie.Need-returns Inv-loop μ-loop
 returns c =
     let w = c .before .loop in

@@ -4,30 +4,20 @@ use native.Mathlib.Omega.{arith}
 use mathlib.Core.Path.{sym, ap, _∙_}
 use mathlib.Core.Bool.{not}
 use borrow.Author.Tests.{not-true, not-false, le-leb, lt-leb}
-use Rattle.terms.proofs.Fields.{test-passed, test-failed, tests-all}
 use borrow.Author.Needs.{needs}
+use Rattle.terms.proofs.Fields.{test-passed, test-failed, tests-all}
 use Rattle.kin.proofs.link.Statement.{statement}
 use Rattle.kin.proofs.link.Tie as tie
-use Rattle.kin.proofs.link.Reads as reads
-use Rattle.kin.proofs.link.Lts as lts
-use Rattle.hash.proofs.same_hash.Reads as same-hash-reads
-use Rattle.kin.proofs.kept_life.Reads as kept-life-reads
-use Rattle.kin.proofs.later.Reads as later-reads
-use Rattle.kin.proofs.lone_leaf.Reads as lone-leaf-reads
 
--- src/lib.rt:214:9
 same-hash-requires : tie.Need-same-hash-requires
 same-hash-requires c κs = search needs
 
--- src/lib.rt:215:9
 returns : tie.Need-returns
 returns c = (tt, test-failed _ (sym (c .before .same-hash .ensures) ∙ not-true _ (c .if1 .taken)))
 
--- src/lib.rt:217:8
 later-requires : tie.Need-later-requires
 later-requires c κs = search needs
 
--- src/lib.rt:218:9
 returns-2 : tie.Need-returns-2
 returns-2 c =
     let d = c .before .before .before in
@@ -37,7 +27,6 @@ returns-2 c =
           ∙ test-failed _ (lt-leb (a .below .version) (max (a .kept .oldest) (a .version)) (omega (arith, c .before .before .later .ensures, c .if2 .taken))),
     )
 
--- src/lib.rt:221:9
 returns-3 : tie.Need-returns-3
 returns-3 c =
     let d = c .before .before .before .before in
@@ -48,11 +37,9 @@ returns-3 c =
           ∙ test-failed _ (lt-leb _ _ (c .if3 .taken)),
     )
 
--- src/lib.rt:223:8
 lone-leaf-requires : tie.Need-lone-leaf-requires
 lone-leaf-requires c κs = search needs
 
--- src/lib.rt:224:9
 returns-4 : tie.Need-returns-4
 returns-4 c =
     let d = c .before .before .before .before .before .before in
@@ -64,11 +51,9 @@ returns-4 c =
           ∙ test-failed _ (ap not (sym (c .before .lone-leaf .ensures) ∙ c .if4 .taken)),
     )
 
--- src/lib.rt:226:17
 kept-life-requires : tie.Need-kept-life-requires
 kept-life-requires c κs = search needs
 
--- src/lib.rt:210:1
 returns-5 : tie.Need-returns-5
 returns-5 c =
     let d = c .before .before .before .before .before .before .before in
@@ -78,7 +63,8 @@ returns-5 c =
         tests-all _ (
           sym (d .before .before .same-hash .ensures) ∙ not-false _ (d .before .if1 .left),
           (
-            le-leb (a .below .version) (max (a .kept .oldest) (a .version)) (omega (arith, d .later .ensures, c .before .before .before .before .before .if2 .left)),
+            le-leb (a .below .version) (max (a .kept .oldest) (a .version))
+                (omega (arith, d .later .ensures, c .before .before .before .before .before .if2 .left)),
             (le-leb _ _ (c .before .before .before .if3 .left), (ap not (sym (c .before .before .lone-leaf .ensures) ∙ c .before .if4 .left), tt)),
           ),
         ),

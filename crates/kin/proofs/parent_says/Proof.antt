@@ -3,88 +3,86 @@ use native.Mathlib.Omega.{arith}
 use mathlib.Core.Path.{sym, subst, _∙_}
 use mathlib.Core.Bool.{true, false}
 use borrow.Author.Tests.{not-true, not-false}
+use borrow.Author.Needs.{needs}
 use Rattle.terms.specs.Bits.{Byte}
 use Rattle.terms.proofs.Lists.{all-of}
 use Rattle.slots.specs.Answer.{Read}
 use Rattle.kin.proofs.Holding.{slot-fits}
 use Rattle.kin.proofs.Naming.{no-parent, no-inner, parent-said}
-use borrow.Author.Needs.{needs}
 use Rattle.kin.proofs.parent_says.Statement.{statement}
 use Rattle.kin.proofs.parent_says.Tie as tie
-use Rattle.kin.proofs.parent_says.Reads as reads
-use Rattle.kin.proofs.parent_says.Lts as lts
-use Rattle.kin.proofs.could_name.Reads as could-name-reads
-use Rattle.kin.proofs.ends_before.Reads as ends-before-reads
-use Rattle.kin.proofs.link.Reads as link-reads
-use Rattle.slots.proofs.read_slot.Reads as read-slot-reads
-use Rattle.store.proofs.slot_of.Reads as slot-of-reads
 
--- src/lib.rt:229:9
 could-name-requires : tie.Need-could-name-requires
 could-name-requires c κs = search needs
 
--- src/lib.rt:230:9
 returns : tie.Need-returns
 returns c =
     let a = c .before .before .before in (
       omega arith,
-      no-parent (a .pre .0) (all-of Byte (a .args .store .now) 0 (λ i _. omega (arith, c .before .before .shared-slice-known .given i))) (a .args .below) (a .pre .2)
+      no-parent (a .pre .0) (all-of Byte (a .args .store .now) 0 (λ i _. omega (arith, c .before .before .shared-slice-known .given i)))
+          (a .args .below) (a .pre .2)
           (sym (c .before .could-name .ensures) ∙ not-true _ (c .if1 .taken)),
     )
 
--- src/lib.rt:232:26
 slot-of-requires : tie.Need-slot-of-requires
 slot-of-requires c κs = slot-fits (c .before .before .before .pre .0)
 
--- src/lib.rt:232:9
 read-slot-requires : tie.Need-read-slot-requires
 read-slot-requires c κs = search needs
 
--- src/lib.rt:234:23
 enum-known-kind : tie.Need-enum-known-kind
 enum-known-kind c = search needs
 
--- src/lib.rt:235:9
 returns-2 : tie.Need-returns-2
 returns-2 c =
-    let a = c .before .before .before .before .before .before in (
+    let d = c .before .before .before .before .before in
+    let a = d .before in (
       omega arith,
-      no-inner (a .pre .0) (all-of Byte (a .args .store .now) 0 (λ i _. omega (arith, c .before .before .before .before .before .shared-slice-known .given i))) (a .args .below) (a .pre .2)
-          (c .before .read-slot .result) (subst (λ x. Read x (c .before .read-slot .result)) (c .before .before .slot-of .ensures .0) (c .before .read-slot .ensures)) (c .match .keys2),
+      no-inner (a .pre .0) (all-of Byte (a .args .store .now) 0 (λ i _. omega (arith, d .shared-slice-known .given i))) (a .args .below) (a .pre .2)
+          (c .before .read-slot .result)
+          (subst (λ x. Read x (c .before .read-slot .result)) (c .before .before .slot-of .ensures .0) (c .before .read-slot .ensures))
+          (c .match .keys2),
     )
 
--- src/lib.rt:238:9
 ends-before-requires : tie.Need-ends-before-requires
 ends-before-requires c κs = search needs
 
--- src/lib.rt:240:9
 link-requires : tie.Need-link-requires
 link-requires c κs = c .before .ends-before .ensures .1
 
--- src/lib.rt:240:9
 returns-3 : tie.Need-returns-3
 returns-3 c =
-    let a = c .before .before .before .before .before .before .before .before .before .before .before in (
+    let d = c .before .before .before .before .before .before .before .before .before .before in
+    let a = d .before in (
       c .link .ensures .0,
-      parent-said (a .pre .0) (all-of Byte (a .args .store .now) 0 (λ i _. omega (arith, c .before .before .before .before .before .before .before .before .before .before .shared-slice-known .given i))) (a .args .below) (a .pre .2)
-          (c .before .before .before .before .before .before .read-slot .result) (subst (λ x. Read x (c .before .before .before .before .before .before .read-slot .result)) (c .before .before .before .before .before .before .before .slot-of .ensures .0) (c .before .before .before .before .before .before .read-slot .ensures))
-          (a .args .kept) (a .pre .1) (sym (c .before .before .before .before .before .before .before .before .before .could-name .ensures) ∙ not-false _ (c .before .before .before .before .before .before .before .before .if1 .left)) _ _ (c .before .before .before .before .kind .given .1)
-          true (c .before .if2 .taken) (c .before .before .ends-before .result) (c .before .before .ends-before .ensures .0) (c .link .result) (c .link .ensures .1),
+      parent-said (a .pre .0) (all-of Byte (a .args .store .now) 0 (λ i _. omega (arith, d .shared-slice-known .given i))) (a .args .below)
+          (a .pre .2)
+          (c .before .before .before .before .before .before .read-slot .result)
+          (subst (λ x. Read x (c .before .before .before .before .before .before .read-slot .result)) (c .before .before .before .before .before .before .before .slot-of .ensures .0) (c .before .before .before .before .before .before .read-slot .ensures))
+          (a .args .kept) (a .pre .1)
+          (sym (c .before .before .before .before .before .before .before .before .before .could-name .ensures) ∙ not-false _ (c .before .before .before .before .before .before .before .before .if1 .left)) _ _
+          (c .before .before .before .before .kind .given .1)
+          true (c .before .if2 .taken) (c .before .before .ends-before .result) (c .before .before .ends-before .ensures .0) (c .link .result)
+          (c .link .ensures .1),
     )
 
--- src/lib.rt:242:5
 link-requires-2 : tie.Need-link-requires-2
 link-requires-2 c κs = c .before .ends-before .ensures .1
 
--- src/lib.rt:225:1
 returns-4 : tie.Need-returns-4
 returns-4 c =
-    let a = c .before .before .before .before .before .before .before .before .before .before .before in (
+    let d = c .before .before .before .before .before .before .before .before .before .before in
+    let a = d .before in (
       c .link2 .ensures .0,
-      parent-said (a .pre .0) (all-of Byte (a .args .store .now) 0 (λ i _. omega (arith, c .before .before .before .before .before .before .before .before .before .before .shared-slice-known .given i))) (a .args .below) (a .pre .2)
-          (c .before .before .before .before .before .before .read-slot .result) (subst (λ x. Read x (c .before .before .before .before .before .before .read-slot .result)) (c .before .before .before .before .before .before .before .slot-of .ensures .0) (c .before .before .before .before .before .before .read-slot .ensures))
-          (a .args .kept) (a .pre .1) (sym (c .before .before .before .before .before .before .before .before .before .could-name .ensures) ∙ not-false _ (c .before .before .before .before .before .before .before .before .if1 .left)) _ _ (c .before .before .before .before .kind .given .1)
-          false (c .before .if2 .left) (c .before .before .ends-before .result) (c .before .before .ends-before .ensures .0) (c .link2 .result) (c .link2 .ensures .1),
+      parent-said (a .pre .0) (all-of Byte (a .args .store .now) 0 (λ i _. omega (arith, d .shared-slice-known .given i))) (a .args .below)
+          (a .pre .2)
+          (c .before .before .before .before .before .before .read-slot .result)
+          (subst (λ x. Read x (c .before .before .before .before .before .before .read-slot .result)) (c .before .before .before .before .before .before .before .slot-of .ensures .0) (c .before .before .before .before .before .before .read-slot .ensures))
+          (a .args .kept) (a .pre .1)
+          (sym (c .before .before .before .before .before .before .before .before .before .could-name .ensures) ∙ not-false _ (c .before .before .before .before .before .before .before .before .if1 .left)) _ _
+          (c .before .before .before .before .kind .given .1)
+          false (c .before .if2 .left) (c .before .before .ends-before .result) (c .before .before .ends-before .ensures .0) (c .link2 .result)
+          (c .link2 .ensures .1),
     )
 
 pub parent-says-spec : {M : Type 1} → statement M

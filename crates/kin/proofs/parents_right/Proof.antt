@@ -1,15 +1,12 @@
 -- `kin::parents_right` meets its contract: slot by slot, what is left of both scans. Assumes nothing.
+use Prim.Native.Nat.{_-_}
 use native.Mathlib.Omega.{arith}
 use borrow.Author.Needs.{needs}
-use Prim.Native.Nat.{_-_}
 use Rattle.layout.specs.Sizes.{roomOf}
 use Rattle.layout.proofs.Headers.{size-least}
 use Rattle.kin.proofs.Summing.{Summed, sum-start, sum-slot, sum-short, sum-next, sum-wrong, sum-end}
 use Rattle.kin.proofs.parents_right.Statement.{statement}
 use Rattle.kin.proofs.parents_right.Tie as tie
-use Rattle.kin.proofs.parents_right.Reads as reads
-use Rattle.kin.proofs.parents_right.Lts as lts
-use Rattle.kin.proofs.parent_says.Reads as parent-says-reads
 
 abbrev Inv-loop : tie.InvT-loop
 Inv-loop store kept below life n sum₀ j₀ sum j = Summed store below n sum j
@@ -17,48 +14,44 @@ Inv-loop store kept below life n sum₀ j₀ sum j = Summed store below n sum j
 abbrev μ-loop : tie.MeasureT-loop
 μ-loop store kept below life n sum₀ j₀ sum j = n - j
 
--- src/lib.rt:250:14
 sub-n : tie.Need-sub-n Inv-loop μ-loop
 sub-n c = omega (arith, size-least _ (c .before .pre .0 .size))
 
--- src/lib.rt:253:5
 loop-holds : tie.Need-loop-holds Inv-loop μ-loop
 unfolding roomOf
 loop-holds c = sum-start (c .before .args .store .now) (c .before .args .below) (c .before .pre .0 .size)
 
--- src/lib.rt:254:34
 parent-says-requires : tie.Need-parent-says-requires Inv-loop μ-loop
-parent-says-requires c κs = (sum-slot (c .before .loop .inv) (c .loop-test .taken), c .before .before .before .pre .0, c .before .before .before .pre .1)
+parent-says-requires c κs =
+    (sum-slot (c .before .loop .inv) (c .loop-test .taken), c .before .before .before .pre .0, c .before .before .before .pre .1)
 
--- src/lib.rt:254:25
 enum-known-lived : tie.Need-enum-known-lived Inv-loop μ-loop
 enum-known-lived c = search needs
 
--- src/lib.rt:255:13
 enum-told : tie.Need-enum-told Inv-loop μ-loop
 enum-told c = search needs
 
--- src/lib.rt:255:13
 returns : tie.Need-returns Inv-loop μ-loop
-returns c = sum-wrong (c .before .before .before .before .loop .inv) (c .before .before .before .loop-test .taken) (c .enum-told .given .1) (c .before .before .parent-says .ensures .1) (c .before .before .before .before .before .before .args .life)
+returns c =
+    sum-wrong (c .before .before .before .before .loop .inv) (c .before .before .before .loop-test .taken) (c .enum-told .given .1)
+    (c .before .before .parent-says .ensures .1) (c .before .before .before .before .before .before .args .life)
 
--- src/lib.rt:257:9
 add-sum : tie.Need-add-sum Inv-loop μ-loop
-add-sum c = omega (arith, sum-short (c .before .before .before .before .before .loop .inv) (c .before .lived .given .1) (c .before .before .before .parent-says .ensures .0), c .before .before .before .before .before .loop .inv .fits, c .before .before .before .before .before .loop .inv .small)
+add-sum c =
+    omega
+    (arith, sum-short (c .before .before .before .before .before .loop .inv) (c .before .lived .given .1) (c .before .before .before .parent-says .ensures .0), c .before .before .before .before .before .loop .inv .fits, c .before .before .before .before .before .loop .inv .small)
 
--- src/lib.rt:258:9
 add-j : tie.Need-add-j Inv-loop μ-loop
 add-j c = omega (arith, c .before .before .before .before .before .loop .inv .small)
 
--- src/lib.rt:253:5
 loop-less : tie.Need-loop-less Inv-loop μ-loop
 loop-less c = omega arith
 
--- src/lib.rt:253:5
 loop-again : tie.Need-loop-again Inv-loop μ-loop
-loop-again c = sum-next (c .before .before .before .before .before .loop .inv) (c .before .before .before .before .loop-test .taken) (c .before .lived .given .1) (c .before .before .before .parent-says .ensures .0) (c .before .before .before .parent-says .ensures .1)
+loop-again c =
+    sum-next (c .before .before .before .before .before .loop .inv) (c .before .before .before .before .loop-test .taken)
+    (c .before .lived .given .1) (c .before .before .before .parent-says .ensures .0) (c .before .before .before .parent-says .ensures .1)
 
--- src/lib.rt:246:1
 returns-2 : tie.Need-returns-2 Inv-loop μ-loop
 returns-2 c = sum-end (c .before .loop .inv) (c .loop-test .left) (c .before .before .before .args .life)
 

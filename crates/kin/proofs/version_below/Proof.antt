@@ -5,41 +5,34 @@ use Rattle.store.proofs.Slots.{field-at}
 use Rattle.kin.proofs.Holding.{slot-fits}
 use Rattle.kin.proofs.version_below.Statement.{statement}
 use Rattle.kin.proofs.version_below.Tie as tie
-use Rattle.kin.proofs.version_below.Reads as reads
-use Rattle.kin.proofs.version_below.Lts as lts
-use Rattle.fields.proofs.get_u32.Reads as get-u32-reads
 
--- src/lib.rt:168:28
 mul-at : tie.Need-mul-at
 mul-at c = omega (arith, slot-fits (c .before .pre))
 
--- src/lib.rt:168:14
 add-at : tie.Need-add-at
 add-at c = omega (arith, slot-fits (c .before .pre))
 
--- src/lib.rt:170:31
 add-get-u32 : tie.Need-add-get-u32
 add-get-u32 c = omega (arith, slot-fits (c .before .before .pre))
 
--- src/lib.rt:170:9
 get-u32-requires : tie.Need-get-u32-requires
 get-u32-requires c κs = omega (arith, slot-fits (c .before .before .pre))
 
--- src/lib.rt:170:9
 returns : tie.Need-returns
-returns c = let a = c .before .before .before .args in rw (c .before .if1 .taken) (c .get-u32 .ensures ∙ field-at (a .j) 84 4 (a .store .now) (omega arith))
+returns c =
+    let a = c .before .before .before .args in
+    rw (c .before .if1 .taken) (c .get-u32 .ensures ∙ field-at (a .j) 84 4 (a .store .now) (omega arith))
 
--- src/lib.rt:172:20
 add-get-u32-2 : tie.Need-add-get-u32-2
 add-get-u32-2 c = omega (arith, slot-fits (c .before .before .pre))
 
--- src/lib.rt:172:5
 get-u32-requires-2 : tie.Need-get-u32-requires-2
 get-u32-requires-2 c κs = omega (arith, slot-fits (c .before .before .pre))
 
--- src/lib.rt:164:1
 returns-2 : tie.Need-returns-2
-returns-2 c = let a = c .before .before .before .args in rw (c .before .if1 .left) (c .get-u322 .ensures ∙ field-at (a .j) 48 4 (a .store .now) (omega arith))
+returns-2 c =
+    let a = c .before .before .before .args in
+    rw (c .before .if1 .left) (c .get-u322 .ensures ∙ field-at (a .j) 48 4 (a .store .now) (omega arith))
 
 pub version-below-spec : {M : Type 1} → statement M
 version-below-spec =

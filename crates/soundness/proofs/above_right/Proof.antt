@@ -1,69 +1,55 @@
 -- `soundness::above_right` meets its contract: a root has no parents, another record stands one bit below them. Assumes nothing.
 use native.Mathlib.Omega.{arith}
+use borrow.Author.Needs.{needs}
 use Rattle.place.proofs.Places.{proper-whole}
 use Rattle.soundness.proofs.Above.{root-says, below-says}
-use borrow.Author.Needs.{needs}
 use Rattle.soundness.proofs.above_right.Statement.{statement}
 use Rattle.soundness.proofs.above_right.Tie as tie
-use Rattle.soundness.proofs.above_right.Reads as reads
-use Rattle.soundness.proofs.above_right.Lts as lts
-use Rattle.kin.proofs.ends_before.Reads as ends-before-reads
-use Rattle.kin.proofs.front.Reads as front-reads
-use Rattle.kin.proofs.kept_life.Reads as kept-life-reads
-use Rattle.kin.proofs.parents_right.Reads as parents-right-reads
-use Rattle.place.proofs.key_bit.Reads as key-bit-reads
-use Rattle.soundness.proofs.root_right.Reads as root-right-reads
 
--- src/lib.rt:105:9
 ends-before-requires : tie.Need-ends-before-requires
 ends-before-requires c κs = search needs
 
--- src/lib.rt:107:9
 root-right-requires : tie.Need-root-right-requires
 root-right-requires c κs = search needs
 
--- src/lib.rt:107:9
 returns : tie.Need-returns
-returns c = let a = c .before .before .before .before .before in root-says (a .pre) (c .before .if1 .taken) (a .args .leaf) (a .args .hash) (c .before .before .ends-before .ensures .0) (c .root-right .ensures)
+returns c =
+    let a = c .before .before .before .before .before in
+    root-says (a .pre) (c .before .if1 .taken) (a .args .leaf) (a .args .hash) (c .before .before .ends-before .ensures .0) (c .root-right .ensures)
 
--- src/lib.rt:110:20
 slice-aggregate-front : tie.Need-slice-aggregate-front
 slice-aggregate-front c = search needs
 
--- src/lib.rt:110:27
 sub-front : tie.Need-sub-front
 sub-front c = search needs
 
--- src/lib.rt:110:9
 front-requires : tie.Need-front-requires
 front-requires c κs = search needs
 
--- src/lib.rt:111:25
 slice-aggregate-key-bit : tie.Need-slice-aggregate-key-bit
 slice-aggregate-key-bit c = search needs
 
--- src/lib.rt:111:32
 sub-key-bit : tie.Need-sub-key-bit
 sub-key-bit c = search needs
 
--- src/lib.rt:111:9
 key-bit-requires : tie.Need-key-bit-requires
-key-bit-requires c κs = let a = c .before .before .before .before .before .before .before .before in omega (arith, proper-whole (a .args .head .place) (a .pre .proper), a .pre .proper .short, c .before .before .before .before .if1 .left)
+key-bit-requires c κs =
+    let a = c .before .before .before .before .before .before .before .before in
+    omega (arith, proper-whole (a .args .head .place) (a .pre .proper), a .pre .proper .short, c .before .before .before .before .if1 .left)
 
--- src/lib.rt:120:39
 kept-life-requires : tie.Need-kept-life-requires
 kept-life-requires c κs = search needs
 
--- src/lib.rt:120:5
 parents-right-requires : tie.Need-parents-right-requires
 parents-right-requires c κs = search needs
 
--- src/lib.rt:98:1
 returns-2 : tie.Need-returns-2
 returns-2 c =
     let a = c .before .before .before .before .before .before .before .before .before .before .before in
-    below-says (a .pre) (c .before .before .before .before .before .before .before .if1 .left) (c .before .before .before .before .front .result) (c .before .before .key-bit .result) (c .before .before .before .before .front .ensures) (c .before .before .key-bit .ensures)
-    (a .args .leaf) (a .args .hash) (c .before .before .before .before .before .before .before .before .ends-before .result) (c .before .before .before .before .before .before .before .before .ends-before .ensures .0) (c .before .kept-life .result)
+    below-says (a .pre) (c .before .before .before .before .before .before .before .if1 .left) (c .before .before .before .before .front .result)
+    (c .before .before .key-bit .result) (c .before .before .before .before .front .ensures) (c .before .before .key-bit .ensures)
+    (a .args .leaf) (a .args .hash) (c .before .before .before .before .before .before .before .before .ends-before .result)
+    (c .before .before .before .before .before .before .before .before .ends-before .ensures .0) (c .before .kept-life .result)
     (c .before .kept-life .ensures) (c .parents-right .result) (c .parents-right .ensures)
 
 pub above-right-spec : {M : Type 1} → statement M

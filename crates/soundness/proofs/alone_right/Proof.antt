@@ -1,34 +1,29 @@
 -- `soundness::alone_right` meets its contract: one early return for each test. Assumes nothing.
 use mathlib.Core.Path.{sym, _∙_}
 use borrow.Author.Tests.{not-true, not-false}
-use Rattle.soundness.proofs.Alone.{too-late, wrong-life, counted}
 use borrow.Author.Needs.{needs}
+use Rattle.soundness.proofs.Alone.{too-late, wrong-life, counted}
 use Rattle.soundness.proofs.alone_right.Statement.{statement}
 use Rattle.soundness.proofs.alone_right.Tie as tie
-use Rattle.soundness.proofs.alone_right.Reads as reads
-use Rattle.soundness.proofs.alone_right.Lts as lts
-use Rattle.kin.proofs.holders.Reads as holders-reads
-use Rattle.soundness.proofs.life_right.Reads as life-right-reads
 
--- src/lib.rt:78:9
 returns : tie.Need-returns
 returns c = λ o. too-late (c .before .before .before .before .pre) o (c .if1 .taken)
 
--- src/lib.rt:80:9
 life-right-requires : tie.Need-life-right-requires
 life-right-requires c κs = search needs
 
--- src/lib.rt:81:9
 returns-2 : tie.Need-returns-2
-returns-2 c = λ o. wrong-life (c .before .before .before .before .before .before .pre) o (c .before .before .if1 .left) (sym (c .before .life-right .ensures) ∙ not-true _ (c .if2 .taken))
+returns-2 c =
+    λ o. wrong-life (c .before .before .before .before .before .before .pre) o (c .before .before .if1 .left)
+    (sym (c .before .life-right .ensures) ∙ not-true _ (c .if2 .taken))
 
--- src/lib.rt:84:5
 holders-requires : tie.Need-holders-requires
 holders-requires c κs = search needs
 
--- src/lib.rt:73:1
 returns-3 : tie.Need-returns-3
-returns-3 c = λ o. counted (c .before .before .before .before .before .before .before .before .pre) o (c .before .before .before .before .if1 .left) (sym (c .before .before .before .life-right .ensures) ∙ not-false _ (c .before .before .if2 .left)) (c .holders .result) (c .holders .ensures)
+returns-3 c =
+    λ o. counted (c .before .before .before .before .before .before .before .before .pre) o (c .before .before .before .before .if1 .left)
+    (sym (c .before .before .before .life-right .ensures) ∙ not-false _ (c .before .before .if2 .left)) (c .holders .result) (c .holders .ensures)
 
 pub alone-right-spec : {M : Type 1} → statement M
 alone-right-spec =

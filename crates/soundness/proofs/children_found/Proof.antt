@@ -2,39 +2,29 @@
 use mathlib.Core.Path.{sym, _∙_}
 use mathlib.Core.Bool.{true, false}
 use borrow.Author.Tests.{not-true, not-false}
-use Rattle.soundness.proofs.Alone.{found-as}
 use borrow.Author.Needs.{needs}
+use Rattle.soundness.proofs.Alone.{found-as}
 use Rattle.soundness.proofs.children_found.Statement.{statement}
 use Rattle.soundness.proofs.children_found.Tie as tie
-use Rattle.soundness.proofs.children_found.Reads as reads
-use Rattle.soundness.proofs.children_found.Lts as lts
-use Rattle.kin.proofs.child_found.Reads as child-found-reads
-use Rattle.place.proofs.Place.left.Reads as left-reads
-use Rattle.place.proofs.Place.right.Reads as right-reads
 
--- src/lib.rt:128:31
 left-requires : tie.Need-left-requires
 left-requires c κs = search needs
 
--- src/lib.rt:128:9
 child-found-requires : tie.Need-child-found-requires
 child-found-requires c κs = search needs
 
--- src/lib.rt:129:9
 returns : tie.Need-returns
 returns c =
     let a = c .before .before .before .before in
-    sym (rw (found-as (a .args .store .now) (a .args .place) (c .before .before .left .result) false (a .args .a) (c .before .before .left .ensures) (c .before .child-found .ensures) ∙ not-true _ (c .if1 .taken)))
+    sym
+    (rw (found-as (a .args .store .now) (a .args .place) (c .before .before .left .result) false (a .args .a) (c .before .before .left .ensures) (c .before .child-found .ensures) ∙ not-true _ (c .if1 .taken)))
 
--- src/lib.rt:131:27
 right-requires : tie.Need-right-requires
 right-requires c κs = search needs
 
--- src/lib.rt:131:5
 child-found-requires-2 : tie.Need-child-found-requires-2
 child-found-requires-2 c κs = search needs
 
--- src/lib.rt:124:1
 returns-2 : tie.Need-returns-2
 returns-2 c =
     let a = c .before .before .before .before .before .before in

@@ -5,22 +5,17 @@ use Rattle.terms.proofs.Fields.{test-passed, test-failed, test-last}
 use Rattle.soundness.specs.Parts.{lifeRight}
 use Rattle.soundness.proofs.life_right.Statement.{statement}
 use Rattle.soundness.proofs.life_right.Tie as tie
-use Rattle.soundness.proofs.life_right.Reads as reads
-use Rattle.soundness.proofs.life_right.Lts as lts
 
--- src/lib.rt:61:9
 returns : tie.Need-returns
 unfolding lifeRight
 returns c = rw (eq-eqb (c .before .args .retired) 0 (c .if1 .taken))
 
--- src/lib.rt:64:9
 returns-2 : tie.Need-returns-2
 unfolding lifeRight
 returns-2 c =
     let a = c .before .before .args in
     sym (rw (ne-eqb (a .retired) 0 (c .before .if1 .left)) (test-failed _ (le-ltb (a .version) (a .retired) (c .if2 .taken))))
 
--- src/lib.rt:67:9
 returns-3 : tie.Need-returns-3
 unfolding lifeRight
 returns-3 c =
@@ -29,7 +24,6 @@ returns-3 c =
     (rw (ne-eqb (a .retired) 0 (c .before .before .before .if1 .left))
     (test-passed _ (lt-ltb (a .version) (a .retired) (c .before .before .if2 .left)) ∙ test-failed _ (le-ltb (a .kept .oldest) (a .retired) (c .if3 .taken))))
 
--- src/lib.rt:57:1
 returns-4 : tie.Need-returns-4
 unfolding lifeRight
 returns-4 c =
