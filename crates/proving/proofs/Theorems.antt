@@ -49,11 +49,10 @@ proof-of-sound-holds s right ok v kept k whole root e room h =
     let st = storeOf s in
     let read : readRoot leafHash innerHash st v ≡ accepted root = ap (λ d. byHeader d (readRoot leafHash innerHash st v)) (sym right) ∙ e in
     let w = shown leafHash innerHash st ok v kept k whole root read in
-    let fits : proofLength (w .0) ≤ room = omega (arith, proofs-have-17080-bytes st v k (w .0) (w .1)) in
-    (
+    let fits : proofLength (w .0) ≤ room = omega (arith, proofs-have-17080-bytes st v k (w .0) (w .1)) in (
       w .0,
       ap (λ b. cond b (byHeader (headerOf s) (prove st v k room)) (refused 12)) (eq-eqb (length k) 32 (whole .0))
-      ∙ ap (λ d. byHeader d (prove st v k room)) right
-      ∙ given-with-room st v k (w .0) room (w .1) fits,
+          ∙ ap (λ d. byHeader d (prove st v k room)) right
+          ∙ given-with-room st v k (w .0) room (w .1) fits,
       w .2,
     )
