@@ -2,6 +2,8 @@
 use fields::copy;
 use fields::put_u16;
 use fields::put_u32;
+use layout::sizes::RIGHT_AT;
+use layout::sizes::SLOT_SIZE;
 use place::Place;
 use place::key_bit;
 use slots::grant_of;
@@ -18,22 +20,19 @@ ghost use Rattle.proofrecords.specs.ProofBytes.{stepSize, presenceHead, absence
 ghost use Rattle.paths.specs.Paths.{stepBytes, stepAt, pathSteps, presenceAt, PathIn};
 ghost use Rattle.paths.specs.Neighbours.{roomFor, flagFor, neighbourAt, NeighbourIn, absentOf};
 
-// Where an inner record has its hashes, and the sizes and kinds of proofs and steps.
+// Where an inner record has its hashes.
 const LEFT_HASH_AT: usize = 52;
-
-const RIGHT_AT: usize = 84;
 
 const RIGHT_HASH_AT: usize = 88;
 
-const SLOT_SIZE: usize = 120;
+// The sizes and kinds of proofs and steps.
+pub const STEP_SIZE: usize = 33;
 
-const STEP_SIZE: usize = 33;
-
-const PRESENCE_HEAD: usize = 72;
+pub const PRESENCE_HEAD: usize = 72;
 
 const PRESENCE_KIND: u16 = 16;
 
-const ABSENCE_HEAD: usize = 40;
+pub const ABSENCE_HEAD: usize = 40;
 
 const ABSENCE_KIND: u16 = 17;
 

@@ -1,5 +1,8 @@
 // Proving over lent bytes, document 01, 'Reading and proving': the proof for a key in a version, for every store, sound or damaged.
+use paths::ABSENCE_HEAD;
+use paths::PRESENCE_HEAD;
 use paths::Path;
+use paths::STEP_SIZE;
 use paths::Sought;
 use paths::Way;
 use paths::neighbour_length;
@@ -11,8 +14,10 @@ use store::slot_of;
 use trails::Walked;
 use trails::neighbour;
 use trails::walk;
+use walk::NOT_SOUND;
 use walk::Opened;
 use walk::Seen;
+use walk::WRONG_KEY;
 use walk::open;
 ghost use mathlib.Core.Path.{_≡_};
 ghost use mathlib.Core.Bool.{true, false, cond};
@@ -32,21 +37,8 @@ ghost use Rattle.paths.specs.Neighbours.{neighbourAt, NeighbourIn};
 ghost use Rattle.trails.specs.Searches.{pathOf, WalkedIn, neighbourSays};
 ghost use Rattle.proving.specs.Proving.{Gives, wayLost, proveAnswer, provedSays, lengthOf, roomAfter};
 
-// 3: the walk says that the store is not sound.
-const NOT_SOUND: u32 = 3;
-
 // 9: the proof is longer than the buffer.
 const NO_ROOM: u32 = 9;
-
-// 12: a key handed in isn't 32 bytes.
-const WRONG_KEY: u32 = 12;
-
-// The sizes of a presence proof's head, of a step and of an absence proof's head.
-const PRESENCE_HEAD: usize = 72;
-
-const STEP_SIZE: usize = 33;
-
-const ABSENCE_HEAD: usize = 40;
 
 // What proving answers.
 pub enum Proved {
