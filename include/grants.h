@@ -8,6 +8,7 @@
  *   2  a header field isn't right, its capacity isn't n, or oldest is above latest
  *   3  the store isn't sound (check, prune), or the walk says so (reads)
  *   8  the version isn't in oldest to latest
+ *   9  the proof is longer than the room
  *  10  the proof isn't one whole record in form, no byte over
  *  11  the proof is in form, but doesn't hold
  *  12  a key or root handed in isn't 32 bytes
@@ -37,6 +38,11 @@ uint32_t grants_root(const uint8_t *store, size_t store_len, uint32_t version, u
 
 /* A key in a version. found: 1 and the value (32), or 0 and 32 zero bytes where the key is absent. Refused: 12, 1, 2, 8, 3. */
 uint32_t grants_get(const uint8_t *store, size_t store_len, uint32_t version, const uint8_t *key, size_t key_len, uint8_t found[33]);
+
+/* Writes the proof that a key is in a version, or that it isn't, to the front of room; the rest of room stays. length: of the proof, 4 bytes.
+   No proof is longer than 17,080 bytes. It tests the header, not soundness. Refused: 12, 1, 2, 8, 3, 9. */
+uint32_t grants_prove(const uint8_t *store, size_t store_len, uint32_t version, const uint8_t *key, size_t key_len, uint8_t *room,
+                      size_t room_len, uint8_t length[4]);
 
 /* What a proof shows of a key against a root. found: 1 and the value for 'present', 0 and 32 zero bytes for 'absent'. Refused: 12, 10, 11. */
 uint32_t grants_verify(const uint8_t *root, size_t root_len, const uint8_t *key, size_t key_len, const uint8_t *proof, size_t proof_len,

@@ -7,6 +7,8 @@ ghost use Rattle.soundness.specs.Check.{Checked};
 ghost use Rattle.pruning_c.specs.Export.{Exports};
 ghost use Rattle.reads.specs.Reads.{rootAnswer, keyAnswer};
 ghost use Rattle.reads_c.specs.Export.{numberOf, rootBytes, foundBytes};
+ghost use Rattle.proving.specs.Proving.{roomAfter};
+ghost use Rattle.proving_c.specs.Export.{provedInto, numberOf as proofNumber, lengthBytes};
 ghost use Rattle.verify.specs.Verify.{verified};
 ghost use Rattle.verify.specs.Boundary.{numberOf as verdictNumber, foundAfter};
 
@@ -51,6 +53,22 @@ pub extern "C" fn grants_get(store: &[u8], version: u32, key: &[u8], found: &mut
     ensures bytes { λ _. ⌜ now (found .exit) ≡ foundBytes (keyAnswer (now (store .entry)) version (now (key .entry))) (now (found .entry)) ⌝ }
 {
     reads_c::grants_get(store, version, key, found)
+}
+
+// Writes the proof for a key in a version to the front of the room; length: how long it is, little-endian.
+#[no_mangle]
+pub extern "C" fn grants_prove(
+    store: &[u8],
+    version: u32,
+    key: &[u8],
+    room: &mut [u8],
+    length: &mut [u8; 4],
+) -> u32
+    ensures answer { λ r. ⌜ r ≡ proofNumber (provedInto (now (store .entry)) version (now (key .entry)) (now (room .entry))) ⌝ }
+    ensures bytes { λ _. ⌜ now (room .exit) ≡ roomAfter (provedInto (now (store .entry)) version (now (key .entry)) (now (room .entry))) (now (room .entry)) ⌝ }
+    ensures told { λ _. ⌜ now (length .exit) ≡ lengthBytes (provedInto (now (store .entry)) version (now (key .entry)) (now (room .entry))) (now (length .entry)) ⌝ }
+{
+    proving_c::grants_prove(store, version, key, room, length)
 }
 
 // What a proof shows of a key against a root: 1 and the value, or 0 and 32 zero bytes for 'absent'.

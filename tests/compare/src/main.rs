@@ -40,7 +40,20 @@ impl Word for Result<Option<[u8; 32]>, u32> {
 
 impl Word for Result<u32, u32> {
     fn word(&self) -> String {
-        self.map_or_else(|n| n.to_string(), |n| if n == 0 { "none freed" } else { "some freed" }.into())
+        self.map_or_else(|n| n.to_string(), |n| if n == 0 { "0" } else { "some" }.into())
+    }
+}
+
+/// A proof's length with the whole room: its kind and flags.
+struct Proof;
+
+impl Proof {
+    fn word(answer: Result<u32, u32>, room: &[u8]) -> String {
+        match answer {
+            Err(n) => n.to_string(),
+            Ok(_) if room[4] == 16 => "presence".into(),
+            Ok(_) => format!("absence {}", room[6]),
+        }
     }
 }
 
@@ -52,7 +65,15 @@ impl<T: Word> Word for (T, Vec<u8>) {
 
 impl Tally {
     fn same<T: PartialEq + std::fmt::Debug + Word>(&mut self, what: &str, seed: u64, ours: T, second: T) {
-        *self.answers.entry(format!("{what} {}", second.word())).or_default() += 1;
+        self.count(format!("{what} {}", second.word()));
+        self.equal(what, seed, ours, second);
+    }
+
+    fn count(&mut self, answer: String) {
+        *self.answers.entry(answer).or_default() += 1;
+    }
+
+    fn equal<T: PartialEq + std::fmt::Debug>(&mut self, what: &str, seed: u64, ours: T, second: T) {
         if ours == second {
             self.passed += 1;
         } else {
@@ -114,6 +135,17 @@ fn round(seed: u64, tally: &mut Tally) {
         tally.same("root", seed, ours::root(&s, v), second::root(&s, v));
         let k = key(&mut random, &keys);
         tally.same("get", seed, ours::get(&s, v, &k), second::get(&s, v, &k));
+        let room = match second::proof::proof(&s, v, &k) {
+            Ok(p) if random.one_in(6) => p.len() - 1,
+            Ok(p) if random.one_in(3) => p.len(),
+            Ok(p) => p.len() + random.below(40),
+            Err(_) => random.below(200),
+        };
+        let (mut a, mut b) = (vec![random.byte(); room], vec![]);
+        b.clone_from(&a);
+        let (x, y) = (ours::prove(&s, v, &k, &mut a), second::prove(&s, v, &k, &mut b));
+        tally.count(format!("prove {}", Proof::word(y, &b)));
+        tally.equal("prove", seed, (x, a), (y, b));
         if let (Ok(p), Ok(root)) = (second::proof::proof(&s, v, &k), second::root(&s, v)) {
             tally.same("verify", seed, ours::verify(&root, &k, &p), second::verify(&root, &k, &p));
             proofs.push((root, k, p));

@@ -9,6 +9,16 @@ extern "C" {
     fn grants_prune(store: *mut u8, store_len: usize, version: u32, freed: *mut [u8; 4]) -> u32;
     fn grants_root(store: *const u8, store_len: usize, version: u32, root: *mut [u8; 32]) -> u32;
     fn grants_get(store: *const u8, store_len: usize, version: u32, key: *const u8, key_len: usize, found: *mut [u8; 33]) -> u32;
+    fn grants_prove(
+        store: *const u8,
+        store_len: usize,
+        version: u32,
+        key: *const u8,
+        key_len: usize,
+        room: *mut u8,
+        room_len: usize,
+        length: *mut [u8; 4],
+    ) -> u32;
     fn grants_verify(
         root: *const u8,
         root_len: usize,
@@ -74,6 +84,15 @@ pub fn get(store: &[u8], version: u32, key: &[u8]) -> Result<Option<Bytes32>, Re
     let mut found = [MARK; 33];
     let number = unsafe { grants_get(store.as_ptr(), store.len(), version, key.as_ptr(), key.len(), &mut found) };
     answered(number, found).map(verdict)
+}
+
+/// The length of the proof, at the front of the room.
+pub fn prove(store: &[u8], version: u32, key: &[u8], room: &mut [u8]) -> Result<u32, Refusal> {
+    let mut length = [MARK; 4];
+    let number = unsafe {
+        grants_prove(store.as_ptr(), store.len(), version, key.as_ptr(), key.len(), room.as_mut_ptr(), room.len(), &mut length)
+    };
+    answered(number, length).map(u32::from_le_bytes)
 }
 
 pub fn verify(root: &[u8], key: &[u8], proof: &[u8]) -> Result<Option<Bytes32>, Refusal> {
