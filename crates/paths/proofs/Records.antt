@@ -5,11 +5,9 @@ use native.Mathlib.Omega.{arith}
 use mathlib.Core.Path.{_≡_, refl, ap, ap₂, sym, _∙_, subst}
 use mathlib.Core.Bool.{not, true, false}
 use mathlib.Core.List.{List, [], _∷_, _++_}
-use mathlib.Core.Option.{Option, none, some}
 use lib.ListN.{length, getD, take, drop, length-append, length-take, length-drop}
 use Rattle.terms.specs.Bits.{Bytes, Side, left, Place}
 use Rattle.terms.specs.Fields.{le, slice, flat}
-use Rattle.terms.specs.Records.{Step, Presence}
 use Rattle.terms.proofs.Fields.{length-le, length-slice, Sized, length-flat, flat-front, flat-append}
 use Rattle.fields.specs.Written.{written}
 use Rattle.fields.proofs.Written.{part-written, fields-fill}
@@ -18,7 +16,6 @@ use Rattle.layout.specs.Sizes.{slotAt}
 use Rattle.layout.specs.Slots.{childIn}
 use Rattle.layout.specs.Stores.{slotIn}
 use Rattle.meaning.specs.Store.{childOn}
-use Rattle.meaning.specs.Proving.{presenceOf}
 use Rattle.proofrecords.specs.ProofBytes.{stepsBytes, presenceBytes, neighbourBytes, flagsOf, absenceBytes}
 use Rattle.walk.specs.Walk.{kidIn}
 use Rattle.paths.specs.Paths.{stepAt, stepsOf, pathSteps, presenceAt, PathIn}

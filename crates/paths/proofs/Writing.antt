@@ -7,7 +7,7 @@ use mathlib.Core.Bool.{not}
 use mathlib.Core.List.{List, [], _∷_, _++_, append-assoc, append-nil}
 use lib.ListN.{length, getD, take, drop, set, drop-of-length-le, length-append, length-take, length-drop}
 use lib.Seq.{take-all, take-at, getD-take}
-use Rattle.terms.specs.Bits.{Bytes, Side, left, Place, bits, bit, digit}
+use Rattle.terms.specs.Bits.{Bytes, Side, left, bits, bit, digit}
 use Rattle.layout.specs.Stores.{slotIn}
 use Rattle.proofrecords.specs.ProofBytes.{stepsBytes}
 use Rattle.meaning.specs.Store.{childOn}

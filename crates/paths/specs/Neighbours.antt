@@ -1,6 +1,5 @@
 -- Document 01, 'Forms to follow': what each case of a search for a neighbour says. Assumes nothing.
 use Prim.Native.Nat.{ℕ, _+_, _*_, _≤_}
-use mathlib.Core.Path.{_≡_}
 use mathlib.Core.Option.{Option, none, some}
 use Rattle.terms.specs.Bits.{Bytes}
 use Rattle.terms.specs.Records.{Presence, Absence}

@@ -1,13 +1,12 @@
 -- Document 01, 'Bytes', presence proof, and 'Reading and proving': the steps of a path whose inner nodes are known by their slots. Siblings'
 -- hashes are taken as stored. Assumes nothing.
 use Prim.Native.Nat.{ℕ, zero, suc, _+_, _≤_, _<_}
-use mathlib.Core.Path.{_≡_}
 use mathlib.Core.Bool.{not}
-use mathlib.Core.List.{List, [], _∷_, _++_}
+use mathlib.Core.List.{List, [], _∷_}
 use lib.ListN.{length, getD}
 use Rattle.terms.specs.Bits.{Bytes, Side, left, Place, digit}
 use Rattle.terms.specs.Fields.{slice}
-use Rattle.terms.specs.Records.{Child, Step, Presence}
+use Rattle.terms.specs.Records.{Step, Presence}
 use Rattle.meaning.specs.Proving.{step, presenceOf}
 use Rattle.place.specs.Place.{placeOf, Proper}
 use Rattle.layout.specs.Sizes.{slotSize, slotAt, keyAt, valueAt}

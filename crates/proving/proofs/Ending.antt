@@ -1,11 +1,11 @@
 -- Where the walk ends decides the proof: the leaf with the key, else the neighbours, which the trail and its forks give as the definition
 -- does. Assumes nothing.
-use Prim.Native.Nat.{ℕ, _≤_}
+use Prim.Native.Nat.{ℕ}
 use native.Mathlib.Omega.{arith}
 use mathlib.Core.Path.{_≡_, refl, ap, ap₂, sym, _∙_, subst}
 use mathlib.Core.Bool.{Bool, true, false, cond}
 use mathlib.Core.Logic.{⊎-elim}
-use mathlib.Core.List.{List, [], _∷_, map}
+use mathlib.Core.List.{[], _∷_, map}
 use lib.ListN.{length}
 use types.Run.{OneOf}
 use denote.Enum.Declared.{tagOf}
@@ -14,7 +14,7 @@ use Rattle.terms.specs.Bits.{Bytes, Side, left, right, sameBytes}
 use Rattle.terms.specs.Fields.{slice}
 use Rattle.terms.specs.Records.{Proof, presence}
 use Rattle.meaning.specs.Calls.{Answer, refused, accepted, isKept}
-use Rattle.meaning.specs.Reading.{seen, Pass, End, broken, atLeaf, atGap, walk}
+use Rattle.meaning.specs.Reading.{seen, atLeaf, atGap, walk}
 use Rattle.meaning.specs.Proving.{presenceOf, stepUp, neighbour, beyond, somebody, fromTrail, absenceFrom, absenceAt, proveEnd, proveSeen, proof, prove, fitted}
 use Rattle.place.specs.Place.{placeOf}
 use Rattle.layout.specs.Headers.{sizeRight, headerOf}
@@ -30,24 +30,18 @@ use Rattle.paths.specs.Paths.{presenceAt, pathSteps}
 use Rattle.trails.specs.Trails.{shownAt, shownBy, stepsBy, forkSays, forkOn, Walks}
 use Rattle.trails.specs.Searches.{pathOf, endSays, neighbourSays}
 use Rattle.trails.specs.declared.Walked as declared-walked
-use Rattle.proving.specs.Proving.{Gives, proveAnswer, lengthOf, roomAfter, provedSays}
+use Rattle.proving.specs.Proving.{Gives, presentAt, absentFrom, provedAt, proveAnswer, lengthOf, roomAfter, provedSays}
 use Rattle.proving.specs.declared.Proved as declared
 use Rattle.proving.specs.declared.Proved.the-variants.{Refused}
 use Rattle.proving.proofs.Giving.{gives-refusal}
 
--- what is given at the leaf in slot i if it has the key, and otherwise
-abbrev presentAt : Bytes → declared-walked.Walked → ℕ → Answer Proof
-presentAt s w i = accepted (presence (presenceAt s (pathOf (w .trail) i)))
-
-abbrev absentHere : Bytes → Bytes → declared-walked.Walked → Answer Proof
-absentHere s k w = absenceFrom k (neighbourSays s k w left) (neighbourSays s k w right)
-
+-- by the leaf's key
 pub by-key : {x l : Bytes} {d : Bool} {room after : Bytes} {r : declared.Proved} (n : ℕ) (s k : Bytes) (w : declared-walked.Walked) (i : ℕ) (c : Bool) → x ≡ slotIn i s →
-    l ≡ slice 48 32 x → d ≡ sameBytes k l → d ≡ c → Gives (fitted n (cond c (presentAt s w i) (absentHere s k w))) room after r →
-    Gives (fitted n (cond (sameBytes k (slice 48 32 (slotIn i s))) (presentAt s w i) (absentHere s k w))) room after r
+    l ≡ slice 48 32 x → d ≡ sameBytes k l → d ≡ c → Gives (fitted n (cond c (presentAt s w i) (absentFrom s k w))) room after r →
+    Gives (fitted n (provedAt s k w i)) room after r
 by-key {room = room} {after = after} {r = r} n s k w i c slot its e t g =
     let same : sameBytes k (slice 48 32 (slotIn i s)) ≡ c = sym (e ∙ ap (sameBytes k) (its ∙ ap (slice 48 32) slot)) ∙ t in
-    subst (λ b. Gives (fitted n (cond b (presentAt s w i) (absentHere s k w))) room after r) (sym same) g
+    subst (λ b. Gives (fitted n (cond b (presentAt s w i) (absentFrom s k w))) room after r) (sym same) g
 
 module _ (s : Bytes) (v : ℕ) (k : Bytes) (w : declared-walked.Walked) (h : Walks s v k w) where
   -- what is proved, by what is seen at the end
@@ -78,14 +72,14 @@ module _ (s : Bytes) (v : ℕ) (k : Bytes) (w : declared-walked.Walked) (h : Wal
 
   at-leaf : (i : ℕ) → w .trail .seen ≡ Leaf i →
       proveSeen k (seen (storeOf s) v)
-      ≡ cond (sameBytes k (slice 48 32 (slotIn i s))) (presentAt s w i) (absentHere s k w)
+      ≡ provedAt s k w i
   unfolding leafAt absenceAt
   at-leaf i e =
       prove-at (Leaf i) e
       ∙ ap₂ (λ p a. cond (sameBytes k (slice 48 32 (slotIn i s))) (accepted (presence p)) a) (leaf-presence i)
       (ap₂ (absenceFrom k) (leaf-neighbour i left e) (leaf-neighbour i right e))
 
-  at-gap : w .trail .seen ≡ Gap → proveSeen k (seen (storeOf s) v) ≡ absentHere s k w
+  at-gap : w .trail .seen ≡ Gap → proveSeen k (seen (storeOf s) v) ≡ absentFrom s k w
   unfolding absenceAt
   at-gap e = prove-at Gap e ∙ ap₂ (absenceFrom k) (gap-neighbour left e) (gap-neighbour right e)
 
@@ -94,7 +88,7 @@ module _ (s : Bytes) (v : ℕ) (k : Bytes) (w : declared-walked.Walked) (h : Wal
   ends-lost room e = gives-refusal 3 room (ap (fitted (length room)) (prove-at Lost e))
 
   pub ends-at-leaf : {room after : Bytes} {r : declared.Proved} (n i : ℕ) → w .trail .seen ≡ Leaf i →
-      Gives (fitted n (cond (sameBytes k (slice 48 32 (slotIn i s))) (presentAt s w i) (absentHere s k w))) room after r →
+      Gives (fitted n (provedAt s k w i)) room after r →
       Gives (fitted n (proveSeen k (seen (storeOf s) v))) room after r
   ends-at-leaf {room} {after} {r} n i e g = subst (λ a. Gives (fitted n a) room after r) (sym (at-leaf i e)) g
 
@@ -104,7 +98,7 @@ module _ (s : Bytes) (v : ℕ) (k : Bytes) (w : declared-walked.Walked) (h : Wal
   gap-left (Leaf i) e o = absurd (⊎-elim (λ e. omega arith) (λ e. omega arith) o)
   gap-left (Inner i) e o = absurd (h .ended i e)
 
-  pub ends-at-gap : {room after : Bytes} {r : declared.Proved} (n : ℕ) → OneOf (0 ∷ 3 ∷ []) (tagOf Seen.the-type (w .trail .seen)) → Gives (fitted n (absentHere s k w)) room after r →
+  pub ends-at-gap : {room after : Bytes} {r : declared.Proved} (n : ℕ) → OneOf (0 ∷ 3 ∷ []) (tagOf Seen.the-type (w .trail .seen)) → Gives (fitted n (absentFrom s k w)) room after r →
       Gives (fitted n (proveSeen k (seen (storeOf s) v))) room after r
   ends-at-gap {room} {after} {r} n o g = subst (λ a. Gives (fitted n a) room after r) (sym (at-gap (gap-left (w .trail .seen) refl o))) g
 

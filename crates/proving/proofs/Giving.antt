@@ -3,15 +3,14 @@ use Prim.Native.Nat.{ℕ, _+_, _*_, _-_, _<_, _≤_}
 use native.Mathlib.Omega.{arith}
 use native.Mathlib.Nat.{zero-add}
 use mathlib.Core.Path.{_≡_, refl, ap, ap₂, sym, _∙_, subst}
-use mathlib.Core.Bool.{Bool, true, false, cond, false≢true, true≢false}
+use mathlib.Core.Bool.{Bool, true, false, false≢true, true≢false}
 use mathlib.Core.List.{_++_}
-use mathlib.Core.Option.{some, none}
 use lib.ListN.{length, take, drop}
 use borrow.Author.Tests.{lt-ltb, le-ltb}
-use Rattle.terms.specs.Bits.{Bytes, Side, left, right}
+use Rattle.terms.specs.Bits.{Bytes}
 use Rattle.terms.specs.Records.{Proof, presence}
 use Rattle.meaning.specs.Calls.{Answer, refused, accepted}
-use Rattle.meaning.specs.Proving.{Sought, lostWay, nobody, somebody, absenceOf, absenceFrom, presenceLength, neighbourLength, proofLength, fitted}
+use Rattle.meaning.specs.Proving.{Sought, lostWay, absenceOf, absenceFrom, presenceLength, neighbourLength, proofLength, fitted}
 use Rattle.fields.specs.Written.{written}
 use Rattle.fields.proofs.Written.{part-written}
 use Rattle.place.specs.Place.{placeOf}

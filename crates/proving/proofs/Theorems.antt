@@ -11,7 +11,7 @@ use Rattle.terms.specs.Records.{Proof}
 use Rattle.meaning.specs.Tree.{grantsIn}
 use Rattle.meaning.specs.Store.{treeAtVersion}
 use Rattle.meaning.specs.Sound.{Sound, Kept}
-use Rattle.meaning.specs.Calls.{Answer, refused, accepted}
+use Rattle.meaning.specs.Calls.{refused, accepted}
 use Rattle.meaning.specs.Reading.{readRoot, answerOf}
 use Rattle.meaning.specs.Proving.{prove, proofLength}
 use Rattle.meaning.specs.Checking.{checked}

@@ -20,22 +20,19 @@ use walk::Seen;
 use walk::WRONG_KEY;
 use walk::open;
 ghost use mathlib.Core.Path.{_≡_};
-ghost use mathlib.Core.Bool.{true, false, cond};
+ghost use mathlib.Core.Bool.{true};
 ghost use lib.ListN.{length};
-ghost use Rattle.terms.specs.Bits.{sameBytes};
-ghost use Rattle.terms.specs.Fields.{slice};
 ghost use Rattle.terms.specs.Records.{presence};
 ghost use Rattle.meaning.specs.Calls.{accepted};
 ghost use Rattle.meaning.specs.Reading.{seen};
-ghost use Rattle.meaning.specs.Proving.{absenceOf, absenceFrom, proveSeen, fitted};
-ghost use Rattle.layout.specs.Sizes.{keyAt};
+ghost use Rattle.meaning.specs.Proving.{absenceOf, proveSeen};
 ghost use Rattle.layout.specs.Headers.{sizeRight};
-ghost use Rattle.layout.specs.Stores.{slotIn, storeOf};
+ghost use Rattle.layout.specs.Stores.{storeOf};
 ghost use Rattle.walk.specs.declared.Seen.the-variants.{Leaf};
 ghost use Rattle.paths.specs.Paths.{presenceAt, PathIn};
 ghost use Rattle.paths.specs.Neighbours.{neighbourAt, NeighbourIn};
-ghost use Rattle.trails.specs.Searches.{pathOf, WalkedIn, neighbourSays};
-ghost use Rattle.proving.specs.Proving.{Gives, wayLost, proveAnswer, provedSays, lengthOf, roomAfter};
+ghost use Rattle.trails.specs.Searches.{WalkedIn};
+ghost use Rattle.proving.specs.Proving.{Offers, absentFrom, provedAt, wayLost, proveAnswer, provedSays, lengthOf, roomAfter};
 
 // 9: the proof is longer than the buffer.
 const NO_ROOM: u32 = 9;
@@ -50,7 +47,7 @@ pub enum Proved {
 // Gives the presence proof of the leaf at the end of a path, if there is room.
 fn give_presence(store: &[u8], path: Path, room: &mut [u8]) -> Proved
     requires { ⌜ PathIn (now store) path ⌝ }
-    ensures { λ r. ⌜ Gives (fitted (length (now (room .entry))) (accepted (presence (presenceAt (now (store .entry)) path)))) (now (room .entry)) (now (room .exit)) r ⌝ }
+    ensures { λ r. ⌜ Offers (accepted (presence (presenceAt (now (store .entry)) path))) (now (room .entry)) (now (room .exit)) r ⌝ }
 {
     let place = path.place;
     let len = PRESENCE_HEAD + STEP_SIZE * place.count;
@@ -64,7 +61,7 @@ fn give_presence(store: &[u8], path: Path, room: &mut [u8]) -> Proved
 // Gives the absence proof of a key with these neighbours, if there is room.
 fn give_absence(store: &[u8], key: &[u8], left: Sought, right: Sought, room: &mut [u8]) -> Proved
     requires { ⌜ (NeighbourIn (now store) left × NeighbourIn (now store) right) × (length (now key) ≡ 32) ⌝ }
-    ensures { λ r. ⌜ Gives (fitted (length (now (room .entry))) (accepted (absenceOf (now (key .entry)) (neighbourAt (now (store .entry)) left) (neighbourAt (now (store .entry)) right)))) (now (room .entry)) (now (room .exit)) r ⌝ }
+    ensures { λ r. ⌜ Offers (accepted (absenceOf (now (key .entry)) (neighbourAt (now (store .entry)) left) (neighbourAt (now (store .entry)) right))) (now (room .entry)) (now (room .exit)) r ⌝ }
 {
     let len = ABSENCE_HEAD + neighbour_length(left) + neighbour_length(right);
     if room.len() < len {
@@ -89,7 +86,7 @@ fn lost(n: Sought) -> bool
 // Gives the absence proof of a key where its walk has ended: both searches first, then the room.
 fn absent(store: &[u8], key: &[u8], walked: Walked, room: &mut [u8]) -> Proved
     requires { ⌜ WalkedIn (now store) walked × (length (now key) ≡ 32) ⌝ }
-    ensures { λ r. ⌜ Gives (fitted (length (now (room .entry))) (absenceFrom (now (key .entry)) (neighbourSays (now (store .entry)) (now (key .entry)) walked false) (neighbourSays (now (store .entry)) (now (key .entry)) walked true))) (now (room .entry)) (now (room .exit)) r ⌝ }
+    ensures { λ r. ⌜ Offers (absentFrom (now (store .entry)) (now (key .entry)) walked) (now (room .entry)) (now (room .exit)) r ⌝ }
 {
     let left = neighbour(store, key, walked, false);
     let right = neighbour(store, key, walked, true);
@@ -105,7 +102,7 @@ fn absent(store: &[u8], key: &[u8], walked: Walked, room: &mut [u8]) -> Proved
 // Gives the proof of a key whose walk has ended at the leaf in slot i.
 fn at_leaf(store: &[u8], key: &[u8], walked: Walked, i: usize, room: &mut [u8]) -> Proved
     requires { ⌜ (WalkedIn (now store) walked × (length (now key) ≡ 32)) × (walked .trail .seen ≡ Leaf i) ⌝ }
-    ensures { λ r. ⌜ Gives (fitted (length (now (room .entry))) (cond (sameBytes (now (key .entry)) (slice keyAt 32 (slotIn i (now (store .entry))))) (accepted (presence (presenceAt (now (store .entry)) (pathOf (walked .trail) i)))) (absenceFrom (now (key .entry)) (neighbourSays (now (store .entry)) (now (key .entry)) walked false) (neighbourSays (now (store .entry)) (now (key .entry)) walked true)))) (now (room .entry)) (now (room .exit)) r ⌝ }
+    ensures { λ r. ⌜ Offers (provedAt (now (store .entry)) (now (key .entry)) walked i) (now (room .entry)) (now (room .exit)) r ⌝ }
 {
     if !same(key, key_of(slot_of(store, i))) {
         return absent(store, key, walked, room);
@@ -124,7 +121,7 @@ fn at_leaf(store: &[u8], key: &[u8], walked: Walked, i: usize, room: &mut [u8]) 
 // Gives the proof of a key in a version that is kept.
 fn in_kept(store: &[u8], version: u32, key: &[u8], room: &mut [u8]) -> Proved
     requires { ⌜ (sizeRight (length (now store)) ≡ true) × (length (now key) ≡ 32) ⌝ }
-    ensures { λ r. ⌜ Gives (fitted (length (now (room .entry))) (proveSeen (now (key .entry)) (seen (storeOf (now (store .entry))) version))) (now (room .entry)) (now (room .exit)) r ⌝ }
+    ensures { λ r. ⌜ Offers (proveSeen (now (key .entry)) (seen (storeOf (now (store .entry))) version)) (now (room .entry)) (now (room .exit)) r ⌝ }
 {
     let walked = walk(store, version, key);
     let trail = walked.trail;

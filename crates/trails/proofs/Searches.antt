@@ -1,6 +1,6 @@
 -- The search for a neighbour by its trail: each turn of a descent goes where the definition's does, and a fork's child is where its descent
 -- starts. Assumes nothing.
-use Prim.Native.Nat.{ℕ, _+_, _-_, _<_, _≤_}
+use Prim.Native.Nat.{ℕ, _+_, _-_, _≤_}
 use native.Mathlib.Omega.{arith}
 use mathlib.Core.Path.{_≡_, refl, ap, ap₂, sym, _∙_, subst}
 use mathlib.Core.Bool.{Bool, true, false, cond, not}
@@ -11,10 +11,9 @@ use mathlib.Core.Logic.{⊎-elim}
 use types.Run.{OneOf}
 use denote.Enum.Declared.{tagOf}
 use lib.Dec.{eqb}
-use Rattle.terms.specs.Bits.{Bytes, Side, Place, longer}
+use Rattle.terms.specs.Bits.{Bytes, Side, longer}
 use Rattle.terms.specs.Fields.{slice}
 use Rattle.terms.specs.Records.{Step}
-use Rattle.meaning.specs.Reading.{seenAt}
 use Rattle.meaning.specs.Reading as reading
 use Rattle.meaning.specs.Proving.{step, isGap, raisedBy, descend, Sought, lostWay, nobody, somebody, sought, beyond}
 use Rattle.shown.proofs.Loops.{descendBelow, descend-below}
@@ -26,7 +25,7 @@ use Rattle.walk.specs.declared.Seen as declared-seen
 use Rattle.walk.specs.declared.Seen.the-variants.{Gap, Lost, Leaf, Inner}
 use Rattle.walk.proofs.Seen as Seen
 use Rattle.walk.proofs.Seeing.{slot-fits}
-use Rattle.paths.specs.Paths.{stepAt, stepsOf, pathSteps, presenceAt, PathIn}
+use Rattle.paths.specs.Paths.{stepAt, pathSteps, presenceAt, PathIn}
 use Rattle.paths.specs.declared.Way.the-variants as way
 use Rattle.paths.specs.declared.Sought as declared-sought
 use Rattle.trails.specs.Trails.{shownAt, SeenIn, shownBy, stepsBy, TrailIn, AtInner, Further, sideways, forkSays, ForkIn, forkOn}

@@ -1,5 +1,5 @@
 -- A trail one inner node further: its steps have one more at their end, and what is seen there is what stands at the child. Assumes nothing.
-use Prim.Native.Nat.{ℕ, zero, suc, _+_, _-_, _<_, _≤_}
+use Prim.Native.Nat.{ℕ, zero, suc, _+_, _-_, _<_}
 use native.Mathlib.Omega.{arith}
 use native.Mathlib.Numerals.{add-one}
 use mathlib.Core.Path.{_≡_, refl, ap, ap₂, sym, _∙_, subst}
@@ -14,10 +14,10 @@ use Rattle.terms.specs.Bits.{Bytes, Side, left, Place, longer, begins}
 use Rattle.terms.specs.Records.{Child, Body, leafBody, innerBody, Record, Slot}
 use Rattle.terms.proofs.Places.{length-longer}
 use Rattle.meaning.specs.Store.{find}
-use Rattle.meaning.specs.Reading.{Seen, lost, gap, leafSeen, fork, seenBody, seenChild, seenAt, seen}
+use Rattle.meaning.specs.Reading.{Seen, lost, gap, leafSeen, seenBody, seenChild, seenAt, seen}
 use Rattle.meaning.specs.Proving.{isGap}
 use Rattle.place.specs.declared.Place as declared-place
-use Rattle.place.specs.Place.{placeOf, Proper, Stands, Grown}
+use Rattle.place.specs.Place.{placeOf, Stands, Grown}
 use Rattle.place.proofs.Places.{proper-count}
 use Rattle.layout.specs.Sizes.{roomOf}
 use Rattle.layout.specs.Headers.{sizeRight}

@@ -1,6 +1,6 @@
 -- The walk by its trail: each turn passes one inner node, whose step is the trail's next, and the deepest fork towards a side is where the
 -- definition's search from the nodes passed goes on. Assumes nothing.
-use Prim.Native.Nat.{ℕ, suc, _+_, _-_, _<_, _≤_}
+use Prim.Native.Nat.{ℕ, suc, _+_, _-_, _<_}
 use native.Mathlib.Omega.{arith}
 use native.Mathlib.Numerals.{add-one}
 use mathlib.Core.Path.{_≡_, refl, ap, ap₂, sym, _∙_, subst}
@@ -15,7 +15,7 @@ use lib.Dec.{eqb}
 use Rattle.terms.specs.Bits.{Bytes, Side, left, Place, longer, bit}
 use Rattle.terms.specs.Records.{Step}
 use Rattle.meaning.specs.Reading.{fork, seenAt, seen, Pass, walk}
-use Rattle.meaning.specs.Proving.{stepUp, isGap, raisedBy, descend, Sought, nobody, sought, turnsAway, fromTrail}
+use Rattle.meaning.specs.Proving.{stepUp, raisedBy, descend, Sought, nobody, sought, turnsAway, fromTrail}
 use Rattle.place.specs.declared.Place as declared-place
 use Rattle.place.specs.Place.{placeOf, Proper}
 use Rattle.layout.specs.Stores.{storeOf}
@@ -24,10 +24,9 @@ use Rattle.walk.specs.declared.Seen as declared-seen
 use Rattle.walk.specs.declared.Seen.the-variants.{Inner}
 use Rattle.walk.proofs.Seen as Seen
 use Rattle.paths.specs.Paths.{stepAt, stepsOf}
-use Rattle.trails.specs.Trails.{shownAt, shownBy, stepsBy, TrailIn, AtInner, Started, Further, forkAfter, sideways, forkSays, ForkIn, forkOn, Walking, Walks}
+use Rattle.trails.specs.Trails.{shownAt, shownBy, stepsBy, AtInner, Started, Further, forkAfter, sideways, forkSays, ForkIn, forkOn, Walking, Walks}
 use Rattle.trails.specs.declared.Trail as declared
 use Rattle.trails.specs.declared.Fork as declared-fork
-use Rattle.trails.specs.declared.Walked as declared-walked
 use Rattle.trails.proofs.Trails.{kidsAt, gap-test, steps-agree, slot-set, slot-kept, steps-further, shown-further, at-inner}
 
 -- no fork yet

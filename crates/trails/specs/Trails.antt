@@ -1,27 +1,23 @@
 -- Document 01, 'Reading and proving': the trail of a walk in lent memory, and where its forks lead to a neighbour. Assumes nothing.
 use Prim.Native.Nat.{ℕ, _-_, _<_}
 use mathlib.Core.Path.{_≡_}
-use mathlib.Core.Bool.{Bool, true, false, cond, _&&_, not, Bool·beq}
+use mathlib.Core.Bool.{true, false, cond, _&&_, not, Bool·beq}
 use mathlib.Core.List.{List, [], _∷_, map}
 use lib.ListN.{length, getD, set}
 use lib.Dec.{eqb}
 use Rattle.terms.specs.Bits.{Bytes, Side, Place, longer}
 use Rattle.terms.specs.Records.{Step}
-use Rattle.meaning.specs.Reading.{Seen, lost, gap, leafSeen, seenAt, seen, Pass, walk}
-use Rattle.meaning.specs.Proving.{stepUp, raisedBy, descend, Sought, nobody, somebody, sought, fromTrail, beyond}
-use Rattle.layout.specs.Sizes.{roomOf, keyAt}
+use Rattle.meaning.specs.Reading.{Seen, lost, gap, seenAt, seen, Pass, walk}
+use Rattle.meaning.specs.Proving.{stepUp, raisedBy, descend, Sought, nobody, sought, fromTrail}
+use Rattle.layout.specs.Sizes.{roomOf}
 use Rattle.layout.specs.Headers.{sizeRight}
-use Rattle.layout.specs.Stores.{slotIn, storeOf}
-use Rattle.terms.specs.Fields.{slice}
+use Rattle.layout.specs.Stores.{storeOf}
 use Rattle.place.specs.Place.{placeOf, Proper, Grown}
 use Rattle.place.specs.declared.Place as declared-place
 use Rattle.walk.specs.Walk.{kidIn, seenBelow, leafAt, forkAt}
 use Rattle.walk.specs.declared.Seen as declared-seen
 use Rattle.walk.specs.declared.Seen.the-variants.{Gap, Lost, Leaf, Inner}
-use Rattle.paths.specs.declared.Path as declared-path
-use Rattle.paths.specs.declared.Sought as declared-sought
-use Rattle.paths.specs.Paths.{stepAt, stepsOf, presenceAt}
-use Rattle.paths.specs.Neighbours.{soughtAt, NeighbourIn}
+use Rattle.paths.specs.Paths.{stepAt, stepsOf}
 use Rattle.trails.specs.declared.Trail as declared
 use Rattle.trails.specs.declared.Fork as declared-fork
 use Rattle.trails.specs.declared.Walked as declared-walked

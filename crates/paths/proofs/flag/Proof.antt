@@ -4,32 +4,24 @@ use Rattle.paths.specs.Neighbours.{wayFlag, flagFor}
 use borrow.Author.Needs.{needs}
 use Rattle.paths.proofs.flag.Statement.{statement}
 use Rattle.paths.proofs.flag.Tie as tie
-use Rattle.paths.proofs.flag.Reads as reads
-use Rattle.paths.proofs.flag.Lts as lts
 
--- src/lib.rt:145:26
 enum-told : tie.Need-enum-told
 enum-told c = search needs
 
--- src/lib.rt:146:24
 enum-told-2 : tie.Need-enum-told-2
 enum-told-2 c = search needs
 
--- src/lib.rt:147:22
 enum-told-3 : tie.Need-enum-told-3
 enum-told-3 c = search needs
 
--- src/lib.rt:140:1
 returns : tie.Need-returns
 unfolding flagFor
 returns c = ap (λ w. wayFlag w (c .before .before .args .bit)) (sym (c .enum-told .given .1))
 
--- src/lib.rt:140:1
 returns-2 : tie.Need-returns-2
 unfolding flagFor
 returns-2 c = ap (λ w. wayFlag w (c .before .before .args .bit)) (sym (c .enum-told2 .given .1))
 
--- src/lib.rt:140:1
 returns-3 : tie.Need-returns-3
 unfolding flagFor
 returns-3 c = ap (λ w. wayFlag w (c .before .before .args .bit)) (sym (c .enum-told3 .given .1))

@@ -4,40 +4,30 @@ use Rattle.paths.specs.Neighbours.{wayRoom, roomFor}
 use borrow.Author.Needs.{needs}
 use Rattle.paths.proofs.neighbour_length.Statement.{statement}
 use Rattle.paths.proofs.neighbour_length.Tie as tie
-use Rattle.paths.proofs.neighbour_length.Reads as reads
-use Rattle.paths.proofs.neighbour_length.Lts as lts
 
--- src/lib.rt:133:42
 enum-told : tie.Need-enum-told
 enum-told c = search needs
 
--- src/lib.rt:133:42
 mul-result : tie.Need-mul-result
 mul-result c = search needs
 
--- src/lib.rt:133:26
 add-result : tie.Need-add-result
 add-result c = search needs
 
--- src/lib.rt:134:24
 enum-told-2 : tie.Need-enum-told-2
 enum-told-2 c = search needs
 
--- src/lib.rt:135:22
 enum-told-3 : tie.Need-enum-told-3
 enum-told-3 c = search needs
 
--- src/lib.rt:125:1
 returns : tie.Need-returns
 unfolding roomFor
 returns c = ap (λ w. wayRoom w (c .before .before .before .before .before .args .n .path)) (sym (c .before .enum-told .given .1))
 
--- src/lib.rt:125:1
 returns-2 : tie.Need-returns-2
 unfolding roomFor
 returns-2 c = ap (λ w. wayRoom w (c .before .before .before .before .args .n .path)) (sym (c .enum-told2 .given .1))
 
--- src/lib.rt:125:1
 returns-3 : tie.Need-returns-3
 unfolding roomFor
 returns-3 c = ap (λ w. wayRoom w (c .before .before .before .before .args .n .path)) (sym (c .enum-told3 .given .1))

@@ -8,80 +8,55 @@ use Rattle.paths.proofs.Records.{given, part-room, given-long, neighbou
 use borrow.Author.Needs.{needs}
 use Rattle.paths.proofs.put_absence.Statement.{statement}
 use Rattle.paths.proofs.put_absence.Tie as tie
-use Rattle.paths.proofs.put_absence.Reads as reads
-use Rattle.paths.proofs.put_absence.Lts as lts
-use Rattle.fields.proofs.copy.Reads as copy-reads
-use Rattle.fields.proofs.put_u16.Reads as put-u16-reads
-use Rattle.fields.proofs.put_u32.Reads as put-u32-reads
-use Rattle.paths.proofs.flag.Reads as flag-reads
-use Rattle.paths.proofs.neighbour_length.Reads as neighbour-length-reads
-use Rattle.paths.proofs.put_neighbour.Reads as put-neighbour-reads
 
--- src/lib.rt:170:17
 flag-requires : tie.Need-flag-requires
 flag-requires c κs = search needs
 
--- src/lib.rt:170:33
 flag-requires-2 : tie.Need-flag-requires-2
 flag-requires-2 c κs = search needs
 
--- src/lib.rt:170:17
 add-flags : tie.Need-add-flags
 add-flags c = let a = c .before .before .before .before .before .args in omega (arith, flag-most (a .left) 1, flag-most (a .right) 2, c .flag2 .ensures, c .before .flag .ensures)
 
--- src/lib.rt:171:33
 neighbour-length-requires : tie.Need-neighbour-length-requires
 neighbour-length-requires c κs = let a = c .before .before .before .before .before in neighbour-count (a .args .store .now) (a .args .left) (a .pre .0 .0)
 
--- src/lib.rt:171:18
 add-middle : tie.Need-add-middle
 add-middle c = search needs
 
--- src/lib.rt:173:22
 cast-put-u32 : tie.Need-cast-put-u32
 cast-put-u32 c = let a = c .before .before .before .before .before .before .before in omega (arith, room-most _ (a .args .left) (a .pre .0 .0), room-most _ (a .args .right) (a .pre .0 .1), a .pre .2)
 
--- src/lib.rt:173:5
 put-u32-requires : tie.Need-put-u32-requires
 put-u32-requires c κs = search needs
 
--- src/lib.rt:174:5
 put-u16-requires : tie.Need-put-u16-requires
 put-u16-requires c κs = search needs
 
--- src/lib.rt:175:5
 put-u16-requires-2 : tie.Need-put-u16-requires-2
 put-u16-requires-2 c κs = search needs
 
--- src/lib.rt:176:10
 sub-copy : tie.Need-sub-copy
 sub-copy c = search needs
 
--- src/lib.rt:176:10
 part-copy-start : tie.Need-part-copy-start
 part-copy-start c = search needs
 
--- src/lib.rt:176:10
 part-copy-end : tie.Need-part-copy-end
 part-copy-end c = search needs
 
--- src/lib.rt:176:5
 copy-requires : tie.Need-copy-requires
 copy-requires c κs = search needs
 
--- src/lib.rt:177:19
 sub-put-neighbour : tie.Need-sub-put-neighbour
 sub-put-neighbour c = search needs
 
--- src/lib.rt:177:19
 part-put-neighbour-start : tie.Need-part-put-neighbour-start
 part-put-neighbour-start c = search needs
 
--- src/lib.rt:177:19
 part-put-neighbour-end : tie.Need-part-put-neighbour-end
 part-put-neighbour-end c = search needs
 
--- src/lib.rt:177:5
 put-neighbour-requires : tie.Need-put-neighbour-requires
 put-neighbour-requires c κs =
     let start = c .before .before .before .before .before .before .before .before .before .before .before .before .before .before .before .before .before .before .before .before .before .before .before in
@@ -93,19 +68,15 @@ put-neighbour-requires c κs =
     in
     (start .pre .0 .0, part-room 40 (40 + c .before .before .before .before .before .before .before .before .before .before .before .before .before .before .before .before .before .neighbour-length .result) (roomFor (start .args .left)) x (ap (40 +_) (sym e)) (omega (arith, l, e, start .pre .2)))
 
--- src/lib.rt:178:19
 sub-put-neighbour-2 : tie.Need-sub-put-neighbour-2
 sub-put-neighbour-2 c = search needs
 
--- src/lib.rt:178:19
 part-put-neighbour-start-2 : tie.Need-part-put-neighbour-start-2
 part-put-neighbour-start-2 c = search needs
 
--- src/lib.rt:178:19
 part-put-neighbour-end-2 : tie.Need-part-put-neighbour-end-2
 part-put-neighbour-end-2 c = search needs
 
--- src/lib.rt:178:5
 put-neighbour-requires-2 : tie.Need-put-neighbour-requires-2
 put-neighbour-requires-2 c κs =
     let start = c .before .before .before .before .before .before .before .before .before .before .before .before .before .before .before .before .before .before .before .before .before .before .before .before .before .before .before in
@@ -122,11 +93,9 @@ put-neighbour-requires-2 c κs =
     in
     (start .pre .0 .1, part-room m (length (start .args .part .now)) (roomFor (start .args .right)) z (omega (arith, e, start .pre .2)) (omega (arith, n)))
 
--- src/lib.rt:166:1
 same-length : tie.Need-same-length
 same-length c = search needs
 
--- src/lib.rt:166:1
 returns : tie.Need-returns
 returns c =
     let start = c .before .before .before .before .before .before .before .before .before .before .before .before .before .before .before .before .before .before .before .before .before .before .before .before .before .before .before .before .before .before in

@@ -7,15 +7,10 @@ use Rattle.paths.proofs.Records.{somebody-in, nobody-put}
 use borrow.Author.Needs.{needs}
 use Rattle.paths.proofs.put_neighbour.Statement.{statement}
 use Rattle.paths.proofs.put_neighbour.Tie as tie
-use Rattle.paths.proofs.put_neighbour.Reads as reads
-use Rattle.paths.proofs.put_neighbour.Lts as lts
-use Rattle.paths.proofs.put_presence.Reads as put-presence-reads
 
--- src/lib.rt:159:39
 enum-told : tie.Need-enum-told
 enum-told c = search needs
 
--- src/lib.rt:159:26
 put-presence-requires : tie.Need-put-presence-requires
 unfolding roomFor
 put-presence-requires c κs = let a = c .before .before .before .before .before .before in somebody-in (a .args .store .now) (a .args .part .now) (a .args .n .path) (c .before .enum-told .given .1) (a .pre .0) (a .pre .1)
@@ -26,21 +21,17 @@ enum-told-2 c = search needs
 enum-told-3 : tie.Need-enum-told-3
 enum-told-3 c = search needs
 
--- src/lib.rt:152:1
 same-length : tie.Need-same-length
 same-length c = search needs
 
--- src/lib.rt:152:1
 returns : tie.Need-returns
 unfolding neighbourAt
 returns c = let a = c .before .before .before .before .before .before .before .before .before .args in c .before .before .put-presence .ensures ∙ ap (λ w. neighbourBytes (found (wayAt (a .store .now) w (a .n .path)))) (sym (c .before .before .before .before .enum-told .given .1))
 
--- src/lib.rt:152:1
 returns-2 : tie.Need-returns-2
 unfolding neighbourAt roomFor
 returns-2 c = let a = c .before .before .before .before .before in nobody-put (a .args .store .now) (a .args .part .now) (a .args .n .path) Nobody (c .enum-told2 .given .1) refl refl (a .pre .1)
 
--- src/lib.rt:152:1
 returns-3 : tie.Need-returns-3
 unfolding neighbourAt roomFor
 returns-3 c = let a = c .before .before .before .before .before in nobody-put (a .args .store .now) (a .args .part .now) (a .args .n .path) Lost (c .enum-told3 .given .1) refl refl (a .pre .1)

@@ -10,10 +10,6 @@ use Rattle.paths.specs.Paths.{pathSteps}
 use Rattle.paths.proofs.Writing.{Steps, steps-start, steps-next, steps-done}
 use Rattle.paths.proofs.put_steps.Statement.{statement}
 use Rattle.paths.proofs.put_steps.Tie as tie
-use Rattle.paths.proofs.put_steps.Reads as reads
-use Rattle.paths.proofs.put_steps.Lts as lts
-use Rattle.paths.proofs.put_step.Reads as put-step-reads
-use Rattle.place.proofs.key_bit.Reads as key-bit-reads
 
 abbrev Inv-loop : tie.InvT-loop
 Inv-loop part₀ store slots bits depth₀ start₀ part depth start = Steps store slots bits depth₀ part depth start
@@ -21,73 +17,57 @@ Inv-loop part₀ store slots bits depth₀ start₀ part depth start = Steps sto
 abbrev μ-loop : tie.MeasureT-loop
 μ-loop part₀ store slots bits depth₀ start₀ part depth start = depth
 
--- src/lib.rt:65:5
 loop-holds : tie.Need-loop-holds Inv-loop μ-loop
 loop-holds c = steps-start _ _ _ _ _ (c .before .before .before .before .before .pre .1)
 
--- src/lib.rt:66:9
 sub-depth : tie.Need-sub-depth Inv-loop μ-loop
 sub-depth c = omega arith
 
--- src/lib.rt:67:19
 add-end : tie.Need-add-end Inv-loop μ-loop
 add-end c = omega (arith, c .before .loop .inv, c .before .before .before .before .before .before .before .pre .0 .proper .short)
 
--- src/lib.rt:68:17
 mul-i : tie.Need-mul-i Inv-loop μ-loop
 mul-i c = omega arith
 
--- src/lib.rt:68:17
 array-read-i : tie.Need-array-read-i Inv-loop μ-loop
 array-read-i c = omega (arith, c .before .loop .inv, c .before .before .before .before .before .before .before .pre .0 .proper .short)
 
--- src/lib.rt:68:17
 cast-i : tie.Need-cast-i Inv-loop μ-loop
 cast-i c = let k = c .before .loop .inv .within in omega (arith, c .before .before .before .before .before .before .before .pre .0 .above (c .before .loop .depth - 1) (omega arith))
 
--- src/lib.rt:69:18
 sub-put-step : tie.Need-sub-put-step Inv-loop μ-loop
 sub-put-step c = omega arith
 
--- src/lib.rt:69:18
 part-put-step-start : tie.Need-part-put-step-start Inv-loop μ-loop
 part-put-step-start c = omega (arith, c .before .loop .inv)
 
--- src/lib.rt:69:18
 part-put-step-end : tie.Need-part-put-step-end Inv-loop μ-loop
 part-put-step-end c = omega (arith, c .before .loop .inv)
 
--- src/lib.rt:69:59
 slice-aggregate-key-bit : tie.Need-slice-aggregate-key-bit Inv-loop μ-loop
 slice-aggregate-key-bit c = search needs
 
--- src/lib.rt:69:51
 key-bit-requires : tie.Need-key-bit-requires Inv-loop μ-loop
 key-bit-requires c κs =
     let start = c .before .before .before .before .before .before .before .before .before in omega (arith, proper-whole (start .args .path .place) (start .pre .0 .proper), start .pre .0 .proper .short, c .before .before .before .loop .inv .within)
 
--- src/lib.rt:69:9
 put-step-requires : tie.Need-put-step-requires Inv-loop μ-loop
 put-step-requires c κs =
     let w = c .before .before .before .before .loop .inv in
     (simp (length-take, length-drop) (omega (arith, w)), c .before .before .before .before .before .before .before .before .before .before .pre .0 .above (c .before .before .before .before .loop .depth - 1) (omega (arith, w .within)))
 
--- src/lib.rt:65:5
 loop-less : tie.Need-loop-less Inv-loop μ-loop
 loop-less c = omega arith
 
--- src/lib.rt:65:5
 loop-again : tie.Need-loop-again Inv-loop μ-loop
 loop-again c =
     let w = c .before .before .before .before .before .before .before in
     steps-next (w .loop .depth) (c .before .before .put-step .last .0) (w .loop .inv) (c .before .before .before .before .before .before .loop-test .taken)
     (c .before .before .put-step .kept .0 ∙ simp (length-take, length-drop) (omega (arith, w .loop .inv))) (c .before .before .before .key-bit .ensures) (c .before .before .put-step .ensures)
 
--- src/lib.rt:56:1
 same-length : tie.Need-same-length Inv-loop μ-loop
 same-length c = c .before .loop .inv .long ∙ sym (c .before .before .before .before .before .before .before .pre .1)
 
--- src/lib.rt:56:1
 returns : tie.Need-returns Inv-loop μ-loop
 unfolding pathSteps placeOf
 returns c = steps-done _ (c .before .loop .inv) (c .loop-test .left)

@@ -5,39 +5,29 @@ use Rattle.terms.specs.Fields.{slice}
 use borrow.Author.Needs.{needs}
 use Rattle.paths.proofs.sibling.Statement.{statement}
 use Rattle.paths.proofs.sibling.Tie as tie
-use Rattle.paths.proofs.sibling.Reads as reads
-use Rattle.paths.proofs.sibling.Lts as lts
 
--- src/lib.rt:41:16
 sub-result : tie.Need-sub-result
 sub-result c = search needs
 
--- src/lib.rt:41:16
 part-result-start : tie.Need-part-result-start
 part-result-start c = search needs
 
--- src/lib.rt:41:16
 part-result-end : tie.Need-part-result-end
 part-result-end c = search needs
 
--- src/lib.rt:41:9
 returns : tie.Need-returns
 unfolding childIn slice
 returns c = rw (c .before .if1 .taken) (refl, search needs)
 
--- src/lib.rt:43:5
 sub-result-2 : tie.Need-sub-result-2
 sub-result-2 c = search needs
 
--- src/lib.rt:43:5
 part-result-start-2 : tie.Need-part-result-start-2
 part-result-start-2 c = search needs
 
--- src/lib.rt:43:5
 part-result-end-2 : tie.Need-part-result-end-2
 part-result-end-2 c = search needs
 
--- src/lib.rt:36:1
 returns-2 : tie.Need-returns-2
 unfolding childIn slice
 returns-2 c = rw (c .before .if1 .left) (refl, search needs)

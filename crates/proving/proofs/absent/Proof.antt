@@ -3,48 +3,34 @@ use Rattle.proving.proofs.Giving.{lost-left, lost-right, neither-lost}
 use borrow.Author.Needs.{needs}
 use Rattle.proving.proofs.absent.Statement.{statement}
 use Rattle.proving.proofs.absent.Tie as tie
-use Rattle.proving.proofs.absent.Reads as reads
-use Rattle.proving.proofs.absent.Lts as lts
-use Rattle.proving.proofs.give_absence.Reads as give-absence-reads
-use Rattle.proving.proofs.lost.Reads as lost-reads
-use Rattle.trails.proofs.neighbour.Reads as neighbour-reads
 
--- src/lib.rt:102:9
 neighbour-requires : tie.Need-neighbour-requires
 neighbour-requires c κs = search needs
 
--- src/lib.rt:103:9
 neighbour-requires-2 : tie.Need-neighbour-requires-2
 neighbour-requires-2 c κs = search needs
 
--- src/lib.rt:104:8
 lost-requires : tie.Need-lost-requires
 lost-requires c κs = search needs
 
--- src/lib.rt:105:9
 returns : tie.Need-returns
 returns c = let a = c .before .before .before .before .before .before .before .args in lost-left (a .store .now) (a .key .now) (a .room .now) (c .before .before .before .neighbour .result) (c .before .before .neighbour2 .result) (c .before .before .before .neighbour .ensures .says) (c .before .before .neighbour2 .ensures .says) (c .before .lost .ensures) (c .if1 .taken)
 
--- src/lib.rt:107:8
 lost-requires-2 : tie.Need-lost-requires-2
 lost-requires-2 c κs = search needs
 
--- src/lib.rt:108:9
 returns-2 : tie.Need-returns-2
 returns-2 c =
     let a = c .before .before .before .before .before .before .before .before .before .args in
     lost-right (a .store .now) (a .key .now) (a .room .now) (c .before .before .before .before .before .neighbour .result) (c .before .before .before .before .neighbour2 .result) (c .before .before .before .before .before .neighbour .ensures .says) (c .before .before .before .before .neighbour2 .ensures .says)
     (c .before .before .before .lost .ensures) (c .before .before .if1 .left) (c .before .lost2 .ensures) (c .if2 .taken)
 
--- src/lib.rt:110:5
 give-absence-requires : tie.Need-give-absence-requires
 give-absence-requires c κs = search needs
 
--- src/lib.rt:98:1
 same-length : tie.Need-same-length
 same-length c = search needs
 
--- src/lib.rt:98:1
 returns-3 : tie.Need-returns-3
 returns-3 c =
     let a = c .before .before .before .before .before .before .before .before .before .before .before .before .before .args in

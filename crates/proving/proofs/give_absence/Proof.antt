@@ -7,24 +7,16 @@ use Rattle.proving.proofs.Giving.{no-room, with-room, absence-length}
 use borrow.Author.Needs.{needs}
 use Rattle.proving.proofs.give_absence.Statement.{statement}
 use Rattle.proving.proofs.give_absence.Tie as tie
-use Rattle.proving.proofs.give_absence.Reads as reads
-use Rattle.proving.proofs.give_absence.Lts as lts
-use Rattle.paths.proofs.neighbour_length.Reads as neighbour-length-reads
-use Rattle.paths.proofs.put_absence.Reads as put-absence-reads
 
--- src/lib.rt:77:30
 neighbour-length-requires : tie.Need-neighbour-length-requires
 neighbour-length-requires c κs = let a = c .before .before .before in neighbour-count (a .args .store .now) (a .args .left) (a .pre .0 .0)
 
--- src/lib.rt:77:15
 add-len : tie.Need-add-len
 add-len c = let a = c .before .before .before .before in omega (arith, room-most (a .args .store .now) (a .args .left) (a .pre .0 .0), c .neighbour-length .ensures)
 
--- src/lib.rt:77:55
 neighbour-length-requires-2 : tie.Need-neighbour-length-requires-2
 neighbour-length-requires-2 c κs = let a = c .before .before .before .before in neighbour-count (a .args .store .now) (a .args .right) (a .pre .0 .1)
 
--- src/lib.rt:77:15
 add-len-2 : tie.Need-add-len-2
 add-len-2 c =
     let a = c .before .before .before .before .before in
@@ -36,30 +28,24 @@ add-len-2 c =
       c .neighbour-length2 .ensures,
     )
 
--- src/lib.rt:79:9
 returns : tie.Need-returns
 returns c =
     let a = c .before .before .before .before .before .before .args in
     no-room (absenceOf (a .key .now) (neighbourAt (a .store .now) (a .left)) (neighbourAt (a .store .now) (a .right))) (a .room .now)
     (absence-length (a .store .now) (a .key .now) (a .left) (a .right) (c .before .before .neighbour-length .ensures) (c .before .neighbour-length2 .ensures)) (c .if1 .taken)
 
--- src/lib.rt:81:17
 sub-put-absence : tie.Need-sub-put-absence
 sub-put-absence c = search needs
 
--- src/lib.rt:81:17
 part-put-absence-start : tie.Need-part-put-absence-start
 part-put-absence-start c = search needs
 
--- src/lib.rt:81:17
 part-put-absence-end : tie.Need-part-put-absence-end
 part-put-absence-end c = search needs
 
--- src/lib.rt:81:5
 put-absence-requires : tie.Need-put-absence-requires
 put-absence-requires c κs = search needs
 
--- src/lib.rt:82:20
 cast-t15 : tie.Need-cast-t15
 cast-t15 c =
     let a = c .before .before .before .before .before .before .before .before .before .before in
@@ -71,11 +57,9 @@ cast-t15 c =
       c .before .before .before .before .before .neighbour-length2 .ensures,
     )
 
--- src/lib.rt:73:1
 same-length : tie.Need-same-length
 same-length c = search needs
 
--- src/lib.rt:73:1
 returns-2 : tie.Need-returns-2
 returns-2 c =
     let a = c .before .before .before .before .before .before .before .before .before .before .args in

@@ -5,49 +5,36 @@ use Rattle.proving.proofs.Giving.{no-room, with-room, presence-length}
 use borrow.Author.Needs.{needs}
 use Rattle.proving.proofs.give_presence.Statement.{statement}
 use Rattle.proving.proofs.give_presence.Tie as tie
-use Rattle.proving.proofs.give_presence.Reads as reads
-use Rattle.proving.proofs.give_presence.Lts as lts
-use Rattle.paths.proofs.put_presence.Reads as put-presence-reads
 
--- src/lib.rt:64:31
 mul-len : tie.Need-mul-len
 mul-len c = search needs
 
--- src/lib.rt:64:15
 add-len : tie.Need-add-len
 add-len c = search needs
 
--- src/lib.rt:66:9
 returns : tie.Need-returns
 returns c =
     let a = c .before .before .before .before .before .args in
     no-room (presence (presenceAt (a .store .now) (a .path))) (a .room .now) (presence-length (a .store .now) (a .path)) (c .if1 .taken)
 
--- src/lib.rt:68:18
 sub-put-presence : tie.Need-sub-put-presence
 sub-put-presence c = search needs
 
--- src/lib.rt:68:18
 part-put-presence-start : tie.Need-part-put-presence-start
 part-put-presence-start c = search needs
 
--- src/lib.rt:68:18
 part-put-presence-end : tie.Need-part-put-presence-end
 part-put-presence-end c = search needs
 
--- src/lib.rt:68:5
 put-presence-requires : tie.Need-put-presence-requires
 put-presence-requires c κs = search needs
 
--- src/lib.rt:69:20
 cast-t12 : tie.Need-cast-t12
 cast-t12 c = search needs
 
--- src/lib.rt:59:1
 same-length : tie.Need-same-length
 same-length c = search needs
 
--- src/lib.rt:59:1
 returns-2 : tie.Need-returns-2
 returns-2 c =
     let a = c .before .before .before .before .before .before .before .before .before .args in

@@ -4,49 +4,34 @@ use Rattle.proving.proofs.Ending.{ends-lost, ends-at-leaf, ends-at-gap}
 use borrow.Author.Needs.{needs}
 use Rattle.proving.proofs.in_kept.Statement.{statement}
 use Rattle.proving.proofs.in_kept.Tie as tie
-use Rattle.proving.proofs.in_kept.Reads as reads
-use Rattle.proving.proofs.in_kept.Lts as lts
-use Rattle.proving.proofs.absent.Reads as absent-reads
-use Rattle.proving.proofs.at_leaf.Reads as at-leaf-reads
-use Rattle.trails.proofs.walk.Reads as walk-reads
 
--- src/lib.rt:137:9
 walk-requires : tie.Need-walk-requires
 walk-requires c κs = search needs
 
--- src/lib.rt:141:23
 enum-told : tie.Need-enum-told
 enum-told c = search needs
 
--- src/lib.rt:142:20
 enum-known-seen : tie.Need-enum-known-seen
 enum-known-seen c = search needs
 
--- src/lib.rt:142:26
 at-leaf-requires : tie.Need-at-leaf-requires
 at-leaf-requires c κs = search needs
 
--- src/lib.rt:144:14
 absent-requires : tie.Need-absent-requires
 absent-requires c κs = search needs
 
--- src/lib.rt:133:1
 returns : tie.Need-returns
 returns c = let a = c .before .before .before .before .before .before .before .args in ends-lost (a .store .now) (a .version) (a .key .now) (c .before .before .before .walk .result) (c .before .before .before .walk .ensures) (a .room .now) (c .enum-told .given .1)
 
--- src/lib.rt:133:1
 same-length : tie.Need-same-length
 same-length c = search needs
 
--- src/lib.rt:133:1
 returns-2 : tie.Need-returns-2
 returns-2 c = let a = c .before .before .before .before .before .before .before .before .before .before .before .before .args in ends-at-leaf (a .store .now) (a .version) (a .key .now) (c .before .before .before .before .before .before .before .before .walk .result) (c .before .before .before .before .before .before .before .before .walk .ensures) (length (a .room .now)) _ (c .before .before .before .before .before .seen .given .1) (c .before .before .at-leaf .ensures)
 
--- src/lib.rt:133:1
 same-length-2 : tie.Need-same-length-2
 same-length-2 c = search needs
 
--- src/lib.rt:133:1
 returns-3 : tie.Need-returns-3
 returns-3 c = let a = c .before .before .before .before .before .before .before .before .before .before .args in ends-at-gap (a .store .now) (a .version) (a .key .now) (c .before .before .before .before .before .before .walk .result) (c .before .before .before .before .before .before .walk .ensures) (length (a .room .now)) (c .before .before .before .before .match .keys3) (c .before .before .absent .ensures)
 

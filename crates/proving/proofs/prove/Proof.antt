@@ -3,24 +3,16 @@ use Rattle.proving.proofs.Ending.{wrong-key, first-refused, kept-size, 
 use borrow.Author.Needs.{needs}
 use Rattle.proving.proofs.prove.Statement.{statement}
 use Rattle.proving.proofs.prove.Tie as tie
-use Rattle.proving.proofs.prove.Reads as reads
-use Rattle.proving.proofs.prove.Lts as lts
-use Rattle.proving.proofs.in_kept.Reads as in-kept-reads
-use Rattle.walk.proofs.open.Reads as open-reads
 
--- src/lib.rt:154:9
 returns : tie.Need-returns
 returns c = let a = c .before .before .before .before .args in wrong-key (a .store .now) (a .version) (a .key .now) (a .room .now) (c .if1 .taken)
 
--- src/lib.rt:156:9
 open-requires : tie.Need-open-requires
 open-requires c κs = search needs
 
--- src/lib.rt:157:28
 enum-known-opened : tie.Need-enum-known-opened
 enum-known-opened c = search needs
 
--- src/lib.rt:158:9
 returns-2 : tie.Need-returns-2
 returns-2 c =
     let a = c .before .before .before .before .before .before .before .before .args in
@@ -29,17 +21,14 @@ returns-2 c =
 enum-told : tie.Need-enum-told
 enum-told c = search needs
 
--- src/lib.rt:160:5
 in-kept-requires : tie.Need-in-kept-requires
 in-kept-requires c κs =
     let a = c .before .before .before .before .before .before .before .before .args in
     (kept-size (a .store .now) (a .version) (c .before .before .before .«open» .ensures) (c .before .enum-told .given .1), c .before .before .before .before .if1 .left)
 
--- src/lib.rt:149:1
 same-length : tie.Need-same-length
 same-length c = search needs
 
--- src/lib.rt:149:1
 returns-3 : tie.Need-returns-3
 returns-3 c =
     let a = c .before .before .before .before .before .before .before .before .before .before .before .args in

@@ -4,43 +4,31 @@ use Rattle.proving_c.proofs.Exported.{prove-refused, prove-given}
 use borrow.Author.Needs.{needs}
 use Rattle.proving_c.proofs.grants_prove.Statement.{statement}
 use Rattle.proving_c.proofs.grants_prove.Tie as tie
-use Rattle.proving_c.proofs.grants_prove.Reads as reads
-use Rattle.proving_c.proofs.grants_prove.Lts as lts
-use Rattle.fields.proofs.put_u32.Reads as put-u32-reads
-use Rattle.proving.proofs.prove.Reads as prove-reads
 
--- src/lib.rt:23:9
 prove-requires : tie.Need-prove-requires
 prove-requires c κs = search needs
 
--- src/lib.rt:25:25
 enum-known-proved : tie.Need-enum-known-proved
 enum-known-proved c = search needs
 
--- src/lib.rt:26:24
 enum-known-proved-2 : tie.Need-enum-known-proved-2
 enum-known-proved-2 c = search needs
 
--- src/lib.rt:27:13
 put-u32-requires : tie.Need-put-u32-requires
 put-u32-requires c κs = search needs
 
--- src/lib.rt:11:1
 same-length : tie.Need-same-length
 same-length c = search needs
 
--- src/lib.rt:11:1
 returns : tie.Need-returns
 returns c =
     let a = c .before .before .before .before .before .before .before .before .before .before .args in
     let d = c .before .before .before .before .before .prove .ensures in
     prove-refused (provedInto (a .store .now) (a .version) (a .key .now) (a .room .now)) (a .room .now) (d .0) (d .1) (a .length .now) (c .before .proved .given .1)
 
--- src/lib.rt:11:1
 same-length-2 : tie.Need-same-length-2
 same-length-2 c = search needs
 
--- src/lib.rt:11:1
 returns-2 : tie.Need-returns-2
 returns-2 c =
     let a = c .before .before .before .before .before .before .before .before .before .before .before .before .args in

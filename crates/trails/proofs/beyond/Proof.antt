@@ -4,23 +4,16 @@ use Rattle.meaning.specs.Proving.{beyond}
 use borrow.Author.Needs.{needs}
 use Rattle.trails.proofs.beyond.Statement.{statement}
 use Rattle.trails.proofs.beyond.Tie as tie
-use Rattle.trails.proofs.beyond.Reads as reads
-use Rattle.trails.proofs.beyond.Lts as lts
-use Rattle.place.proofs.before.Reads as before-reads
 
--- src/lib.rt:184:9
 before-requires : tie.Need-before-requires
 before-requires c κs = search needs
 
--- src/lib.rt:184:9
 returns : tie.Need-returns
 returns c = let a = c .before .before .before .before .args in c .before2 .ensures ∙ ap (λ b. beyond b (a .other .now) (a .key .now)) (sym (c .before .if1 .taken))
 
--- src/lib.rt:186:5
 before-requires-2 : tie.Need-before-requires-2
 before-requires-2 c κs = search needs
 
--- src/lib.rt:180:1
 returns-2 : tie.Need-returns-2
 returns-2 c = let a = c .before .before .before .before .args in c .before3 .ensures ∙ ap (λ b. beyond b (a .other .now) (a .key .now)) (sym (c .before .if1 .left))
 

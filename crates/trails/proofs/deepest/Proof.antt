@@ -4,25 +4,18 @@ use Rattle.trails.proofs.Walking.{fork-same, fork-none, fork-new}
 use borrow.Author.Needs.{needs}
 use Rattle.trails.proofs.deepest.Statement.{statement}
 use Rattle.trails.proofs.deepest.Tie as tie
-use Rattle.trails.proofs.deepest.Reads as reads
-use Rattle.trails.proofs.deepest.Lts as lts
-use Rattle.walk.proofs.child_version.Reads as child-version-reads
 
--- src/lib.rt:81:9
 returns : tie.Need-returns
 returns c =
     let a = c .before .before .args in fork-same (a .store .now) (a .i) (a .place) (a .fork) (a .turn) (a .side) (c .if1 .taken)
 
--- src/lib.rt:83:8
 child-version-requires : tie.Need-child-version-requires
 child-version-requires c κs = search needs
 
--- src/lib.rt:84:9
 returns-2 : tie.Need-returns-2
 returns-2 c =
     let a = c .before .before .before .before .args in fork-none (a .store .now) (a .i) (a .place) (a .fork) (a .turn) (a .side) (sym (c .before .child-version .ensures) ∙ c .if2 .taken)
 
--- src/lib.rt:76:1
 returns-3 : tie.Need-returns-3
 returns-3 c =
     let a = c .before .before .before .before .args in

@@ -8,11 +8,6 @@ use Rattle.trails.proofs.Trails.{at-inner}
 use Rattle.trails.proofs.Searches.{Descent, descent-start, descent-next, descent-leaf, descent-lost}
 use Rattle.trails.proofs.descend.Statement.{statement}
 use Rattle.trails.proofs.descend.Tie as tie
-use Rattle.trails.proofs.descend.Reads as reads
-use Rattle.trails.proofs.descend.Lts as lts
-use Rattle.trails.proofs.answer.Reads as answer-reads
-use Rattle.trails.proofs.further.Reads as further-reads
-use Rattle.trails.proofs.towards.Reads as towards-reads
 
 abbrev Inv-loop : tie.InvT-loop
 Inv-loop store side here₀ here = Descent store side here₀ here
@@ -20,63 +15,48 @@ Inv-loop store side here₀ here = Descent store side here₀ here
 abbrev μ-loop : tie.MeasureT-loop
 μ-loop store side here₀ here = 256 - here .place .count
 
--- src/lib.rt:143:5
 loop-holds : tie.Need-loop-holds Inv-loop μ-loop
 loop-holds c = descent-start _ _ _ (c .before .pre)
 
--- src/lib.rt:146:25
 enum-known-seen : tie.Need-enum-known-seen Inv-loop μ-loop
 enum-known-seen c = search needs
 
--- src/lib.rt:147:21
 towards-requires : tie.Need-towards-requires Inv-loop μ-loop
 towards-requires c κs = let a = at-inner (c .before .before .before .loop .inv .trail) (c .before .seen .given .1) in (a .size, a .inside)
 
--- src/lib.rt:148:17
 further-requires : tie.Need-further-requires Inv-loop μ-loop
 further-requires c κs = at-inner (c .before .before .before .before .loop .inv .trail) (c .before .before .seen .given .1)
 
--- src/lib.rt:143:5
 loop-less : tie.Need-loop-less Inv-loop μ-loop
 loop-less c = let a = at-inner (c .before .before .before .before .before .loop .inv .trail) (c .before .before .before .seen .given .1) in omega (arith, a .short, c .further .ensures .place .count)
 
--- src/lib.rt:143:5
 loop-again : tie.Need-loop-again Inv-loop μ-loop
 loop-again c = descent-next (c .before .before .before .before .before .loop .inv) _ _ (c .before .before .before .seen .given .1) (c .before .towards .ensures) (c .further .ensures)
 
--- src/lib.rt:150:24
 enum-known-seen-2 : tie.Need-enum-known-seen-2 Inv-loop μ-loop
 enum-known-seen-2 c = search needs
 
--- src/lib.rt:150:30
 answer-requires : tie.Need-answer-requires Inv-loop μ-loop
 answer-requires c κs = search needs
 
--- src/lib.rt:150:30
 returns : tie.Need-returns Inv-loop μ-loop
 returns c = descent-leaf (c .before .before .before .before .loop .inv) _ (c .before .before .seen2 .given .1) (c .answer .ensures)
 
--- src/lib.rt:151:46
 enum-told : tie.Need-enum-told Inv-loop μ-loop
 enum-told c = search needs
 
--- src/lib.rt:151:26
 answer-requires-2 : tie.Need-answer-requires-2 Inv-loop μ-loop
 answer-requires-2 c κs = search needs
 
--- src/lib.rt:151:26
 returns-2 : tie.Need-returns-2 Inv-loop μ-loop
 returns-2 c = descent-lost (c .before .before .before .loop .inv) Gap (c .before .enum-told .given .1) refl (c .answer2 .ensures)
 
--- src/lib.rt:152:47
 enum-told-2 : tie.Need-enum-told-2 Inv-loop μ-loop
 enum-told-2 c = search needs
 
--- src/lib.rt:152:27
 answer-requires-3 : tie.Need-answer-requires-3 Inv-loop μ-loop
 answer-requires-3 c κs = search needs
 
--- src/lib.rt:152:27
 returns-3 : tie.Need-returns-3 Inv-loop μ-loop
 returns-3 c = descent-lost (c .before .before .before .loop .inv) Lost (c .before .enum-told2 .given .1) refl (c .answer3 .ensures)
 

@@ -5,32 +5,22 @@ use Rattle.trails.proofs.Trails.{gone-further}
 use borrow.Author.Needs.{needs}
 use Rattle.trails.proofs.further.Statement.{statement}
 use Rattle.trails.proofs.further.Tie as tie
-use Rattle.trails.proofs.further.Reads as reads
-use Rattle.trails.proofs.further.Lts as lts
-use Rattle.walk.proofs.child.Reads as child-reads
-use Rattle.walk.proofs.child_place.Reads as child-place-reads
 
--- src/lib.rt:69:20
 cast-slots : tie.Need-cast-slots
 cast-slots c = let w = c .before .before .before .pre in omega (arith, w .inside, size-says _ (w .size))
 
--- src/lib.rt:69:5
 mul-slots : tie.Need-mul-slots
 mul-slots c = search needs
 
--- src/lib.rt:69:5
 array-write-slots : tie.Need-array-write-slots
 array-write-slots c = search needs
 
--- src/lib.rt:70:9
 child-place-requires : tie.Need-child-place-requires
 child-place-requires c κs = search needs
 
--- src/lib.rt:71:9
 child-requires : tie.Need-child-requires
 child-requires c κs = search needs
 
--- src/lib.rt:62:1
 returns : tie.Need-returns
 returns c = let start = c .before .before .before .before .before in gone-further (start .args .store .now) (start .args .trail) (start .args .i) (start .args .side) _ _ (start .pre) (c .before .child-place .ensures) (c .child .ensures)
 

@@ -3,60 +3,41 @@ use Rattle.trails.proofs.Searches.{fork-within, end-elsewhere, end-beyo
 use borrow.Author.Needs.{needs}
 use Rattle.trails.proofs.neighbour.Statement.{statement}
 use Rattle.trails.proofs.neighbour.Tie as tie
-use Rattle.trails.proofs.neighbour.Reads as reads
-use Rattle.trails.proofs.neighbour.Lts as lts
-use Rattle.slots.proofs.key_of.Reads as key-of-reads
-use Rattle.store.proofs.slot_of.Reads as slot-of-reads
-use Rattle.trails.proofs.answer.Reads as answer-reads
-use Rattle.trails.proofs.beyond.Reads as beyond-reads
-use Rattle.trails.proofs.fork_towards.Reads as fork-towards-reads
-use Rattle.trails.proofs.from_fork.Reads as from-fork-reads
 
--- src/lib.rt:204:9
 fork-towards-requires : tie.Need-fork-towards-requires
 fork-towards-requires c κs = search needs
 
--- src/lib.rt:206:20
 enum-known-seen : tie.Need-enum-known-seen
 enum-known-seen c = search needs
 
--- src/lib.rt:207:9
 from-fork-requires : tie.Need-from-fork-requires
 from-fork-requires c κs = let a = c .before .before .before .before .before in fork-within _ (a .args .walked) (a .args .side) (a .pre) (c .before .fork-towards .ensures)
 
--- src/lib.rt:207:9
 returns : tie.Need-returns
 returns c =
     let a = c .before .before .before .before .before .before .args in
     end-elsewhere (a .store .now) (a .key .now) (a .walked) (a .side) (c .before .match .keys2) (c .before .before .fork-towards .ensures) (c .from-fork .ensures)
 
--- src/lib.rt:209:22
 slot-of-requires : tie.Need-slot-of-requires
 slot-of-requires c κs = let a = c .before .before .before .before .before .before .before in leaf-fits (a .args .store .now) (a .args .walked .trail) _ (a .pre .trail) (c .before .seen .given .1)
 
--- src/lib.rt:209:15
 key-of-requires : tie.Need-key-of-requires
 key-of-requires c κs = search needs
 
--- src/lib.rt:209:8
 beyond-requires : tie.Need-beyond-requires
 beyond-requires c κs = search needs
 
--- src/lib.rt:210:9
 answer-requires : tie.Need-answer-requires
 answer-requires c κs = search needs
 
--- src/lib.rt:210:9
 returns-2 : tie.Need-returns-2
 returns-2 c =
     let a = c .before .before .before .before .before .before .before .before .before .before .before .before .args in
     end-beyond (a .store .now) (a .key .now) (a .walked) (a .side) _ (c .before .before .before .before .before .before .seen .given .1) (c .before .before .before .before .slot-of .ensures .0) (c .before .before .before .key-of .ensures .0) (c .before .before .beyond .ensures) (c .before .if1 .taken) (c .before .before .before .before .before .before .before .before .before .before .before .before .pre .trail) (c .answer .ensures)
 
--- src/lib.rt:212:5
 from-fork-requires-2 : tie.Need-from-fork-requires-2
 from-fork-requires-2 c κs = let a = c .before .before .before .before .before .before .before .before .before .before .before in fork-within _ (a .args .walked) (a .args .side) (a .pre) (c .before .before .before .before .before .before .before .fork-towards .ensures)
 
--- src/lib.rt:199:1
 returns-3 : tie.Need-returns-3
 returns-3 c =
     let a = c .before .before .before .before .before .before .before .before .before .before .before .before .args in

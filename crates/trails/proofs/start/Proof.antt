@@ -4,20 +4,13 @@ use Rattle.trails.proofs.Trails.{started}
 use borrow.Author.Needs.{needs}
 use Rattle.trails.proofs.start.Statement.{statement}
 use Rattle.trails.proofs.start.Tie as tie
-use Rattle.trails.proofs.start.Reads as reads
-use Rattle.trails.proofs.start.Lts as lts
-use Rattle.place.proofs.Place.top.Reads as top-reads
-use Rattle.walk.proofs.root.Reads as root-reads
 
--- src/lib.rt:52:9
 root-requires : tie.Need-root-requires
 root-requires c κs = search needs
 
--- src/lib.rt:53:9
 top-requires : tie.Need-top-requires
 top-requires c κs = search needs
 
--- src/lib.rt:48:1
 returns : tie.Need-returns
 returns c = started (c .before .before .before .args .store .now) (c .before .before .before .args .version) _ _ _ (c .before .before .before .pre) refl (c .top .ensures) (c .before .root .ensures)
 

@@ -4,19 +4,13 @@ use borrow.Author.Tests.{eq-eqb, ne-eqb}
 use borrow.Author.Needs.{needs}
 use Rattle.trails.proofs.towards.Statement.{statement}
 use Rattle.trails.proofs.towards.Tie as tie
-use Rattle.trails.proofs.towards.Reads as reads
-use Rattle.trails.proofs.towards.Lts as lts
-use Rattle.walk.proofs.child_version.Reads as child-version-reads
 
--- src/lib.rt:131:8
 child-version-requires : tie.Need-child-version-requires
 child-version-requires c κs = search needs
 
--- src/lib.rt:132:9
 returns : tie.Need-returns
 returns c = rw (eq-eqb _ 0 (sym (c .before .child-version .ensures) ∙ c .if1 .taken))
 
--- src/lib.rt:127:1
 returns-2 : tie.Need-returns-2
 returns-2 c = rw (ne-eqb _ 0 (λ e. c .if1 .left (c .before .child-version .ensures ∙ e)))
 
