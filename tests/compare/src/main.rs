@@ -179,6 +179,51 @@ fn round(seed: u64, tally: &mut Tally) {
     tally.same("format", seed, (a, fresh), (c, b));
 }
 
+/// Proofs off form by one thing each, and the longest ones in form.
+fn edges(tally: &mut Tally) {
+    let mut random = Random(5);
+    let (root, key) = (random.hash(), random.hash());
+    let steps = |n: usize, side: u8| {
+        let mut p = (72 + 33 * n as u32).to_le_bytes().to_vec();
+        p.extend([16, 0]);
+        p.extend((n as u16).to_le_bytes());
+        p.extend(key);
+        p.extend([7; 32]);
+        (0..n).for_each(|_| {
+            p.push(side);
+            p.extend([9; 32]);
+        });
+        p
+    };
+    let around = |flags: u8, inside: &[u8]| {
+        let mut p = (40 + inside.len() as u32).to_le_bytes().to_vec();
+        p.extend([17, 0, flags, 0]);
+        p.extend(key);
+        p.extend(inside);
+        p
+    };
+    let (longest, over) = (steps(256, 1), steps(257, 1));
+    let mut huge = around(3, &[steps(2, 0), steps(3, 1)].concat());
+    huge[40..44].copy_from_slice(&u32::MAX.to_le_bytes());
+    let mut plus_minus = around(3, &[steps(2, 0), steps(3, 1)].concat());
+    plus_minus[40..44].copy_from_slice(&(72u32 + 33 * 3).to_le_bytes());
+    for (what, proof) in [
+        ("256 steps", longest.clone()),
+        ("257 steps", over.clone()),
+        ("side 2", steps(1, 2)),
+        ("two neighbours of 256 steps", around(3, &[longest.clone(), longest.clone()].concat())),
+        ("a neighbour of 257 steps", around(1, &over)),
+        ("a nested absence proof", around(1, &around(0, &[]))),
+        ("a nested length near 2^32", huge),
+        ("nested lengths off by 33", plus_minus),
+        ("flags without neighbours", around(3, &[])),
+        ("neighbours without flags", around(0, &steps(0, 0))),
+        ("flags 4", around(4, &steps(0, 0))),
+    ] {
+        tally.same(what, 0, ours::verify(&root, &key, &proof), second::verify(&root, &key, &proof));
+    }
+}
+
 /// Two refusals deserved at once: the first in 01's order is given.
 fn pairs(tally: &mut Tally) {
     let mut random = Random(3);
@@ -232,6 +277,7 @@ fn main() {
     let first = words.next().unwrap_or(1);
     let mut tally = Tally::default();
     pairs(&mut tally);
+    edges(&mut tally);
     for n in 0..rounds {
         round(first.wrapping_add(n).wrapping_mul(0x9E37_79B9_7F4A_7C15), &mut tally);
     }

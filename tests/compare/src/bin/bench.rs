@@ -104,12 +104,11 @@ fn main() {
     for capacity in [64, 1024, 16_384] {
         let (s, keys) = full(&mut random, capacity, if capacity < 1000 { 4 } else { 64 });
         let latest = second::bytes::store(&s).unwrap().latest;
-        let start = Instant::now();
-        assert_eq!(ours::check(&s), Ok(()));
-        println!(
-            "bench check-{capacity} {:.3}s, {latest} versions, {} keys",
-            start.elapsed().as_secs_f64(),
-            keys.len()
+        compare(
+            &format!("check-{capacity}-with-{latest}-versions"),
+            3,
+            || assert_eq!(ours::check(&s), Ok(())),
+            || assert_eq!(second::check(&s), Ok(())),
         );
         let some: Vec<_> = keys.iter().take(50).collect();
         compare(
