@@ -18,7 +18,7 @@ use Rattle.steps.specs.Writing.{isAmong, markIn, mark, written}
 use Rattle.steps.proofs.Among.{among-left}
 use Rattle.steps.proofs.Marking.{among-test}
 
-placed-append : (xs ys : List Record) (s : List Slot) → placed (xs ++ ys) s ≡ placed ys (placed xs s)
+pub placed-append : (xs ys : List Record) (s : List Slot) → placed (xs ++ ys) s ≡ placed ys (placed xs s)
 placed-append xs ys [] = refl
 placed-append [] ys (free ∷ s) = refl
 placed-append (x ∷ xs) ys (free ∷ s) = ap (used x ∷_) (placed-append xs ys s)
