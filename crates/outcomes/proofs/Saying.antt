@@ -8,7 +8,8 @@ use mathlib.Core.List.{List, [], _∷_, _++_}
 use lib.ListN.{length}
 use types.Run.{OneOf}
 use denote.Enum.Declared.{tagOf}
-use Rattle.terms.specs.Bits.{Bytes, Place}
+use Rattle.terms.specs.Bits.{Bytes, Place, All}
+use Rattle.terms.specs.Form.{RecordForm}
 use Rattle.terms.specs.Records.{Child, child, innerBody, Record, Slot, zeros}
 use Rattle.meaning.specs.Tree.{VTree}
 use Rattle.meaning.specs.Store.{placed, recordAt, childOf}
@@ -69,6 +70,15 @@ not-updated p o k = go (o .change) k
     go Updated k = absurd (⊎-elim (λ e. omega arith) (λ e. omega arith) k)
     go Deleted k = refl
     go Unchanged k = refl
+
+pub updated-form : (p : Place) (o : declared.Outcome) → All RecordForm (recordSays p (o .node)) → All RecordForm (updatedSays p o)
+unfolding updatedSays
+updated-form p o h = go (o .change)
+  where
+    go : (c : declared-change.Change) → All RecordForm (changedRecord c (recordSays p (o .node)))
+    go Updated = h
+    go Deleted = tt
+    go Unchanged = tt
 
 pub nothing-placed : (w : Bool) {s : Bytes} → Stored s → Changed (whenWrites w (placed [])) s s
 nothing-placed true h = changed-as (λ x. x) (placed []) (sym (placed-nothing _)) (unchanged h)
