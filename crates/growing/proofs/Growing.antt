@@ -82,7 +82,7 @@ stays-of p none as′ h = tt
 stays-of p (some g) as′ h = h .2
 
 -- what is written where nothing is placed and nothing ends
-written-nothing : (writes : Bool) (new : ℕ) (c : step.Change) (t : VTree) {s : Bytes} → Stored s →
+pub written-nothing : (writes : Bool) (new : ℕ) (c : step.Change) (t : VTree) {s : Bytes} → Stored s →
     Changed (whenWrites writes (written new (step.outcome c t))) s s
 written-nothing true new c t {s} h =
     changed-as (λ x. x) (written new (step.outcome c t)) (sym (placed-nothing (mark new [] (storeOf s .slots)) ∙ mark-nothing new (storeOf s .slots))) (unchanged h)
