@@ -40,7 +40,7 @@ module _ (new v : ℕ) (p : Place) where
       go rest false k = rw k (ap (used r ∷_) (rest (rw k at e)))
 
   -- the record found is the node
-  found-node : (s : List Slot) (r : Record) → find v p s ≡ some r → isNode v p r ≡ true
+  pub found-node : (s : List Slot) (r : Record) → find v p s ≡ some r → isNode v p r ≡ true
   found-node s r e = go (find v p s) (hits s v p) e
     where
       go : (o : Option Record) → Hit s v p o → o ≡ some r → isNode v p r ≡ true
