@@ -18,8 +18,8 @@ use Rattle.meaning.proofs.Versions.{versioned-same}
 use Rattle.meaning.proofs.Shaped.{Shaped, shaped-ascending, shaped-treeOf}
 use Rattle.histories.specs.Claims.{NoChange}
 
-is-false : {A : Type 0} {x : Bytes} → absent ≡ present x → A
-is-false e = let z : _≡_ {A = ℕ} 0 1 = cc in absurd (omega arith)
+not-both : {A : Type 0} {x : Bytes} → absent ≡ present x → A
+not-both e = let z : _≡_ {A = ℕ} 0 1 = cc in absurd (omega arith)
 
 -- a key that has no grant is none of the keys
 absent-others : (k : Bytes) (gs : List Grant) → answerOf k gs ≡ absent → All (λ g. g .key ≡ k → ⊥) gs
@@ -28,12 +28,12 @@ absent-others k (g ∷ gs) h = go (sameBytes k (g .key)) refl h (λ i. absent-ot
   where
     go : (b : Bool) → sameBytes k (g .key) ≡ b → cond b (present (g .value)) (answerOf k gs) ≡ absent →
         (answerOf k gs ≡ absent → All (λ h. h .key ≡ k → ⊥) gs) → All (λ h. h .key ≡ k → ⊥) (g ∷ gs)
-    go true e i ih = is-false (sym i)
+    go true e i ih = not-both (sym i)
     go false e i ih = (λ q. true≢false (sym (bytes-same k) ∙ ap (sameBytes k) (sym q) ∙ e), ih i)
 
 -- what holds of each key holds of one that has a grant
 present-key : (P : Bytes → Type 0) (k x : Bytes) (gs : List Grant) → answerOf k gs ≡ present x → All (λ g. P (g .key)) gs → P k
-present-key P k x [] h a = is-false h
+present-key P k x [] h a = not-both h
 present-key P k x (g ∷ gs) h a = go (sameBytes k (g .key)) refl h (λ i. present-key P k x gs i (a .1))
   where
     go : (b : Bool) → sameBytes k (g .key) ≡ b → cond b (present (g .value)) (answerOf k gs) ≡ present x →
@@ -60,7 +60,7 @@ unfolding smaller greater
 later-same k x g gs l h = rw (l, before-asym (g .key) k l) (ap (g ∷_) h)
 
 present-same : (k x : Bytes) (gs : List Grant) → Ascending gs → answerOf k gs ≡ present x → smaller k gs ++ grant k x ∷ greater k gs ≡ gs
-present-same k x [] s h = is-false h
+present-same k x [] s h = not-both h
 present-same k x (g ∷ gs) s h = go (sameBytes k (g .key)) refl h (λ i. present-same k x gs (s .1) i)
   where
     go : (b : Bool) → sameBytes k (g .key) ≡ b → cond b (present (g .value)) (answerOf k gs) ≡ present x →
