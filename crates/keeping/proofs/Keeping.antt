@@ -58,7 +58,7 @@ unfolding isNode marked
 marked-node new v p true r = refl
 marked-node new v p false r = refl
 
-single-mark : (new v : ℕ) (p : Place) (ns : List Node) (s : List Slot) → Single v p s → Single v p (mark new ns s)
+pub single-mark : (new v : ℕ) (p : Place) (ns : List Node) (s : List Slot) → Single v p s → Single v p (mark new ns s)
 unfolding markIn
 single-mark new v p ns [] h = tt
 single-mark new v p ns (free ∷ s) h = single-mark new v p ns s h

@@ -37,7 +37,7 @@ unfolding marked
 mark-twice new r true = refl
 mark-twice new r false = refl
 
-mark-append : (new : ℕ) (xs ys : List Node) (s : List Slot) → mark new (xs ++ ys) s ≡ mark new ys (mark new xs s)
+pub mark-append : (new : ℕ) (xs ys : List Node) (s : List Slot) → mark new (xs ++ ys) s ≡ mark new ys (mark new xs s)
 unfolding markIn
 mark-append new xs ys [] = refl
 mark-append new xs ys (free ∷ s) = ap (free ∷_) (mark-append new xs ys s)
