@@ -88,6 +88,13 @@ fn record_at(b: &[u8], i: usize) -> &[u8]
     &b[at..end]
 }
 
+// How many whole records a batch has.
+pub fn record_count(b: &[u8]) -> usize
+    ensures { λ r. ⌜ r ≡ count (now (b .entry)) ⌝ }
+{
+    b.len() / RECORD_SIZE
+}
+
 // Whether a batch is whole records in form, at most 1,024.
 pub fn batch_form(b: &[u8]) -> bool
     ensures { λ r. ⌜ r ≡ batchForm (now (b .entry)) ⌝ }

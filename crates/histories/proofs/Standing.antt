@@ -105,7 +105,7 @@ no-zero s z p = none-find 0 p s (λ r h n. let w = isNode-eq 0 p r n in let u = 
 
 module _ (leafHash innerHash : Bytes → Bytes → Bytes) where
   -- what stands is read
-  reads : (st : Store) → Formed (st .slots) → (n : ℕ) (p : Place) (t : VTree) → length p + n ≡ 256 → Stands leafHash innerHash st p t →
+  pub reads : (st : Store) → Formed (st .slots) → (n : ℕ) (p : Place) (t : VTree) → length p + n ≡ 256 → Stands leafHash innerHash st p t →
       treeFrom n (st .slots) (topVersion t) p ≡ t
   unfolding Found childOf
   reads st z n p vnone h s = read-zero n (st .slots) p

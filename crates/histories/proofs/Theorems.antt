@@ -30,8 +30,8 @@ use Rattle.histories.proofs.Calls.{prune-cases, cut-after, storeAfter, 
 use Rattle.histories.proofs.Histories.{keeps-holds, keeps-held, keeps-formatted, keeps-calls}
 
 -- an answer is refused or accepted, with one number or result
-is-false : {A B : Type 0} {n : ℕ} {x : A} → _≡_ {A = Answer A} (refused n) (accepted x) → B
-is-false e = let z : _≡_ {A = ℕ} 0 1 = cc in absurd (omega arith)
+not-both : {A B : Type 0} {n : ℕ} {x : A} → _≡_ {A = Answer A} (refused n) (accepted x) → B
+not-both e = let z : _≡_ {A = ℕ} 0 1 = cc in absurd (omega arith)
 
 same-result : {A : Type 0} {x y : A} → _≡_ {A = Answer A} (accepted x) (accepted y) → x ≡ y
 same-result e = cc
@@ -75,7 +75,7 @@ module _ (leafHash innerHash : Bytes → Bytes → Bytes) where
       AfterPrune leafHash innerHash n st freed (prune n st .store)
   unfolding refuse
   prune-keeps-sound n st freed s =
-      prune-cases (λ o. o .answer ≡ accepted freed → AfterPrune leafHash innerHash n st freed (o .store)) n st (λ k e. is-false e)
+      prune-cases (λ o. o .answer ≡ accepted freed → AfterPrune leafHash innerHash n st freed (o .store)) n st (λ k e. not-both e)
       (λ k e. subst (λ x. AfterPrune leafHash innerHash n st x (cut n st)) (same-result e) (cut-after leafHash innerHash n st s k))
 
   -- A batch, accepted.
@@ -85,7 +85,7 @@ module _ (leafHash innerHash : Bytes → Bytes → Bytes) where
   unfolding refuse
   apply-keeps-sound lh ih batch st answer s ok =
       apply-cases leafHash innerHash (λ o. o .answer ≡ accepted answer → AfterApply leafHash innerHash batch st answer (o .store)) batch st
-      (λ a e. is-false e) (λ a m e. is-false e) (λ a m h e. is-false e)
+      (λ a e. not-both e) (λ a m e. not-both e) (λ a m h e. not-both e)
       (λ a m room e.
       subst (λ x. AfterApply leafHash innerHash batch st x (storeAfter leafHash innerHash batch st)) (same-result e)
       (settled-after leafHash innerHash lh ih batch st s ok m room))
@@ -97,12 +97,12 @@ module _ (leafHash innerHash : Bytes → Bytes → Bytes) where
   refused-apply-writes-nothing none st n e = refl
   refused-apply-writes-nothing (some batch) st n e =
       apply-cases leafHash innerHash (λ o. o .answer ≡ refused n → o .store ≡ st) batch st (λ a k. refl) (λ a m k. refl)
-      (λ a m h k. refl) (λ a m room k. is-false (sym k)) e
+      (λ a m h k. refl) (λ a m room k. not-both (sym k)) e
 
   pub refused-prune-writes-nothing : (n : ℕ) (st : Store) (m : ℕ) → prune n st .answer ≡ refused m → prune n st .store ≡ st
   unfolding refuse
   refused-prune-writes-nothing n st m e =
-      prune-cases (λ o. o .answer ≡ refused m → o .store ≡ st) n st (λ h k. refl) (λ h k. is-false (sym k)) e
+      prune-cases (λ o. o .answer ≡ refused m → o .store ≡ st) n st (λ h k. refl) (λ h k. not-both (sym k)) e
 
   -- 4 to 7 are given by apply exactly as the rows say, 8 by prune exactly if the version isn't kept; and no other number.
   pub apply-refuses-exactly : (batch : Option (List Ask)) (st : Store) (n : ℕ) →
@@ -121,7 +121,7 @@ module _ (leafHash innerHash : Bytes → Bytes → Bytes) where
           (λ a e. subst (ApplyRefuses leafHash innerHash st (some batch)) (same-number e) (not-ascending a))
           (λ a l e. subst (ApplyRefuses leafHash innerHash st (some batch)) (same-number e) (no-version-left a l))
           (λ a l f e. subst (ApplyRefuses leafHash innerHash st (some batch)) (same-number e) (no-room a l f))
-          (λ a l f e. is-false (sym e))
+          (λ a l f e. not-both (sym e))
 
       back : {m : ℕ} → ApplyRefuses leafHash innerHash st (some batch) m → apply leafHash innerHash (some batch) st .answer ≡ refused m
       back (not-ascending a) =
@@ -138,7 +138,7 @@ module _ (leafHash innerHash : Bytes → Bytes → Bytes) where
   unfolding refuse
   prune-refuses-exactly n st m =
       prune-cases (λ o. (o .answer ≡ refused m) ↔ ((m ≡ 8) × (Kept st n → ⊥))) n st
-      (λ h. (λ e. (sym (same-number e), h), λ k. ap refused (sym (k .0)))) (λ h. (λ e. is-false (sym e), λ k. absurd (k .1 h)))
+      (λ h. (λ e. (sym (same-number e), h), λ k. ap refused (sym (k .0)))) (λ h. (λ e. not-both (sym e), λ k. absurd (k .1 h)))
 
   -- An insert of the value already there and a delete of an absent key are no change: the tree is that of the batch without them. A batch
   -- of nothing else makes a new root only.

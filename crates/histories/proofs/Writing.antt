@@ -76,7 +76,7 @@ pub spoiled-retire : (x : Bytes) (n : ℕ) (old now : List Record) (s : List Slo
 unfolding retireIn
 spoiled-retire x n old now s h = spoiled-changed (retireIn n old now) x (λ q e. spoiled-used x _ (sym e)) s h
 
-contents-turned : (b : Bool) (n v : ℕ) (p : Place) (r : Record) (x y : Option Record) → contents x ≡ contents y →
+pub contents-turned : (b : Bool) (n v : ℕ) (p : Place) (r : Record) (x y : Option Record) → contents x ≡ contents y →
     contents (cond (isNode v p (cond b (marked n r) r)) (some (cond b (marked n r) r)) x) ≡ contents (cond (isNode v p r) (some r) y)
 unfolding isNode marked
 contents-turned true n v p r x y e =
@@ -186,7 +186,7 @@ abbrev pub Not : ℕ → Place → Record → Type 0
 Not v p r = isNode v p r ≡ false
 
 -- what no new record is is found as before
-find-placed : (v : ℕ) (p : Place) (rs : List Record) (s : List Slot) → All (Not v p) rs → find v p (placed rs s) ≡ find v p s
+pub find-placed : (v : ℕ) (p : Place) (rs : List Record) (s : List Slot) → All (Not v p) rs → find v p (placed rs s) ≡ find v p s
 find-placed v p rs [] h = refl
 find-placed v p [] (free ∷ s) h = refl
 find-placed v p (r ∷ rs) (free ∷ s) h = rw (h .0) (find-placed v p rs s (h .1))

@@ -90,6 +90,13 @@ pub fn leaf_hash(grant: &[u8]) -> Hash
     node_hash(1, hash_at(grant, 0), hash_at(grant, 32))
 }
 
+// The same, of a key and a value by their numbers.
+pub fn grant_hash(key: Hash, value: Hash) -> Hash
+    ensures { λ v. ⌜ hashBytes v ≡ leafHash (hashBytes key) (hashBytes value) ⌝ }
+{
+    node_hash(1, key, value)
+}
+
 // The hash of an inner node, given its children's hashes.
 pub fn inner_hash(l: Hash, r: Hash) -> Hash
     ensures { λ v. ⌜ hashBytes v ≡ innerHash (hashBytes l) (hashBytes r) ⌝ }

@@ -59,13 +59,13 @@ grows-alike (some g) asks s u =
     subst₂ (λ hs ws. Alike (g ∷ hs) ws) (sym (m .others)) (sym (m .whole)) (alike-amid g (m .front) (m .rest))
 
 -- on a side
-staying-on : (i : ℕ) (b : Side) (stays : Option Grant) → side i b (staying stays) ≡ staying (leafOn i b stays)
+pub staying-on : (i : ℕ) (b : Side) (stays : Option Grant) → side i b (staying stays) ≡ staying (leafOn i b stays)
 unfolding side
 staying-on i b none = refl
 staying-on i b (some g) =
     elim (Bool·beq b (bit i (g .key))) as (λ t. cond t (g ∷ []) [] ≡ staying (cond t (some g) none)) [ true ↦ refl | false ↦ refl ]
 
-stays-on : (i : ℕ) (b : Side) (stays : Option Grant) (asks : List Ask) → Stays stays asks → Stays (leafOn i b stays) (run i b asks)
+pub stays-on : (i : ℕ) (b : Side) (stays : Option Grant) (asks : List Ask) → Stays stays asks → Stays (leafOn i b stays) (run i b asks)
 stays-on i b none asks u = tt
 stays-on i b (some g) asks u =
     elim (Bool·beq b (bit i (g .key))) as (λ t. Stays (cond t (some g) none) (run i b asks))
@@ -76,6 +76,18 @@ at-most-one : (i : ℕ) (gs : List Grant) → 1 < length gs → Radix zero i gs 
 at-most-one i [] h r = omega arith
 at-most-one i (g ∷ []) h r = omega arith
 at-most-one i (g ∷ g′ ∷ gs) h r = r
+
+alike-length : (hs ws : List Grant) → Alike hs ws → 1 < length hs → 1 < length ws
+alike-length hs ws no-grant h = h
+alike-length hs ws one-grant h = h
+alike-length hs ws more-grants h = omega arith
+
+pub grows-one : (p : Place) (stays : Option Grant) (asks : List Ask) → length p ≡ 256 → Fits p (staying stays) asks → Stays stays asks →
+    1 < length (toGrow stays asks) → ⊥
+grows-one p stays asks e f u h =
+    let ws : List Grant = withBatch asks (staying stays) in
+    at-most-one (length p) ws (alike-length (toGrow stays asks) ws (grows-alike stays asks (f .rising) u) h)
+    (fits-radix zero p (staying stays) asks (omega arith) f)
 
 pub some-new : (gs : List Grant) → 1 < length gs → sameGrants [] gs ≡ false
 some-new [] h = absurd (omega arith)

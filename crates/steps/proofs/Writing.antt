@@ -18,7 +18,7 @@ use Rattle.steps.specs.Writing.{isAmong, markIn, mark, written}
 use Rattle.steps.proofs.Among.{among-left}
 use Rattle.steps.proofs.Marking.{among-test}
 
-placed-append : (xs ys : List Record) (s : List Slot) → placed (xs ++ ys) s ≡ placed ys (placed xs s)
+pub placed-append : (xs ys : List Record) (s : List Slot) → placed (xs ++ ys) s ≡ placed ys (placed xs s)
 placed-append xs ys [] = refl
 placed-append [] ys (free ∷ s) = refl
 placed-append (x ∷ xs) ys (free ∷ s) = ap (used x ∷_) (placed-append xs ys s)
@@ -37,7 +37,7 @@ unfolding marked
 mark-twice new r true = refl
 mark-twice new r false = refl
 
-mark-append : (new : ℕ) (xs ys : List Node) (s : List Slot) → mark new (xs ++ ys) s ≡ mark new ys (mark new xs s)
+pub mark-append : (new : ℕ) (xs ys : List Node) (s : List Slot) → mark new (xs ++ ys) s ≡ mark new ys (mark new xs s)
 unfolding markIn
 mark-append new xs ys [] = refl
 mark-append new xs ys (free ∷ s) = ap (free ∷_) (mark-append new xs ys s)

@@ -1,0 +1,3 @@
+pub mod Inserts
+pub mod Sides
+pub mod Growing

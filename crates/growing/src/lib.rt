@@ -1,0 +1,164 @@
+// Growing a subtree, document 01: a run of inserts with no node there; at a leaf, with the leaf if it stays.
+use batch::grant;
+use batch::is_insert;
+use batch::left_run;
+use batch::record_count;
+use batch::right_run;
+use hash::Hash;
+use hash::hash_at;
+use hash::put_hash;
+use outcomes::Change;
+use outcomes::Outcome;
+use outcomes::fork;
+use place::Place;
+use place::key_bit;
+use placing::Node;
+ghost use mathlib.Core.Path.{_≡_};
+ghost use mathlib.Core.Bool.{true};
+ghost use mathlib.Core.List.{[], _∷_};
+ghost use Prim.Native.Nat.{_-_, _≤_, _<_};
+ghost use Rattle.terms.specs.Bits.{bit};
+ghost use Rattle.hash.specs.Hash.{hashBytes};
+ghost use Rattle.nodehash.specs.Node.{leafHash, innerHash};
+ghost use Rattle.place.specs.Place.{placeOf};
+ghost use Rattle.batch.specs.Batch.{count, asks, askAt, inserts};
+ghost use Rattle.steps.specs.Step as step;
+ghost use Rattle.outcomes.specs.Outcomes.{Did};
+ghost use Rattle.growing.specs.Growing.{staysSays, FewSays, NextInsert, Grows};
+
+// The leaf that stays, by its grant.
+pub enum Stays {
+    Nothing,
+    Grant { key: Hash, value: Hash },
+}
+
+// The grants of a subtree that grows: none, one, or two or more.
+enum Few {
+    Nothing,
+    One { key: Hash, value: Hash },
+    Several,
+}
+
+// The first insert of a run from a record on, or the end; deletes are passed over.
+fn next_insert(run: &[u8], from: usize) -> usize
+    requires { ⌜ from ≤ count (now run) ⌝ }
+    ensures { λ r. ⌜ NextInsert (now (run .entry)) from r ⌝ }
+{
+    let n = record_count(run);
+    let mut i = from;
+    while i < n {
+        if is_insert(run, i) {
+            return i;
+        }
+        i += 1;
+    }
+    i
+}
+
+// The grant of an insert.
+fn one_insert(run: &[u8], i: usize) -> Few
+    requires { ⌜ (i < count (now run)) × (inserts (askAt i (now run)) ≡ true) ⌝ }
+    ensures { λ r. ⌜ FewSays r (step.inserts (askAt i (now (run .entry)) ∷ [])) ⌝ }
+{
+    let g = grant(run, i);
+    let key = hash_at(g, 0);
+    let value = hash_at(g, 32);
+    Few::One { key, value }
+}
+
+// The inserts of a run, and the leaf if one stays.
+fn to_grow(stays: Stays, run: &[u8]) -> Few
+    ensures { λ r. ⌜ FewSays r (step.toGrow (staysSays stays) (asks (now (run .entry)))) ⌝ }
+{
+    let n = record_count(run);
+    let i = next_insert(run, 0);
+    match stays {
+        Stays::Nothing => {
+            if n <= i {
+                return Few::Nothing;
+            }
+            if next_insert(run, i + 1) < n {
+                return Few::Several;
+            }
+            one_insert(run, i)
+        }
+        Stays::Grant { key, value } => {
+            if i < n {
+                return Few::Several;
+            }
+            Few::One { key, value }
+        }
+    }
+}
+
+// Bit i of the 32 bytes of a hash.
+fn hash_bit(h: Hash, i: usize) -> bool
+    requires { ⌜ i < 256 ⌝ }
+    ensures { λ r. ⌜ r ≡ bit i (hashBytes h) ⌝ }
+{
+    let mut bytes = [0u8; 32];
+    put_hash(&mut bytes, h);
+    key_bit(&bytes, i)
+}
+
+// The leaf that stays goes to its side.
+fn leaf_on(stays: Stays, i: usize, side: bool) -> Stays
+    requires { ⌜ i < 256 ⌝ }
+    ensures { λ r. ⌜ staysSays r ≡ step.leafOn i side (staysSays stays) ⌝ }
+{
+    let Stays::Grant { key, value } = stays else {
+        return Stays::Nothing;
+    };
+    let goes = hash_bit(key, i);
+    if side {
+        if goes {
+            return stays;
+        }
+        return Stays::Nothing;
+    }
+    if goes {
+        return Stays::Nothing;
+    }
+    stays
+}
+
+// Grows the subtree at a place; the node there is for the parent to place.
+pub fn grow(
+    store: &mut [u8],
+    writes: bool,
+    new: u32,
+    place: Place,
+    stays: Stays,
+    run: &[u8],
+) -> Outcome
+    requires { ⌜ Grows new (now store) place stays (now run) ⌝ }
+    ensures { λ r. ⌜ Did new writes (now (store .entry)) (now (store .exit)) (step.grow leafHash innerHash new (256 - place .count) (placeOf place) (staysSays stays) (asks (now (run .entry)))) r ⌝ }
+{
+    let grants = to_grow(stays, run);
+    match grants {
+        Few::Nothing => Outcome {
+            change: Change::Unchanged,
+            node: Node::Nothing,
+            count: 0,
+        },
+        Few::One { key, value } => Outcome {
+            change: Change::Updated,
+            node: Node::Leaf {
+                version: new,
+                key,
+                value,
+            },
+            count: 0,
+        },
+        Few::Several => {
+            let i = place.count;
+            let lp = place.left();
+            let rp = place.right();
+            let ls = leaf_on(stays, i, false);
+            let rs = leaf_on(stays, i, true);
+            let l = grow(store, writes, new, lp, ls, left_run(run, i));
+            let r = grow(store, writes, new, rp, rs, right_run(run, i));
+            fork(store, writes, new, lp, rp, l, r)
+        }
+    }
+}
