@@ -130,14 +130,14 @@ fn answer(trail: Trail, way: Way, i: usize) -> Sought
 }
 
 // Where a descent goes on from the inner node in slot i: to a side where there is a child on that side, else to the other.
-fn towards(store: &[u8], i: usize, side: bool) -> bool
+fn towards(store: &[u8], i: usize, to: bool) -> bool
     requires { ⌜ (sizeRight (length (now store)) ≡ true) × (i < roomOf (length (now store))) ⌝ }
-    ensures { λ r. ⌜ r ≡ cond (eqb (kidIn i (now (store .entry)) side .version) 0) (not side) side ⌝ }
+    ensures { λ r. ⌜ r ≡ cond (eqb (kidIn i (now (store .entry)) to .version) 0) (not to) to ⌝ }
 {
-    if child_version(store, i, side) == 0 {
-        return !side;
+    if child_version(store, i, to) == 0 {
+        return !to;
     }
-    side
+    to
 }
 
 // Descends from the end of a trail, to a side where it can, until a leaf.
