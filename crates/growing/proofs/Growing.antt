@@ -23,7 +23,7 @@ use Rattle.hash.specs.Hash.{hashBytes}
 use Rattle.nodehash.specs.Node.{leafHash, innerHash}
 use Rattle.layout.specs.Stores.{storeOf}
 use Rattle.place.specs.declared.Place as place
-use Rattle.place.specs.Place.{placeOf, Proper, Grown}
+use Rattle.place.specs.Place.{placeOf, Grown}
 use Rattle.place.proofs.Places.{proper-count}
 use Rattle.batch.specs.Batch.{asks, ascending}
 use Rattle.batch.specs.Runs.{Run, runOf}
@@ -42,7 +42,7 @@ use Rattle.placing.proofs.Changing.{unchanged, changed-as, changed-stored}
 use Rattle.placing.proofs.Placing.{placed-nothing}
 use Rattle.outcomes.specs.declared.Change.the-variants as C
 use Rattle.outcomes.specs.declared.Outcome as declared
-use Rattle.outcomes.specs.Outcomes.{beyond, NodeSays, updatedSays, Did, Fork, Forked}
+use Rattle.outcomes.specs.Outcomes.{NodeSays, updatedSays, Did, Fork, Forked}
 use Rattle.outcomes.proofs.Saying.{updated-form}
 use Rattle.outcomes.proofs.Forms.{Numbered, says-form, numbered-versioned}
 use Rattle.outcomes.proofs.Forking.{mark-nothing, nothing-marked, fork-did}

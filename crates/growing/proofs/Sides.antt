@@ -1,12 +1,12 @@
 -- The leaf that stays goes to its side, and there the same holds of it. Assumes nothing.
-use Prim.Native.Nat.{ℕ, _*_, _<_}
+use Prim.Native.Nat.{ℕ, _<_}
 use native.Mathlib.Omega.{arith}
 use mathlib.Core.Path.{_≡_, refl, ap, sym, _∙_}
 use mathlib.Core.Bool.{Bool, true, false, cond, Bool·beq}
-use mathlib.Core.List.{List, [], _∷_}
+use mathlib.Core.List.{List}
 use mathlib.Core.Option.{Option, none, some}
 use lib.ListN.{length}
-use Rattle.terms.specs.Bits.{Bytes, Side, Place, All, longer, bit, begins}
+use Rattle.terms.specs.Bits.{Side, Place, longer, bit}
 use Rattle.terms.specs.Records.{Grant, grant, Ask}
 use Rattle.terms.proofs.Lists.{all-filter}
 use Rattle.terms.proofs.Places.{begins-longer}

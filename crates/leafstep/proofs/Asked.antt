@@ -2,19 +2,19 @@
 use Prim.Native.Nat.{ℕ, _+_, _<_, _≤_}
 use native.Mathlib.Omega.{arith}
 use mathlib.Core.Path.{_≡_, refl, ap, sym, _∙_}
-use mathlib.Core.Bool.{Bool, true, false, cond, not, true≢false, false≢true}
+use mathlib.Core.Bool.{true, false, cond, not, true≢false, false≢true}
 use mathlib.Core.List.{List, [], _∷_, _++_}
-use mathlib.Core.Option.{Option, none, some}
+use mathlib.Core.Option.{some}
 use lib.ListN.{length, take, drop, length-drop, drop-of-length-le}
 use lib.Seq.{drop-at, take-all}
 use Rattle.terms.specs.Bits.{Bytes, filter, sameBytes}
-use Rattle.terms.specs.Records.{Grant, Ask, insert, delete, askKey}
+use Rattle.terms.specs.Records.{Ask, insert, delete, askKey}
 use Rattle.hash.specs.declared.Hash.{Hash}
 use Rattle.hash.specs.Hash.{hashBytes}
 use Rattle.batch.specs.Batch.{count, asks, askAt, askValue, inserts}
 use Rattle.batch.proofs.Records.{asks-from, length-asks, length-key}
 use Rattle.steps.specs.Step as step
-use Rattle.leafstep.specs.declared.Own.the-variants.{Nothing, Insert, Delete}
+use Rattle.leafstep.specs.declared.Own.the-variants.{Insert, Delete}
 use Rattle.leafstep.specs.Leaf.{OwnSays, isMore}
 
 -- the key of a record by its bytes

@@ -1,16 +1,16 @@
 -- A node that is found in a tree that stands is the top of the tree: its record is the one that the tree has there. Assumes nothing.
-use Prim.Native.Nat.{ℕ, _<_, _≤_}
+use Prim.Native.Nat.{ℕ, _<_}
 use native.Mathlib.Omega.{arith}
 use mathlib.Core.Path.{_≡_, refl, ap, sym, _∙_, subst}
 use mathlib.Core.Logic.{⊎-elim}
-use mathlib.Core.List.{List, [], _∷_}
-use mathlib.Core.Option.{Option, none, some, Option·none-ne-some, Option·some-injective}
+use mathlib.Core.List.{[], _∷_}
+use mathlib.Core.Option.{none, some, Option·none-ne-some, Option·some-injective}
 use lib.ListN.{length, getD, take, drop}
 use types.Run.{OneOf}
 use denote.Enum.Declared.{tagOf}
 use Rattle.terms.specs.Bits.{Bytes, Place}
 use Rattle.terms.specs.Fields.{slice}
-use Rattle.terms.specs.Records.{grant, Child, Body, leafBody, innerBody, Record, Slot, free, used, spoiled, Store}
+use Rattle.terms.specs.Records.{grant, Child, leafBody, innerBody, Record, Slot, free, used, Store}
 use Rattle.terms.specs.Form.{RecordForm}
 use Rattle.terms.proofs.Lists.{all-at}
 use Rattle.meaning.specs.Tree.{VTree, vnone, vleaf, vinner, topVersion}
@@ -22,8 +22,7 @@ use Rattle.hash.specs.Hash.{hashBytes}
 use Rattle.nodehash.specs.Node.{leafHash, innerHash}
 use Rattle.place.specs.declared.Place as place
 use Rattle.place.specs.Place.{placeOf}
-use Rattle.layout.specs.Sizes.{roomOf}
-use Rattle.layout.specs.Slots.{leafIn, recordOf, slotOf, SlotForm}
+use Rattle.layout.specs.Slots.{leafIn, slotOf, SlotForm}
 use Rattle.layout.specs.Stores.{slotIn, storeOf}
 use Rattle.layout.proofs.Stores.{slot-at}
 use Rattle.slots.specs.declared.Child as child

@@ -2,11 +2,11 @@
 use Prim.Native.Nat.{ℕ, _<_, _≤_}
 use native.Mathlib.Omega.{arith}
 use mathlib.Core.Path.{_≡_, refl, ap, sym, _∙_, subst, subst₂}
-use mathlib.Core.Bool.{Bool, true, false, cond, false≢true}
+use mathlib.Core.Bool.{Bool, true, false, cond}
 use mathlib.Core.List.{List, [], _∷_, _++_}
 use lib.ListN.{length}
-use Rattle.terms.specs.Bits.{Bytes, Whole32, All, Place, longer, left, right, bits, begins}
-use Rattle.terms.specs.Records.{Child, Grant, zeros}
+use Rattle.terms.specs.Bits.{All, Place, longer, left, right, bits, begins}
+use Rattle.terms.specs.Records.{Child, Grant}
 use Rattle.terms.specs.Form.{top32, ChildForm, RecordForm}
 use Rattle.terms.proofs.Places.{length-bits, prefix-length}
 use Rattle.meaning.specs.Tree.{Tree, none, leaf, inner, grants, hash, VTree, vnone, vleaf, vinner, unversioned, grantsIn, topVersion, kid, sameGrants, nodeVersion, versioned}

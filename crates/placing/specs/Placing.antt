@@ -4,7 +4,7 @@ use mathlib.Core.Path.{_≡_}
 use mathlib.Core.Bool.{Bool, true, false}
 use mathlib.Core.List.{List, [], _∷_}
 use mathlib.Core.Option.{none}
-use lib.ListN.{length, getD, set}
+use lib.ListN.{length, set}
 use Rattle.terms.specs.Bits.{Bytes, Place}
 use Rattle.terms.specs.Records.{leafBody, innerBody, Record, Slot, free, used, spoiled, Store}
 use Rattle.meaning.specs.Store.{find, isNode, placed}

@@ -1,13 +1,11 @@
 -- `leafstep::own_ask` meets its contract: no record passed asks for the key. Assumes nothing.
 use Prim.Native.Nat.{_+_, _-_}
-use mathlib.Core.Path.{refl, ap, sym, _∙_}
+use mathlib.Core.Path.{refl, sym, _∙_}
 use native.Mathlib.Omega.{arith}
 use lib.ListN.{drop}
-use borrow.Author.Tests.{not-true, not-false}
 use Rattle.hash.specs.Hash.{hashBytes}
 use Rattle.batch.specs.Batch.{asks, askAt}
 use Rattle.steps.specs.Step as step
-use Rattle.leafstep.specs.Leaf.{isMore}
 use Rattle.leafstep.proofs.Asked.{Looking, look-on, look-end, own-else, own-insert, own-delete}
 use borrow.Author.Needs.{needs}
 use Rattle.leafstep.proofs.own_ask.Statement.{statement}

@@ -1,8 +1,8 @@
 -- `outcomes::fork` meets its contract: the left child is placed, then the right one. Assumes nothing.
-use mathlib.Core.Path.{refl, ap, sym, _∙_}
+use mathlib.Core.Path.{refl}
 use mathlib.Core.List.{_++_}
 use native.Mathlib.Omega.{arith}
-use lib.ListN.{length, length-append}
+use lib.ListN.{length-append}
 use Rattle.meaning.specs.Store.{placed}
 use Rattle.place.specs.Place.{placeOf}
 use Rattle.placing.specs.Placing.{whenWrites}

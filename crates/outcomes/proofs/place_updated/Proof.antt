@@ -6,7 +6,6 @@ use Rattle.terms.specs.Bits.{All}
 use Rattle.terms.specs.Form.{RecordForm}
 use Rattle.meaning.specs.Store.{placed}
 use Rattle.place.specs.Place.{placeOf}
-use Rattle.placing.specs.Placing.{Changed, whenWrites}
 use Rattle.outcomes.proofs.Saying.{is-updated, not-updated, nothing-placed, placed-as, node-size, size-small}
 use borrow.Author.Needs.{needs}
 use Rattle.outcomes.proofs.place_updated.Statement.{statement}
