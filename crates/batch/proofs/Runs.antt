@@ -15,11 +15,12 @@ use Rattle.terms.proofs.Lists.{filter-all, filter-none, filter-passed, all-filt
 use Rattle.terms.proofs.Places.{begins-longer, begins-whole}
 use Rattle.terms.proofs.Order.{before-trans, before-irrefl, before-lex, lex-mono}
 use Rattle.terms.proofs.Fields.{all-of-tests}
+use Rattle.meaning.specs.Calls.{ascending}
 use Rattle.place.specs.declared.Place as declared
 use Rattle.place.specs.Place.{placeOf, Proper, Grown}
 use Rattle.place.proofs.Places.{proper-count}
 use Rattle.batch.specs.Sizes.{recordSize}
-use Rattle.batch.specs.Batch.{ask, askForm, count, recordsOf, asks, askAt, batchForm, ascending, precedes}
+use Rattle.batch.specs.Batch.{ask, askForm, count, recordsOf, asks, askAt, batchForm}
 use Rattle.batch.specs.Runs.{Run, RunAt, onSide, lefts, half, runOf}
 use Rattle.batch.proofs.Asks.{key-whole}
 use Rattle.batch.proofs.Records.{all-half, records-half, asks-half, length-asks, asks-at, asks-whole}
@@ -78,28 +79,26 @@ module _ {A : Type 0} (r : A → Side) where
 abbrev After : Ask → Ask → Type 0
 After a b = before (askKey a) (askKey b) ≡ true
 
-after-all : (a : Ask) (as′ : List Ask) → precedes a as′ ≡ true → ascending as′ ≡ true → All (After a) as′
-after-all a [] h k = tt
-after-all a (b ∷ as′) h k = (
-  h,
-  all-map (After b) (After a) as′ (λ c e. before-trans (askKey a) (askKey b) (askKey c) h e)
-      (after-all b as′ (and-left (precedes b as′) (ascending as′) k) (and-right (precedes b as′) (ascending as′) k)),
-)
+after-all : (a : Ask) (as′ : List Ask) → ascending (a ∷ as′) ≡ true → All (After a) as′ × (ascending as′ ≡ true)
+after-all a [] h = (tt, refl)
+after-all a (b ∷ as′) h =
+    let first : After a b = and-left (before (askKey a) (askKey b)) (ascending (b ∷ as′)) h in
+    let rest : ascending (b ∷ as′) ≡ true = and-right (before (askKey a) (askKey b)) (ascending (b ∷ as′)) h in
+    let later = all-map (After b) (After a) as′ (λ c e. before-trans (askKey a) (askKey b) (askKey c) first e) (after-all b as′ rest .0) in
+    ((first, later), rest)
 
-all-after : (a : Ask) (as′ : List Ask) → All (After a) as′ → precedes a as′ ≡ true
-all-after a [] h = refl
-all-after a (b ∷ as′) h = h .0
+all-after : (a : Ask) (as′ : List Ask) → All (After a) as′ → ascending as′ ≡ true → ascending (a ∷ as′) ≡ true
+all-after a [] h o = refl
+all-after a (b ∷ as′) h o = rw (h .0) o
 
 -- what is left out leaves the order
 ascending-filter : (f : Ask → Bool) (as′ : List Ask) → ascending as′ ≡ true → ascending (filter f as′) ≡ true
 ascending-filter f [] h = refl
-ascending-filter f (a ∷ as′) h = go (ascending-filter f as′ (and-right (precedes a as′) (ascending as′) h)) (f a)
+ascending-filter f (a ∷ as′) h = go (after-all a as′ h .0) (ascending-filter f as′ (after-all a as′ h .1)) (f a)
   where
-    go : ascending (filter f as′) ≡ true → (t : Bool) → ascending (cond t (a ∷ filter f as′) (filter f as′)) ≡ true
-    go rest true =
-        rw (all-after a (filter f as′) (all-filter (After a) f as′ (after-all a as′ (and-left (precedes a as′) (ascending as′) h) (and-right (precedes a as′) (ascending as′) h))))
-        rest
-    go rest false = rest
+    go : All (After a) as′ → ascending (filter f as′) ≡ true → (t : Bool) → ascending (cond t (a ∷ filter f as′) (filter f as′)) ≡ true
+    go later rest true = all-after a (filter f as′) (all-filter (After a) f as′ later) rest
+    go later rest false = rest
 
 -- an ask in form whose key begins with the place
 abbrev Under : Place → Ask → Type 0
@@ -115,8 +114,10 @@ right-after p a b h k e r =
 parted : (p : Place) (as′ : List Ask) → All (Under p) as′ → ascending as′ ≡ true → Parted (λ a. bit (length p) (askKey a)) as′
 parted p [] h k = tt
 parted p (a ∷ as′) h k =
-    let o = and-right (precedes a as′) (ascending as′) k in
-    ((λ r. all-map₂ (Under p) (After a) (λ b. bit (length p) (askKey b) ≡ true) as′ (λ b u e. right-after p a b (h .0) u e r) (h .1) (after-all a as′ (and-left (precedes a as′) (ascending as′) k) o)), parted p as′ (h .1) o)
+    let o = after-all a as′ k in (
+      (λ r. all-map₂ (Under p) (After a) (λ b. bit (length p) (askKey b) ≡ true) as′ (λ b u e. right-after p a b (h .0) u e r) (h .1) (o .0)),
+      parted p as′ (h .1) (o .1),
+    )
 
 under-all : (p : Place) (run : Bytes) → Run p run → All (Under p) (asks run)
 under-all p run w = all-map₂ AskForm (λ a. begins p (askKey a) ≡ true) (Under p) (asks run) (λ a u v. (u, v)) (asks-whole run (w .bytes)) (w .under)

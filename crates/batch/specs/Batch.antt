@@ -6,7 +6,7 @@ use mathlib.Core.List.{List, [], _∷_, map}
 use mathlib.Core.Option.{Option, some, none}
 use lib.ListN.{length, take, drop}
 use lib.Dec.{eqb, leb}
-use Rattle.terms.specs.Bits.{Bytes, before}
+use Rattle.terms.specs.Bits.{Bytes}
 use Rattle.terms.specs.Fields.{le, field, slice, allZero, flat, allOf}
 use Rattle.terms.specs.Records.{Ask, insert, delete, askKey, zeros}
 use Rattle.batch.specs.Sizes.{recordSize, insertLength, insertKind, deleteLength, deleteKind, kindAt, zeroAt, keyAt, valueAt, mostRecords}
@@ -95,13 +95,3 @@ batchOf b = cond (batchForm b) (some (asks b)) none
 -- The bytes of a batch: its records one after the other.
 unfoldable pub asksBytes : List Ask → Bytes
 asksBytes as′ = flat (map askBytes as′)
-
--- An ask's key comes before the next one's.
-abbrev pub precedes : Ask → List Ask → Bool
-precedes a [] = true
-precedes a (b ∷ as′) = before (askKey a) (askKey b)
-
--- Keys strictly ascending as byte strings.
-abbrev pub ascending : List Ask → Bool
-ascending [] = true
-ascending (a ∷ as′) = precedes a as′ && ascending as′

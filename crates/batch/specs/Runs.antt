@@ -7,8 +7,9 @@ use mathlib.Core.List.{List}
 use lib.ListN.{length, take, drop}
 use Rattle.terms.specs.Bits.{Bytes, Byte, All, Side, Place, left, bit, begins, filter}
 use Rattle.terms.specs.Records.{Ask, askKey}
+use Rattle.meaning.specs.Calls.{ascending}
 use Rattle.batch.specs.Sizes.{recordSize}
-use Rattle.batch.specs.Batch.{askForm, recordsOf, asks, ascending}
+use Rattle.batch.specs.Batch.{askForm, recordsOf, asks}
 
 -- Whole records in form, keys strictly ascending, each key begins with the place.
 pub record Run (p : Place) (run : Bytes) : Type 0 where

@@ -3,18 +3,17 @@
 use Prim.Native.Nat.{ℕ, zero, suc, _+_, _-_, _<_, _≤_}
 use native.Mathlib.Omega.{arith}
 use mathlib.Core.Path.{_≡_, refl, ap, ap₂, sym, _∙_, subst, subst₂}
-use mathlib.Core.Bool.{Bool, true, false, _&&_}
+use mathlib.Core.Bool.{Bool, true, false}
 use mathlib.Core.List.{List, [], _∷_}
 use mathlib.Core.Option.{Option, none, some}
 use lib.Dec.{ltb}
 use borrow.Author.Tests.{ltb-true, ltb-false}
 use lib.ListN.{length}
-use Rattle.terms.specs.Bits.{Bytes, Side, Place, All, longer, left, right, begins, before}
-use Rattle.terms.specs.Records.{Grant, grant, Ask, askKey}
+use Rattle.terms.specs.Bits.{Bytes, Side, Place, All, longer, left, right, begins}
+use Rattle.terms.specs.Records.{Grant, grant, Ask}
 use Rattle.terms.specs.Form.{top32, RecordForm}
 use Rattle.meaning.specs.Tree.{Tree, withBatch, VTree, vnone, vleaf, unversioned, versioned}
 use Rattle.meaning.specs.Runs.{run}
-use Rattle.meaning.specs.Calls as calls
 use Rattle.meaning.proofs.Versions.{versioned-tree}
 use Rattle.meaning.proofs.Sides.{treeBy}
 use Rattle.meaning.proofs.Shaped.{Shaped}
@@ -25,7 +24,7 @@ use Rattle.layout.specs.Stores.{storeOf}
 use Rattle.place.specs.declared.Place as place
 use Rattle.place.specs.Place.{placeOf, Grown}
 use Rattle.place.proofs.Places.{proper-count}
-use Rattle.batch.specs.Batch.{asks, ascending}
+use Rattle.batch.specs.Batch.{asks}
 use Rattle.batch.specs.Runs.{Run, runOf}
 use Rattle.batch.proofs.Records.{asks-whole}
 use Rattle.batch.proofs.Runs.{asks-of-part, run-at, run-grown}
@@ -52,16 +51,11 @@ use Rattle.growing.specs.declared.Few.the-variants.{Nothing, One, Severa
 use Rattle.growing.specs.Growing.{staysSays, FewSays, StaysAt, Grows}
 use Rattle.growing.proofs.Sides.{stays-at-side}
 
-same-order : (as′ : List Ask) → ascending as′ ≡ calls.ascending as′
-same-order [] = refl
-same-order (a ∷ []) = refl
-same-order (a ∷ b ∷ as′) = ap (λ t. before (askKey a) (askKey b) && t) (same-order (b ∷ as′))
-
 -- a run and a leaf that stays fit their place
 fits-of : (p : Place) (part : Bytes) (stays : Option Grant) → Run p part → StaysAt p stays (asks part) → Fits p (staying stays) (asks part)
 unfolding begins
 fits-of p part none w h = record {
-  rising = ascending-rising (asks part) (sym (same-order (asks part)) ∙ w .order);
+  rising = ascending-rising (asks part) (w .order);
   asks-form = asks-whole part (w .bytes);
   asks-at = w .under;
   ascending = tt;
@@ -69,7 +63,7 @@ fits-of p part none w h = record {
   begun = tt;
 }
 fits-of p part (some g) w h = record {
-  rising = ascending-rising (asks part) (sym (same-order (asks part)) ∙ w .order);
+  rising = ascending-rising (asks part) (w .order);
   asks-form = asks-whole part (w .bytes);
   asks-at = w .under;
   ascending = (tt, tt);

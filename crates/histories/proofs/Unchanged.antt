@@ -140,7 +140,7 @@ unchanged-without new old xs a ys s o h =
     (without-ask xs a ys (grantsIn old) (shaped-ascending [] (unversioned old) s) o h)
 
 -- a batch of nothing else makes a new root only
-batch-same : (batch : List Ask) (gs : List Grant) → Ascending gs → All (NoChange gs) batch → withBatch batch gs ≡ gs
+pub batch-same : (batch : List Ask) (gs : List Grant) → Ascending gs → All (NoChange gs) batch → withBatch batch gs ≡ gs
 batch-same [] gs s h = refl
 batch-same (a ∷ batch) gs s h = ap (withBatch batch) (ask-same a gs s (h .0)) ∙ batch-same batch gs s (h .1)
 

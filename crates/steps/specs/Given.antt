@@ -6,11 +6,10 @@ use mathlib.Core.Bool.{Bool, true, false}
 use mathlib.Core.List.{List, [], _∷_, _++_}
 use lib.Dec.{eqb}
 use Rattle.terms.specs.Bits.{Bytes, Place, filter}
-use Rattle.terms.specs.Records.{Grant, Ask, insert, delete, Record}
+use Rattle.terms.specs.Records.{Grant, Record}
 use Rattle.meaning.specs.Tree.{Tree, grants, VTree, grantsIn, sameGrants, versioned}
 use Rattle.meaning.specs.Store.{recordsBelow}
 use Rattle.meaning.specs.Sound.{NodeOf}
-use Rattle.meaning.specs.Reading.{present, absent, answerOf}
 use Rattle.steps.specs.Step.{Change, updated, deleted, unchanged, Node, Outcome, endsAt}
 
 -- All versions of the tree t that stands at p are below the new one.
@@ -33,11 +32,6 @@ isNew new r = eqb (r .version) new
 abbrev pub Among : ℕ → Place → List Node → Type 0
 Among v q [] = ⊥
 Among v q (x ∷ xs) = ((x .version ≡ v) × (x .place ≡ q)) ⊎ Among v q xs
-
--- An ask that is no change: an insert of the value already there, a delete of an absent key.
-abbrev pub Idle : List Grant → Ask → Type 0
-Idle gs (insert k x) = answerOf k gs ≡ present x
-Idle gs (delete k) = answerOf k gs ≡ absent
 
 -- The outcome o at p is what is given where the grants of t become those of now.
 module _ (leafHash innerHash : Bytes → Bytes → Bytes) where

@@ -6,7 +6,8 @@ use mathlib.Core.Path.{_≡_, refl, sym, ap₂, _∙_}
 use lib.ListN.{drop}
 use borrow.Author.Tests.{not-true, not-false}
 use Rattle.terms.specs.Bits.{before}
-use Rattle.batch.specs.Batch.{asks, ascending}
+use Rattle.meaning.specs.Calls.{ascending}
+use Rattle.batch.specs.Batch.{asks}
 use Rattle.batch.proofs.Batches.{order-next, order-off, order-end}
 use Rattle.batch.proofs.batch_order.Statement.{statement}
 use Rattle.batch.proofs.batch_order.Tie as tie
