@@ -4,8 +4,9 @@
 demo:
 	@tests/demo
 
+# Every crate from nothing with the edits that must fail, then each other test over what was built.
 test:
-	@tests/gate
+	@tests/gate 'rt ci' tests/format tests/sha256/run tests/second/run tests/compare/run
 
 lib:
 	@rt staticlib grants
