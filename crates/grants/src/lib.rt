@@ -6,11 +6,11 @@ ghost use Rattle.format.specs.Format.{formatAnswer, formatBytes};
 ghost use Rattle.soundness.specs.Check.{Checked};
 ghost use Rattle.pruning_c.specs.Export.{Exports};
 ghost use Rattle.reads.specs.Reads.{rootAnswer, keyAnswer};
-ghost use Rattle.reads_c.specs.Export.{numberOf, rootBytes, foundBytes};
+ghost use Rattle.answers.specs.Answers.{numberOf, foundAfter};
+ghost use Rattle.reads_c.specs.Export.{rootBytes};
 ghost use Rattle.proving.specs.Proving.{roomAfter};
-ghost use Rattle.proving_c.specs.Export.{provedInto, numberOf as proofNumber, lengthBytes};
+ghost use Rattle.proving_c.specs.Export.{provedInto, lengthBytes};
 ghost use Rattle.verify.specs.Verify.{verified};
-ghost use Rattle.verify.specs.Boundary.{numberOf as verdictNumber, foundAfter};
 
 // Makes a fresh store of any bytes of the right length.
 #[no_mangle]
@@ -50,7 +50,7 @@ pub extern "C" fn grants_root(store: &[u8], version: u32, root: &mut [u8; 32]) -
 #[no_mangle]
 pub extern "C" fn grants_get(store: &[u8], version: u32, key: &[u8], found: &mut [u8; 33]) -> u32
     ensures answer { λ r. ⌜ r ≡ numberOf (keyAnswer (now (store .entry)) version (now (key .entry))) ⌝ }
-    ensures bytes { λ _. ⌜ now (found .exit) ≡ foundBytes (keyAnswer (now (store .entry)) version (now (key .entry))) (now (found .entry)) ⌝ }
+    ensures bytes { λ _. ⌜ now (found .exit) ≡ foundAfter (keyAnswer (now (store .entry)) version (now (key .entry))) (now (found .entry)) ⌝ }
 {
     reads_c::grants_get(store, version, key, found)
 }
@@ -64,7 +64,7 @@ pub extern "C" fn grants_prove(
     room: &mut [u8],
     length: &mut [u8; 4],
 ) -> u32
-    ensures answer { λ r. ⌜ r ≡ proofNumber (provedInto (now (store .entry)) version (now (key .entry)) (now (room .entry))) ⌝ }
+    ensures answer { λ r. ⌜ r ≡ numberOf (provedInto (now (store .entry)) version (now (key .entry)) (now (room .entry))) ⌝ }
     ensures bytes { λ _. ⌜ now (room .exit) ≡ roomAfter (provedInto (now (store .entry)) version (now (key .entry)) (now (room .entry))) (now (room .entry)) ⌝ }
     ensures told { λ _. ⌜ now (length .exit) ≡ lengthBytes (provedInto (now (store .entry)) version (now (key .entry)) (now (room .entry))) (now (length .entry)) ⌝ }
 {
@@ -74,7 +74,7 @@ pub extern "C" fn grants_prove(
 // What a proof shows of a key against a root: 1 and the value, or 0 and 32 zero bytes for 'absent'.
 #[no_mangle]
 pub extern "C" fn grants_verify(root: &[u8], key: &[u8], proof: &[u8], found: &mut [u8; 33]) -> u32
-    ensures answer { λ r. ⌜ r ≡ verdictNumber (verified (now (root .entry)) (now (key .entry)) (now (proof .entry))) ⌝ }
+    ensures answer { λ r. ⌜ r ≡ numberOf (verified (now (root .entry)) (now (key .entry)) (now (proof .entry))) ⌝ }
     ensures bytes { λ _. ⌜ now (found .exit) ≡ foundAfter (verified (now (root .entry)) (now (key .entry)) (now (proof .entry))) (now (found .entry)) ⌝ }
 {
     verify::grants_verify(root, key, proof, found)

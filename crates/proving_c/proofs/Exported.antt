@@ -15,7 +15,8 @@ use Rattle.meaning.specs.Proving.{proofLength}
 use Rattle.proving.specs.Proving.{lengthOf, roomAfter, provedSays}
 use Rattle.proving.specs.declared.Proved as declared
 use Rattle.proving.specs.declared.Proved.the-variants.{Refused, Length}
-use Rattle.proving_c.specs.Export.{numberOf, lengthBytes}
+use Rattle.answers.specs.Answers.{numberOf}
+use Rattle.proving_c.specs.Export.{lengthBytes}
 
 -- the number and the four bytes of an answer
 record Told (a : Answer Proof) (n : ℕ) (old new : Bytes) : Type 0 where

@@ -1,5 +1,4 @@
--- The boundary to C: a call answers 0 where it is accepted, else the number of refusal; a refused call writes nothing, its answer's array
--- included. Assumes nothing.
+-- The proof for a caller in another language. Assumes nothing.
 use Prim.Native.Nat.{ℕ}
 use lib.ListN.{length}
 use Rattle.terms.specs.Bits.{Bytes}
@@ -13,11 +12,7 @@ use Rattle.proving.specs.Proving.{proveAnswer}
 abbrev pub provedInto : Bytes → ℕ → Bytes → Bytes → Answer Proof
 provedInto s v k room = proveAnswer s v k (length room)
 
-abbrev pub numberOf : Answer Proof → ℕ
-numberOf (refused n) = n
-numberOf (accepted p) = 0
-
--- The proof's length, 4 bytes little-endian.
+-- The proof's length, 4 bytes little-endian; a refused call writes nothing.
 abbrev pub lengthBytes : Answer Proof → Bytes → Bytes
 lengthBytes (refused n) old = old
 lengthBytes (accepted p) old = le 4 (proofLength p)

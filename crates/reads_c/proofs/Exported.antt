@@ -16,14 +16,15 @@ use Rattle.reads.specs.declared.RootRead as declared-root
 use Rattle.reads.specs.declared.RootRead.the-variants as root
 use Rattle.reads.specs.declared.KeyRead as declared-read
 use Rattle.reads.specs.declared.KeyRead.the-variants as read
-use Rattle.reads_c.specs.Export.{numberOf, rootBytes, foundBytes}
+use Rattle.answers.specs.Answers.{numberOf, foundAfter}
+use Rattle.reads_c.specs.Export.{rootBytes}
 
 -- What a call leaves: its number, and its answer's array.
 abbrev RootLeft : Answer Bytes → Bytes → ℕ → Bytes → Type 0
 RootLeft a old n new = (n ≡ numberOf a) × (new ≡ rootBytes a old)
 
 abbrev FoundLeft : Answer Verdict → Bytes → ℕ → Bytes → Type 0
-FoundLeft a old n new = (n ≡ numberOf a) × (new ≡ foundBytes a old)
+FoundLeft a old n new = (n ≡ numberOf a) × (new ≡ foundAfter a old)
 
 module _ {a : Answer Bytes} {r : declared-root.RootRead} (says : rootSays r ≡ a) (old : Bytes) where
   pub root-refused : {n : ℕ} → r ≡ root.Refused n → RootLeft a old n old

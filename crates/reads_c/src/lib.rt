@@ -10,7 +10,8 @@ ghost use mathlib.Core.List.{_∷_};
 ghost use lib.ListN.{length};
 ghost use Rattle.hash.specs.Hash.{hashBytes};
 ghost use Rattle.reads.specs.Reads.{rootAnswer, keyAnswer};
-ghost use Rattle.reads_c.specs.Export.{numberOf, rootBytes, foundBytes};
+ghost use Rattle.answers.specs.Answers.{numberOf, foundAfter};
+ghost use Rattle.reads_c.specs.Export.{rootBytes};
 
 // The root of a version.
 #[no_mangle]
@@ -41,7 +42,7 @@ fn put_found(found: &mut [u8], present: u8, value: Hash)
 #[no_mangle]
 pub extern "C" fn grants_get(store: &[u8], version: u32, key: &[u8], found: &mut [u8; 33]) -> u32
     ensures answer { λ r. ⌜ r ≡ numberOf (keyAnswer (now (store .entry)) version (now (key .entry))) ⌝ }
-    ensures bytes { λ _. ⌜ now (found .exit) ≡ foundBytes (keyAnswer (now (store .entry)) version (now (key .entry))) (now (found .entry)) ⌝ }
+    ensures bytes { λ _. ⌜ now (found .exit) ≡ foundAfter (keyAnswer (now (store .entry)) version (now (key .entry))) (now (found .entry)) ⌝ }
 {
     let read = reads::get(store, version, key);
     match read {

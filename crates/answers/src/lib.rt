@@ -1,0 +1,1 @@
+// What an answer is for a caller in another language, without code.
