@@ -51,6 +51,20 @@ pub fn deepest_batches() -> Vec<(Vec<u8>, Vec<u8>)> {
     out
 }
 
+/// Prove's most: absence proofs with two neighbours at 256 bits, 17,080 bytes long.
+#[allow(dead_code)]
+pub fn of_prove() -> usize {
+    let key = |last: u8| {
+        let mut k = ZEROS;
+        k[31] = last;
+        k
+    };
+    let mut s = cases::fresh(600, 0, 0);
+    let asks: Vec<u8> = [0, 1, 6, 7].iter().flat_map(|&l| ask_bytes(&Ask { key: key(l), value: Some([1; 32]) })).collect();
+    second::apply(&mut s, &asks).unwrap();
+    most(move || assert_eq!(crate::ours::prove(&s, 1, &key(3), &mut vec![0; 17_080]), Ok(17_080)))
+}
+
 /// Apply's most, over those.
 pub fn of_apply() -> usize {
     let each = |(s, b): (Vec<u8>, Vec<u8>)| {
