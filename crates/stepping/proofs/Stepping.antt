@@ -42,7 +42,7 @@ use Rattle.placing.proofs.Changing.{changed-stored}
 use Rattle.outcomes.specs.declared.Change.the-variants as C
 use Rattle.outcomes.specs.declared.Outcome as declared
 use Rattle.outcomes.specs.Outcomes.{NodeSays, updatedSays, Did}
-use Rattle.outcomes.proofs.Forms.{Numbered, given-form}
+use Rattle.outcomes.proofs.Forms.{Numbered, given-shaped, given-numbered, given-form}
 use Rattle.growing.specs.declared.Stays.the-variants as S
 use Rattle.growing.specs.Growing.{Grows}
 use Rattle.growing.proofs.Growing.{written-nothing}
@@ -88,7 +88,7 @@ module _ {new : ℕ} {s : Bytes} {p : place.Place} {v : ℕ} {part : Bytes} (w :
   pub shaped : Shaped (placeOf p) (unversioned tree)
   shaped = stands-shaped leafHash innerHash (storeOf s) (stored-formed (w .standing .stored)) (placeOf p) tree (w .standing .stands)
 
-  numbered : Numbered tree
+  pub numbered : Numbered tree
   numbered = stands-numbered (storeOf s) (stored-formed (w .standing .stored)) (placeOf p) tree (w .standing .stands)
 
   fits : Fits (placeOf p) (grantsIn tree) (asks part)
@@ -97,6 +97,24 @@ module _ {new : ℕ} {s : Bytes} {p : place.Place} {v : ℕ} {part : Bytes} (w :
   abbrev later : Tree
   later = after (256 - p .count) (placeOf p) tree (asks part)
 
+  -- at the node
+  node-given : Gives leafHash innerHash new (placeOf p) tree later (atNode new s p v part)
+  unfolding atNode
+  node-given = step-gives leafHash innerHash new (256 - p .count) (placeOf p) tree (asks part) long shaped (w .older) fits
+
+  pub node-new : AllNew new (atNode new s p v part .fresh)
+  node-new = given-new leafHash innerHash new (placeOf p) tree later (atNode new s p v part) node-given
+
+  later-shaped : Shaped (placeOf p) later
+  later-shaped = fits-shaped (256 - p .count) (placeOf p) (grantsIn tree) (asks part) long fits
+
+  pub node-shaped : new ≤ top32 → Shaped (placeOf p) (unversioned (atNode new s p v part .node))
+  node-shaped t = given-shaped new (placeOf p) tree later (atNode new s p v part) node-given (w .number, t) numbered later-shaped
+
+  pub node-numbered : new ≤ top32 → Numbered (atNode new s p v part .node)
+  node-numbered t = given-numbered new (placeOf p) tree later (atNode new s p v part) node-given (w .number, t) numbered later-shaped
+
+  -- at the child
   given : Gives leafHash innerHash new (placeOf p) tree later (atChild new s p v part)
   unfolding atChild
   given =
@@ -111,8 +129,7 @@ module _ {new : ℕ} {s : Bytes} {p : place.Place} {v : ℕ} {part : Bytes} (w :
 
   child-form : new ≤ top32 → (r : declared.Outcome) → NodeSays (r .node) (atChild new s p v part .node) → All RecordForm (updatedSays (placeOf p) r)
   child-form t r h =
-      given-form new (placeOf p) tree later (atChild new s p v part) given (w .number, t) numbered
-      (fits-shaped (256 - p .count) (placeOf p) (grantsIn tree) (asks part) long fits) r h
+      given-form new (placeOf p) tree later (atChild new s p v part) given (w .number, t) numbered later-shaped r h
 
   -- without a run
   pub child-stays : (writes : Bool) {n : node.Node} → length part ≡ 0 → NodeSays n tree →
