@@ -522,7 +522,7 @@ pub fn named(seed: u64, tally: &mut Tally) {
     chain(tally, &mut random);
     many(tally, &mut random);
     counts(tally);
-    let used = stack::of_apply();
+    let used = stack::of_apply().into_iter().map(|(_, used)| used).max().unwrap();
     println!("stack apply {used}");
-    tally.equal("apply's stack is below 256 KiB", 0, used < 256 * 1024, true);
+    tally.equal("apply's stack is below 256 KiB", 0, used < stack::BAR, true);
 }
