@@ -27,6 +27,12 @@ pub struct Place {
 }
 
 impl Place {
+    /// Where the root stands.
+    pub const EMPTY: Place = Place {
+        bits: [0; 32],
+        count: 0,
+    };
+
     /// How many bits, 0 to 256.
     pub fn count(&self) -> usize {
         usize::from(self.count)
@@ -37,12 +43,14 @@ impl Place {
         self.bits[i / 8] >> (7 - i % 8) & 1 == 1
     }
 
-    /// The place one bit shorter, none above the root.
-    pub fn above(&self) -> Option<Place> {
-        let count = self.count.checked_sub(1)?;
-        let mut bits = self.bits;
-        bits[usize::from(count / 8)] &= !(0x80 >> (count % 8));
-        Some(Place { bits, count })
+    /// The place one bit longer, to the left or to the right. A place of 256 bits is the longest.
+    pub fn longer(&self, right: bool) -> Option<Place> {
+        let (byte, mask) = (self.count() / 8, 0x80 >> (self.count % 8));
+        let mut longer = *self;
+        let bits = longer.bits.get_mut(byte)?;
+        *bits |= if right { mask } else { 0 };
+        longer.count += 1;
+        Some(longer)
     }
 }
 
