@@ -215,6 +215,12 @@ pub fn refused(store: &Bytes, path: &Path) -> impl Fn(Error) -> Fail {
     }
 }
 
+/// '1 record', '2 records'.
+pub fn counted(n: usize, what: &str) -> String {
+    let s = if n == 1 { "" } else { "s" };
+    format!("{n} {what}{s}")
+}
+
 const LENGTH_ADVICE: &str = "Write it as 64 hex digits.";
 
 fn bytes(length: usize) -> String {
@@ -381,8 +387,10 @@ fn apply(args: &Args, out: &mut Out) -> Result<u8, Fail> {
     } else {
         for made in &published {
             out.line(format_args!(
-                "version {}, {} new records, root {}",
-                made.version, made.new_records, made.root
+                "version {}, {}, root {}",
+                made.version,
+                counted(made.new_records as usize, "new record"),
+                made.root
             ))?;
         }
     }
@@ -406,8 +414,10 @@ fn prune(args: &Args, out: &mut Out) -> Result<u8, Fail> {
             ("latest", header.latest.into()),
         ]),
         format_args!(
-            "{freed} records freed, versions {} to {} kept",
-            header.oldest, header.latest
+            "{} freed, versions {} to {} kept",
+            counted(freed as usize, "record"),
+            header.oldest,
+            header.latest
         ),
     )?;
     Ok(0)
@@ -634,13 +644,14 @@ fn stat(args: &Args, out: &mut Out) -> Result<u8, Fail> {
             ("bytes", length.into()),
         ]))?;
     } else {
-        let versions = if kept == 1 { "version" } else { "versions" };
         out.line(format_args!("capacity  {} slots", header.capacity))?;
         out.line(format_args!("used      {used}"))?;
         out.line(format_args!("free      {free}"))?;
         out.line(format_args!(
-            "kept      {} to {}, {kept} {versions}",
-            header.oldest, header.latest
+            "kept      {} to {}, {}",
+            header.oldest,
+            header.latest,
+            counted(kept as usize, "version")
         ))?;
         out.line(format_args!("bytes     {length}"))?;
     }

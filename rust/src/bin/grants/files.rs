@@ -103,9 +103,7 @@ impl Locked {
     /// Puts these bytes in the store's place: all of them, or none.
     pub fn replace(mut self, bytes: &[u8]) -> Result<(), Fail> {
         self.write(bytes).map_err(|e| {
-            let Fail::File(sentence) = file("write", &self.beside, &e) else {
-                unreachable!("file gives no other");
-            };
+            let sentence = file("write", &self.beside, &e);
             let kept = if self.is_there() {
                 "is as it was"
             } else {
@@ -117,7 +115,11 @@ impl Locked {
         let folder = self.store.parent().unwrap_or(Path::new("/"));
         File::open(folder)
             .and_then(|f| f.sync_all())
-            .map_err(|e| file("sync", folder, &e))
+            .map_err(|e| {
+                let sentence = file("sync", folder, &e);
+                let store = self.store.display();
+                Fail::File(format!("{sentence}; {store} is the new store all the same, but may not outlast a loss of power"))
+            })
     }
 
     fn write(&mut self, bytes: &[u8]) -> io::Result<()> {

@@ -2,7 +2,7 @@
 //! stands below the one whose place is a bit shorter.
 
 use crate::args::Args;
-use crate::commands::{read_store, refused, versions, Bytes};
+use crate::commands::{counted, read_store, refused, versions, Bytes};
 use crate::fail::Fail;
 use crate::files;
 use crate::json::Json;
@@ -112,10 +112,10 @@ fn below(tree: &Tree, place: Place) -> impl Iterator<Item = (u8, Place)> + '_ {
 
 fn text(tree: &Tree, full: bool) -> String {
     let mut text = format!(
-        "version {}: {} grants, {} records, root {}\n",
+        "version {}: {}, {}, root {}\n",
         tree.version,
-        tree.grants(),
-        tree.nodes.len(),
+        counted(tree.grants(), "grant"),
+        counted(tree.nodes.len(), "record"),
         tree.root
     );
     if tree.nodes.contains_key(&Place::EMPTY) {
