@@ -198,20 +198,6 @@ run-of-batch b h e o =
       under = all-map AskForm (λ a. true ≡ true) (asks b) (λ a k. refl) (asks-whole b h);
     }
 
--- at 256 bits no bit is left to tell two keys apart
-pub run-full : (p : Place) (run : Bytes) → Run p run → length p ≡ 256 → count run ≤ 1
-run-full p run w n = rw (length-asks run) at (one (asks run) (under-all p run w) (w .order))
-  where
-    one : (as′ : List Ask) → All (Under p) as′ → ascending as′ ≡ true → length as′ ≤ 1
-    one [] h o = omega arith
-    one (a ∷ []) h o = omega arith
-    one (a ∷ c ∷ as′) h o =
-        let x = key-whole a (h .0 .0) in
-        let y = key-whole c (h .1 .0 .0) in
-        let e = begins-whole p (askKey a) (askKey c) (x .1) (y .1) (omega (arith, x .0)) (x .0 ∙ sym (y .0)) (h .0 .1) (h .1 .0 .1) in
-        let o₁ : before (askKey a) (askKey c) ≡ true = and-left (before (askKey a) (askKey c)) (ascending (c ∷ as′)) o in
-        absurd (before-irrefl (askKey c) (rw e at o₁))
-
 -- a run at a place by value, and its parts at the longer places
 module _ (p : declared.Place) (run : Bytes) (v : Proper p) (h : p .count < 256) (w : Run (placeOf p) run) where
   abbrev pub run-at : RunAt (p .count) run

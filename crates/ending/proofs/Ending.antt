@@ -1,11 +1,13 @@
 -- Marks of two children, one after the other: the first leaves the second's node. Assumes nothing.
 use Prim.Native.Nat.{ℕ}
+use native.Mathlib.Omega.{arith}
 use mathlib.Core.Path.{_≡_, refl, ap, ap₂, sym, _∙_, subst}
 use mathlib.Core.Bool.{Bool, true, false}
 use mathlib.Core.List.{List, [], _∷_, _++_}
 use borrow.Author.Tests.{eq-eqb, ne-eqb}
 use Rattle.terms.specs.Bits.{Bytes, Place}
 use Rattle.terms.specs.Records.{Slot}
+use Rattle.meaning.specs.Tree.{VTree, vnone, vleaf, vinner, topVersion}
 use Rattle.layout.specs.Stores.{storeOf}
 use Rattle.steps.specs.Step as step
 use Rattle.steps.specs.Writing.{mark}
@@ -15,6 +17,7 @@ use Rattle.placing.specs.Placing.{Changed, whenWrites, Single, nodeAt}
 use Rattle.placing.proofs.Changing.{changed-as, changed-slots, changed-then}
 use Rattle.outcomes.specs.declared.Change as change
 use Rattle.outcomes.specs.declared.Change.the-variants.{Updated, Deleted, Unchanged}
+use Rattle.outcomes.proofs.Forms.{Numbered}
 use Rattle.keeping.proofs.Keeping.{single-mark}
 use Rattle.ending.specs.Ending.{childNodes, endsSays, leftOf}
 
@@ -68,3 +71,10 @@ both-marked false since xs ys s = refl
 pub marked-both : (w : Bool) (since : ℕ) (xs ys : List step.Node) {s s′ s″ : Bytes} → Changed (whenWrites w (mark since xs)) s s′ →
     Changed (whenWrites w (mark since ys)) s′ s″ → Changed (whenWrites w (mark since (xs ++ ys))) s s″
 marked-both w since xs ys x y = changed-as _ (whenWrites w (mark since (xs ++ ys))) (both-marked w since xs ys _) (changed-then x y)
+
+-- the node of a child is the top of its tree
+pub top-nodes : (t : VTree) (q : Place) → Numbered t → childNodes (topVersion t) q ≡ step.nodeAt q t
+unfolding childNodes
+top-nodes vnone q n = refl
+top-nodes (vleaf v g) q n = rw (ne-eqb v 0 (λ z. omega arith))
+top-nodes (vinner v a b) q n = rw (ne-eqb v 0 (λ z. omega arith))

@@ -4,7 +4,8 @@ ghost use mathlib.Core.Path.{_≡_};
 ghost use Rattle.sha256.specs.Sha256.{sha256};
 ghost use Rattle.format.specs.Format.{formatAnswer, formatBytes};
 ghost use Rattle.soundness.specs.Check.{Checked};
-ghost use Rattle.pruning_c.specs.Export.{Exports};
+ghost use Rattle.applying_c.specs.Export as apply;
+ghost use Rattle.pruning_c.specs.Export as prune;
 ghost use Rattle.reads.specs.Reads.{rootAnswer, keyAnswer};
 ghost use Rattle.answers.specs.Answers.{numberOf, foundAfter};
 ghost use Rattle.reads_c.specs.Export.{rootBytes};
@@ -29,10 +30,18 @@ pub extern "C" fn grants_check(store: &[u8]) -> u32
     soundness::check(store)
 }
 
+// Makes the next version of a batch; answer: version, root and count of new records, little-endian.
+#[no_mangle]
+pub extern "C" fn grants_apply(store: &mut [u8], batch: &[u8], answer: &mut [u8; 40]) -> u32
+    ensures { λ r. ⌜ apply.Exports (now (batch .entry)) (now (store .entry)) (now (answer .entry)) r (now (store .exit)) (now (answer .exit)) ⌝ }
+{
+    applying_c::grants_apply(store, batch, answer)
+}
+
 // Frees every record retired since a version or earlier; freed: how many, little-endian.
 #[no_mangle]
 pub extern "C" fn grants_prune(store: &mut [u8], version: u32, freed: &mut [u8; 4]) -> u32
-    ensures { λ r. ⌜ Exports version (now (store .entry)) (now (freed .entry)) r (now (store .exit)) (now (freed .exit)) ⌝ }
+    ensures { λ r. ⌜ prune.Exports version (now (store .entry)) (now (freed .entry)) r (now (store .exit)) (now (freed .exit)) ⌝ }
 {
     pruning_c::grants_prune(store, version, freed)
 }

@@ -12,11 +12,9 @@ use lib.ListN.{length}
 use Rattle.terms.specs.Bits.{Bytes, Side, Place, All, longer, left, right, begins}
 use Rattle.terms.specs.Records.{Grant, grant, Ask}
 use Rattle.terms.specs.Form.{top32, RecordForm}
-use Rattle.meaning.specs.Tree.{Tree, withBatch, VTree, vnone, vleaf, unversioned, versioned}
+use Rattle.meaning.specs.Tree.{Tree, withBatch, VTree, vnone, vleaf}
 use Rattle.meaning.specs.Runs.{run}
-use Rattle.meaning.proofs.Versions.{versioned-tree}
 use Rattle.meaning.proofs.Sides.{treeBy}
-use Rattle.meaning.proofs.Shaped.{Shaped}
 use Rattle.hash.specs.declared.Hash.{Hash}
 use Rattle.hash.specs.Hash.{hashBytes}
 use Rattle.nodehash.specs.Node.{leafHash, innerHash}
@@ -42,8 +40,7 @@ use Rattle.placing.proofs.Placing.{placed-nothing}
 use Rattle.outcomes.specs.declared.Change.the-variants as C
 use Rattle.outcomes.specs.declared.Outcome as declared
 use Rattle.outcomes.specs.Outcomes.{NodeSays, updatedSays, Did, Fork, Forked}
-use Rattle.outcomes.proofs.Saying.{updated-form}
-use Rattle.outcomes.proofs.Forms.{Numbered, says-form, numbered-versioned}
+use Rattle.outcomes.proofs.Forms.{given-form}
 use Rattle.outcomes.proofs.Forking.{mark-nothing, nothing-marked, fork-did}
 use Rattle.growing.specs.declared.Stays as declared-stays
 use Rattle.growing.specs.declared.Few as declared-few
@@ -132,12 +129,8 @@ module _ {new : ℕ} {s : Bytes} {p : place.Place} {leaf : declared-stays.Stays}
 
   grows-form : new ≤ top32 → (r : declared.Outcome) → NodeSays (r .node) (grows .node) → All RecordForm (updatedSays (placeOf p) r)
   grows-form t r h =
-      let sh : Shaped (placeOf p) after = fits-shaped (256 - p .count) (placeOf p) (staying (staysSays leaf)) (asks part) long fits in
-      let e : grows .node ≡ versioned new vnone after = given .node-is in
-      updated-form (placeOf p) r
-      (says-form (r .node) (grows .node) (placeOf p) h
-      (subst (λ u. Shaped (placeOf p) (unversioned u)) (sym e) (subst (Shaped (placeOf p)) (sym (versioned-tree new vnone after)) sh))
-      (subst Numbered (sym e) (numbered-versioned new vnone (placeOf p) after (w .number, t) tt sh)))
+      given-form new (placeOf p) vnone after grows given (w .number, t) tt
+      (fits-shaped (256 - p .count) (placeOf p) (staying (staysSays leaf)) (asks part) long fits) r h
 
   -- the grants, by the case of what was found
   pub few-is : {f g : declared-few.Few} → f ≡ g → FewSays f (step.toGrow (staysSays leaf) (asks part)) →

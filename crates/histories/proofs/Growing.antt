@@ -80,7 +80,7 @@ root-grows new grow-none = grow-none
 root-grows new grow-leaf = grow-leaf
 root-grows new (grow-inner a b) = grow-inner a b
 
-root-tree : (new : ℕ) (t : VTree) → unversioned (newRoot new t) ≡ unversioned t
+pub root-tree : (new : ℕ) (t : VTree) → unversioned (newRoot new t) ≡ unversioned t
 root-tree new vnone = refl
 root-tree new (vleaf v g) = refl
 root-tree new (vinner v l r) = refl

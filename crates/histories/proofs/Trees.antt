@@ -13,18 +13,19 @@ use Rattle.meaning.specs.Sound.{Kept, Found, NodeOf, Stands}
 use Rattle.meaning.specs.Reading.{bodyHash, rootHash}
 use Rattle.meaning.proofs.Finding.{Within, there, go-kid}
 use Rattle.meaning.proofs.Shaped.{Shaped, kid-shaped, two-grants-below}
-use Rattle.histories.proofs.Standing.{found-record, inner-short, root-some, root-none}
+use Rattle.histories.proofs.Standing.{Formed, found-record, inner-short, root-some, root-none}
 use Rattle.histories.proofs.Whole.{Whole}
 
 pub within-shaped : {u : VTree} {q : Place} {t : VTree} {p : Place} → Within u q t p → Shaped p (unversioned t) → Shaped q (unversioned u)
 within-shaped there s = s
 within-shaped (go-kid b {w = v} {l = l} {r = r} {p = p} w) s = within-shaped w (kid-shaped b p (vinner v l r) s)
 
-module _ (leafHash innerHash : Bytes → Bytes → Bytes) (st : Store) (w : Whole leafHash innerHash st) where
+module _ (leafHash innerHash : Bytes → Bytes → Bytes) (st : Store) (z : Formed (st .slots)) where
   found-form : (v : ℕ) (p : Place) (b : Body) → Found st v p b → BodyForm b
-  found-form v p b f = let r = found-record st v p b f in subst BodyForm (r .4) (w .formed (r .0) (r .1) .body)
+  found-form v p b f = let r = found-record st v p b f in subst BodyForm (r .4) (z (r .0) (r .1) .body)
 
-  stands-shaped : (p : Place) (t : VTree) → Stands leafHash innerHash st p t → Shaped p (unversioned t)
+  -- where records are in form, a tree that stands is shaped
+  pub stands-shaped : (p : Place) (t : VTree) → Stands leafHash innerHash st p t → Shaped p (unversioned t)
   unfolding childOf
   stands-shaped p vnone s = tt
   stands-shaped p (vleaf v g) s = (s .1, found-form v p _ (s .0))
@@ -32,10 +33,11 @@ module _ (leafHash innerHash : Bytes → Bytes → Bytes) (st : Store) (w : Whol
       let a : Shaped (longer left p) (unversioned l) = stands-shaped (longer left p) l (s .2) in
       let b : Shaped (longer right p) (unversioned r) = stands-shaped (longer right p) r (s .3) in
       let two = two-grants-below l r (longer left p) (longer right p) (found-form v p _ (s .0) .2) (s .1) a b in
-      (inner-short st (w .formed) v p _ (s .0), two, a, b)
+      (inner-short st z v p _ (s .0), two, a, b)
 
+module _ (leafHash innerHash : Bytes → Bytes → Bytes) (st : Store) (w : Whole leafHash innerHash st) where
   pub kept-shaped : (v : ℕ) → Kept st v → Shaped [] (unversioned (treeAtVersion st v))
-  kept-shaped v k = stands-shaped [] (treeAtVersion st v) (w .stands v k)
+  kept-shaped v k = stands-shaped leafHash innerHash st (w .formed) [] (treeAtVersion st v) (w .stands v k)
 
   -- what is found has the body that was said
   found-body : (v x : ℕ) (r : Record) (b : Body) → x ≡ v → find v [] (st .slots) ≡ some r → Found st x [] b → r .body ≡ b

@@ -12,7 +12,7 @@ use Rattle.terms.specs.Bits.{Bytes, Byte, All}
 use Rattle.terms.specs.Fields.{le, num, field, slice, zeroBytes, allZero, flat}
 use Rattle.terms.specs.Form.{top32}
 use Rattle.terms.proofs.Tests.{is-false}
-use Rattle.terms.proofs.Fields.{num-le, length-le, le-field, length-slice, zero-bytes, all-zero, cuts, flat-front, all-of-tests, tests-all, Sized, cuts-front, length-flat, flat-append, length-zero-bytes}
+use Rattle.terms.proofs.Fields.{num-le, length-le, le-field, length-slice, zero-bytes, all-zero, cuts, flat-front, all-of-tests, tests-all, Sized, total, cuts-front, length-flat, flat-append, length-zero-bytes}
 use Rattle.fields.specs.Written.{written}
 use Rattle.fields.proofs.Written.{fields-written, written-between}
 use Rattle.layout.specs.Sizes.{roomOf}
@@ -60,25 +60,34 @@ pub header-put : {a b c d e f g : Bytes} (n o l : ℕ) (s : Bytes) → 24 ≤ le
 unfolding headerBytes
 header-put n o l s h p q r t u v w = rw (w, v, u, t, r, q, p, zero-two, zero-four) (fields-written sizes 0 (fields n o l) s (sized n o l) h)
 
--- a header and what follows it, cut around oldest
-oldest-between : (n o l : ℕ) (xs : Bytes) →
-    headerBytes n o l ++ xs ≡ flat (le 4 24 ∷ le 2 1 ∷ zeroBytes 2 ∷ le 4 n ∷ []) ++ (le 4 o ++ (flat (le 4 l ∷ zeroBytes 4 ∷ []) ++ xs))
-unfolding headerBytes
-oldest-between n o l xs =
-    let front = le 4 24 ∷ le 2 1 ∷ zeroBytes 2 ∷ le 4 n ∷ [] in
-    let rest = le 4 l ∷ zeroBytes 4 ∷ [] in
-    ap (_++ xs) (flat-append front (le 4 o ∷ rest))
-    ∙ append-assoc (flat front) (le 4 o ++ flat rest) xs
-    ∙ ap (flat front ++_) (append-assoc (le 4 o) (flat rest) xs)
+-- fields and what follows them, cut around one of them
+around : (front : List Bytes) (x : Bytes) (rest : List Bytes) (xs : Bytes) → flat (front ++ x ∷ rest) ++ xs ≡ flat front ++ (x ++ (flat rest ++ xs))
+around front x rest xs =
+    ap (_++ xs) (flat-append front (x ∷ rest))
+    ∙ append-assoc (flat front) (x ++ flat rest) xs
+    ∙ ap (flat front ++_) (append-assoc x (flat rest) xs)
 
--- another oldest, written in its place
-pub oldest-put : (n o q l : ℕ) (xs : Bytes) → headerBytes n q l ++ xs ≡ written 12 (le 4 q) (headerBytes n o l ++ xs)
-oldest-put n o q l xs =
-    let front = le 4 24 ∷ le 2 1 ∷ zeroBytes 2 ∷ le 4 n ∷ [] in
-    let m = length-flat (4 ∷ 2 ∷ 2 ∷ 4 ∷ []) front (length-le 4 _, (length-le 2 _, (length-zero-bytes 2, (length-le 4 n, tt)))) in
-    oldest-between n q l xs
-    ∙ sym (written-between (flat front) (le 4 o) (flat (le 4 l ∷ zeroBytes 4 ∷ []) ++ xs) (le 4 q) 12 m (length-le 4 q ∙ sym (length-le 4 o)))
-    ∙ ap (written 12 (le 4 q)) (sym (oldest-between n o l xs))
+-- another number, written in its place
+number-put : (ns : List ℕ) (front : List Bytes) (n m : ℕ) (rest : List Bytes) (xs : Bytes) → Sized ns front →
+    flat (front ++ le 4 m ∷ rest) ++ xs ≡ written (total ns) (le 4 m) (flat (front ++ le 4 n ∷ rest) ++ xs)
+number-put ns front n m rest xs h =
+    around front (le 4 m) rest xs
+    ∙ sym (written-between (flat front) (le 4 n) (flat rest ++ xs) (le 4 m) (total ns) (length-flat ns front h) (length-le 4 m ∙ sym (length-le 4 n)))
+    ∙ ap (written (total ns) (le 4 m)) (sym (around front (le 4 n) rest xs))
+
+-- another oldest, and another latest
+module _ (n o l q : ℕ) (xs : Bytes) where
+  pub oldest-put : headerBytes n q l ++ xs ≡ written 12 (le 4 q) (headerBytes n o l ++ xs)
+  unfolding headerBytes
+  oldest-put =
+      number-put (4 ∷ 2 ∷ 2 ∷ 4 ∷ []) (le 4 24 ∷ le 2 1 ∷ zeroBytes 2 ∷ le 4 n ∷ []) o q (le 4 l ∷ zeroBytes 4 ∷ []) xs
+      (length-le 4 _, (length-le 2 _, (length-zero-bytes 2, (length-le 4 n, tt))))
+
+  pub latest-put : headerBytes n o q ++ xs ≡ written 16 (le 4 q) (headerBytes n o l ++ xs)
+  unfolding headerBytes
+  latest-put =
+      number-put (4 ∷ 2 ∷ 2 ∷ 4 ∷ 4 ∷ []) (le 4 24 ∷ le 2 1 ∷ zeroBytes 2 ∷ le 4 n ∷ le 4 o ∷ []) l q (zeroBytes 4 ∷ []) xs
+      (length-le 4 _, (length-le 2 _, (length-zero-bytes 2, (length-le 4 n, (length-le 4 o, tt)))))
 
 -- bytes that begin with those of a header, and are as many as it says
 module _ (s : Bytes) (n o l : ℕ) (xs : Bytes) (is : s ≡ headerBytes n o l ++ xs) (long : length xs ≡ 120 * n) where

@@ -19,7 +19,7 @@ use Rattle.layout.specs.Headers.{header, headerOf, headerBytes}
 use Rattle.layout.specs.Slots.{recordOf, slotOf, slotBytes, SlotForm}
 use Rattle.layout.specs.Stores.{slotIn, slotsOf, slotsBytes, storeOf, storeBytes, StoreForm, putSlot, putBounds}
 use Rattle.layout.proofs.Slots.{slot-said, slot-back, slot-form, length-slot, retired-put}
-use Rattle.layout.proofs.Headers.{room-of, length-header, oldest-put, header-said, Accepted, accepted, header-back}
+use Rattle.layout.proofs.Headers.{room-of, length-header, oldest-put, latest-put, header-said, Accepted, accepted, header-back}
 
 pub length-slots-bytes : (xs : List Slot) → All SlotForm xs → length (slotsBytes xs) ≡ 120 * length xs
 length-slots-bytes [] h = refl
@@ -216,4 +216,8 @@ module _ (st : Store) (f : StoreForm st) where
 -- another oldest: its four bytes change, and nothing else
 pub oldest-put-bytes : (st : Store) (o : ℕ) → storeBytes (putBounds o (st .latest) st) ≡ written 12 (le 4 o) (storeBytes st)
 unfolding putBounds storeBytes
-oldest-put-bytes st o = oldest-put (length (st .slots)) (st .oldest) o (st .latest) (slotsBytes (st .slots))
+oldest-put-bytes st o = oldest-put (length (st .slots)) (st .oldest) (st .latest) o (slotsBytes (st .slots))
+
+pub latest-put-bytes : (st : Store) (l : ℕ) → storeBytes (putBounds (st .oldest) l st) ≡ written 16 (le 4 l) (storeBytes st)
+unfolding putBounds storeBytes
+latest-put-bytes st l = latest-put (length (st .slots)) (st .oldest) (st .latest) l (slotsBytes (st .slots))

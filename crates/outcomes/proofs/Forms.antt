@@ -11,17 +11,21 @@ use Rattle.terms.specs.Form.{top32, ChildForm, RecordForm}
 use Rattle.terms.proofs.Places.{length-bits, prefix-length}
 use Rattle.meaning.specs.Tree.{Tree, none, leaf, inner, grants, hash, VTree, vnone, vleaf, vinner, unversioned, grantsIn, topVersion, kid, sameGrants, nodeVersion, versioned}
 use Rattle.meaning.specs.Store.{childOf}
-use Rattle.meaning.proofs.Versions.{sameGrants-eq}
+use Rattle.meaning.proofs.Versions.{sameGrants-eq, versioned-tree}
 use Rattle.meaning.proofs.Shaped.{Shaped}
 use Rattle.hash.specs.Hash.{hashBytes}
 use Rattle.hash.proofs.Laws.{hash-whole}
 use Rattle.nodehash.specs.Node.{leafHash, innerHash}
 use Rattle.slots.specs.declared.Child as declared-child
 use Rattle.slots.specs.Answer.{childSays}
+use Rattle.steps.specs.Step as step
+use Rattle.steps.specs.Given.{Gives}
 use Rattle.placing.specs.declared.Node as node
 use Rattle.placing.specs.declared.Node.the-variants.{Nothing, Leaf, Inner}
 use Rattle.placing.specs.Placing.{recordSays}
-use Rattle.outcomes.specs.Outcomes.{NodeSays}
+use Rattle.outcomes.specs.declared.Outcome as declared
+use Rattle.outcomes.specs.Outcomes.{NodeSays, updatedSays}
+use Rattle.outcomes.proofs.Saying.{updated-form}
 
 -- a version: a number of four bytes, and not 0
 abbrev pub Number : ℕ → Type 0
@@ -112,7 +116,7 @@ kid-right vnone m = tt
 kid-right (vleaf v g) m = tt
 kid-right (vinner v l r) m = m .2
 
-pub numbered-versioned : (new : ℕ) (old : VTree) (p : Place) (t : Tree) → Number new → Numbered old → Shaped p t → Numbered (versioned new old t)
+numbered-versioned : (new : ℕ) (old : VTree) (p : Place) (t : Tree) → Number new → Numbered old → Shaped p t → Numbered (versioned new old t)
 numbered-versioned new old p none n m s = tt
 numbered-versioned new old p (leaf g) n m s = node-number new old (g ∷ []) n m (omega arith)
 numbered-versioned new old p (inner l r) n m s = (
@@ -120,3 +124,15 @@ numbered-versioned new old p (inner l r) n m s = (
   numbered-versioned new (kid left old) (longer left p) l n (kid-left old m) (s .2),
   numbered-versioned new (kid right old) (longer right p) r n (kid-right old m) (s .3),
 )
+
+-- so the node of an outcome that is given is in form
+module _ (new : ℕ) (p : Place) (t : VTree) (now : Tree) (o : step.Outcome) (given : Gives leafHash innerHash new p t now o) (n : Number new)
+    (m : Numbered t) (s : Shaped p now) where
+  pub given-shaped : Shaped p (unversioned (o .node))
+  given-shaped = rw (given .node-is, versioned-tree new t now) s
+
+  pub given-numbered : Numbered (o .node)
+  given-numbered = rw (given .node-is) (numbered-versioned new t p now n m s)
+
+  pub given-form : (r : declared.Outcome) → NodeSays (r .node) (o .node) → All RecordForm (updatedSays p r)
+  given-form r h = updated-form p r (says-form (r .node) (o .node) p h given-shaped given-numbered)

@@ -72,7 +72,7 @@ pub fn child_of(node: Node) -> Child
 }
 
 // How many records a node has: one, if there is a node.
-fn size(node: Node) -> usize
+pub fn size(node: Node) -> usize
     ensures { λ r. ⌜ r ≡ nodeSize node ⌝ }
 {
     match node {

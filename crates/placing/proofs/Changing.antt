@@ -23,7 +23,7 @@ use Rattle.placing.specs.Placing.{Stored, putSlots, Changed, whenWrites}
 
 -- the bytes of a store in form are read as the store
 module _ {f : List Slot → List Slot} {s s′ : Bytes} (c : Changed f s s′) where
-  changed-store : storeOf s′ ≡ putSlots (f (storeOf s .slots)) (storeOf s)
+  pub changed-store : storeOf s′ ≡ putSlots (f (storeOf s .slots)) (storeOf s)
   changed-store = ap storeOf (c .bytes) ∙ store-said (putSlots (f (storeOf s .slots)) (storeOf s)) (c .form)
 
   pub changed-stored : Stored s′

@@ -59,11 +59,11 @@ placed-nowhere r (used x ∷ s) h = ap (used x ∷_) (placed-nowhere r s (λ j k
 placed-nowhere r (spoiled x ∷ s) h = ap (spoiled x ∷_) (placed-nowhere r s (λ j k. h (suc j) (omega arith)))
 
 -- free is exactly all zero
-zero-free : (x : Bytes) → allZero x ≡ true → slotOf x ≡ free
+pub zero-free : (x : Bytes) → allZero x ≡ true → slotOf x ≡ free
 unfolding slotOf
 zero-free x e = rw e
 
-not-free : (x : Bytes) → allZero x ≡ false → slotOf x ≡ free → ⊥
+pub not-free : (x : Bytes) → allZero x ≡ false → slotOf x ≡ free → ⊥
 unfolding slotOf
 not-free x e = rw e (go (isLeaf x) (isInner x))
   where

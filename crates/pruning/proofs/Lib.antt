@@ -1,4 +1,3 @@
 pub mod Freeing
 pub mod Outcomes
-pub mod Checking
 pub mod Theorems

@@ -12,10 +12,11 @@ use Rattle.terms.specs.Fields.{le, field}
 use Rattle.fields.specs.Written.{written}
 use Rattle.meaning.specs.Calls.{refused, accepted, refuse, isKept, prune}
 use Rattle.layout.specs.Stores.{storeOf, storeBytes, putBounds}
-use Rattle.layout.proofs.Headers.{accepted as header-accepted}
-use Rattle.layout.proofs.Stores.{store-back, store-form, oldest-put-bytes}
+use Rattle.layout.proofs.Stores.{oldest-put-bytes}
+use Rattle.calls.specs.Calls.{SoundBytes, refuses, accepts}
+use Rattle.calls.proofs.Calls.{sound-form, sound-back}
 use Rattle.pruning.specs.Free.{Readable, emptied, Frees}
-use Rattle.pruning.specs.Prune.{SoundBytes, Prunes, not-kept, freed}
+use Rattle.pruning.specs.Prune.{Prunes}
 
 -- the version is kept, as the code tests it
 module _ (s : Bytes) (v : ℕ) where
@@ -28,27 +29,18 @@ module _ (s : Bytes) (v : ℕ) where
   up-to-latest h = rw (le-leb (field 12 4 s) v h)
 
 module _ {s : Bytes} (w : SoundBytes s) where
-  pub sound-long : 24 ≤ length s
-  sound-long = omega (arith, header-accepted s (w .capacity) (w .oldest) (w .latest) (w .headed) .size)
-
   pub sound-readable : All Byte s → Readable s
-  sound-readable h =
-      let a = header-accepted s (w .capacity) (w .oldest) (w .latest) (w .headed) in
-      record {
-        form = store-form s (w .capacity) (w .oldest) (w .latest) h a;
-        back = store-back s (w .capacity) (w .oldest) (w .latest) h a;
-        whole = w .sound .whole;
-      }
+  sound-readable h = record { form = sound-form (storeOf s) (w .sound); back = sound-back w h; whole = w .sound .whole }
 
-  pub refused-8 : {n : ℕ} → isKept (storeOf s) n ≡ false → Prunes n s (refused 8) s
+  pub refused-8 : (n : ℕ) → isKept (storeOf s) n ≡ false → Prunes n s (refused 8) s
   unfolding prune refuse
-  refused-8 e = not-kept {m = 8} w (rw e)
+  refused-8 n e = refuses {m = 8} w (rw e)
 
   -- the retired records are freed and oldest is set
-  pub pruned-to : {n k : ℕ} {t u : Bytes} → isKept (storeOf s) n ≡ true → Frees n s k t → u ≡ written 12 (le 4 n) t → Prunes n s (accepted k) u
+  pub pruned-to : (n : ℕ) {k : ℕ} {t u : Bytes} → isKept (storeOf s) n ≡ true → Frees n s k t → u ≡ written 12 (le 4 n) t → Prunes n s (accepted k) u
   unfolding prune putBounds emptied
-  pruned-to {n} {k} {t} {u} e f p =
+  pruned-to n {k} {t} {u} e f p =
       let st = storeOf s in
       let answer : prune n st .answer ≡ accepted k = rw (e, f .count) in
       let after : prune n st .store ≡ putBounds n (st .latest) (emptied n st) = rw e in
-      subst (Prunes n s (accepted k)) (ap storeBytes after ∙ oldest-put-bytes (emptied n st) n ∙ ap (written 12 (le 4 n)) (sym (f .bytes)) ∙ sym p) (freed w answer)
+      subst (Prunes n s (accepted k)) (ap storeBytes after ∙ oldest-put-bytes (emptied n st) n ∙ ap (written 12 (le 4 n)) (sym (f .bytes)) ∙ sym p) (accepts w answer)

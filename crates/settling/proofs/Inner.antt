@@ -7,7 +7,6 @@ use mathlib.Core.Bool.{Bool, true, false, _&&_}
 use mathlib.Core.List.{List, [], _++_}
 use mathlib.Core.Logic.{inl, inr}
 use lib.ListN.{length, length-append}
-use borrow.Author.Tests.{ne-eqb}
 use Rattle.terms.specs.Bits.{Bytes, Place, longer, left, right}
 use Rattle.terms.specs.Records.{Child, Grant, grant}
 use Rattle.meaning.specs.Tree.{VTree, vnone, vleaf, vinner}
@@ -36,15 +35,14 @@ use Rattle.outcomes.proofs.Forking.{nothing-marked, above-bytes, fork-did}
 use Rattle.ending.specs.declared.Left as left-type
 use Rattle.ending.specs.declared.Left.the-variants as L
 use Rattle.ending.specs.Ending.{childNodes, endsSays, leftOf}
+use Rattle.ending.proofs.Ending.{top-nodes}
 use Rattle.settling.specs.Settling.{bothStayed, Settled, stayed, gone, lone, more}
 
 -- the node of a child is the top of its tree
 child-nodes : (c : child.Child) (t : VTree) (q : Place) → childSays c ≡ childOf leafHash innerHash t → Numbered t →
     childNodes (c .version) q ≡ step.nodeAt q t
-unfolding childNodes childSays childOf
-child-nodes c vnone q e n = rw (ap (λ (x : Child). x .version) e)
-child-nodes c (vleaf v g) q e n = rw (ap (λ (x : Child). x .version) e, ne-eqb v 0 (λ z. omega arith))
-child-nodes c (vinner v a b) q e n = rw (ap (λ (x : Child). x .version) e, ne-eqb v 0 (λ z. omega arith))
+unfolding childSays childOf
+child-nodes c t q e n = ap (λ v. childNodes v q) (ap (λ (x : Child). x .version) e) ∙ top-nodes t q n
 
 ends-is : (d : change.Change) (c : child.Child) (t : VTree) (q : Place) → childSays c ≡ childOf leafHash innerHash t → Numbered t →
     endsSays d (c .version) q ≡ step.endsAt (changeSays d) q t

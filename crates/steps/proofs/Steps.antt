@@ -29,26 +29,26 @@ use Rattle.steps.proofs.Leaf.{leaf-gives}
 use Rattle.steps.proofs.Inner.{inner-gives}
 
 -- the tree after a run at a place
-abbrev after : ℕ → Place → VTree → List Ask → Tree
+abbrev pub after : ℕ → Place → VTree → List Ask → Tree
 after n p t asks = treeBy n (length p) (withBatch asks (grantsIn t))
 
 module _ (leafHash innerHash : Bytes → Bytes → Bytes) (new : ℕ) where
-  abbrev GivesAt : Place → VTree → Tree → Step → List Ask → Type 0
+  abbrev pub GivesAt : Place → VTree → Tree → Step → List Ask → Type 0
   GivesAt p t now step asks = Gives leafHash innerHash new p t now (step p t asks)
 
   -- the steps at a node and at a child, n bits short of a key
-  abbrev node : ℕ → Step
+  abbrev pub node : ℕ → Step
   node n = stepNode leafHash innerHash new n
 
-  abbrev child : ℕ → Step
+  abbrev pub child : ℕ → Step
   child n = stepChild (node n)
 
   -- what is to be shown of a step
-  abbrev StepGives : ℕ → Step → Type 0
+  abbrev pub StepGives : ℕ → Step → Type 0
   StepGives n step = (p : Place) (t : VTree) (asks : List Ask) → length p + n ≡ 256 → Shaped p (unversioned t) → Older new p t →
       Fits p (grantsIn t) asks → GivesAt p t (after n p t asks) step asks
 
-  child-gives : (n : ℕ) → StepGives n (node n) → StepGives n (child n)
+  pub child-gives : (n : ℕ) → StepGives n (node n) → StepGives n (child n)
   child-gives n step p t [] e s o f = rw (← shaped-treeBy n p (unversioned t) e s) (unchanged-gives leafHash innerHash new p t o)
   child-gives n step p t (a ∷ asks) e s o f = step p t (a ∷ asks) e s o f
 

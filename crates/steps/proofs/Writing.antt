@@ -72,7 +72,7 @@ not-among new rs ns f o =
     all-map _ _ rs (λ r e. is-false (isAmong r ns) (λ h. let l = o (r .version) (r .place) (among-test r ns .0 h) in omega arith)) f
 
 -- first some, then more
-two-turns : (new : ℕ) (xs ys : List Record) (ms ns : List Node) (s : List Slot) → AllNew new xs → AllOlder new ns →
+pub two-turns : (new : ℕ) (xs ys : List Record) (ms ns : List Node) (s : List Slot) → AllNew new xs → AllOlder new ns →
     placed (xs ++ ys) (mark new (ms ++ ns) s) ≡ placed ys (mark new ns (placed xs (mark new ms s)))
 two-turns new xs ys ms ns s f o =
     ap (placed (xs ++ ys)) (mark-append new ms ns s)

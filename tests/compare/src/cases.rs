@@ -1,6 +1,6 @@
 //! Random stores, damage and forgery, from one seed.
 
-use second::bytes::{ask_bytes, Ask, HEADER, SLOT};
+use second::bytes::{ask_bytes, bit, put_header, put_slot, slot_bytes, u32_at, Ask, Body, Place, Record, Slot, ASK, HEADER, SLOT};
 use second::Bytes32;
 
 /// A linear congruential generator, its high bits.
@@ -55,6 +55,24 @@ pub fn keys(random: &mut Random) -> Vec<Bytes32> {
     keys
 }
 
+/// A key, and keys that share its first bits and then differ: up to 255 of them shared.
+pub fn deep_keys(random: &mut Random) -> Vec<Bytes32> {
+    let base = [[0; 32], [0xFF; 32], random.hash()][random.below(3)];
+    let mut keys = vec![base];
+    for _ in 0..1 + random.below(6) {
+        let at = if random.one_in(2) { 255 - random.below(6) } else { random.below(256) };
+        let mut k = keys[random.below(keys.len())];
+        k[at / 8] ^= 0x80 >> (at % 8);
+        if random.one_in(3) {
+            k[at / 8 + 1..].fill(random.byte());
+        }
+        keys.push(k);
+    }
+    keys.sort();
+    keys.dedup();
+    keys
+}
+
 pub fn batch(random: &mut Random, keys: &[Bytes32]) -> Vec<u8> {
     let share = 1 + random.below(4);
     let mut out = vec![];
@@ -67,6 +85,128 @@ pub fn batch(random: &mut Random, keys: &[Bytes32]) -> Vec<u8> {
     out
 }
 
+/// A batch changed in form or in order.
+pub fn spoil(random: &mut Random, b: &mut Vec<u8>) {
+    let n = b.len() / ASK;
+    if n == 0 {
+        b.extend((0..1 + random.below(ASK)).map(|_| 0));
+        return;
+    }
+    let (some, other) = (random.below(n), random.below(n));
+    let at = ASK * some;
+    match random.below(9) {
+        0 => b[at + random.below(8)] ^= 1 << random.below(8),
+        1 => b[at + random.below(ASK)] ^= 1 << random.below(8),
+        2 => b.truncate(b.len() - 1 - random.below(ASK - 1)),
+        3 => b.extend((0..1 + random.below(ASK - 1)).map(|_| 0)),
+        // the lengths of insert and delete, the kinds as they were
+        4 => b[at] ^= 72 ^ 40,
+        // the kinds, the lengths as they were
+        5 => b[at + 4] ^= 1 ^ 2,
+        // an insert made a delete, its value left
+        6 => {
+            b[at] = 40;
+            b[at + 4] = 2;
+        }
+        7 => {
+            let copy = b[at..at + ASK].to_vec();
+            b.extend(copy);
+        }
+        _ => {
+            let (x, y) = (b[at..at + ASK].to_vec(), b[ASK * other..][..ASK].to_vec());
+            b[at..at + ASK].copy_from_slice(&y);
+            b[ASK * other..][..ASK].copy_from_slice(&x);
+        }
+    }
+}
+
+/// A fresh store with all of these versions kept, each of them empty.
+pub fn fresh(capacity: usize, oldest: u32, latest: u32) -> Vec<u8> {
+    let mut s = vec![0; HEADER + SLOT * capacity];
+    put_header(&mut s, oldest, latest);
+    s
+}
+
+fn put(oldest: u32, latest: u32, slots: &[Option<Record>]) -> Vec<u8> {
+    let mut s = fresh(slots.len(), oldest, latest);
+    for (i, r) in slots.iter().enumerate() {
+        if let Some(r) = r {
+            put_slot(&mut s, i, &slot_bytes(r));
+        }
+    }
+    s
+}
+
+/// Header and records of a sound store.
+fn records(s: &[u8]) -> (u32, u32, Vec<Record>) {
+    let st = second::bytes::store(s).unwrap();
+    let records = st.slots.iter().filter_map(|x| if let Slot::Used(r) = x { Some(*r) } else { None }).collect();
+    (st.oldest, st.latest, records)
+}
+
+/// How many slots are used.
+pub fn taken(s: &[u8]) -> usize {
+    used(s).len()
+}
+
+/// The same records in slots of any order, with this many free ones among them.
+pub fn scattered(random: &mut Random, s: &[u8], free: usize) -> Vec<u8> {
+    let (oldest, latest, records) = records(s);
+    let mut slots: Vec<Option<Record>> = records.into_iter().map(Some).collect();
+    slots.resize(slots.len() + free, None);
+    for i in (1..slots.len()).rev() {
+        slots.swap(i, random.below(i + 1));
+    }
+    put(oldest, latest, &slots)
+}
+
+/// Every version of a sound store raised by the same number: sound again.
+pub fn raised(s: &[u8], by: u32) -> Vec<u8> {
+    let st = second::bytes::store(s).unwrap();
+    let up = |v: u32| if v == 0 { 0 } else { v + by };
+    let slots: Vec<Option<Record>> = st
+        .slots
+        .iter()
+        .map(|x| {
+            let Slot::Used(mut r) = *x else { return None };
+            r.version = up(r.version);
+            r.retired = up(r.retired);
+            if let Body::Inner(children) = &mut r.body {
+                children.iter_mut().for_each(|c| c.version = up(c.version));
+            }
+            Some(r)
+        })
+        .collect();
+    put(st.oldest + by, st.latest + by, &slots)
+}
+
+/// Other versions, at most oldest, for the records of a sound store that are at most oldest, roots apart: sound again, though no history
+/// gives it. A child may then be above its parent.
+pub fn relabelled(random: &mut Random, s: &[u8]) -> Vec<u8> {
+    let (oldest, latest) = (u32_at(s, 12), u32_at(s, 16));
+    let st = second::bytes::store(s).unwrap();
+    let mut slots: Vec<Option<Record>> = st.slots.iter().map(|x| if let Slot::Used(r) = x { Some(*r) } else { None }).collect();
+    for i in 0..slots.len() {
+        let Some(r) = slots[i] else { continue };
+        if r.place.count == 0 || r.version > oldest {
+            continue;
+        }
+        let version = 1 + random.below(oldest as usize) as u32;
+        let last = r.place.count - 1;
+        let above = (0..last).fold(Place::EMPTY, |p, j| p.longer(bit(&r.place.bits, j)));
+        for q in slots.iter_mut().flatten().filter(|q| q.place == above) {
+            if let Body::Inner(children) = &mut q.body {
+                let c = &mut children[bit(&r.place.bits, last) as usize];
+                if c.version == r.version {
+                    c.version = version;
+                }
+            }
+        }
+        slots[i].as_mut().unwrap().version = version;
+    }
+    put(oldest, latest, &slots)
+}
+
 /// A store made by calls, and the keys used.
 pub fn store(random: &mut Random) -> (Vec<u8>, Vec<Bytes32>) {
     let keys = keys(random);
@@ -75,7 +215,7 @@ pub fn store(random: &mut Random) -> (Vec<u8>, Vec<Bytes32>) {
     second::format(&mut s).unwrap();
     if random.one_in(12) {
         let high = u32::MAX - random.below(4) as u32;
-        second::bytes::put_header(&mut s, high, high);
+        put_header(&mut s, high, high);
     }
     for _ in 0..random.below(9) {
         if random.one_in(4) {

@@ -1,89 +1,15 @@
 //! The proved library beside the second program, on random histories, damaged stores and forged proofs. Deterministic: the first argument
-//! is the number of rounds (a round is some forty cases), the second the seed.
+//! is the number of rounds (a round is some forty cases, every tenth a history besides, every 4,000th the largest store), the second the seed.
 
+mod applying;
+mod both;
 mod cases;
 mod ours;
+mod stack;
+mod tally;
 
 use cases::Random;
-use std::collections::BTreeMap;
-
-#[derive(Default)]
-struct Tally {
-    passed: u64,
-    failed: u64,
-    /// How often each call gave each answer.
-    answers: BTreeMap<String, u64>,
-}
-
-/// An answer in a word: the number of refusal, or what was accepted.
-trait Word {
-    fn word(&self) -> String;
-}
-
-impl Word for Result<(), u32> {
-    fn word(&self) -> String {
-        self.map_or_else(|n| n.to_string(), |()| "accepted".into())
-    }
-}
-
-impl Word for Result<[u8; 32], u32> {
-    fn word(&self) -> String {
-        self.map_or_else(|n| n.to_string(), |h| if h == [0; 32] { "zeros" } else { "hash" }.into())
-    }
-}
-
-impl Word for Result<Option<[u8; 32]>, u32> {
-    fn word(&self) -> String {
-        self.map_or_else(|n| n.to_string(), |v| if v.is_some() { "present" } else { "absent" }.into())
-    }
-}
-
-impl Word for Result<u32, u32> {
-    fn word(&self) -> String {
-        self.map_or_else(|n| n.to_string(), |n| if n == 0 { "0" } else { "some" }.into())
-    }
-}
-
-/// A proof's length with the whole room: its kind and flags.
-struct Proof;
-
-impl Proof {
-    fn word(answer: Result<u32, u32>, room: &[u8]) -> String {
-        match answer {
-            Err(n) => n.to_string(),
-            Ok(_) if room[4] == 16 => "presence".into(),
-            Ok(_) => format!("absence {}", room[6]),
-        }
-    }
-}
-
-impl<T: Word> Word for (T, Vec<u8>) {
-    fn word(&self) -> String {
-        self.0.word()
-    }
-}
-
-impl Tally {
-    fn same<T: PartialEq + std::fmt::Debug + Word>(&mut self, what: &str, seed: u64, ours: T, second: T) {
-        self.count(format!("{what} {}", second.word()));
-        self.equal(what, seed, ours, second);
-    }
-
-    fn count(&mut self, answer: String) {
-        *self.answers.entry(answer).or_default() += 1;
-    }
-
-    fn equal<T: PartialEq + std::fmt::Debug>(&mut self, what: &str, seed: u64, ours: T, second: T) {
-        if ours == second {
-            self.passed += 1;
-        } else {
-            self.failed += 1;
-            if self.failed < 20 {
-                println!("{what}, round seed {seed}: {ours:?}, the second program {second:?}");
-            }
-        }
-    }
-}
+use tally::Tally;
 
 /// Versions in and just out of the kept ones.
 fn version(random: &mut Random, s: &[u8]) -> u32 {
@@ -129,25 +55,13 @@ fn round(seed: u64, tally: &mut Tally) {
         s.resize(n - random.below(64).min(n), 0);
     }
     tally.same("check", seed, ours::check(&s), second::check(&s));
+    let message = &s[..random.below(s.len().min(400))];
+    tally.equal("sha256", seed, ours::sha256(message), second::sha256::sha256(message));
     let mut proofs = vec![];
     for _ in 0..5 {
         let v = version(&mut random, &s);
-        tally.same("root", seed, ours::root(&s, v), second::root(&s, v));
         let k = key(&mut random, &keys);
-        tally.same("get", seed, ours::get(&s, v, &k), second::get(&s, v, &k));
-        let room = match second::proof::proof(&s, v, &k) {
-            Ok(p) if random.one_in(6) => p.len() - 1,
-            Ok(p) if random.one_in(3) => p.len(),
-            Ok(p) => p.len() + random.below(40),
-            Err(_) => random.below(200),
-        };
-        let (mut a, mut b) = (vec![random.byte(); room], vec![]);
-        b.clone_from(&a);
-        let (x, y) = (ours::prove(&s, v, &k, &mut a), second::prove(&s, v, &k, &mut b));
-        tally.count(format!("prove {}", Proof::word(y, &b)));
-        tally.equal("prove", seed, (x, a), (y, b));
-        if let (Ok(p), Ok(root)) = (second::proof::proof(&s, v, &k), second::root(&s, v)) {
-            tally.same("verify", seed, ours::verify(&root, &k, &p), second::verify(&root, &k, &p));
+        if let Some((root, p)) = both::reads(tally, &mut random, seed, &s, v, &k) {
             proofs.push((root, k, p));
         }
     }
@@ -169,14 +83,14 @@ fn round(seed: u64, tally: &mut Tally) {
     }
     for _ in 0..3 {
         let v = version(&mut random, &s);
-        let (mut a, mut b) = (s.clone(), s.clone());
-        let (x, y) = (ours::prune(&mut a, v), second::prune(&mut b, v));
-        tally.same("prune", seed, (x, a), (y, b));
+        let _ = both::prune(tally, "of a made store", seed, &mut s.clone(), v);
+        let mut b = cases::batch(&mut random, &keys);
+        if random.one_in(4) {
+            cases::spoil(&mut random, &mut b);
+        }
+        let _ = both::apply(tally, "to a made store", seed, &mut s.clone(), &b);
     }
-    let mut fresh = s.clone();
-    let (a, mut b) = (ours::format(&mut fresh), s.clone());
-    let c = second::format(&mut b);
-    tally.same("format", seed, (a, fresh), (c, b));
+    both::format(tally, seed, &mut s);
 }
 
 /// Proofs off form by one thing each, and the longest ones in form.
@@ -257,9 +171,7 @@ fn pairs(tally: &mut Tally) {
     case("8 before 3", &damaged, out, &key, 8);
     tally.same("2 before 3", 0, ours::check(&bad_header), second::check(&bad_header));
     for (what, store, version) in [("1 before 2", &bad_header[..s.len() - 1], 1), ("2 before 3", &bad_header[..], 1), ("3 before 8", &damaged[..], out)] {
-        let (mut a, mut b) = (store.to_vec(), store.to_vec());
-        let (x, y) = (ours::prune(&mut a, version), second::prune(&mut b, version));
-        tally.same(what, 0, (x, a), (y, b));
+        let _ = both::prune(tally, what, 0, &mut store.to_vec(), version);
     }
     let root = [1; 32];
     for (what, root, key, proof) in [
@@ -271,15 +183,30 @@ fn pairs(tally: &mut Tally) {
     }
 }
 
+fn all(rounds: u64, first: u64, tally: &mut Tally) {
+    pairs(tally);
+    edges(tally);
+    applying::named(first, tally);
+    for n in 0..rounds {
+        let seed = first.wrapping_add(n).wrapping_mul(0x9E37_79B9_7F4A_7C15);
+        round(seed, tally);
+        if n % 10 == 0 {
+            applying::history(seed, tally);
+        }
+        if n % 4_000 == 0 {
+            applying::large(seed, tally);
+        }
+    }
+}
+
 fn main() {
     let mut words = std::env::args().skip(1).map(|w| w.parse::<u64>().expect("a number"));
     let rounds = words.next().unwrap_or(4000);
     let first = words.next().unwrap_or(1);
     let mut tally = Tally::default();
-    pairs(&mut tally);
-    edges(&mut tally);
-    for n in 0..rounds {
-        round(first.wrapping_add(n).wrapping_mul(0x9E37_79B9_7F4A_7C15), &mut tally);
+    // A panic, such as that of a call that wrote where it must not, ends the run; it counts as one failure.
+    if std::panic::catch_unwind(std::panic::AssertUnwindSafe(|| all(rounds, first, &mut tally))).is_err() {
+        tally.failed += 1;
     }
     for (answer, times) in &tally.answers {
         println!("{answer}: {times}");

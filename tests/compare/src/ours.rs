@@ -1,11 +1,13 @@
-//! The exports of the proved library, as safe Rust. Each answer's array is handed in filled with a mark, and a refused call must leave it
-//! so: that is looked at here, for every call.
+//! The exports of the proved library, as safe Rust. Each answer's array is handed in filled with a mark, between marked edges: a refused call
+//! must leave the array so, and every call the edges. That is looked at here, for every call.
 
+use second::bytes::{b32_at, u32_at};
 use second::{Bytes32, Refusal};
 
 extern "C" {
     fn grants_format(store: *mut u8, store_len: usize) -> u32;
     fn grants_check(store: *const u8, store_len: usize) -> u32;
+    fn grants_apply(store: *mut u8, store_len: usize, batch: *const u8, batch_len: usize, answer: *mut [u8; 40]) -> u32;
     fn grants_prune(store: *mut u8, store_len: usize, version: u32, freed: *mut [u8; 4]) -> u32;
     fn grants_root(store: *const u8, store_len: usize, version: u32, root: *mut [u8; 32]) -> u32;
     fn grants_get(store: *const u8, store_len: usize, version: u32, key: *const u8, key_len: usize, found: *mut [u8; 33]) -> u32;
@@ -28,16 +30,29 @@ extern "C" {
         proof_len: usize,
         found: *mut [u8; 33],
     ) -> u32;
+    fn grants_sha256(bytes: *const u8, len: usize, digest: *mut [u8; 32]) -> u32;
 }
 
 const MARK: u8 = 0xA5;
 
-/// A refused call leaves the answer's array as it was.
-fn answered<const N: usize>(number: u32, answer: [u8; N]) -> Result<[u8; N], Refusal> {
+#[repr(C)]
+struct Lent<const N: usize> {
+    before: [u8; 16],
+    answer: [u8; N],
+    after: [u8; 16],
+}
+
+/// What a call gives that answers through an array of N bytes.
+fn answered<const N: usize>(call: impl FnOnce(*mut [u8; N]) -> u32) -> Result<[u8; N], Refusal> {
+    let mut lent = Lent { before: [MARK; 16], answer: [MARK; N], after: [MARK; 16] };
+    let whole: *mut Lent<N> = &mut lent;
+    // A pointer that may reach the edges too, so that the compiler does not take them for unchanged.
+    let number = call(unsafe { std::ptr::addr_of_mut!((*whole).answer) });
+    assert!(lent.before == [MARK; 16] && lent.after == [MARK; 16], "bytes beside the answer were written");
     if number == 0 {
-        return Ok(answer);
+        return Ok(lent.answer);
     }
-    assert!(answer == [MARK; N], "refused with {number}, and the answer was written");
+    assert!(lent.answer == [MARK; N], "refused with {number}, and the answer was written");
     Err(number)
 }
 
@@ -67,38 +82,39 @@ pub fn check(store: &[u8]) -> Result<(), Refusal> {
     }
 }
 
+/// Version, root and count of new records.
+pub fn apply(store: &mut [u8], batch: &[u8]) -> Result<(u32, Bytes32, u32), Refusal> {
+    let answer = answered(|a| unsafe { grants_apply(store.as_mut_ptr(), store.len(), batch.as_ptr(), batch.len(), a) })?;
+    Ok((u32_at(&answer, 0), b32_at(&answer, 4), u32_at(&answer, 36)))
+}
+
 /// How many records were freed.
 pub fn prune(store: &mut [u8], version: u32) -> Result<u32, Refusal> {
-    let mut freed = [MARK; 4];
-    let number = unsafe { grants_prune(store.as_mut_ptr(), store.len(), version, &mut freed) };
-    answered(number, freed).map(u32::from_le_bytes)
+    answered(|freed| unsafe { grants_prune(store.as_mut_ptr(), store.len(), version, freed) }).map(u32::from_le_bytes)
 }
 
 pub fn root(store: &[u8], version: u32) -> Result<Bytes32, Refusal> {
-    let mut root = [MARK; 32];
-    let number = unsafe { grants_root(store.as_ptr(), store.len(), version, &mut root) };
-    answered(number, root)
+    answered(|root| unsafe { grants_root(store.as_ptr(), store.len(), version, root) })
 }
 
 pub fn get(store: &[u8], version: u32, key: &[u8]) -> Result<Option<Bytes32>, Refusal> {
-    let mut found = [MARK; 33];
-    let number = unsafe { grants_get(store.as_ptr(), store.len(), version, key.as_ptr(), key.len(), &mut found) };
-    answered(number, found).map(verdict)
+    answered(|found| unsafe { grants_get(store.as_ptr(), store.len(), version, key.as_ptr(), key.len(), found) }).map(verdict)
 }
 
 /// The length of the proof, at the front of the room.
 pub fn prove(store: &[u8], version: u32, key: &[u8], room: &mut [u8]) -> Result<u32, Refusal> {
-    let mut length = [MARK; 4];
-    let number = unsafe {
-        grants_prove(store.as_ptr(), store.len(), version, key.as_ptr(), key.len(), room.as_mut_ptr(), room.len(), &mut length)
-    };
-    answered(number, length).map(u32::from_le_bytes)
+    let (to, most) = (room.as_mut_ptr(), room.len());
+    answered(|length| unsafe { grants_prove(store.as_ptr(), store.len(), version, key.as_ptr(), key.len(), to, most, length) })
+        .map(u32::from_le_bytes)
 }
 
 pub fn verify(root: &[u8], key: &[u8], proof: &[u8]) -> Result<Option<Bytes32>, Refusal> {
-    let mut found = [MARK; 33];
-    let number = unsafe {
-        grants_verify(root.as_ptr(), root.len(), key.as_ptr(), key.len(), proof.as_ptr(), proof.len(), &mut found)
-    };
-    answered(number, found).map(verdict)
+    answered(|found| unsafe {
+        grants_verify(root.as_ptr(), root.len(), key.as_ptr(), key.len(), proof.as_ptr(), proof.len(), found)
+    })
+    .map(verdict)
+}
+
+pub fn sha256(bytes: &[u8]) -> Bytes32 {
+    answered(|digest| unsafe { grants_sha256(bytes.as_ptr(), bytes.len(), digest) }).expect("never refused")
 }

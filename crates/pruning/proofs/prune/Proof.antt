@@ -1,7 +1,7 @@
 -- `pruning::prune` meets its contract: it is refused by check, or the store is sound. Assumes nothing.
 use borrow.Author.Needs.{needs}
 use Rattle.pruning.specs.Prune.{prunedSays}
-use Rattle.pruning.proofs.Checking.{checked-refuses, checked-sound}
+use Rattle.calls.proofs.Calls.{checked-refuses, checked-sound}
 use Rattle.pruning.proofs.prune.Statement.{statement}
 use Rattle.pruning.proofs.prune.Tie as tie
 
@@ -13,7 +13,7 @@ same-length c = search needs
 
 returns : tie.Need-returns
 unfolding prunedSays
-returns c = checked-refuses (c .before .before .before .before .args .version) (c .before .check .ensures) (c .if1 .taken)
+returns c = checked-refuses (c .before .check .ensures) (c .if1 .taken)
 
 prune-sound-requires : tie.Need-prune-sound-requires
 prune-sound-requires c κs = checked-sound (c .before .before .check .ensures) (c .before .if1 .left)

@@ -7,7 +7,8 @@ use borrow.Author.Tests.{not-true, not-false}
 use Rattle.terms.specs.Bits.{Byte}
 use Rattle.terms.proofs.Lists.{all-of}
 use Rattle.pruning.specs.Prune.{prunedSays}
-use Rattle.pruning.proofs.Outcomes.{sound-long, sound-readable, refused-8, pruned-to}
+use Rattle.calls.proofs.Calls.{sound-long}
+use Rattle.pruning.proofs.Outcomes.{sound-readable, refused-8, pruned-to}
 use Rattle.pruning.proofs.prune_sound.Statement.{statement}
 use Rattle.pruning.proofs.prune_sound.Tie as tie
 
@@ -19,7 +20,7 @@ same-length c = search needs
 
 returns : tie.Need-returns
 unfolding prunedSays
-returns c = refused-8 (c .before .before .before .before .pre) (sym (c .before .is-kept .ensures) ∙ not-true _ (c .if1 .taken))
+returns c = let a = c .before .before .before .before in refused-8 (a .pre) (a .args .version) (sym (c .before .is-kept .ensures) ∙ not-true _ (c .if1 .taken))
 
 free-retired-requires : tie.Need-free-retired-requires
 free-retired-requires c κs =
@@ -39,7 +40,8 @@ unfolding prunedSays
 returns-2 c =
     let d = c .before .before .before .before .before .before in
     let k = d .before .before in
-    pruned-to (k .before .before .before .before .pre) (sym (k .before .is-kept .ensures) ∙ not-false _ (k .if1 .left)) (d .free-retired .ensures)
+    let a = k .before .before .before .before in
+    pruned-to (a .pre) (a .args .version) (sym (k .before .is-kept .ensures) ∙ not-false _ (k .if1 .left)) (d .free-retired .ensures)
     (c .before .before .put-u32 .ensures)
 
 pub prune-sound-spec : {M : Type 1} → statement M

@@ -22,7 +22,7 @@ same-length c = search needs
 returns : tie.Need-returns
 returns c =
     let d = c .before .before .before .before .before in
-    export-refused (d .prune .ensures) (c .before .answer .given .1)
+    export-refused _ (d .prune .ensures) (c .before .answer .given .1)
 
 same-length-2 : tie.Need-same-length-2
 same-length-2 c = search needs
@@ -30,7 +30,7 @@ same-length-2 c = search needs
 returns-2 : tie.Need-returns-2
 returns-2 c =
     let d = c .before .before .before .before .before .before .before in
-    export-freed (d .prune .ensures) (c .before .before .before .answer2 .given .1) (search needs) (c .put-u32 .ensures)
+    export-freed _ (d .prune .ensures) (c .before .before .before .answer2 .given .1) (search needs) (c .put-u32 .ensures)
 
 pub grants-prune-spec : {M : Type 1} → statement M
 grants-prune-spec =

@@ -1,14 +1,16 @@
-//! The library's calls beside the second program, in one run: short runs of the two in turn, the best of each. Then the stack that each call
-//! takes.
+//! The library's calls beside the second program, in one run: short runs of the two in turn, the best of each. Then where apply's time goes,
+//! that it does not grow with the versions, and the stack that each call takes. With the argument `stack` that last part alone.
 
 #[path = "../cases.rs"]
 #[allow(dead_code)]
 mod cases;
 #[path = "../ours.rs"]
 mod ours;
+#[path = "../stack.rs"]
+mod stack;
 
 use cases::Random;
-use second::bytes::{ask_bytes, Ask};
+use second::bytes::{ask_bytes, Ask, Body, Slot, MOST_ASKS};
 use second::calls::apply_to_sound;
 use std::hint::black_box;
 use std::time::Instant;
@@ -28,12 +30,35 @@ fn compare(name: &str, turns: usize, mut ours: impl FnMut(), mut plain: impl FnM
     println!("bench {name} ratio {:.2} ours {a:.3}ms plain {b:.3}ms", a / b);
 }
 
-/// A store of this capacity filled by batches of random keys, deletes among them, until one does not fit.
-fn full(random: &mut Random, capacity: usize, size: usize) -> (Vec<u8>, Vec<[u8; 32]>) {
-    let mut s = vec![0; 24 + 120 * capacity];
-    second::format(&mut s).unwrap();
+/// Calls that write: each has a copy of the store, made before the clock starts. Our time.
+fn compare_on<T: PartialEq + std::fmt::Debug>(
+    name: &str,
+    turns: usize,
+    s: &[u8],
+    ours: impl Fn(&mut [u8]) -> T,
+    plain: impl Fn(&mut [u8]) -> T,
+) -> f64 {
+    let (mut a, mut b) = (f64::MAX, f64::MAX);
+    for _ in 0..turns {
+        let (mut x, mut y) = (s.to_vec(), s.to_vec());
+        let (mut p, mut q) = (None, None);
+        a = a.min(milliseconds(&mut || p = Some(ours(&mut x))));
+        b = b.min(milliseconds(&mut || q = Some(plain(&mut y))));
+        assert!(p == q && x == y, "{name}: not the same work");
+    }
+    println!("bench {name} ratio {:.2} ours {a:.3}ms plain {b:.3}ms", a / b);
+    a
+}
+
+/// A store of this capacity filled by batches of random keys, deletes among them, until so many slots are used or a batch does not fit. It
+/// begins with all versions up to the first kept and empty.
+fn filled(random: &mut Random, capacity: usize, size: usize, most: usize, first: u32) -> (Vec<u8>, Vec<[u8; 32]>) {
+    let mut s = cases::fresh(capacity, 0, first);
     let mut keys: Vec<[u8; 32]> = vec![];
     loop {
+        if cases::taken(&s) >= most {
+            return (s, keys);
+        }
         let mut asks: Vec<Ask> = vec![];
         for _ in 0..size {
             if keys.len() > 8 && random.one_in(3) {
@@ -54,7 +79,101 @@ fn full(random: &mut Random, capacity: usize, size: usize) -> (Vec<u8>, Vec<[u8;
     }
 }
 
-/// A presence proof of 20 steps with its root and key.
+/// `size` records of which about `changes` change something, half of them values of keys that are there and half new keys; the rest are deletes
+/// of absent keys.
+fn batch(random: &mut Random, keys: &[[u8; 32]], size: usize, changes: usize) -> Vec<u8> {
+    let mut asks: Vec<Ask> = vec![];
+    for n in 0..size {
+        let mut key = keys[random.below(keys.len())];
+        if n >= changes || n % 2 == 0 || asks.iter().any(|a| a.key == key) {
+            key = random.hash();
+        }
+        asks.push(Ask { key, value: (n < changes).then(|| random.hash()) });
+    }
+    asks.sort_by_key(|a| a.key);
+    asks.iter().flat_map(ask_bytes).collect()
+}
+
+/// How many node hashes the step computes: the children of each new inner node and the root, once to count and once to write.
+fn step_hashes(after: &[u8]) -> usize {
+    let st = second::bytes::store(after).unwrap();
+    let children = |x: &Slot| match x {
+        Slot::Used(r) if r.version == st.latest => match r.body {
+            Body::Inner(children) => children.iter().filter(|c| c.version != 0).count(),
+            Body::Leaf { .. } => 0,
+        },
+        _ => 0,
+    };
+    2 * (st.slots.iter().map(children).sum::<usize>() + 1)
+}
+
+/// Milliseconds of a node hash: of a message of 65 bytes.
+fn hash_time() -> f64 {
+    let message = [1; 65];
+    let run = &mut || (0..4_000).for_each(|_| assert!(ours::sha256(black_box(&message)) != message[..32]));
+    (0..30).map(|_| milliseconds(run)).fold(f64::MAX, f64::min) / 4_000.0
+}
+
+fn applies(random: &mut Random) {
+    let hash = hash_time();
+    for capacity in [1_024, 16_384] {
+        let (s, keys) = filled(random, capacity, capacity / 64, capacity / 2, 0);
+        let turns = if capacity > 2_000 { 3 } else { 10 };
+        let check = (0..turns).map(|_| milliseconds(&mut || assert_eq!(ours::check(&s), Ok(())))).fold(f64::MAX, f64::min);
+        for size in [1, 64, MOST_ASKS] {
+            let mut changes = size;
+            let mut after = s.clone();
+            let (b, count) = loop {
+                let b = batch(random, &keys, size, changes);
+                if let Ok((_, _, count)) = apply_to_sound(&mut after, &b) {
+                    break (b, count);
+                }
+                changes = changes * 3 / 4;
+            };
+            let name = format!("apply-{size}-to-{capacity}-{count}-new-records");
+            let took = compare_on(&name, turns, &s, |s| ours::apply(s, &b), |s| second::apply(s, &b));
+            // check hashes each record once
+            let (checks, steps) = (cases::taken(&s), step_hashes(&after));
+            let part = |t: f64| 100.0 * t / took;
+            println!(
+                "where apply-{size}-to-{capacity} check {:.0}% ({checks} hashes {:.1}%) step {:.0}% ({steps} hashes {:.1}%)",
+                part(check),
+                part(hash * checks as f64),
+                part(took - check),
+                part(hash * steps as f64)
+            );
+        }
+        let latest = second::bytes::store(&s).unwrap().latest;
+        compare_on(&format!("prune-{capacity}"), turns, &s, |s| ours::prune(s, latest), |s| second::prune(s, latest));
+        let some: Vec<_> = keys.iter().take(25).copied().chain((0..25).map(|_| random.hash())).collect();
+        let prove = |call: &dyn Fn(&[u8], u32, &[u8], &mut [u8]) -> Result<u32, u32>, s: &[u8]| {
+            let mut room = [0; 17_080];
+            some.iter().map(|k| call(s, latest, k, &mut room).unwrap()).sum::<u32>()
+        };
+        compare_on(&format!("prove-50-keys-{capacity}"), turns, &s, |s| prove(&ours::prove, s), |s| prove(&second::prove, s));
+    }
+}
+
+/// The same content with few versions kept and with some 4,000,000,000.
+fn versions() {
+    for capacity in [1_024, 16_384] {
+        let turns = if capacity > 2_000 { 3 } else { 20 };
+        let [low, high] = [10, 4_000_000_000].map(|first| filled(&mut Random(17), capacity, capacity / 64, capacity / 2, first));
+        let b = batch(&mut Random(19), &low.1, 64, 64);
+        let (mut x, mut y) = (f64::MAX, f64::MAX);
+        let once = |s: &[u8]| {
+            let mut s = s.to_vec();
+            milliseconds(&mut || assert!(ours::apply(&mut s, &b).is_ok()))
+        };
+        for _ in 0..turns {
+            x = x.min(once(&low.0));
+            y = y.min(once(&high.0));
+        }
+        println!("versions apply-64-to-{capacity} ratio {:.2} kept to 4,000,000,000 {y:.3}ms kept to 10 {x:.3}ms", y / x);
+    }
+}
+
+/// A presence proof with its root and key.
 fn path(random: &mut Random, steps: usize) -> ([u8; 32], [u8; 32], Vec<u8>) {
     let (key, value) = (random.hash(), random.hash());
     let mut h = second::sha256::leaf_hash(&key, &value);
@@ -67,32 +186,34 @@ fn path(random: &mut Random, steps: usize) -> ([u8; 32], [u8; 32], Vec<u8>) {
     (h, key, p)
 }
 
-const PAINTED: usize = 256 * 1024;
-
-/// The deepest byte below this frame that a call writes: the thread's stack is painted first, and looked at afterwards.
-#[inline(never)]
-fn depth(call: &dyn Fn()) -> usize {
-    let here = 0u8;
-    let top = black_box(&here as *const u8 as usize) - 512;
-    for at in top - PAINTED..top {
-        unsafe { std::ptr::write_volatile(at as *mut u8, 0x5A) };
-    }
-    call();
-    let kept = (top - PAINTED..top).take_while(|&at| unsafe { std::ptr::read_volatile(at as *const u8) } == 0x5A).count();
-    PAINTED - kept + 512
-}
-
-fn stack(name: &str, call: impl Fn() + Send + 'static) {
-    let used = std::thread::Builder::new()
-        .stack_size(4 << 20)
-        .spawn(move || depth(&call))
-        .unwrap()
-        .join()
-        .unwrap();
-    println!("stack {name} at most {used} bytes");
+fn stacks() {
+    let print = |name: &str, used: usize| println!("stack {name} {used}");
+    let mut random = Random(11);
+    let (s, keys) = filled(&mut random, 1024, 16, 1024, 0);
+    let latest = second::bytes::store(&s).unwrap().latest;
+    let key = keys[0];
+    let (r, k, p) = path(&mut random, 256);
+    print("the-measure-alone", stack::most(|| {}));
+    let t = s.clone();
+    print("check", stack::most(move || assert!(ours::check(&t).is_ok())));
+    let t = s.clone();
+    print("root", stack::most(move || assert!(ours::root(&t, latest).is_ok())));
+    let t = s.clone();
+    print("get", stack::most(move || assert!(ours::get(&t, latest, &key).is_ok())));
+    print("verify", stack::most(move || assert!(ours::verify(&r, &k, &p).is_ok())));
+    let t = s.clone();
+    print("prune", stack::most(move || assert!(ours::prune(&mut t.clone(), latest).is_ok())));
+    print("format", stack::most(move || assert!(ours::format(&mut s.clone()).is_ok())));
+    print("prove", stack::of_prove());
+    let apply = stack::of_apply();
+    print("apply", apply);
+    assert!(apply < 256 * 1024, "apply takes 256 KiB of stack or more");
 }
 
 fn main() {
+    if std::env::args().nth(1).as_deref() == Some("stack") {
+        return stacks();
+    }
     let mut random = Random(11);
     let proofs: Vec<_> = (0..1000).map(|_| path(&mut random, 20)).collect();
     compare(
@@ -102,7 +223,7 @@ fn main() {
         || proofs.iter().for_each(|(r, k, p)| assert!(black_box(second::verify(r, k, p)).is_ok())),
     );
     for capacity in [64, 1024, 16_384] {
-        let (s, keys) = full(&mut random, capacity, if capacity < 1000 { 4 } else { 64 });
+        let (s, keys) = filled(&mut random, capacity, if capacity < 1000 { 4 } else { 64 }, capacity, 0);
         let latest = second::bytes::store(&s).unwrap().latest;
         compare(
             &format!("check-{capacity}-with-{latest}-versions"),
@@ -118,24 +239,11 @@ fn main() {
             || some.iter().for_each(|k| assert!(black_box(second::get(&s, latest, &k[..])).is_ok())),
         );
     }
-    let mut wide = vec![0; 24 + 120 * 16_384];
-    second::format(&mut wide).unwrap();
-    wide[16..20].copy_from_slice(&u32::MAX.to_le_bytes());
+    let wide = cases::fresh(16_384, 0, u32::MAX);
     let start = Instant::now();
     assert_eq!(ours::check(&wide), Ok(()));
     println!("bench check-free-slots-all-versions {:.3}s", start.elapsed().as_secs_f64());
-
-    let (s, keys) = full(&mut random, 1024, 16);
-    let latest = second::bytes::store(&s).unwrap().latest;
-    let key = keys[0];
-    let (r, k, p) = path(&mut random, 256);
-    stack("of the measure alone", || {});
-    let t = s.clone();
-    stack("check", move || assert!(ours::check(&t).is_ok()));
-    let t = s.clone();
-    stack("root", move || assert!(ours::root(&t, latest).is_ok()));
-    let t = s.clone();
-    stack("get", move || assert!(ours::get(&t, latest, &key).is_ok()));
-    stack("verify", move || assert!(ours::verify(&r, &k, &p).is_ok()));
-    stack("format", move || assert!(ours::format(&mut s.clone()).is_ok()));
+    applies(&mut random);
+    versions();
+    stacks();
 }

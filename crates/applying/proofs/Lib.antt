@@ -1,0 +1,4 @@
+pub mod Counting
+pub mod Ready
+pub mod Outcomes
+pub mod Publishing

@@ -1,0 +1,72 @@
+//! One call on both sides: our answer and every byte that our call left, beside the second program's.
+
+use crate::cases::Random;
+use crate::ours;
+use crate::tally::{Proof, Tally};
+use second::Bytes32;
+
+const EDGE: usize = 64;
+const MARK: u8 = 0xC3;
+
+/// A call on a copy that lies between marked edges: its answer, and the copy after it.
+fn lent<T>(bytes: &[u8], call: impl FnOnce(&mut [u8]) -> T) -> (T, Vec<u8>) {
+    let mut all = vec![MARK; bytes.len() + 2 * EDGE];
+    let end = EDGE + bytes.len();
+    all[EDGE..end].copy_from_slice(bytes);
+    let answer = call(&mut all[EDGE..end]);
+    assert!(all[..EDGE].iter().chain(&all[end..]).all(|&b| b == MARK), "bytes beside the lent ones were written");
+    all.truncate(end);
+    all.drain(..EDGE);
+    (answer, all)
+}
+
+pub type Applied = Result<(u32, Bytes32, u32), u32>;
+
+/// The store goes on as the second program leaves it.
+pub fn apply(tally: &mut Tally, case: &str, seed: u64, s: &mut Vec<u8>, batch: &[u8]) -> Applied {
+    let read = batch.to_vec();
+    let (x, a) = lent(s, |s| ours::apply(s, &read));
+    assert!(read == batch, "the batch was written");
+    let before = s.clone();
+    let y = second::apply(s, batch);
+    assert!(y.is_ok() || *s == before, "the second program refused and wrote");
+    tally.wrote("apply", case, seed, (x, &a), (y, s));
+    y
+}
+
+/// The store goes on as the second program leaves it.
+pub fn prune(tally: &mut Tally, case: &str, seed: u64, s: &mut Vec<u8>, version: u32) -> Result<u32, u32> {
+    let (x, a) = lent(s, |s| ours::prune(s, version));
+    let y = second::prune(s, version);
+    tally.wrote("prune", case, seed, (x, &a), (y, s));
+    y
+}
+
+pub fn format(tally: &mut Tally, seed: u64, s: &mut Vec<u8>) {
+    let (x, a) = lent(s, ours::format);
+    let y = second::format(s);
+    tally.wrote("format", "", seed, (x, &a), (y, s));
+}
+
+/// Root, key read, proof and the check of the proof. The proof with its root, where there is one.
+pub fn reads(tally: &mut Tally, random: &mut Random, seed: u64, s: &[u8], version: u32, key: &[u8]) -> Option<(Bytes32, Vec<u8>)> {
+    let root = second::root(s, version);
+    tally.same("root", seed, ours::root(s, version), root);
+    tally.same("get", seed, ours::get(s, version, key), second::get(s, version, key));
+    let proof = second::proof::proof(s, version, key);
+    let room = match &proof {
+        Ok(p) if random.one_in(6) => p.len() - 1,
+        Ok(p) if random.one_in(3) => p.len(),
+        Ok(p) => p.len() + random.below(40),
+        Err(_) => random.below(200),
+    };
+    let room = vec![random.byte(); room];
+    let (x, a) = lent(&room, |room| ours::prove(s, version, key, room));
+    let mut b = room;
+    let y = second::prove(s, version, key, &mut b);
+    tally.count(format!("prove {}", Proof::word(y, &b)));
+    tally.equal("prove", seed, (x, a), (y, b));
+    let (root, proof) = (root.ok()?, proof.ok()?);
+    tally.same("verify", seed, ours::verify(&root, key, &proof), second::verify(&root, key, &proof));
+    Some((root, proof))
+}

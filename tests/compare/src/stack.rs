@@ -1,0 +1,75 @@
+//! The most stack that a call takes.
+
+use crate::cases;
+use second::bytes::{ask_bytes, Ask};
+use second::{Bytes32, ZEROS};
+use std::hint::black_box;
+
+const PAINTED: usize = 2 << 20;
+
+/// The deepest byte below this frame that a call writes: the thread's stack is painted first, and looked at afterwards.
+#[inline(never)]
+fn depth(call: &dyn Fn()) -> usize {
+    let here = 0u8;
+    let top = black_box(&here as *const u8 as usize) - 512;
+    for at in top - PAINTED..top {
+        unsafe { std::ptr::write_volatile(at as *mut u8, 0x5A) };
+    }
+    call();
+    let kept = (top - PAINTED..top).take_while(|&at| unsafe { std::ptr::read_volatile(at as *const u8) } == 0x5A).count();
+    PAINTED - kept + 512
+}
+
+pub fn most(call: impl Fn() + Send + 'static) -> usize {
+    std::thread::Builder::new().stack_size(2 * PAINTED).spawn(move || depth(&call)).unwrap().join().unwrap()
+}
+
+/// Stores with batches that apply accepts and that reach down to 256 bits.
+pub fn deepest_batches() -> Vec<(Vec<u8>, Vec<u8>)> {
+    let parted = |at: usize| {
+        let mut k = ZEROS;
+        k[at / 8] ^= 0x80 >> (at % 8);
+        k
+    };
+    let two = vec![ZEROS, parted(255)];
+    let chain: Vec<Bytes32> = [ZEROS].into_iter().chain((0..256).rev().map(parted)).collect();
+    let batch = |keys: &[Bytes32], value: Option<Bytes32>| -> Vec<u8> { keys.iter().flat_map(|k| ask_bytes(&Ask { key: *k, value })).collect() };
+    let mut out = vec![];
+    for keys in [two, chain] {
+        let fresh = cases::fresh(1_100, 0, 0);
+        let mut grown = fresh.clone();
+        second::apply(&mut grown, &batch(&keys, Some([1; 32]))).unwrap();
+        let mut alone = grown.clone();
+        second::apply(&mut alone, &batch(&keys[1..], None)).unwrap();
+        out.push((fresh, batch(&keys, Some([1; 32]))));
+        out.push((grown.clone(), batch(&keys, Some([2; 32]))));
+        out.push((grown.clone(), batch(&keys[..1], Some([2; 32]))));
+        out.push((grown.clone(), batch(&keys[1..], None)));
+        out.push((grown, batch(&keys, None)));
+        out.push((alone, batch(&keys[1..2], Some([2; 32]))));
+    }
+    out
+}
+
+/// Prove's most: absence proofs with two neighbours at 256 bits, 17,080 bytes long.
+#[allow(dead_code)]
+pub fn of_prove() -> usize {
+    let key = |last: u8| {
+        let mut k = ZEROS;
+        k[31] = last;
+        k
+    };
+    let mut s = cases::fresh(600, 0, 0);
+    let asks: Vec<u8> = [0, 1, 6, 7].iter().flat_map(|&l| ask_bytes(&Ask { key: key(l), value: Some([1; 32]) })).collect();
+    second::apply(&mut s, &asks).unwrap();
+    most(move || assert_eq!(crate::ours::prove(&s, 1, &key(3), &mut vec![0; 17_080]), Ok(17_080)))
+}
+
+/// Apply's most, over those.
+pub fn of_apply() -> usize {
+    let each = |(s, b): (Vec<u8>, Vec<u8>)| {
+        assert!(second::apply(&mut s.clone(), &b).is_ok());
+        most(move || assert!(crate::ours::apply(&mut s.clone(), &b).is_ok()))
+    };
+    deepest_batches().into_iter().map(each).max().unwrap()
+}

@@ -1,0 +1,99 @@
+//! What passed, what failed, and how often each call gave each answer.
+
+use second::bytes::{HEADER, SLOT};
+use std::collections::BTreeMap;
+
+#[derive(Default)]
+pub struct Tally {
+    pub passed: u64,
+    pub failed: u64,
+    /// How often each call gave each answer.
+    pub answers: BTreeMap<String, u64>,
+}
+
+/// An answer in a word: the number of refusal, or what was accepted.
+pub trait Word {
+    fn word(&self) -> String;
+}
+
+impl Word for Result<(), u32> {
+    fn word(&self) -> String {
+        self.map_or_else(|n| n.to_string(), |()| "accepted".into())
+    }
+}
+
+impl Word for Result<[u8; 32], u32> {
+    fn word(&self) -> String {
+        self.map_or_else(|n| n.to_string(), |h| if h == [0; 32] { "zeros" } else { "hash" }.into())
+    }
+}
+
+impl Word for Result<Option<[u8; 32]>, u32> {
+    fn word(&self) -> String {
+        self.map_or_else(|n| n.to_string(), |v| if v.is_some() { "present" } else { "absent" }.into())
+    }
+}
+
+impl Word for Result<u32, u32> {
+    fn word(&self) -> String {
+        self.map_or_else(|n| n.to_string(), |n| if n == 0 { "0" } else { "some" }.into())
+    }
+}
+
+/// A proof's length with the whole room: its kind and flags.
+pub struct Proof;
+
+impl Proof {
+    pub fn word(answer: Result<u32, u32>, room: &[u8]) -> String {
+        match answer {
+            Err(n) => n.to_string(),
+            Ok(_) if room[4] == 16 => "presence".into(),
+            Ok(_) => format!("absence {}", room[6]),
+        }
+    }
+}
+
+/// Apply's version, root and count of new records.
+impl Word for Result<(u32, [u8; 32], u32), u32> {
+    fn word(&self) -> String {
+        self.map_or_else(|n| n.to_string(), |(_, _, count)| if count == 0 { "none new" } else { "some new" }.into())
+    }
+}
+
+/// The first byte of a store that is not as the second program left it.
+fn difference(ours: &[u8], second: &[u8]) -> Option<String> {
+    let differ = ours.iter().zip(second).filter(|(a, b)| a != b).count();
+    let at = ours.iter().zip(second).position(|(a, b)| a != b)?;
+    let (x, y) = (ours[at], second[at]);
+    let place = if at < HEADER { format!("header byte {at}") } else { format!("slot {} byte {}", (at - HEADER) / SLOT, (at - HEADER) % SLOT) };
+    Some(format!("{place} is {x}, the second program's {y}; {differ} bytes differ"))
+}
+
+impl Tally {
+    pub fn same<T: PartialEq + std::fmt::Debug + Word>(&mut self, what: &str, seed: u64, ours: T, second: T) {
+        self.count(format!("{what} {}", second.word()));
+        self.equal(what, seed, ours, second);
+    }
+
+    /// A call that writes: its answer, and every byte of the store after it.
+    pub fn wrote<T: PartialEq + std::fmt::Debug + Word>(&mut self, call: &str, case: &str, seed: u64, ours: (T, &[u8]), second: (T, &[u8])) {
+        self.count(format!("{call} {}", second.0.word()));
+        assert_eq!(ours.1.len(), second.1.len());
+        self.equal(&format!("{call}, {case}"), seed, (ours.0, difference(ours.1, second.1)), (second.0, None));
+    }
+
+    pub fn count(&mut self, answer: String) {
+        *self.answers.entry(answer).or_default() += 1;
+    }
+
+    pub fn equal<T: PartialEq + std::fmt::Debug>(&mut self, what: &str, seed: u64, ours: T, second: T) {
+        if ours == second {
+            self.passed += 1;
+        } else {
+            self.failed += 1;
+            if self.failed < 20 {
+                println!("{what}, round seed {seed}: {ours:?}, the second program {second:?}");
+            }
+        }
+    }
+}
