@@ -1,5 +1,7 @@
-"""The command line tool as a person or a script meets it. Arguments: the tool, fault.so, the README. The last line counts what passed."""
+"""The command line tool as a person or a script meets it. Arguments: the tool, fault.so, the README, then names of tests where not all are
+to run, or --write-tour, which puts what the tour's commands print into the README. The last line counts what passed."""
 
+import difflib
 import json
 import os
 import random
@@ -737,36 +739,65 @@ def many_writers_and_readers():
 # The README's tour.
 
 
-def tour():
-    """The commands of the README's console blocks, each with the output that is printed below it."""
-    steps, inside = [], False
-    with open(README) as f:
-        for line in f:
-            if line.startswith("```"):
-                inside = line.strip() == "```console"
-            elif inside and line.startswith("$ "):
-                steps.append([line[2:], ""])
-            elif inside and line.startswith("> "):
-                steps[-1][0] += line[2:]
-            elif inside:
-                steps[-1][1] += line
-    return steps
+def steps(lines):
+    """The console blocks of the README: each command with the lines it goes on with, and where the output below it begins and ends."""
+    found, inside = [], False
+    for i, line in enumerate(lines):
+        if line.startswith("```"):
+            inside = line.strip() == "```console"
+        elif inside and line.startswith("$ "):
+            found.append([line[2:], i + 1, i + 1])
+        elif inside and line.startswith("> "):
+            found[-1] = [found[-1][0] + line[2:], i + 1, i + 1]
+        elif inside:
+            found[-1][2] = i + 1
+    return found
+
+
+def toured(text):
+    """The README with what its commands print now, all of them in one shell."""
+    lines = text.splitlines(True)
+    found = steps(lines)
+    script = "".join("%s\nprintf '\\0'\n" % command for command, _, _ in found)
+    path = os.path.dirname(TOOL) + ":" + os.environ["PATH"]
+    run = subprocess.run(["bash"], input=script, text=True, stdout=subprocess.PIPE, stderr=subprocess.STDOUT, env=dict(os.environ, PATH=path))
+    came = run.stdout.split("\0")
+    assert len(came) == len(found) + 1 and len(found) > 5, "%d commands of %d were run" % (len(came) - 1, len(found))
+    for (_, start, end), out in reversed(list(zip(found, came))):
+        lines[start:end] = [out]
+    return "".join(lines)
 
 
 @test
 def the_readme_s_tour():
-    steps = tour()
-    assert len(steps) > 5, "the README has no tour"
-    for command, expected in steps:
-        path = os.path.dirname(TOOL) + ":" + os.environ["PATH"]
-        done = subprocess.run(["bash", "-c", command], text=True, stdout=subprocess.PIPE, stderr=subprocess.STDOUT, env=dict(os.environ, PATH=path))
-        assert done.stdout == expected, "$ %s%s\nthe README says\n%s" % (command, done.stdout, expected)
+    with open(README) as f:
+        text = f.read()
+    came = toured(text)
+    difference = "\n".join(difflib.unified_diff(text.splitlines(), came.splitlines(), "the README says", "what came", lineterm=""))
+    assert came == text, difference
+    # The picture in docs/ is drawn from this store.
+    assert read(os.path.join(os.path.dirname(README), "docs/tree.dot")) == read("tree.dot"), "docs/tree.dot is another graph"
+
+
+def write_tour():
+    """Puts what the tour's commands print into the README, and draws the picture."""
+    with open(README) as f:
+        text = f.read()
+    os.chdir(tempfile.mkdtemp(prefix="grants-tour-"))
+    came = toured(text)
+    with open(README, "w") as f:
+        f.write(came)
+    docs = os.path.join(os.path.dirname(README), "docs")
+    shutil.copy("tree.dot", docs)
+    subprocess.run(["dot", "-Tsvg", "tree.dot", "-o", os.path.join(docs, "tree.svg")], check=True)
 
 
 def main():
     passed = failed = 0
     top = tempfile.mkdtemp(prefix="grants-tool-")
     only = sys.argv[4:]
+    if only == ["--write-tour"]:
+        return write_tour()
     for function in tests:
         if only and function.__name__ not in only:
             continue

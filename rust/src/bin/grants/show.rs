@@ -180,12 +180,16 @@ fn object(tree: &Tree) -> Json {
     ])
 }
 
+const HEAD: &str = r#"digraph grants {
+  graph [ordering=out, ranksep=0.4, nodesep=0.3];
+  node [fontname="Helvetica", fontsize=11, style=filled, fillcolor=white];
+  edge [fontname="Helvetica", fontsize=10, arrowsize=0.6];
+"#;
+
 /// A graph in Graphviz's language: each record once, an arrow from each version to its root. Green is what the last version made, dashed what
 /// it no longer has.
 fn dot(trees: &[Tree], full: bool) -> String {
-    let mut text = String::from(
-        "digraph grants {\n  graph [ordering=out, ranksep=0.35, nodesep=0.25];\n  node [fontname=\"Helvetica\", fontsize=11, style=filled, fillcolor=white];\n  edge [fontname=\"Helvetica\", fontsize=10, arrowsize=0.6];\n",
-    );
+    let mut text = String::from(HEAD);
     let mut drawn = BTreeSet::new();
     for tree in trees {
         let _ = writeln!(
@@ -210,6 +214,12 @@ fn dot(trees: &[Tree], full: bool) -> String {
         if let Some(node) = tree.nodes.get(&Place::EMPTY) {
             let _ = writeln!(text, "  v{} -> s{} [style=bold];", tree.version, node.slot);
         }
+    }
+    if trees.len() > 1 {
+        // The versions stand side by side, in the order they were asked for.
+        let versions: Vec<String> = trees.iter().map(|t| format!("v{}", t.version)).collect();
+        let row = versions.join(" -> ");
+        let _ = writeln!(text, "  {{ rank=same; {row} [style=invis]; }}");
     }
     text + "}\n"
 }
