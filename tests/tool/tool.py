@@ -330,6 +330,7 @@ def show_draws_a_tree():
     answered(0, "apply", "t", "-", input="+ %s %s\n+ %s %s\n" % (A, value(1), A[:-1] + "1", value(2)))
     assert answered(0, "show", "t").count("\n") == 1 + 258
     refused(2, "named twice", "show", s, 1, 1)
+    refused(2, "--json", "show", s, "--dot", "--json")
 
 
 @test
@@ -691,6 +692,24 @@ def a_fresh_store_is_made_or_not():
         assert not os.path.exists("t") or read("t") == store_bytes(20)
         grants("format", "t", 20)
         assert read("t") == store_bytes(20) and os.listdir(".") == ["t"]
+
+
+@test
+def a_leftover_is_written_over():
+    s = desk()
+    beside = ".desk.grants.grants-new"
+    write(beside, b"x" * 5000)
+    answered(0, "apply", s, "/dev/null")
+    assert os.path.getsize(s) == 2424 and os.listdir(".") == [s]
+    answered(0, "check", s)
+    # What else may stand there is not touched.
+    write("mine", "dear")
+    os.symlink("mine", beside)
+    untouched(s, 3, "it is a symbolic link; remove it", "apply", s, "/dev/null")
+    os.remove(beside)
+    os.mkdir(beside)
+    untouched(s, 3, "it is a directory", "apply", s, "/dev/null")
+    assert read("mine") == b"dear"
 
 
 @test

@@ -45,15 +45,19 @@ pub fn show(args: &Args, out: &mut Out) -> Result<u8, Fail> {
         trees.push(tree(&store, &slots, version).map_err(&refused)?);
     }
     let full = args.has("--full");
-    if let Some(to) = args.value("--svg").map(Path::new) {
+    let picture = args.value("--svg").map(Path::new);
+    if out.json && (picture.is_some() || args.has("--dot")) {
+        return Err(Fail::Usage(
+            "--json is one form of the tree, --dot and --svg are others: choose one".to_string(),
+        ));
+    }
+    if let Some(to) = picture {
         let picture = svg(&dot(&trees, full))?;
         if to.as_os_str() == "-" {
             out.raw(&picture)?;
         } else {
             files::write(to, &picture, &[path])?;
-            if !out.json {
-                out.line(format_args!("{}: {} bytes", to.display(), picture.len()))?;
-            }
+            out.line(format_args!("{}: {} bytes", to.display(), picture.len()))?;
         }
     } else if args.has("--dot") {
         out.raw(dot(&trees, full).as_bytes())?;
