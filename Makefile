@@ -19,7 +19,7 @@ tool:
 bench:
 	@bench/run
 
-# The comparison with the second program, some hundred times longer than in the gate; SEED picks other cases.
+# The comparison with the second program, a hundred times longer than in the gate (about half an hour); SEED picks other cases.
 soak:
 	@tests/compare/run 400000 $${SEED:-2}
 
