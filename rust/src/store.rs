@@ -137,9 +137,10 @@ impl<B: AsRef<[u8]>> Store<B> {
 
     /// Capacity, oldest and latest. Refused: 1, 2.
     pub fn header(&self) -> Result<Header, Error> {
+        let bytes = self.as_bytes();
         // A root read tests the header and then the version, so all but 8 is said of the header.
-        match self.root(0) {
-            Ok(_) | Err(Error::VersionNotKept) => Ok(records::header(self.as_bytes())),
+        match ffi::root(bytes, 0) {
+            Ok(_) | Err(Error::VersionNotKept) => Ok(records::header(bytes)),
             Err(refused) => Err(refused),
         }
     }
@@ -162,8 +163,9 @@ impl<B: AsRef<[u8]>> Store<B> {
     /// # Ok::<(), Error>(())
     /// ```
     pub fn slots(&self) -> Result<Vec<Option<Record>>, Error> {
-        self.check()?;
-        Ok(records::slots(self.as_bytes()))
+        let bytes = self.as_bytes();
+        ffi::check(bytes)?;
+        Ok(records::slots(bytes))
     }
 }
 

@@ -394,6 +394,10 @@ def the_command_line_is_wrong():
     refused(2, "CAPACITY is a number", "format", "t", "many")
     refused(2, "--last wants 1 or more", "log", s, "--last", 0)
     refused(2, "there is no option -1", "prune", s, "-1")
+    for words in (("frobnicate", "--json"), ("get", "--json"), ("check", "none", "--json"), ("get", s, "g", "--json")):
+        ran = grants(*words)
+        told = json.loads(ran.out)
+        assert told["refused"] is None and told["status"] == ran.status and "grants: %s\n" % told["message"] == ran.err, ran
     assert not os.path.exists("t")
 
 
@@ -503,6 +507,11 @@ def a_folder_that_may_not_be_written():
     def other():
         os.setuid(65534)
 
+    try:
+        subprocess.run(["true"], preexec_fn=other, check=True)
+    except subprocess.SubprocessError:
+        print("  no other user can be had here: what a user may not write is not tested")
+        return
     before = read(s)
     for words in (["apply", s, "/dev/null"], ["format", "t", "5"]):
         done = subprocess.run(["./tool"] + words, capture_output=True, text=True, preexec_fn=other)
@@ -813,6 +822,7 @@ def write_tour():
 
 def main():
     passed = failed = 0
+    os.umask(0o022)
     top = tempfile.mkdtemp(prefix="grants-tool-")
     only = sys.argv[4:]
     if only == ["--write-tour"]:
