@@ -3,6 +3,7 @@
  *   make lib
  *   cc -Iinclude examples/editor.c target/staticlib/libgrants.a -o editor
  *
+ * (That library is for x86-64; elsewhere `tests/archive grants` makes target/native/libgrants.a for the machine at hand.)
  * An editor needs `granted` alone: a root whose signature it has checked, a key, and a proof from anybody. */
 #include "grants.h"
 

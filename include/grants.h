@@ -8,7 +8,7 @@
  * store may be used from any thread that owns it. All numbers in buffers are little-endian. Every call takes any bytes: bad input is refused.
  * The stack that each call takes is in docs/FIGURES.md; every byte of a store, a batch and a proof is in docs/FORMAT.md.
  *
- *   1  the store's length isn't 24 + 120 n, n in 1 to 16,384
+ *   1  the store's length isn't 24 + 120n, n in 1 to 16,384
  *   2  a header field isn't right, its capacity isn't n, or oldest is above latest
  *   3  the store isn't sound (check, apply, prune), or the walk says so (reads)
  *   4  the batch isn't whole records in form, or has over 1,024

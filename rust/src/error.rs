@@ -29,7 +29,7 @@ pub enum Error {
     NoRoom,
     /// 8: the version isn't in oldest to latest.
     VersionNotKept,
-    /// 9: the proof is longer than the buffer.
+    /// 9: the proof is longer than the room.
     ProofTooLong,
     /// 10: the proof isn't one whole record in form, no byte over.
     ProofForm,
@@ -39,7 +39,7 @@ pub enum Error {
     NotThirtyTwoBytes,
 }
 
-/// 01's table, number 1 first.
+/// 01's table, number 1 first, in the words of include/grants.h.
 const TABLE: [(Error, &str); 12] = [
     (
         Error::Size,
@@ -49,19 +49,25 @@ const TABLE: [(Error, &str); 12] = [
         Error::Header,
         "a header field isn't right, its capacity isn't n, or oldest is above latest",
     ),
-    (Error::Unsound, "the store isn't sound"),
+    (
+        Error::Unsound,
+        "the store isn't sound (check, apply, prune), or the walk says so (reads)",
+    ),
     (
         Error::BatchForm,
         "the batch isn't whole records in form, or has over 1,024",
     ),
-    (Error::BatchOrder, "keys not strictly ascending"),
+    (
+        Error::BatchOrder,
+        "the batch's keys aren't strictly ascending",
+    ),
     (Error::LastVersion, "latest is 4,294,967,295"),
     (Error::NoRoom, "fewer free slots than new records"),
     (
         Error::VersionNotKept,
         "the version isn't in oldest to latest",
     ),
-    (Error::ProofTooLong, "the proof is longer than the buffer"),
+    (Error::ProofTooLong, "the proof is longer than the room"),
     (
         Error::ProofForm,
         "the proof isn't one whole record in form, no byte over",

@@ -125,3 +125,13 @@ fn the_most_records_and_one_more() {
     assert!(store.apply(&batch).is_ok());
     assert_eq!(more.split().len(), 2);
 }
+
+#[test]
+fn sentences_are_those_of_the_header() {
+    let header = include_str!("../../include/grants.h");
+    for number in 1..=12 {
+        let error = Error::from_number(number).unwrap();
+        let row = format!("\n * {number:>3}  {error}\n");
+        assert!(header.contains(&row), "{row}");
+    }
+}

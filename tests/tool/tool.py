@@ -223,8 +223,8 @@ def batches_in_binary():
     answered(0, "apply", "s", write("b", binary))
     assert answered(0, "get", "s", C) == value(3) + "\n"
     assert grants("apply", "s", "-", "--json", input=binary).status == 0
-    untouched("s", 15, "keys not strictly ascending", "apply", "s", write("b", record(C) + record(A)))
-    untouched("s", 15, "keys not strictly ascending", "apply", "s", write("b", record(A) + record(A)))
+    untouched("s", 15, "the batch's keys aren't strictly ascending", "apply", "s", write("b", record(C) + record(A)))
+    untouched("s", 15, "the batch's keys aren't strictly ascending", "apply", "s", write("b", record(A) + record(A)))
     for bad in (binary[:-1], binary + b"\0", b"\0" * 72, record(A)[:-1] + b"\1"):
         untouched("s", 14, "72 bytes", "apply", "s", write("b", bad))
     untouched("s", 14, "refused with 4", "apply", "s", write("b", FOUR), "--binary")
@@ -542,6 +542,8 @@ def the_answer_can_not_be_written():
     with open("/dev/full", "w") as full:
         refused(3, "cannot write the answer to standard output", "root", s, stdout=full)
         refused(3, "the store is changed all the same", "apply", s, "-", stdout=full)
+        deaf = subprocess.run([TOOL, "check", "none"], stderr=full)
+        assert deaf.returncode == 3, deaf
     assert json.loads(answered(0, "stat", s, "--json"))["latest"] == 3
     piped = subprocess.run("'%s' log %s | head -n 1" % (TOOL, s), shell=True, capture_output=True, text=True)
     assert piped.returncode == 0 and piped.stderr == "", piped
@@ -558,6 +560,56 @@ def help_is_there():
         assert "usage: grants %s " % name in told and "--json" in told and "exit status" in told
         assert told == answered(0, "help", name) == answered(0, name, "-h")
     assert answered(0, "--version").startswith("grants ")
+
+
+@test
+def any_bytes_and_words():
+    """Noise, and good files with noise in them: always one of the statuses, never a file changed that the command refused."""
+    rng = random.Random(9)
+    good = read(desk())
+    answered(0, "prove", "desk.grants", B, "--out", "proof")
+    proof, batch = read("proof"), record(A, value(9)) + record(B) + record(D, value(8))
+    root = answered(0, "root", "desk.grants").strip()
+
+    def noisy(content):
+        changed = bytearray(content)
+        for _ in range(rng.choice((0, 1, 1, 3))):
+            changed[rng.randrange(len(changed))] = rng.choice((0, 1, 255, rng.randrange(256)))
+        if rng.random() < 0.2:
+            del changed[rng.randrange(len(changed)) :]
+        return bytes(changed)
+
+    seen = set()
+    for _ in range(250):
+        before = noisy(good)
+        write("s", before)
+        write("p", noisy(proof))
+        write("b", noisy(batch) if rng.random() < 0.6 else noisy(FOUR.encode()))
+        version = rng.choice(("0", "1", "2", "3", "4294967295", "x"))
+        key = rng.choice((A, B, C, "ff" * 32, A[:-1], "zz"))
+        words = rng.choice(
+            (
+                ["check", "s"],
+                ["apply", "s", "b"],
+                ["apply", "s", "b", "--split"],
+                ["prune", "s", version],
+                ["root", "s", version],
+                ["get", "s", key, version],
+                ["prove", "s", key],
+                ["verify", root, key, "p"],
+                ["log", "s"],
+                ["show", "s", "--dot"],
+                ["show", "s", version],
+                ["stat", "s", "--json"],
+            )
+        )
+        done = subprocess.run([TOOL] + words, capture_output=True, timeout=60)
+        assert done.returncode in (0, 1, 2, *range(11, 23)), (words, done)
+        assert b"panicked" not in done.stderr and (done.returncode in (0, 1)) == (done.stderr == b""), (words, done)
+        if done.returncode != 0 or words[0] not in ("apply", "prune"):
+            assert read("s") == before, words
+        seen.add(done.returncode)
+    assert {0, 1, 2, 11, 12, 13, 14, 18, 20, 21, 22} <= seen, seen
 
 
 # A file that can't be written, a process that is killed.

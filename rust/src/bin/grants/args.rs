@@ -1,7 +1,7 @@
 //! The command line: words and options, told apart by what the command declares.
 
-use crate::commands::Command;
 use crate::fail::Fail;
+use crate::table::Command;
 use std::ffi::{OsStr, OsString};
 use std::path::Path;
 
@@ -70,7 +70,7 @@ pub fn parse(command: &Command, given: &[OsString]) -> Result<Option<Args>, Fail
     Ok(Some(args))
 }
 
-pub fn wrong(command: &Command, why: String) -> Fail {
+fn wrong(command: &Command, why: String) -> Fail {
     Fail::Usage(format!(
         "{why}. Usage: grants {} {}; `grants {} --help` says more",
         command.name, command.usage, command.name

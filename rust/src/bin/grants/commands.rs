@@ -1,186 +1,16 @@
 //! The commands. Each reads its files, makes one call of the library, and says what came.
 
-use crate::args::{number, wrong, Args, Choice};
+use crate::args::{number, Args};
 use crate::fail::Fail;
 use crate::files::{self, Locked, BATCH_LIMIT, PROOF_LIMIT, STORE_LIMIT};
 use crate::json::Json;
+use crate::lines;
 use crate::out::Out;
-use crate::{lines, show};
 use grants::{from_hex, to_hex, Applied, Error, HexError, Store, BATCH_RECORDS};
 use std::collections::BTreeMap;
 use std::path::Path;
 
-pub struct Command {
-    pub name: &'static str,
-    pub usage: &'static str,
-    pub what: &'static str,
-    pub help: &'static str,
-    /// The least and the most words after the command's name.
-    pub words: (usize, usize),
-    pub choices: &'static [Choice],
-    /// The exit status of an accepted command: 0, or 1 for absent.
-    pub run: fn(&Args, &mut Out) -> Result<u8, Fail>,
-}
-
-const JSON: Choice = Choice {
-    name: "--json",
-    value: None,
-    help: "answer in JSON",
-};
-
 const ABSENT: u8 = 1;
-
-pub const COMMANDS: &[Command] = &[
-    Command {
-        name: "format",
-        usage: "STORE CAPACITY",
-        what: "a fresh, empty store with CAPACITY slots",
-        help: "CAPACITY is 1 to 16,384. Each record takes a slot; a publishing makes about as many records as there are nodes above and\nat what it changes. The file has 24 + 120 CAPACITY bytes. A file that is already there is left alone, unless --force.",
-        words: (2, 2),
-        choices: &[
-            JSON,
-            Choice {
-                name: "--force",
-                value: None,
-                help: "make a fresh store of a file that is there; what it holds is lost",
-            },
-        ],
-        run: format,
-    },
-    Command {
-        name: "check",
-        usage: "STORE",
-        what: "is the store sound?",
-        help: "Sound: every kept version is a whole tree with every stored hash true, and every record stands in exactly the versions\nof its lifetime. STORE may be -.",
-        words: (1, 1),
-        choices: &[JSON],
-        run: check,
-    },
-    Command {
-        name: "apply",
-        usage: "STORE BATCH",
-        what: "publish the next version",
-        help: "BATCH is text, a line for each key in any order:\n\n  + KEY VALUE    the key gets this value\n  - KEY          the key has no value from now on\n\nEmpty lines and what follows # are passed over. Or BATCH is document 01's binary records of 72 bytes, keys ascending; a file\nwith a zero byte in it is taken as binary. An empty batch publishes a version with the same grants. A batch has at most\n1,024 records.\n\nThe store's file is replaced as a whole: it is written beside, synced and renamed, under a lock. BATCH may be -.",
-        words: (2, 2),
-        choices: &[
-            JSON,
-            Choice {
-                name: "--binary",
-                value: None,
-                help: "BATCH is binary records, whatever it looks like",
-            },
-            Choice {
-                name: "--split",
-                value: None,
-                help: "publish more than 1,024 records as several versions: all of them or none",
-            },
-        ],
-        run: apply,
-    },
-    Command {
-        name: "prune",
-        usage: "STORE VERSION",
-        what: "keep no version older than VERSION",
-        help: "Frees every record retired since VERSION or earlier; its slots are used again.",
-        words: (2, 2),
-        choices: &[JSON],
-        run: prune,
-    },
-    Command {
-        name: "root",
-        usage: "STORE [VERSION]",
-        what: "the root of a version",
-        help: "64 zeros where the version holds no grant. Without VERSION, the latest. STORE may be -.",
-        words: (1, 2),
-        choices: &[JSON],
-        run: root,
-    },
-    Command {
-        name: "get",
-        usage: "STORE KEY [VERSION]",
-        what: "the value of a key in a version",
-        help: "Prints the value, or 'absent' with exit status 1. Without VERSION, the latest. STORE may be -.",
-        words: (2, 3),
-        choices: &[JSON],
-        run: get,
-    },
-    Command {
-        name: "prove",
-        usage: "STORE KEY [VERSION]",
-        what: "the proof that a key is in a version, or that it isn't",
-        help: "Prints the proof in hex, or writes its bytes to a file with --out. Without VERSION, the latest. STORE may be -.",
-        words: (2, 3),
-        choices: &[
-            JSON,
-            Choice {
-                name: "--out",
-                value: Some("FILE"),
-                help: "write the proof's bytes to FILE (- for standard output)",
-            },
-        ],
-        run: prove,
-    },
-    Command {
-        name: "verify",
-        usage: "ROOT KEY PROOF",
-        what: "what a proof shows of a key against a root",
-        help: "Prints 'present' and the value, or 'absent' with exit status 1. PROOF is a file with the proof's bytes, or with their hex\ndigits; it may be -. No store is needed.",
-        words: (3, 3),
-        choices: &[JSON],
-        run: verify,
-    },
-    Command {
-        name: "log",
-        usage: "STORE",
-        what: "each kept version: its grants, its records, its root",
-        help: "'new' are the records that the version's publishing made and that are still kept. The store is checked first. STORE may\nbe -.",
-        words: (1, 1),
-        choices: &[
-            JSON,
-            Choice {
-                name: "--last",
-                value: Some("N"),
-                help: "the last N versions only",
-            },
-        ],
-        run: log,
-    },
-    Command {
-        name: "show",
-        usage: "STORE [VERSION ..]",
-        what: "the tree of a version, or of several in one picture",
-        help: "The tree as text; with --dot as a Graphviz graph, with --svg as a picture drawn by `dot`. A graph of several versions has\neach record once, so that it shows what they share. Without VERSION, the latest. The store is checked first. STORE may be -.",
-        words: (1, usize::MAX),
-        choices: &[
-            JSON,
-            Choice {
-                name: "--full",
-                value: None,
-                help: "keys and values in full",
-            },
-            Choice {
-                name: "--dot",
-                value: None,
-                help: "print a Graphviz graph",
-            },
-            Choice {
-                name: "--svg",
-                value: Some("FILE"),
-                help: "write a picture to FILE (- for standard output); `dot` must be installed",
-            },
-        ],
-        run: show::show,
-    },
-    Command {
-        name: "stat",
-        usage: "STORE",
-        what: "capacity, free slots, kept versions, bytes",
-        help: "Tests the header, not soundness. STORE may be -.",
-        words: (1, 1),
-        choices: &[JSON],
-        run: stat,
-    },
-];
 
 pub type Bytes = Store<Vec<u8>>;
 
@@ -249,7 +79,7 @@ fn version(args: &Args, i: usize, store: &Bytes) -> Result<u32, Fail> {
     }
 }
 
-fn format(args: &Args, out: &mut Out) -> Result<u8, Fail> {
+pub fn format(args: &Args, out: &mut Out) -> Result<u8, Fail> {
     let path = writable(args)?;
     let capacity = number("CAPACITY", args.word(1).unwrap_or_default())?;
     let store = Store::with_capacity(capacity).map_err(|e| {
@@ -292,7 +122,7 @@ fn writable(args: &Args) -> Result<&Path, Fail> {
     Ok(path)
 }
 
-fn check(args: &Args, out: &mut Out) -> Result<u8, Fail> {
+pub fn check(args: &Args, out: &mut Out) -> Result<u8, Fail> {
     let path = args.path(0);
     let store = read_store(path)?;
     let refused = refused(&store, path);
@@ -350,7 +180,7 @@ fn batches(args: &Args) -> Result<(Vec<Vec<u8>>, usize), Fail> {
     Ok((vec![batch.to_bytes()], count))
 }
 
-fn apply(args: &Args, out: &mut Out) -> Result<u8, Fail> {
+pub fn apply(args: &Args, out: &mut Out) -> Result<u8, Fail> {
     let path = writable(args)?;
     let (batches, count) = batches(args)?;
     let locked = Locked::take(path)?;
@@ -397,7 +227,7 @@ fn apply(args: &Args, out: &mut Out) -> Result<u8, Fail> {
     Ok(0)
 }
 
-fn prune(args: &Args, out: &mut Out) -> Result<u8, Fail> {
+pub fn prune(args: &Args, out: &mut Out) -> Result<u8, Fail> {
     let path = writable(args)?;
     let version = number("VERSION", args.word(1).unwrap_or_default())?;
     let locked = Locked::take(path)?;
@@ -423,7 +253,7 @@ fn prune(args: &Args, out: &mut Out) -> Result<u8, Fail> {
     Ok(0)
 }
 
-fn root(args: &Args, out: &mut Out) -> Result<u8, Fail> {
+pub fn root(args: &Args, out: &mut Out) -> Result<u8, Fail> {
     let path = args.path(0);
     let store = read_store(path)?;
     let version = version(args, 1, &store)?;
@@ -438,7 +268,7 @@ fn root(args: &Args, out: &mut Out) -> Result<u8, Fail> {
     Ok(0)
 }
 
-fn get(args: &Args, out: &mut Out) -> Result<u8, Fail> {
+pub fn get(args: &Args, out: &mut Out) -> Result<u8, Fail> {
     let key = hex("key", &args.text(1))?;
     let path = args.path(0);
     let store = read_store(path)?;
@@ -456,7 +286,7 @@ fn get(args: &Args, out: &mut Out) -> Result<u8, Fail> {
     Ok(if value.is_some() { 0 } else { ABSENT })
 }
 
-fn prove(args: &Args, out: &mut Out) -> Result<u8, Fail> {
+pub fn prove(args: &Args, out: &mut Out) -> Result<u8, Fail> {
     let key = hex("key", &args.text(1))?;
     let path = args.path(0);
     let store = read_store(path)?;
@@ -513,7 +343,7 @@ fn proof_bytes(bytes: Vec<u8>) -> Result<Vec<u8>, Fail> {
     from_hex(&digits).map_err(|e| Fail::Refused(Error::ProofForm, format!("It has {e}.")))
 }
 
-fn verify(args: &Args, out: &mut Out) -> Result<u8, Fail> {
+pub fn verify(args: &Args, out: &mut Out) -> Result<u8, Fail> {
     let root = hex("root", &args.text(0))?;
     let key = hex("key", &args.text(1))?;
     let path = args.path(2);
@@ -557,7 +387,7 @@ struct Counts {
     new: i64,
 }
 
-fn log(args: &Args, out: &mut Out) -> Result<u8, Fail> {
+pub fn log(args: &Args, out: &mut Out) -> Result<u8, Fail> {
     let path = args.path(0);
     let store = read_store(path)?;
     let refused = refused(&store, path);
@@ -624,7 +454,7 @@ fn log(args: &Args, out: &mut Out) -> Result<u8, Fail> {
     Ok(0)
 }
 
-fn stat(args: &Args, out: &mut Out) -> Result<u8, Fail> {
+pub fn stat(args: &Args, out: &mut Out) -> Result<u8, Fail> {
     let path = args.path(0);
     let store = read_store(path)?;
     let header = store.header().map_err(refused(&store, path))?;
@@ -656,22 +486,4 @@ fn stat(args: &Args, out: &mut Out) -> Result<u8, Fail> {
         out.line(format_args!("bytes     {length}"))?;
     }
     Ok(0)
-}
-
-/// The versions that are asked for, else the latest.
-pub fn versions(args: &Args, command: &str, latest: u32) -> Result<Vec<u32>, Fail> {
-    let mut versions = vec![];
-    for word in args.rest(1) {
-        let version = number("VERSION", word)?;
-        if versions.contains(&version) {
-            let command = COMMANDS.iter().find(|c| c.name == command);
-            let why = format!("version {version} is named twice");
-            return Err(command.map_or(Fail::Usage(why.clone()), |c| wrong(c, why)));
-        }
-        versions.push(version);
-    }
-    if versions.is_empty() {
-        versions.push(latest);
-    }
-    Ok(versions)
 }

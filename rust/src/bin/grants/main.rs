@@ -9,13 +9,15 @@ mod json;
 mod lines;
 mod out;
 mod show;
+mod table;
 
-use commands::{Command, COMMANDS};
 use fail::Fail;
 use json::Json;
 use out::Out;
 use std::ffi::OsString;
+use std::io::Write;
 use std::process::ExitCode;
+use table::{Command, COMMANDS};
 
 fn main() -> ExitCode {
     let given: Vec<OsString> = std::env::args_os().skip(1).collect();
@@ -26,7 +28,8 @@ fn main() -> ExitCode {
         Ok(status) => return ExitCode::from(status),
         Err(fail) => fail,
     };
-    eprintln!("grants: {fail}");
+    // There is nowhere left to say that this could not be written.
+    let _ = writeln!(std::io::stderr(), "grants: {fail}");
     if json {
         let object = Json::Object(vec![
             ("refused", fail.number().into()),

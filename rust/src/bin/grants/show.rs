@@ -1,8 +1,8 @@
 //! The tree of a version, as text and as a graph. The store was checked: the records whose lifetime has the version are its tree, and a record
 //! stands below the one whose place is a bit shorter.
 
-use crate::args::Args;
-use crate::commands::{counted, read_store, refused, versions, Bytes};
+use crate::args::{number, Args};
+use crate::commands::{counted, read_store, refused, Bytes};
 use crate::fail::Fail;
 use crate::files;
 use crate::json::Json;
@@ -41,7 +41,7 @@ pub fn show(args: &Args, out: &mut Out) -> Result<u8, Fail> {
     let slots = store.slots().map_err(&refused)?;
     let latest = store.header().map_err(&refused)?.latest;
     let mut trees = vec![];
-    for version in versions(args, "show", latest)? {
+    for version in versions(args, latest)? {
         trees.push(tree(&store, &slots, version).map_err(&refused)?);
     }
     let full = args.has("--full");
@@ -69,6 +69,22 @@ pub fn show(args: &Args, out: &mut Out) -> Result<u8, Fail> {
         }
     }
     Ok(0)
+}
+
+/// The versions that are asked for, else the latest.
+fn versions(args: &Args, latest: u32) -> Result<Vec<u32>, Fail> {
+    let mut versions = vec![];
+    for word in args.rest(1) {
+        let version = number("VERSION", word)?;
+        if versions.contains(&version) {
+            return Err(Fail::Usage(format!("version {version} is named twice")));
+        }
+        versions.push(version);
+    }
+    if versions.is_empty() {
+        versions.push(latest);
+    }
+    Ok(versions)
 }
 
 fn tree(store: &Bytes, slots: &[Option<Record>], version: u32) -> Result<Tree, Error> {
