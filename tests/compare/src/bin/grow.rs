@@ -74,7 +74,7 @@ fn main() {
         compare(&name("check"), || ours::check(&x), || second::check(&x));
 
         // A new value for one key and a new key, on a fresh copy each time. Copying is timed with it, and costs both the same.
-        let mut asks = vec![
+        let mut asks = [
             Ask { key: keys[keys.len() / 2], value: Some(random.hash()) },
             Ask { key: random.hash(), value: Some(random.hash()) },
         ];
@@ -110,18 +110,10 @@ fn main() {
         compare(&name("root"), || ours::root(s, latest), || second::root(s, latest));
         let mut asked = [keys[keys.len() / 3], random.hash()].into_iter().cycle();
         let mut too = asked.clone();
-        compare(
-            &name("get"),
-            || ours::get(s, latest, &asked.next().unwrap()),
-            || second::get(s, latest, &too.next().unwrap()),
-        );
+        compare(&name("get"), || ours::get(s, latest, &asked.next().unwrap()), || second::get(s, latest, &too.next().unwrap()));
         let (mut room, mut other) = (vec![0; 17_080], vec![0; 17_080]);
         let absent = random.hash();
-        compare(
-            &name("prove"),
-            || ours::prove(s, latest, &absent, &mut room),
-            || second::prove(s, latest, &absent, &mut other),
-        );
+        compare(&name("prove"), || ours::prove(s, latest, &absent, &mut room), || second::prove(s, latest, &absent, &mut other));
         assert!(room == other, "prove: not the same proof");
         let length = ours::prove(s, latest, &absent, &mut room).unwrap() as usize;
         let root = ours::root(s, latest).unwrap();
