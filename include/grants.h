@@ -1,17 +1,27 @@
 /* The grant store: a versioned, authenticated key-value store over lent memory.
  *
+ * Each publishing of grants is a version with one SHA-256 root. From any copy of the store comes a short proof that a key has a value in a
+ * version, or that it has none; whoever has the version's root checks it with grants_verify alone. examples/editor.c shows all of it.
+ *
  * Each call returns 0 where it is accepted, else a number of refusal; a refused call writes nothing, its answer included. Buffers lent to one
  * call do not overlap. A pointer is never null, also where its length is 0. The calls keep no state, take no lock and allocate nothing; a
  * store may be used from any thread that owns it. All numbers in buffers are little-endian. Every call takes any bytes: bad input is refused.
+ * The stack that each call takes is in docs/FIGURES.md; every byte of a store, a batch and a proof is in docs/FORMAT.md.
  *
- *   1  the store's length isn't 24 + 120 n, n in 1 to 16,384
+ *   1  the store's length isn't 24 + 120n, n in 1 to 16,384
  *   2  a header field isn't right, its capacity isn't n, or oldest is above latest
- *   3  the store isn't sound (check, prune), or the walk says so (reads)
+ *   3  the store isn't sound (check, apply, prune), or the walk says so (reads)
+ *   4  the batch isn't whole records in form, or has over 1,024
+ *   5  the batch's keys aren't strictly ascending
+ *   6  latest is 4,294,967,295
+ *   7  fewer free slots than new records
  *   8  the version isn't in oldest to latest
  *   9  the proof is longer than the room
  *  10  the proof isn't one whole record in form, no byte over
  *  11  the proof is in form, but doesn't hold
  *  12  a key or root handed in isn't 32 bytes
+ *
+ * 'Refused' below names a call's numbers in the order in which it tests for them: where several are deserved, the first is given.
  */
 #ifndef GRANTS_H
 #define GRANTS_H
@@ -23,11 +33,21 @@
 extern "C" {
 #endif
 
-/* Makes a fresh, empty store of any bytes of the right length. Refused: 1. */
+/* Makes a fresh, empty store of any bytes of the right length, 24 + 120 for each slot: version 0, which holds no grant, is the only one kept.
+   A record takes a slot, and a publishing makes a record for each node that it changes. Refused: 1. */
 uint32_t grants_format(uint8_t *store, size_t store_len);
 
-/* Whether the store is sound: every kept version is a whole tree with every hash true. Refused: 1, 2, 3. */
+/* Whether the store is sound: every kept version is a whole tree with every hash true, and each record stands in exactly the kept versions of
+   its lifetime. A store that only these calls wrote always is. Refused: 1, 2, 3. */
 uint32_t grants_check(const uint8_t *store, size_t store_len);
+
+/* Publishes the next version: the grants of the latest one with the batch applied. A batch is records of 72 bytes, at most 1,024 of them, with
+   keys that ascend strictly as byte strings; an empty batch is one too.
+     insert: length 72 (4 bytes), kind 1 (2), 2 zero bytes, key 32, value 32
+     delete: length 40 (4 bytes), kind 2 (2), 2 zero bytes, key 32, 32 zero bytes
+   Inserting the value that is there already, and deleting a key that isn't there, are no change.
+   answer: the new version (4 bytes), its root (32), how many records are new (4). Refused: 1, 2, 3, 4, 5, 6, 7. */
+uint32_t grants_apply(uint8_t *store, size_t store_len, const uint8_t *batch, size_t batch_len, uint8_t answer[40]);
 
 /* Frees every record retired since the version or earlier, and keeps no older version. freed: how many records were freed, 4 bytes.
    Refused: 1, 2, 3, 8. */
@@ -36,15 +56,19 @@ uint32_t grants_prune(uint8_t *store, size_t store_len, uint32_t version, uint8_
 /* The root of a version, 32 zero bytes where it holds no grant. It tests the header, not soundness. Refused: 1, 2, 8. */
 uint32_t grants_root(const uint8_t *store, size_t store_len, uint32_t version, uint8_t root[32]);
 
-/* A key in a version. found: 1 and the value (32), or 0 and 32 zero bytes where the key is absent. Refused: 12, 1, 2, 8, 3. */
+/* A key in a version. found: 1 and the value (32), or 0 and 32 zero bytes where the key is absent. It tests the header and what it meets on the
+   way to the key, not soundness. Refused: 12, 1, 2, 8, 3. */
 uint32_t grants_get(const uint8_t *store, size_t store_len, uint32_t version, const uint8_t *key, size_t key_len, uint8_t found[33]);
 
 /* Writes the proof that a key is in a version, or that it isn't, to the front of room; the rest of room stays. length: of the proof, 4 bytes.
-   No proof is longer than 17,080 bytes. It tests the header, not soundness. Refused: 12, 1, 2, 8, 3, 9. */
+   No proof is longer than 17,080 bytes. It tests the header and what it meets on its way, not soundness: what comes from a store that isn't
+   sound, grants_verify may refuse. Refused: 12, 1, 2, 8, 3, 9. */
 uint32_t grants_prove(const uint8_t *store, size_t store_len, uint32_t version, const uint8_t *key, size_t key_len, uint8_t *room,
                       size_t room_len, uint8_t length[4]);
 
-/* What a proof shows of a key against a root. found: 1 and the value for 'present', 0 and 32 zero bytes for 'absent'. Refused: 12, 10, 11. */
+/* What a proof shows of a key against a root: all that an editor needs. The root must come from who signs it; the proof may come from anybody.
+   found: 1 and the value for 'present', 0 and 32 zero bytes for 'absent'. Any number but 0 means that the proof shows nothing.
+   Refused: 12, 10, 11. */
 uint32_t grants_verify(const uint8_t *root, size_t root_len, const uint8_t *key, size_t key_len, const uint8_t *proof, size_t proof_len,
                        uint8_t found[33]);
 

@@ -45,8 +45,8 @@ use Rattle.outcomes.proofs.Forking.{mark-nothing, nothing-marked, fork-did}
 use Rattle.growing.specs.declared.Stays as declared-stays
 use Rattle.growing.specs.declared.Few as declared-few
 use Rattle.growing.specs.declared.Few.the-variants.{Nothing, One, Several}
-use Rattle.growing.specs.Growing.{staysSays, FewSays, StaysAt, Grows}
-use Rattle.growing.proofs.Sides.{stays-at-side}
+use Rattle.growing.specs.Growing.{staysSays, staysAt, FewSays, StaysAt, Grows}
+use Rattle.growing.proofs.Sides.{stays-longer, stays-at-side}
 
 -- a run and a leaf that stays fit their place
 fits-of : (p : Place) (part : Bytes) (stays : Option Grant) → Run p part → StaysAt p stays (asks part) → Fits p (staying stays) (asks part)
@@ -103,23 +103,27 @@ module _ (new : ℕ) (q : Place) (stays : Option Grant) (as′ : List Ask) where
 
 -- a place where a subtree grows, and the outcome there
 module _ {new : ℕ} {s : Bytes} {p : place.Place} {leaf : declared-stays.Stays} {part : Bytes} (w : Grows new s p leaf part) where
+  -- the leaf that stays there
+  abbrev here : Option Grant
+  here = staysAt (placeOf p) (staysSays leaf)
+
   abbrev grows : step.Outcome
-  grows = step.grow leafHash innerHash new (256 - p .count) (placeOf p) (staysSays leaf) (asks part)
+  grows = step.grow leafHash innerHash new (256 - p .count) (placeOf p) here (asks part)
 
   long : length (placeOf p) + (256 - p .count) ≡ 256
   long = let h = w .proper .short in omega (arith, proper-count p (w .proper))
 
-  fits : Fits (placeOf p) (staying (staysSays leaf)) (asks part)
-  fits = fits-of (placeOf p) part (staysSays leaf) (w .run) (w .stays)
+  fits : Fits (placeOf p) (staying here) (asks part)
+  fits = fits-of (placeOf p) part here (w .run) (w .stays)
 
-  stay : Stays (staysSays leaf) (asks part)
-  stay = stays-of (placeOf p) (staysSays leaf) (asks part) (w .stays)
+  stay : Stays here (asks part)
+  stay = stays-of (placeOf p) here (asks part) (w .stays)
 
   abbrev after : Tree
-  after = treeBy (256 - p .count) (length (placeOf p)) (withBatch (asks part) (staying (staysSays leaf)))
+  after = treeBy (256 - p .count) (length (placeOf p)) (withBatch (asks part) (staying here))
 
   given : Gives leafHash innerHash new (placeOf p) vnone after grows
-  given = grow-gives leafHash innerHash new (256 - p .count) (placeOf p) (staysSays leaf) (asks part) long fits stay
+  given = grow-gives leafHash innerHash new (256 - p .count) (placeOf p) here (asks part) long fits stay
 
   grows-new : AllNew new (grows .fresh)
   grows-new = given-new leafHash innerHash new (placeOf p) vnone after grows given
@@ -130,29 +134,29 @@ module _ {new : ℕ} {s : Bytes} {p : place.Place} {leaf : declared-stays.Stays}
   grows-form : new ≤ top32 → (r : declared.Outcome) → NodeSays (r .node) (grows .node) → All RecordForm (updatedSays (placeOf p) r)
   grows-form t r h =
       given-form new (placeOf p) vnone after grows given (w .number, t) tt
-      (fits-shaped (256 - p .count) (placeOf p) (staying (staysSays leaf)) (asks part) long fits) r h
+      (fits-shaped (256 - p .count) (placeOf p) (staying here) (asks part) long fits) r h
 
   -- the grants, by the case of what was found
-  pub few-is : {f g : declared-few.Few} → f ≡ g → FewSays f (step.toGrow (staysSays leaf) (asks part)) →
-      FewSays g (step.toGrow (staysSays leaf) (asks part))
-  few-is e h = subst (λ x. FewSays x (step.toGrow (staysSays leaf) (asks part))) e h
+  pub few-is : (o : declared-stays.Stays) {f g : declared-few.Few} → staysSays o ≡ here → f ≡ g → FewSays f (step.toGrow (staysSays o) (asks part)) →
+      FewSays g (step.toGrow here (asks part))
+  few-is o i e h = subst₂ (λ x y. FewSays x (step.toGrow y (asks part))) e i h
 
-  pub none-did : (writes : Bool) → FewSays Nothing (step.toGrow (staysSays leaf) (asks part)) →
+  pub none-did : (writes : Bool) → FewSays Nothing (step.toGrow here (asks part)) →
       Did new writes s s grows (record { change = C.Unchanged; node = N.Nothing; count = 0 })
   none-did writes f =
       subst (λ o. Did new writes s s o (record { change = C.Unchanged; node = N.Nothing; count = 0 }))
-      (sym (grow-none new (placeOf p) (staysSays leaf) (asks part) (256 - p .count) f))
+      (sym (grow-none new (placeOf p) here (asks part) (256 - p .count) f))
       (record { change = refl; node = refl; count = refl; bytes = written-nothing writes new step.unchanged vnone (w .stored) })
 
-  pub one-did : (writes : Bool) {k x : Hash} → FewSays (One k x) (step.toGrow (staysSays leaf) (asks part)) →
+  pub one-did : (writes : Bool) {k x : Hash} → FewSays (One k x) (step.toGrow here (asks part)) →
       Did new writes s s grows (record { change = C.Updated; node = N.Leaf new k x; count = 0 })
   one-did writes {k} {x} f =
       subst (λ o. Did new writes s s o (record { change = C.Updated; node = N.Leaf new k x; count = 0 }))
-      (sym (grow-one new (placeOf p) (staysSays leaf) (asks part) (256 - p .count) (grant (hashBytes k) (hashBytes x)) f))
+      (sym (grow-one new (placeOf p) here (asks part) (256 - p .count) (grant (hashBytes k) (hashBytes x)) f))
       (record { change = refl; node = refl; count = refl; bytes = written-nothing writes new step.updated (vleaf new (grant (hashBytes k) (hashBytes x))) (w .stored) })
 
   -- two or more differ in a bit that is left
-  pub several-short : FewSays Several (step.toGrow (staysSays leaf) (asks part)) → p .count < 256
+  pub several-short : FewSays Several (step.toGrow here (asks part)) → p .count < 256
   several-short f = go (ltb (p .count) 256) refl
     where
       go : (t : Bool) → ltb (p .count) 256 ≡ t → p .count < 256
@@ -160,50 +164,47 @@ module _ {new : ℕ} {s : Bytes} {p : place.Place} {leaf : declared-stays.Stays}
       go false h =
           let b = w .proper .short in
           let l = ltb-false (p .count) 256 h in
-          absurd (grows-one (placeOf p) (staysSays leaf) (asks part) (omega (arith, l, proper-count p (w .proper))) fits stay
+          absurd (grows-one (placeOf p) here (asks part) (omega (arith, l, proper-count p (w .proper))) fits stay
           (subst (λ gs. 1 < length gs) (sym (f .3)) (omega arith)))
 
 -- on a side of it
 module _ {new : ℕ} {s : Bytes} {p : place.Place} {leaf : declared-stays.Stays} {part : Bytes} (w : Grows new s p leaf part) where
-  module _ (b : Side) (h : p .count < 256) {r : place.Place} (leaf′ : declared-stays.Stays) {part′ : Bytes} (g : Grown b p r)
-      (e : staysSays leaf′ ≡ step.leafOn (p .count) b (staysSays leaf)) (f : part′ ≡ runOf b (p .count) part) where
+  module _ (b : Side) (h : p .count < 256) {r : place.Place} {part′ : Bytes} (g : Grown b p r) (f : part′ ≡ runOf b (p .count) part) where
     its-count : p .count ≡ length (placeOf p)
     its-count = sym (proper-count p (w .proper))
 
-    side-leaf : staysSays leaf′ ≡ step.leafOn (length (placeOf p)) b (staysSays leaf)
-    side-leaf = e ∙ ap (λ i. step.leafOn i b (staysSays leaf)) its-count
+    side-leaf : staysAt (placeOf r) (staysSays leaf) ≡ step.leafOn (length (placeOf p)) b (here w)
+    side-leaf = ap (λ q. staysAt q (staysSays leaf)) (g .place) ∙ stays-longer b (placeOf p) leaf (omega (arith, its-count))
 
     side-asks : asks part′ ≡ run (length (placeOf p)) b (asks part)
     side-asks =
         ap asks f ∙ asks-of-part b (p .count) part (run-at p part (w .proper) h (w .run)) ∙ ap (λ i. run i b (asks part)) its-count
 
-    pub side-grows : {s′ : Bytes} → Stored s′ → Grows new s′ r leaf′ part′
+    pub side-grows : {s′ : Bytes} → Stored s′ → Grows new s′ r leaf part′
     side-grows st = record {
       stored = st;
       number = w .number;
       proper = g .proper;
       run = subst (Run (placeOf r)) (sym f) (run-grown p part (w .proper) h (w .run) b r g);
       stays =
-          rw (g .place, side-leaf, side-asks)
-          (stays-at-side b (placeOf p) (staysSays leaf) (asks part) (omega (arith, its-count)) (w .stays));
+          rw (side-leaf, g .place, side-asks) (stays-at-side b (placeOf p) (here w) (asks part) (omega (arith, its-count)) (w .stays));
     }
 
-    side-is : step.grow leafHash innerHash new (256 - r .count) (placeOf r) (staysSays leaf′) (asks part′)
-        ≡ side-grown new (placeOf p) (staysSays leaf) (asks part) (255 - p .count) b
-    side-is = let k : 256 - r .count ≡ 255 - p .count = omega (arith, g .count) in rw (k, g .place, side-leaf, side-asks)
+    side-is : step.grow leafHash innerHash new (256 - r .count) (placeOf r) (staysAt (placeOf r) (staysSays leaf)) (asks part′)
+        ≡ side-grown new (placeOf p) (here w) (asks part) (255 - p .count) b
+    side-is = let k : 256 - r .count ≡ 255 - p .count = omega (arith, g .count) in rw (side-leaf, k, g .place, side-asks)
 
   -- both sides, and the inner node above them
-  module _ (writes : Bool) (t : new ≤ top32) (h : p .count < 256) {lp rp : place.Place} (ls rs : declared-stays.Stays) {lpart rpart s₁ s₂ : Bytes}
-      {l r : declared.Outcome} (gl : Grown left p lp) (gr : Grown right p rp) (el : staysSays ls ≡ step.leafOn (p .count) left (staysSays leaf))
-      (er : staysSays rs ≡ step.leafOn (p .count) right (staysSays leaf)) (fl : lpart ≡ runOf left (p .count) part)
+  module _ (writes : Bool) (t : new ≤ top32) (h : p .count < 256) {lp rp : place.Place} {lpart rpart s₁ s₂ : Bytes}
+      {l r : declared.Outcome} (gl : Grown left p lp) (gr : Grown right p rp) (fl : lpart ≡ runOf left (p .count) part)
       (fr : rpart ≡ runOf right (p .count) part)
-      (x : Did new writes s s₁ (step.grow leafHash innerHash new (256 - lp .count) (placeOf lp) (staysSays ls) (asks lpart)) l)
-      (y : Did new writes s₁ s₂ (step.grow leafHash innerHash new (256 - rp .count) (placeOf rp) (staysSays rs) (asks rpart)) r) where
-    on-left : Grows new s lp ls lpart
-    on-left = side-grows left h ls gl el fl (w .stored)
+      (x : Did new writes s s₁ (step.grow leafHash innerHash new (256 - lp .count) (placeOf lp) (staysAt (placeOf lp) (staysSays leaf)) (asks lpart)) l)
+      (y : Did new writes s₁ s₂ (step.grow leafHash innerHash new (256 - rp .count) (placeOf rp) (staysAt (placeOf rp) (staysSays leaf)) (asks rpart)) r) where
+    on-left : Grows new s lp leaf lpart
+    on-left = side-grows left h gl fl (w .stored)
 
-    on-right : Grows new s₁ rp rs rpart
-    on-right = side-grows right h rs gr er fr (changed-stored (x .bytes))
+    on-right : Grows new s₁ rp leaf rpart
+    on-right = side-grows right h gr fr (changed-stored (x .bytes))
 
     pub sides-fork : Fork s₂ lp rp l r
     sides-fork = record {
@@ -215,16 +216,16 @@ module _ {new : ℕ} {s : Bytes} {p : place.Place} {leaf : declared-stays.Stays}
       counts = (omega (arith, x .count), omega (arith, y .count));
     }
 
-    pub several-did : {s₃ : Bytes} {o : declared.Outcome} → FewSays Several (step.toGrow (staysSays leaf) (asks part)) →
+    pub several-did : {s₃ : Bytes} {o : declared.Outcome} → FewSays Several (step.toGrow (here w) (asks part)) →
         Forked new writes s₂ s₃ (placeOf lp) (placeOf rp) l r o → Did new writes s s₃ (grows w) o
     several-did {s₃} {o} f k =
-        let a = step.grow leafHash innerHash new (256 - lp .count) (placeOf lp) (staysSays ls) (asks lpart) in
-        let b = step.grow leafHash innerHash new (256 - rp .count) (placeOf rp) (staysSays rs) (asks rpart) in
+        let a = step.grow leafHash innerHash new (256 - lp .count) (placeOf lp) (staysAt (placeOf lp) (staysSays leaf)) (asks lpart) in
+        let b = step.grow leafHash innerHash new (256 - rp .count) (placeOf rp) (staysAt (placeOf rp) (staysSays leaf)) (asks rpart) in
         let q = placeOf p in
         let n : 256 - p .count ≡ suc (255 - p .count) = omega arith in
         let is : step.fork leafHash innerHash new q a b [] ≡ grows w =
-        ap₂ (λ c d. step.fork leafHash innerHash new q c d []) (side-is left h ls gl el fl) (side-is right h rs gr er fr)
-        ∙ sym (ap (growing new q (staysSays leaf) (asks part)) n ∙ grow-more new q (staysSays leaf) (asks part) (255 - p .count) (f .3)) in
+        ap₂ (λ c d. step.fork leafHash innerHash new q c d []) (side-is left h gl fl) (side-is right h gr fr)
+        ∙ sym (ap (growing new q (here w) (asks part)) n ∙ grow-more new q (here w) (asks part) (255 - p .count) (f .3)) in
         subst (λ c. Did new writes s s₃ c o) is
         (fork-did new writes q a b l r o [] x y (nothing-marked writes new (changed-stored (y .bytes)))
         (subst₂ (λ i j. Forked new writes s₂ s₃ i j l r o) (gl .place) (gr .place) k) (grows-new on-left) (grows-new on-right) (grows-older on-right)

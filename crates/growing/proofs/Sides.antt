@@ -1,35 +1,48 @@
 -- The leaf that stays goes to its side, and there the same holds of it. Assumes nothing.
-use Prim.Native.Nat.{ℕ, _<_}
+use Prim.Native.Nat.{_<_}
 use native.Mathlib.Omega.{arith}
-use mathlib.Core.Path.{_≡_, refl, ap, sym, _∙_}
-use mathlib.Core.Bool.{Bool, true, false, cond, Bool·beq}
+use mathlib.Core.Path.{_≡_, refl, ap, _∙_}
+use mathlib.Core.Bool.{Bool, true, false, cond, _&&_, Bool·beq}
 use mathlib.Core.List.{List}
 use mathlib.Core.Option.{Option, none, some}
 use lib.ListN.{length}
-use Rattle.terms.specs.Bits.{Side, Place, longer, bit}
+use Rattle.terms.specs.Bits.{Side, Place, longer, bit, begins}
 use Rattle.terms.specs.Records.{Grant, grant, Ask}
 use Rattle.terms.proofs.Lists.{all-filter}
 use Rattle.terms.proofs.Places.{begins-longer}
-use Rattle.terms.proofs.Tests.{is-false, same-bit, bit-same}
 use Rattle.meaning.specs.Runs.{asksFor, run}
 use Rattle.hash.specs.declared.Hash.{Hash}
 use Rattle.hash.specs.Hash.{hashBytes}
+use Rattle.hash.proofs.Laws.{hash-whole}
 use Rattle.steps.specs.Step as step
 use Rattle.growing.specs.declared.Stays as declared-stays
 use Rattle.growing.specs.declared.Stays.the-variants.{Nothing, Grant as Leaf}
-use Rattle.growing.specs.Growing.{staysSays, StaysAt}
+use Rattle.growing.specs.Growing.{staysSays, staysAt, StaysAt}
 
-module _ (stays : declared-stays.Stays) (i : ℕ) (b : Side) where
-  pub no-leaf : stays ≡ Nothing → staysSays Nothing ≡ step.leafOn i b (staysSays stays)
+-- by what is found
+module _ (stays : declared-stays.Stays) (p : Place) where
+  pub no-leaf : stays ≡ Nothing → staysSays Nothing ≡ staysAt p (staysSays stays)
   no-leaf e = rw e
 
-  pub leaf-there : {k x : Hash} → stays ≡ Leaf k x → b ≡ bit i (hashBytes k) → staysSays (Leaf k x) ≡ step.leafOn i b (staysSays stays)
-  leaf-there {k} {x} e f =
-      rw (e, f) (ap (λ t. cond t (some (grant (hashBytes k) (hashBytes x))) none) (sym (bit-same (bit i (hashBytes k)))))
+  pub leaf-here : {k x : Hash} → stays ≡ Leaf k x → begins p (hashBytes k) ≡ true → staysSays (Leaf k x) ≡ staysAt p (staysSays stays)
+  leaf-here e f = rw (e, f)
 
-  pub leaf-elsewhere : {k x : Hash} → stays ≡ Leaf k x → (b ≡ bit i (hashBytes k) → ⊥) → staysSays Nothing ≡ step.leafOn i b (staysSays stays)
-  leaf-elsewhere {k} {x} e f =
-      rw e (ap (λ t. cond t (some (grant (hashBytes k) (hashBytes x))) none) (sym (is-false (Bool·beq b (bit i (hashBytes k))) (λ t. f (same-bit b (bit i (hashBytes k)) t)))))
+  pub leaf-elsewhere : {k x : Hash} → stays ≡ Leaf k x → begins p (hashBytes k) ≡ false → staysSays Nothing ≡ staysAt p (staysSays stays)
+  leaf-elsewhere e f = rw (e, f)
+
+-- on a side of a place it stays as it does there
+pub stays-longer : (b : Side) (p : Place) (stays : declared-stays.Stays) → length p < 256 →
+    staysAt (longer b p) (staysSays stays) ≡ step.leafOn (length p) b (staysAt p (staysSays stays))
+stays-longer b p Nothing l = refl
+stays-longer b p (Leaf k x) l =
+    let g : Grant = grant (hashBytes k) (hashBytes x) in
+    ap (λ t. cond t (some g) none) (begins-longer b p (hashBytes k) (omega (arith, hash-whole k .0))) ∙ go (begins p (hashBytes k))
+  where
+    go : (t : Bool) →
+        cond (t && Bool·beq b (bit (length p) (hashBytes k))) (some (grant (hashBytes k) (hashBytes x))) none
+        ≡ step.leafOn (length p) b (cond t (some (grant (hashBytes k) (hashBytes x))) none)
+    go true = refl
+    go false = refl
 
 pub stays-at-side : (b : Side) (p : Place) (stays : Option Grant) (asks : List Ask) → length p < 256 → StaysAt p stays asks →
     StaysAt (longer b p) (step.leafOn (length p) b stays) (run (length p) b asks)

@@ -2,7 +2,7 @@
 -- What the values of the code say, case by case. Assumes nothing.
 use Prim.Native.Nat.{ℕ, _<_, _≤_}
 use mathlib.Core.Path.{_≡_}
-use mathlib.Core.Bool.{true, false}
+use mathlib.Core.Bool.{true, false, cond}
 use mathlib.Core.List.{List, [], _∷_}
 use mathlib.Core.Option.{Option, none, some}
 use lib.ListN.{drop}
@@ -25,6 +25,11 @@ use Rattle.growing.specs.declared.Few.the-variants.{Nothing, One, Severa
 abbrev pub staysSays : declared-stays.Stays → Option Grant
 staysSays S.Nothing = none
 staysSays (S.Grant k x) = some (grant (hashBytes k) (hashBytes x))
+
+-- It stays at a place on its way.
+abbrev pub staysAt : Place → Option Grant → Option Grant
+staysAt p none = none
+staysAt p (some g) = cond (begins p (g .key)) (some g) none
 
 -- No grant, one, or two or more.
 abbrev pub FewSays : declared-few.Few → List Grant → Type 0
@@ -50,4 +55,4 @@ pub record Grows (new : ℕ) (s : Bytes) (p : place.Place) (leaf : declared-stay
   pub number : 1 ≤ new
   pub proper : Proper p
   pub run : Run (placeOf p) part
-  pub stays : StaysAt (placeOf p) (staysSays leaf) (asks part)
+  pub stays : StaysAt (placeOf p) (staysAt (placeOf p) (staysSays leaf)) (asks part)

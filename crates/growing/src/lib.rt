@@ -11,20 +11,20 @@ use outcomes::Change;
 use outcomes::Outcome;
 use outcomes::fork;
 use place::Place;
-use place::key_bit;
+use place::begins;
 use placing::Node;
 ghost use mathlib.Core.Path.{_≡_};
 ghost use mathlib.Core.Bool.{true};
 ghost use mathlib.Core.List.{[], _∷_};
 ghost use Prim.Native.Nat.{_-_, _≤_, _<_};
-ghost use Rattle.terms.specs.Bits.{bit};
+ghost use Rattle.terms.specs.Bits.{begins};
 ghost use Rattle.hash.specs.Hash.{hashBytes};
 ghost use Rattle.nodehash.specs.Node.{leafHash, innerHash};
-ghost use Rattle.place.specs.Place.{placeOf};
+ghost use Rattle.place.specs.Place.{placeOf, Proper};
 ghost use Rattle.batch.specs.Batch.{count, asks, askAt, inserts};
 ghost use Rattle.steps.specs.Step as step;
 ghost use Rattle.outcomes.specs.Outcomes.{Did};
-ghost use Rattle.growing.specs.Growing.{staysSays, FewSays, NextInsert, Grows};
+ghost use Rattle.growing.specs.Growing.{staysSays, staysAt, FewSays, NextInsert, Grows};
 
 // The leaf that stays, by its grant.
 pub enum Stays {
@@ -91,38 +91,32 @@ fn to_grow(stays: Stays, run: &[u8]) -> Few
     }
 }
 
-// Bit i of the 32 bytes of a hash.
-fn hash_bit(h: Hash, i: usize) -> bool
-    requires { ⌜ i < 256 ⌝ }
-    ensures { λ r. ⌜ r ≡ bit i (hashBytes h) ⌝ }
+// Whether the 32 bytes of a hash begin with a place.
+fn hash_begins(h: Hash, place: Place) -> bool
+    requires { ⌜ Proper place ⌝ }
+    ensures { λ r. ⌜ r ≡ begins (placeOf place) (hashBytes h) ⌝ }
 {
     let mut bytes = [0u8; 32];
     put_hash(&mut bytes, h);
-    key_bit(&bytes, i)
+    begins(&bytes, place)
 }
 
-// The leaf that stays goes to its side.
-fn leaf_on(stays: Stays, i: usize, side: bool) -> Stays
-    requires { ⌜ i < 256 ⌝ }
-    ensures { λ r. ⌜ staysSays r ≡ step.leafOn i side (staysSays stays) ⌝ }
+// The leaf that stays, where the place is on its way.
+fn stays_at(stays: Stays, place: Place) -> Stays
+    requires { ⌜ Proper place ⌝ }
+    ensures { λ r. ⌜ staysSays r ≡ staysAt (placeOf place) (staysSays stays) ⌝ }
 {
-    let Stays::Grant { key, value } = stays else {
+    let Stays::Grant { key, value: _ } = stays else {
         return Stays::Nothing;
     };
-    let goes = hash_bit(key, i);
-    if side {
-        if goes {
-            return stays;
-        }
-        return Stays::Nothing;
+    if hash_begins(key, place) {
+        return stays;
     }
-    if goes {
-        return Stays::Nothing;
-    }
-    stays
+    Stays::Nothing
 }
 
-// Grows the subtree at a place; the node there is for the parent to place.
+// Grows the subtree at a place; the node there is for the parent to place. The leaf that stays is handed down as it is: what a call keeps
+// while it calls itself is stack for each of 256 bits.
 pub fn grow(
     store: &mut [u8],
     writes: bool,
@@ -132,9 +126,10 @@ pub fn grow(
     run: &[u8],
 ) -> Outcome
     requires { ⌜ Grows new (now store) place stays (now run) ⌝ }
-    ensures { λ r. ⌜ Did new writes (now (store .entry)) (now (store .exit)) (step.grow leafHash innerHash new (256 - place .count) (placeOf place) (staysSays stays) (asks (now (run .entry)))) r ⌝ }
+    ensures { λ r. ⌜ Did new writes (now (store .entry)) (now (store .exit)) (step.grow leafHash innerHash new (256 - place .count) (placeOf place) (staysAt (placeOf place) (staysSays stays)) (asks (now (run .entry)))) r ⌝ }
 {
-    let grants = to_grow(stays, run);
+    let here = stays_at(stays, place);
+    let grants = to_grow(here, run);
     match grants {
         Few::Nothing => Outcome {
             change: Change::Unchanged,
@@ -154,10 +149,8 @@ pub fn grow(
             let i = place.count;
             let lp = place.left();
             let rp = place.right();
-            let ls = leaf_on(stays, i, false);
-            let rs = leaf_on(stays, i, true);
-            let l = grow(store, writes, new, lp, ls, left_run(run, i));
-            let r = grow(store, writes, new, rp, rs, right_run(run, i));
+            let l = grow(store, writes, new, lp, stays, left_run(run, i));
+            let r = grow(store, writes, new, rp, stays, right_run(run, i));
             fork(store, writes, new, lp, rp, l, r)
         }
     }

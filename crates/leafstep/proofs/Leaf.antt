@@ -1,6 +1,6 @@
 -- The step at a leaf in lent memory is the step of the definition, case by case. Assumes nothing.
 use Prim.Native.Nat.{ℕ, _-_}
-use mathlib.Core.Path.{_≡_, refl, subst}
+use mathlib.Core.Path.{_≡_, refl, ap, sym, _∙_, subst}
 use mathlib.Core.Bool.{Bool, true, false, true≢false, false≢true}
 use mathlib.Core.List.{List, [], _∷_}
 use mathlib.Core.Option.{Option, none, some}
@@ -23,7 +23,7 @@ use Rattle.outcomes.specs.declared.Change.the-variants as C
 use Rattle.outcomes.specs.declared.Outcome as declared
 use Rattle.outcomes.specs.Outcomes.{changeSays, NodeSays, Did}
 use Rattle.growing.specs.declared.Stays.the-variants as S
-use Rattle.growing.specs.Growing.{Grows}
+use Rattle.growing.specs.Growing.{staysAt, StaysAt, Grows}
 use Rattle.growing.proofs.Growing.{written-nothing}
 use Rattle.leafstep.specs.declared.Own as own
 use Rattle.leafstep.specs.declared.Own.the-variants.{Nothing, Insert, Delete}
@@ -72,6 +72,9 @@ module _ {new : ℕ} {s : Bytes} {p : place.Place} {key : Hash} {part : Bytes} (
   pub own-is : {f g : own.Own} → f ≡ g → OwnSays f asked → OwnSays g asked
   own-is e h = subst (λ x. OwnSays x asked) e h
 
+  stays-here : (value : Hash) → staysAt (placeOf p) (some (grant (hashBytes key) (hashBytes value))) ≡ some (grant (hashBytes key) (hashBytes value))
+  stays-here value = rw (w .begun)
+
   -- the leaf stays, or it does not
   pub leaf-stays : (value : Hash) → OwnSays Nothing asked → Grows new s p (S.Grant key value) part
   leaf-stays value o = record {
@@ -79,7 +82,9 @@ module _ {new : ℕ} {s : Bytes} {p : place.Place} {key : Hash} {part : Bytes} (
     number = w .number;
     proper = w .proper;
     run = w .run;
-    stays = ((hash-whole key, hash-whole value), w .begun, own-none (hashBytes key) (asks part) o);
+    stays =
+        subst (λ o. StaysAt (placeOf p) o (asks part)) (sym (stays-here value))
+        ((hash-whole key, hash-whole value), w .begun, own-none (hashBytes key) (asks part) o);
   }
 
   pub leaf-goes : Grows new s p S.Nothing part
@@ -104,9 +109,9 @@ module _ {new : ℕ} {s : Bytes} {p : place.Place} {key : Hash} {part : Bytes} (
         Did new writes s s (step.outcome (changeSays c) t) (record { change = c; node = n; count = 0 })
     nothing-written c n t h = record { change = refl; node = h; count = refl; bytes = written-nothing writes new (changeSays c) t (w .stored) }
 
-    pub beside-did : {s′ : Bytes} {r : declared.Outcome} → OwnSays Nothing asked → isMore others ≡ true → Did new writes s s′ (grown (some g)) r →
-        Did new writes s s′ stepped r
-    beside-did o m d = as-stepped (by-beside new v g grown asked others o m) d
+    pub beside-did : {s′ : Bytes} {r : declared.Outcome} → OwnSays Nothing asked → isMore others ≡ true →
+        Did new writes s s′ (grown (staysAt (placeOf p) (some g))) r → Did new writes s s′ stepped r
+    beside-did o m d = as-stepped (ap grown (stays-here value) ∙ by-beside new v g grown asked others o m) d
 
     pub instead-insert : {s′ : Bytes} {r : declared.Outcome} (x : Hash) → OwnSays (Insert x) asked → isMore others ≡ true → Did new writes s s′ (grown none) r →
         Did new writes s s′ stepped r

@@ -3,13 +3,15 @@ use hash::hash_at;
 use layout::sizes;
 use lookup::Found;
 use lookup::find;
+use outcomes::Change;
+use outcomes::Outcome;
 use place::Place;
 use placing::Node;
 use slots::Kind;
 use slots::read_slot;
 use store::slot_of;
 ghost use Rattle.outcomes.specs.Outcomes.{NodeSays};
-ghost use Rattle.nodeat.specs.Standing.{treeHere, Standing};
+ghost use Rattle.nodeat.specs.Standing.{treeHere, Standing, BelowSays, Unchanged};
 
 // A record that is found is a leaf or an inner record.
 pub fn node_at(store: &[u8], version: u32, place: Place) -> Node
@@ -35,5 +37,43 @@ pub fn node_at(store: &[u8], version: u32, place: Place) -> Node
         version,
         left,
         right,
+    }
+}
+
+// The versions of the children, where an inner node stands.
+pub enum Below {
+    End,
+    Inner { left: u32, right: u32 },
+}
+
+pub fn below_at(store: &[u8], version: u32, place: Place) -> Below
+    requires { ⌜ Standing (now store) place version ⌝ }
+    ensures { λ r. ⌜ BelowSays r (treeHere (now (store .entry)) place version) ⌝ }
+{
+    let node = node_at(store, version, place);
+    let Node::Inner {
+        version: _,
+        left,
+        right,
+    } = node
+    else {
+        return Below::End;
+    };
+    Below::Inner {
+        left: left.version,
+        right: right.version,
+    }
+}
+
+// The outcome where nothing changes.
+pub fn unchanged_at(store: &[u8], version: u32, place: Place) -> Outcome
+    requires { ⌜ Standing (now store) place version ⌝ }
+    ensures { λ r. ⌜ Unchanged (treeHere (now (store .entry)) place version) r ⌝ }
+{
+    let node = node_at(store, version, place);
+    Outcome {
+        change: Change::Unchanged,
+        node,
+        count: 0,
     }
 }

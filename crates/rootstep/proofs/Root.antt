@@ -37,9 +37,9 @@ use Rattle.outcomes.proofs.Forms.{Number, Numbered, says-form}
 use Rattle.ending.specs.Ending.{childNodes, endsSays}
 use Rattle.ending.proofs.Ending.{top-nodes}
 use Rattle.nodeat.specs.Standing.{treeHere}
-use Rattle.stepping.specs.Stepping.{Here, atNode}
-use Rattle.stepping.proofs.Standing.{top-older, single-after}
-use Rattle.stepping.proofs.Stepping.{numbered, node-new, node-shaped, node-numbered}
+use Rattle.stepping.specs.Stepping.{atNode, atChild}
+use Rattle.settling.proofs.Standing.{top-older, single-after}
+use Rattle.stepping.proofs.Stepping.{numbered, child-is-node, child-new, child-shaped, child-numbered}
 use Rattle.rootstep.specs.Root.{newRootSays, HereRoot}
 
 -- the new root by value is the top of the new tree
@@ -67,20 +67,23 @@ module _ {new : ℕ} {s : Bytes} {p : place.Place} {v : ℕ} {part : Bytes} (w :
   abbrev below : step.Outcome
   below = step.stepNode leafHash innerHash new 256 [] tree (asks part)
 
-  below-is : atNode new s p v part ≡ below
+  node-is : atNode new s p v part ≡ below
   unfolding atNode
-  below-is =
+  node-is =
       let n : 256 - p .count ≡ 256 = omega (arith, proper-count p (w .here .standing .proper), ap length (w .top)) in
       rw (n, w .top)
 
-  below-new : AllNew new (below .fresh)
-  below-new = subst (λ (o : step.Outcome). AllNew new (o .fresh)) below-is (node-new (w .here))
+  below-is : atChild new s p v part ≡ below
+  below-is = child-is-node (w .here) ∙ node-is
 
-  module _ (writes : Bool) {s₁ : Bytes} {r : declared.Outcome} (x : Did new writes s s₁ (atNode new s p v part) r) where
+  below-new : AllNew new (below .fresh)
+  below-new = subst (λ (o : step.Outcome). AllNew new (o .fresh)) below-is (child-new (w .here))
+
+  module _ (writes : Bool) {s₁ : Bytes} {r : declared.Outcome} (x : Did new writes s s₁ (atChild new s p v part) r) where
     -- the old root is one record at most
     pub root-once : Single v (placeOf p) (storeOf s₁ .slots)
     root-once =
-        single-after new (atNode new s p v part) (node-new (w .here)) writes (x .bytes) (w .here .single) v (placeOf p)
+        single-after new (atChild new s p v part) (child-new (w .here)) writes (x .bytes) (w .here .single) v (placeOf p)
         (omega (arith, top-older new (placeOf p) tree (w .here .number) (w .here .older), w .here .standing .top))
 
     done : Did new writes s s₁ below r
@@ -92,10 +95,10 @@ module _ {new : ℕ} {s : Bytes} {p : place.Place} {v : ℕ} {part : Bytes} (w :
     pub root-form : new ≤ top32 → All RecordForm (recordSays (placeOf p) (newRootSays new (r .node)))
     root-form t =
         let e = ap (λ (o : step.Outcome). o .node) below-is in
-        let sh : Shaped (placeOf p) (unversioned (below .node)) = subst (λ u. Shaped (placeOf p) (unversioned u)) e (node-shaped (w .here) t) in
+        let sh : Shaped (placeOf p) (unversioned (below .node)) = subst (λ u. Shaped (placeOf p) (unversioned u)) e (child-shaped (w .here) t) in
         says-form (newRootSays new (r .node)) (newRoot new (below .node)) (placeOf p) root-says
         (subst (Shaped (placeOf p)) (sym (root-tree new (below .node))) sh)
-        (root-numbered new (below .node) (w .here .number, t) (subst Numbered e (node-numbered (w .here) t)))
+        (root-numbered new (below .node) (w .here .number, t) (subst Numbered e (child-numbered (w .here) t)))
 
     pub few : r .count ≤ beyond
     few = omega (arith, x .count)

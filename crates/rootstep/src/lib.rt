@@ -7,7 +7,7 @@ use outcomes::size;
 use place::Place;
 use placing::Node;
 use placing::place_node;
-use stepping::at_node;
+use stepping::at_child;
 ghost use mathlib.Core.Path.{_≡_};
 ghost use Rattle.nodehash.specs.Node.{leafHash, innerHash};
 ghost use Rattle.batch.specs.Batch.{asks};
@@ -55,7 +55,7 @@ pub fn at_root(
     requires { ⌜ HereRoot new (now store) top version (now batch) ⌝ }
     ensures { λ r. ⌜ Did new writes (now (store .entry)) (now (store .exit)) (step.stepRoot leafHash innerHash new (treeHere (now (store .entry)) top version) (asks (now (batch .entry)))) r ⌝ }
 {
-    let below = at_node(store, writes, new, top, version, batch);
+    let below = at_child(store, writes, new, top, version, batch);
     mark_changed(store, writes, Change::Deleted, version, top, new);
     let change = below.change;
     let was = below.node;

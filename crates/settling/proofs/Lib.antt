@@ -1,2 +1,4 @@
+pub mod Standing
 pub mod Settling
 pub mod Inner
+pub mod At

@@ -1,23 +1,27 @@
 -- Document 01, 'The tree of a set of grants' and 'Retirement': what becomes of an inner node by the outcomes at its children, in the values of
 -- the code. Assumes nothing.
-use Prim.Native.Nat.{ℕ, _+_}
+use Prim.Native.Nat.{ℕ, _+_, _<_, _≤_}
 use mathlib.Core.Path.{_≡_}
 use mathlib.Core.Bool.{Bool, true, false}
 use mathlib.Core.List.{_++_}
-use Rattle.terms.specs.Bits.{Bytes}
+use Rattle.terms.specs.Bits.{Bytes, Place, All, longer, left, right}
+use Rattle.terms.specs.Form.{RecordForm}
 use Rattle.hash.specs.declared.Hash.{Hash}
 use Rattle.place.specs.declared.Place as place
-use Rattle.place.specs.Place.{placeOf}
+use Rattle.place.specs.Place.{placeOf, Grown}
+use Rattle.layout.specs.Stores.{storeOf}
 use Rattle.slots.specs.declared.Child as child
+use Rattle.steps.specs.Given.{Older}
 use Rattle.steps.specs.Writing.{mark}
 use Rattle.placing.specs.declared.Node.the-variants as N
-use Rattle.placing.specs.Placing.{Changed, whenWrites}
+use Rattle.placing.specs.Placing.{Changed, whenWrites, Single}
 use Rattle.outcomes.specs.declared.Change as change
 use Rattle.outcomes.specs.declared.Change.the-variants.{Updated, Deleted, Unchanged}
 use Rattle.outcomes.specs.declared.Outcome as declared
-use Rattle.outcomes.specs.Outcomes.{capped, Fork, Forked}
+use Rattle.outcomes.specs.Outcomes.{beyond, capped, NodeSays, updatedSays, Fork, Forked}
 use Rattle.ending.specs.declared.Left.the-variants as L
 use Rattle.ending.specs.Ending.{endsSays, leftOf, Ends}
+use Rattle.nodeat.specs.Standing.{treeHere, Standing, isInner}
 
 abbrev pub bothStayed : change.Change → change.Change → Bool
 bothStayed Updated r = false
@@ -51,3 +55,26 @@ pub data Settled (new : ℕ) (writes : Bool) (s s′ : Bytes) (lp rp : place.Pla
   more : bothStayed (l .change) (r .change) ≡ false → leftOf (l .node) (r .node) ≡ L.More → (s₂ : Bytes) →
       Marked new writes s s₂ lp rp left right (l .change) (r .change) → Forked new writes s₂ s′ (placeOf lp) (placeOf rp) l r o →
       Settled new writes s s′ lp rp version left right l r o
+
+-- An older tree with an inner node at its top stands at the place, each older node is there once, and the outcomes at the children are in form.
+pub record SettleAt (new : ℕ) (s : Bytes) (p : place.Place) (v : ℕ) (l r : declared.Outcome) : Type 0 where
+  pub standing : Standing s p v
+  pub short : p .count < 256
+  pub inner : isInner (treeHere s p v) ≡ true
+  pub number : 1 ≤ new
+  pub older : Older new (placeOf p) (treeHere s p v)
+  pub single : (w : ℕ) (q : Place) → w < new → Single w q (storeOf s .slots)
+  pub left-form : All RecordForm (updatedSays (longer left (placeOf p)) l)
+  pub right-form : All RecordForm (updatedSays (longer right (placeOf p)) r)
+  pub counts : (l .count ≤ beyond) × (r .count ≤ beyond)
+
+-- What becomes of that inner node.
+pub record SettledAt (new : ℕ) (writes : Bool) (s s′ : Bytes) (p : place.Place) (v : ℕ) (l r o : declared.Outcome) : Type 0 where
+  pub lp : place.Place
+  pub rp : place.Place
+  pub left-child : child.Child
+  pub right-child : child.Child
+  pub at-left : Grown left p lp
+  pub at-right : Grown right p rp
+  pub node : NodeSays (N.Inner v left-child right-child) (treeHere s p v)
+  pub settled : Settled new writes s s′ lp rp v left-child right-child l r o

@@ -2,6 +2,7 @@
 use ending::Left;
 use ending::left_of;
 use ending::mark_children;
+use nodeat::node_at;
 use outcomes::Change;
 use outcomes::Outcome;
 use outcomes::fork;
@@ -10,7 +11,7 @@ use place::Place;
 use placing::Node;
 use slots::Child;
 ghost use mathlib.Core.Path.{_≡_};
-ghost use Rattle.settling.specs.Settling.{bothStayed, Settle, Settled};
+ghost use Rattle.settling.specs.Settling.{bothStayed, Settle, Settled, SettleAt, SettledAt};
 
 // Whether both children are unchanged.
 fn both_stayed(l: Change, r: Change) -> bool
@@ -28,7 +29,7 @@ fn both_stayed(l: Change, r: Change) -> bool
 }
 
 // At the inner node (version, place) above two children: a lone leaf's old record retires though it be unchanged.
-pub fn settle(
+fn settle(
     store: &mut [u8],
     writes: bool,
     new: u32,
@@ -109,4 +110,31 @@ pub fn settle(
             fork(store, writes, new, lp, rp, l, r)
         }
     }
+}
+
+// The same at the inner node that stands at a place: its record says what its children were.
+pub fn settle_at(
+    store: &mut [u8],
+    writes: bool,
+    new: u32,
+    place: Place,
+    version: u32,
+    l: Outcome,
+    r: Outcome,
+) -> Outcome
+    requires { ⌜ SettleAt new (now store) place version l r ⌝ }
+    ensures { λ o. ⌜ SettledAt new writes (now (store .entry)) (now (store .exit)) place version l r o ⌝ }
+{
+    let lp = place.left();
+    let rp = place.right();
+    let node = node_at(store, version, place);
+    let Node::Inner {
+        version: _,
+        left,
+        right,
+    } = node
+    else {
+        return l;
+    };
+    settle(store, writes, new, lp, rp, version, left, right, l, r)
 }

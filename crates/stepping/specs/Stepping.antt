@@ -5,15 +5,13 @@ use Rattle.nodehash.specs.Node.{leafHash, innerHash}
 use Rattle.place.specs.declared.Place as place
 use Rattle.place.specs.Place.{placeOf}
 use Rattle.layout.specs.Stores.{storeOf}
-use Rattle.slots.specs.declared.Child as child
 use Rattle.batch.specs.Batch.{asks}
 use Rattle.batch.specs.Runs.{Run}
 use Rattle.steps.specs.Step as step
 use Rattle.steps.specs.Given.{Older}
-use Rattle.placing.specs.declared.Node.the-variants as N
 use Rattle.placing.specs.Placing.{Single}
-use Rattle.outcomes.specs.Outcomes.{NodeSays}
-use Rattle.nodeat.specs.Standing.{treeHere, Standing}
+use Rattle.nodeat.specs.declared.Below.the-variants.{Inner}
+use Rattle.nodeat.specs.Standing.{treeHere, Standing, BelowSays}
 
 -- An older tree stands at the place, the run is for it, and each older node is there once.
 pub record Here (new : ℕ) (s : Bytes) (p : place.Place) (v : ℕ) (part : Bytes) : Type 0 where
@@ -23,10 +21,10 @@ pub record Here (new : ℕ) (s : Bytes) (p : place.Place) (v : ℕ) (part : Byte
   pub older : Older new (placeOf p) (treeHere s p v)
   pub single : (w : ℕ) (q : Place) → w < new → Single w q (storeOf s .slots)
 
--- The tree's top is an inner node that says this of its children.
-pub record HereInner (new : ℕ) (s : Bytes) (p : place.Place) (v : ℕ) (l r : child.Child) (part : Bytes) : Type 0 where
+-- The tree's top is an inner node, with children of these versions.
+pub record HereInner (new : ℕ) (s : Bytes) (p : place.Place) (v l r : ℕ) (part : Bytes) : Type 0 where
   pub here : Here new s p v part
-  pub node : NodeSays (N.Inner v l r) (treeHere s p v)
+  pub below : BelowSays (Inner l r) (treeHere s p v)
 
 -- The step at the node there, and at the child.
 unfoldable pub atNode : ℕ → Bytes → place.Place → ℕ → Bytes → step.Outcome

@@ -1,22 +1,51 @@
 // The steps at a node, at an inner node and at a child, document 01: they call each other, and each child is handed its own run of the batch.
-// The bits that are left fall; where they don't, the rank of the function does: child, node, inner node.
+// The bits that are left fall; where they don't, the rank of the function does: child, node, inner node. What is not needed while the
+// children are stepped is done in functions of its own, for the stack of 256 bits: docs/FIGURES.md.
 use batch::left_run;
 use batch::right_run;
 use growing::Stays;
 use growing::grow;
 use leafstep::at_leaf;
+use nodeat::Below;
+use nodeat::below_at;
 use nodeat::node_at;
-use outcomes::Change;
+use nodeat::unchanged_at;
 use outcomes::Outcome;
 use place::Place;
 use placing::Node;
-use settling::settle;
-use slots::Child;
+use settling::settle_at;
+ghost use mathlib.Core.Path.{_≡_};
+ghost use mathlib.Core.Bool.{false};
 ghost use Rattle.outcomes.specs.Outcomes.{Did};
+ghost use Rattle.nodeat.specs.Standing.{treeHere, isInner};
 ghost use Rattle.stepping.specs.Stepping.{Here, HereInner, atNode, atChild};
 
+// At no node or a leaf.
+fn at_end(
+    store: &mut [u8],
+    writes: bool,
+    new: u32,
+    place: Place,
+    version: u32,
+    run: &[u8],
+) -> Outcome
+    requires { ⌜ Here new (now store) place version (now run) × (isInner (treeHere (now store) place version) ≡ false) ⌝ }
+    ensures { λ r. ⌜ Did new writes (now (store .entry)) (now (store .exit)) (atNode new (now (store .entry)) place version (now (run .entry))) r ⌝ }
+{
+    let node = node_at(store, version, place);
+    let Node::Leaf {
+        version: v,
+        key,
+        value,
+    } = node
+    else {
+        return grow(store, writes, new, place, Stays::Nothing, run);
+    };
+    at_leaf(store, writes, new, place, v, key, value, run)
+}
+
 // A child without a run is unchanged.
-fn at_child(
+pub fn at_child(
     store: &mut [u8],
     writes: bool,
     new: u32,
@@ -28,40 +57,36 @@ fn at_child(
     ensures { λ r. ⌜ Did new writes (now (store .entry)) (now (store .exit)) (atChild new (now (store .entry)) place version (now (run .entry))) r ⌝ }
 {
     if run.len() == 0 {
-        let node = node_at(store, version, place);
-        return Outcome {
-            change: Change::Unchanged,
-            node,
-            count: 0,
-        };
+        return unchanged_at(store, version, place);
     }
     at_node(store, writes, new, place, version, run)
 }
 
-// The run is for the children.
+// The run is for the children. Settling is called at two places, so that the compiler keeps its locals out of the frames of this recursion.
 fn at_inner(
     store: &mut [u8],
     writes: bool,
     new: u32,
     place: Place,
     version: u32,
-    left: Child,
-    right: Child,
+    left: u32,
+    right: u32,
     run: &[u8],
 ) -> Outcome
     requires { ⌜ HereInner new (now store) place version left right (now run) ⌝ }
     ensures { λ r. ⌜ Did new writes (now (store .entry)) (now (store .exit)) (atNode new (now (store .entry)) place version (now (run .entry))) r ⌝ }
 {
     let i = place.count;
-    let lp = place.left();
-    let rp = place.right();
-    let l = at_child(store, writes, new, lp, left.version, left_run(run, i));
-    let r = at_child(store, writes, new, rp, right.version, right_run(run, i));
-    settle(store, writes, new, lp, rp, version, left, right, l, r)
+    let l = at_child(store, writes, new, place.left(), left, left_run(run, i));
+    let r = at_child(store, writes, new, place.right(), right, right_run(run, i));
+    if writes {
+        return settle_at(store, true, new, place, version, l, r);
+    }
+    settle_at(store, false, new, place, version, l, r)
 }
 
 // The node there is for the caller to mark or place.
-pub fn at_node(
+fn at_node(
     store: &mut [u8],
     writes: bool,
     new: u32,
@@ -72,18 +97,9 @@ pub fn at_node(
     requires { ⌜ Here new (now store) place version (now run) ⌝ }
     ensures { λ r. ⌜ Did new writes (now (store .entry)) (now (store .exit)) (atNode new (now (store .entry)) place version (now (run .entry))) r ⌝ }
 {
-    let node = node_at(store, version, place);
-    match node {
-        Node::Nothing => grow(store, writes, new, place, Stays::Nothing, run),
-        Node::Leaf {
-            version: v,
-            key,
-            value,
-        } => at_leaf(store, writes, new, place, v, key, value, run),
-        Node::Inner {
-            version: _,
-            left,
-            right,
-        } => at_inner(store, writes, new, place, version, left, right, run),
-    }
+    let below = below_at(store, version, place);
+    let Below::Inner { left, right } = below else {
+        return at_end(store, writes, new, place, version, run);
+    };
+    at_inner(store, writes, new, place, version, left, right, run)
 }

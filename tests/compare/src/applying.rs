@@ -418,6 +418,42 @@ fn many(tally: &mut Tally, random: &mut Random) {
     tally.equal("1,024 deletes", 0, answer, Ok((3, ZEROS, 0)));
 }
 
+fn nodes(keys: &[Bytes32]) -> usize {
+    let grants: Vec<_> = Grants::from_iter(keys.iter().map(|k| (*k, ZEROS))).into_iter().collect();
+    second::tree::make(&grants, 1, &|_, _| None).nodes.len()
+}
+
+/// Keys whose tree has exactly so many nodes: 64 pairs that share 255 bits, and keys that part from the pairs' paths, a leaf each.
+fn keys_for(wanted: usize) -> Vec<Bytes32> {
+    let mut keys: Vec<Bytes32> = (0..64).flat_map(|i| [key(i << 2, 0), key(i << 2, 1)]).collect();
+    for j in 0..wanted - nodes(&keys) {
+        let mut k = key(((j % 64) << 2) as u8, 0);
+        k[1 + j / 64] = 0x80;
+        keys.push(k);
+    }
+    assert_eq!(nodes(&keys), wanted);
+    keys
+}
+
+/// New records as many as the largest store has slots, one more, and far more.
+fn counts(tally: &mut Tally) {
+    let all = |keys: &[Bytes32], value| sorted(keys.iter().map(|k| Ask { key: *k, value }).collect());
+    let mut s = cases::fresh(MOST_SLOTS, 0, 0);
+    let far: Vec<Bytes32> = (0..=255).flat_map(|i| [(i, 0), (i, 1), (i, 2), (i, 3)]).map(|(i, last)| key(i, last)).collect();
+    for (case, batch) in [
+        ("16,385 new records", all(&keys_for(MOST_SLOTS + 1), Some(ZEROS))),
+        ("some 64,000 new records", all(&far, Some(ZEROS))),
+    ] {
+        let answer = both::apply(tally, case, 0, &mut s, &batch);
+        tally.equal(case, 0, answer, Err(7));
+    }
+    let keys = keys_for(MOST_SLOTS);
+    let answer = both::apply(tally, "16,384 new records", 0, &mut s, &all(&keys, Some(ZEROS)));
+    tally.equal("16,384 new records", 0, answer.map(|x| x.2), Ok(MOST_SLOTS as u32));
+    let answer = both::apply(tally, "16,384 records are deleted", 0, &mut s, &all(&keys, None));
+    tally.equal("16,384 records are deleted", 0, answer, Ok((2, ZEROS, 0)));
+}
+
 /// The largest store: batches of up to 1,024 records until one does not fit, then one that fits exactly.
 pub fn large(seed: u64, tally: &mut Tally) {
     let mut random = Random(seed);
@@ -485,7 +521,8 @@ pub fn named(seed: u64, tally: &mut Tally) {
     bytes(tally, &mut random);
     chain(tally, &mut random);
     many(tally, &mut random);
-    let used = stack::of_apply();
+    counts(tally);
+    let used = stack::of_apply().into_iter().map(|(_, used)| used).max().unwrap();
     println!("stack apply {used}");
-    tally.equal("apply's stack is below 256 KiB", 0, used < 256 * 1024, true);
+    tally.equal("apply's stack is below 256 KiB", 0, used < stack::BAR, true);
 }

@@ -170,8 +170,13 @@ fn pairs(tally: &mut Tally) {
     case("2 before 8", &bad_header, out, &key, 2);
     case("8 before 3", &damaged, out, &key, 8);
     tally.same("2 before 3", 0, ours::check(&bad_header), second::check(&bad_header));
-    for (what, store, version) in [("1 before 2", &bad_header[..s.len() - 1], 1), ("2 before 3", &bad_header[..], 1), ("3 before 8", &damaged[..], out)] {
-        let _ = both::prune(tally, what, 0, &mut store.to_vec(), version);
+    for (what, store, version, wanted) in [
+        ("1 before 2", &bad_header[..s.len() - 1], 1, 1),
+        ("2 before 3", &bad_header[..], 1, 2),
+        ("3 before 8", &damaged[..], out, 3),
+    ] {
+        let answer = both::prune(tally, what, 0, &mut store.to_vec(), version);
+        tally.equal(what, 0, answer, Err(wanted));
     }
     let root = [1; 32];
     for (what, root, key, proof) in [

@@ -7,6 +7,9 @@ use std::hint::black_box;
 
 const PAINTED: usize = 2 << 20;
 
+/// Apply takes less.
+pub const BAR: usize = 256 * 1024;
+
 /// The deepest byte below this frame that a call writes: the thread's stack is painted first, and looked at afterwards.
 #[inline(never)]
 fn depth(call: &dyn Fn()) -> usize {
@@ -24,8 +27,8 @@ pub fn most(call: impl Fn() + Send + 'static) -> usize {
     std::thread::Builder::new().stack_size(2 * PAINTED).spawn(move || depth(&call)).unwrap().join().unwrap()
 }
 
-/// Stores with batches that apply accepts and that reach down to 256 bits.
-pub fn deepest_batches() -> Vec<(Vec<u8>, Vec<u8>)> {
+/// Stores with batches that apply accepts and that reach down to 256 bits: two keys, and 257 keys that part from one key at each bit.
+fn deepest_batches() -> Vec<(String, Vec<u8>, Vec<u8>)> {
     let parted = |at: usize| {
         let mut k = ZEROS;
         k[at / 8] ^= 0x80 >> (at % 8);
@@ -41,12 +44,16 @@ pub fn deepest_batches() -> Vec<(Vec<u8>, Vec<u8>)> {
         second::apply(&mut grown, &batch(&keys, Some([1; 32]))).unwrap();
         let mut alone = grown.clone();
         second::apply(&mut alone, &batch(&keys[1..], None)).unwrap();
-        out.push((fresh, batch(&keys, Some([1; 32]))));
-        out.push((grown.clone(), batch(&keys, Some([2; 32]))));
-        out.push((grown.clone(), batch(&keys[..1], Some([2; 32]))));
-        out.push((grown.clone(), batch(&keys[1..], None)));
-        out.push((grown, batch(&keys, None)));
-        out.push((alone, batch(&keys[1..2], Some([2; 32]))));
+        for (what, s, b) in [
+            ("inserts-all", &fresh, batch(&keys, Some([1; 32]))),
+            ("changes-all", &grown, batch(&keys, Some([2; 32]))),
+            ("changes-one", &grown, batch(&keys[..1], Some([2; 32]))),
+            ("deletes-all-but-one", &grown, batch(&keys[1..], None)),
+            ("deletes-all", &grown, batch(&keys, None)),
+            ("splits-the-root", &alone, batch(&keys[1..2], Some([2; 32]))),
+        ] {
+            out.push((format!("{what}-of-{}", keys.len()), s.clone(), b));
+        }
     }
     out
 }
@@ -65,11 +72,11 @@ pub fn of_prove() -> usize {
     most(move || assert_eq!(crate::ours::prove(&s, 1, &key(3), &mut vec![0; 17_080]), Ok(17_080)))
 }
 
-/// Apply's most, over those.
-pub fn of_apply() -> usize {
-    let each = |(s, b): (Vec<u8>, Vec<u8>)| {
+/// Apply's for each of those.
+pub fn of_apply() -> Vec<(String, usize)> {
+    let each = |(name, s, b): (String, Vec<u8>, Vec<u8>)| {
         assert!(second::apply(&mut s.clone(), &b).is_ok());
-        most(move || assert!(crate::ours::apply(&mut s.clone(), &b).is_ok()))
+        (name, most(move || assert!(crate::ours::apply(&mut s.clone(), &b).is_ok())))
     };
-    deepest_batches().into_iter().map(each).max().unwrap()
+    deepest_batches().into_iter().map(each).collect()
 }

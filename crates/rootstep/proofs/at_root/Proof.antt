@@ -14,11 +14,11 @@ use borrow.Author.Needs.{needs}
 use Rattle.rootstep.proofs.at_root.Statement.{statement}
 use Rattle.rootstep.proofs.at_root.Tie as tie
 
-at-node-requires : tie.Need-at-node-requires
-at-node-requires c κs = search needs
+at-child-requires : tie.Need-at-child-requires
+at-child-requires c κs = search needs
 
 mark-changed-requires : tie.Need-mark-changed-requires
-mark-changed-requires c κs = let a = c .before .before .before .before .before .before .before in let x = c .before .before .before .at-node .ensures in (changed-stored (x .bytes), a .pre .here .standing .proper, root-once (a .pre) (a .args .writes) x)
+mark-changed-requires c κs = let a = c .before .before .before .before .before .before .before in let x = c .before .before .before .at-child .ensures in (changed-stored (x .bytes), a .pre .here .standing .proper, root-once (a .pre) (a .args .writes) x)
 
 new-root-requires : tie.Need-new-root-requires
 new-root-requires c κs = search needs
@@ -28,14 +28,14 @@ place-node-requires c κs =
     let a = c .before .before .before .before .before .before .before .before .before .before .before .before in (
       changed-stored (c .before .before .before .before .mark-changed .ensures),
       a .pre .here .standing .proper,
-      subst (λ n. All RecordForm (recordSays (placeOf (a .args .top)) n)) (sym (c .before .new-root .ensures)) (root-form (a .pre) (a .args .writes) (c .before .before .before .before .before .before .before .before .at-node .ensures) (omega (arith, a .fits))),
+      subst (λ n. All RecordForm (recordSays (placeOf (a .args .top)) n)) (sym (c .before .new-root .ensures)) (root-form (a .pre) (a .args .writes) (c .before .before .before .before .before .before .before .before .at-child .ensures) (omega (arith, a .fits))),
     )
 
 size-requires : tie.Need-size-requires
 size-requires c κs = search needs
 
 more-requires : tie.Need-more-requires
-more-requires c κs = let a = c .before .before .before .before .before .before .before .before .before .before .before .before .before .before .before .before in (few (a .pre) (a .args .writes) (c .before .before .before .before .before .before .before .before .before .before .before .before .at-node .ensures), omega (arith, c .size .ensures, size-small (c .before .before .before .before .before .new-root .result)))
+more-requires c κs = let a = c .before .before .before .before .before .before .before .before .before .before .before .before .before .before .before .before in (few (a .pre) (a .args .writes) (c .before .before .before .before .before .before .before .before .before .before .before .before .at-child .ensures), omega (arith, c .size .ensures, size-small (c .before .before .before .before .before .new-root .result)))
 
 same-length : tie.Need-same-length
 same-length c = search needs
@@ -43,14 +43,14 @@ same-length c = search needs
 returns : tie.Need-returns
 returns c =
     let a = c .before .before .before .before .before .before .before .before .before .before .before .before .before .before .before .before .before in
-    let x = c .before .before .before .before .before .before .before .before .before .before .before .before .before .at-node in
+    let x = c .before .before .before .before .before .before .before .before .before .before .before .before .before .at-child in
     root-did (a .pre) (a .args .writes) (x .ensures) (c .before .before .before .before .before .before .before .before .before .mark-changed .ensures) (c .before .before .before .before .before .before .new-root .ensures) (c .before .before .before .before .place-node .ensures) (c .more .ensures ∙ ap (λ i. capped (x .result .count + i)) (c .before .size .ensures))
 
 pub at-root-spec : {M : Type 1} → statement M
 at-root-spec =
     tie.close
     (tie.spec
-    at-node-requires
+    at-child-requires
     mark-changed-requires
     new-root-requires
     place-node-requires

@@ -119,7 +119,7 @@ fn applies(random: &mut Random) {
     for capacity in [1_024, 16_384] {
         let (s, keys) = filled(random, capacity, capacity / 64, capacity / 2, 0);
         let turns = if capacity > 2_000 { 3 } else { 10 };
-        let check = (0..turns).map(|_| milliseconds(&mut || assert_eq!(ours::check(&s), Ok(())))).fold(f64::MAX, f64::min);
+        let check = || (0..turns).map(|_| milliseconds(&mut || assert_eq!(ours::check(&s), Ok(())))).fold(f64::MAX, f64::min);
         for size in [1, 64, MOST_ASKS] {
             let mut changes = size;
             let mut after = s.clone();
@@ -131,7 +131,9 @@ fn applies(random: &mut Random) {
                 changes = changes * 3 / 4;
             };
             let name = format!("apply-{size}-to-{capacity}-{count}-new-records");
+            let before = check();
             let took = compare_on(&name, turns, &s, |s| ours::apply(s, &b), |s| second::apply(s, &b));
+            let check = before.min(check());
             // check hashes each record once
             let (checks, steps) = (cases::taken(&s), step_hashes(&after));
             let part = |t: f64| 100.0 * t / took;
@@ -205,9 +207,14 @@ fn stacks() {
     print("prune", stack::most(move || assert!(ours::prune(&mut t.clone(), latest).is_ok())));
     print("format", stack::most(move || assert!(ours::format(&mut s.clone()).is_ok())));
     print("prove", stack::of_prove());
-    let apply = stack::of_apply();
-    print("apply", apply);
-    assert!(apply < 256 * 1024, "apply takes 256 KiB of stack or more");
+    let applies = stack::of_apply();
+    applies.iter().for_each(|(name, used)| print(&format!("apply-{name}"), *used));
+    let most = applies.iter().map(|(_, used)| *used).max().unwrap();
+    print("apply", most);
+    if most >= stack::BAR {
+        println!("stack: apply takes 256 KiB or more");
+        std::process::exit(1);
+    }
 }
 
 fn main() {

@@ -2,16 +2,15 @@
 -- Assumes nothing.
 use Prim.Native.Nat.{ℕ, _+_, _-_, _<_, _≤_}
 use native.Mathlib.Omega.{arith}
-use mathlib.Core.Path.{_≡_, refl, ap, sym, _∙_, subst}
+use mathlib.Core.Path.{_≡_, refl, sym, subst}
 use mathlib.Core.Logic.{inl}
 use mathlib.Core.Bool.{Bool, true, false}
 use lib.ListN.{length}
 use Rattle.terms.specs.Bits.{Bytes, Side, Place, longer}
-use Rattle.terms.specs.Records.{Body, Child, Store, used}
+use Rattle.terms.specs.Records.{Body, Store, used}
 use Rattle.terms.proofs.Members.{in-getD}
 use Rattle.terms.proofs.Lists.{all-at}
 use Rattle.meaning.specs.Tree.{VTree, vnone, vleaf, vinner, topVersion, kid}
-use Rattle.meaning.specs.Store.{childOf}
 use Rattle.meaning.specs.Sound.{Found, Stands}
 use Rattle.histories.proofs.Standing.{Formed, found-record, reads, kid-node}
 use Rattle.nodehash.specs.Node.{leafHash, innerHash}
@@ -20,8 +19,6 @@ use Rattle.place.specs.Place.{placeOf, Proper}
 use Rattle.place.proofs.Places.{proper-count}
 use Rattle.layout.specs.Slots.{SlotForm}
 use Rattle.layout.specs.Stores.{storeOf}
-use Rattle.slots.specs.declared.Child as child
-use Rattle.slots.specs.Answer.{childSays}
 use Rattle.steps.specs.Step as step
 use Rattle.steps.specs.Given.{Older}
 use Rattle.steps.specs.Writing.{written}
@@ -81,29 +78,20 @@ module _ (new : ℕ) (o : step.Outcome) (f : AllNew new (o .fresh)) {s s′ : By
   single-after true c h v q l = rw (changed-slots c) (single-written new v q o (storeOf s .slots) l f (h v q l))
   single-after false c h v q l = rw (changed-slots c) (h v q l)
 
--- a child's version is that of its tree
-child-top : (c : child.Child) (t : VTree) → childSays c ≡ childOf leafHash innerHash t → topVersion t ≡ c .version
-unfolding childSays childOf
-child-top c t e = sym (ap (λ (x : Child). x .version) e)
-
-pub child-older : (new : ℕ) (p : Place) (c : child.Child) (t : VTree) → 1 ≤ new → Older new p t → childSays c ≡ childOf leafHash innerHash t →
-    c .version < new
-child-older new p c t h o e = omega (arith, top-older new p t h o, child-top c t e)
-
 -- the tree that stands where a record says a child is what is read there
-module _ {s : Bytes} (h : Stored s) (p : place.Place) (proper : Proper p) (c : child.Child) (t : VTree) (e : childSays c ≡ childOf leafHash innerHash t)
+module _ {s : Bytes} (h : Stored s) (p : place.Place) (proper : Proper p) {v : ℕ} (t : VTree) (e : v ≡ topVersion t)
     (k : Stands leafHash innerHash (storeOf s) (placeOf p) t) where
-  pub child-read : treeHere s p (c .version) ≡ t
+  pub child-read : treeHere s p v ≡ t
   unfolding treeHere
   child-read =
-      rw (← child-top c t e)
+      rw e
       (reads leafHash innerHash (storeOf s) (stored-formed h) (256 - p .count) (placeOf p) t
       (let l = proper .short in omega (arith, proper-count p proper)) k)
 
-  pub child-standing : Standing s p (c .version)
+  pub child-standing : Standing s p v
   child-standing = record {
     stored = h;
     proper = proper;
     stands = rw child-read k;
-    top = rw child-read (child-top c t e);
+    top = rw child-read (sym e);
   }

@@ -1,0 +1,100 @@
+/* A marketplace publishes grants, and an editor checks one: format, apply, prove, verify, and what refusals look like.
+ *
+ *   make lib
+ *   cc -Iinclude examples/editor.c target/staticlib/libgrants.a -o editor
+ *
+ * (That library is for x86-64; elsewhere `tests/archive grants` makes target/native/libgrants.a for the machine at hand.)
+ * An editor needs `granted` alone: a root whose signature it has checked, a key, and a proof from anybody. */
+#include "grants.h"
+
+#include <stdio.h>
+#include <stdlib.h>
+#include <string.h>
+
+enum { CAPACITY = 20, STORE = 24 + 120 * CAPACITY, RECORD = 72, LONGEST_PROOF = 17080 };
+
+/* The store may be anywhere: on the heap, in a mapped file, in an array. The library allocates nothing. */
+static uint8_t *store, *proof;
+
+static uint32_t number_at(const uint8_t *bytes) {
+    return bytes[0] | (uint32_t)bytes[1] << 8 | (uint32_t)bytes[2] << 16 | (uint32_t)bytes[3] << 24;
+}
+
+/* A batch record: insert the key with a value, or delete it where the value is null. A batch's keys ascend. */
+static void ask(uint8_t record[RECORD], const uint8_t key[32], const uint8_t *value) {
+    memset(record, 0, RECORD);
+    record[0] = value ? 72 : 40;
+    record[4] = value ? 1 : 2;
+    memcpy(record + 8, key, 32);
+    if (value) memcpy(record + 40, value, 32);
+}
+
+/* What a marketplace does: publish a version, whose root it then signs. */
+static uint32_t publish(const uint8_t *batch, size_t records, uint8_t root[32]) {
+    uint8_t answer[40];
+    uint32_t refused = grants_apply(store, STORE, batch, records * RECORD, answer);
+    if (refused) return refused;
+    memcpy(root, answer + 4, 32);
+    printf("version %u, new records: %u, root ", (unsigned)number_at(answer), (unsigned)number_at(answer + 36));
+    for (int i = 0; i < 32; i++) printf("%02x", root[i]);
+    printf("\n");
+    return 0;
+}
+
+/* What any copy of the store does: show, for a version, whether the key is there. */
+static size_t show(uint32_t version, const uint8_t key[32]) {
+    uint8_t length[4];
+    uint32_t refused = grants_prove(store, STORE, version, key, 32, proof, LONGEST_PROOF, length);
+    return refused ? 0 : number_at(length);
+}
+
+/* What an editor does. Unless the proof shows that the grant stands, nothing is opened. */
+static int granted(const uint8_t root[32], const uint8_t key[32], size_t length) {
+    uint8_t found[33];
+    uint32_t refused = grants_verify(root, 32, key, 32, proof, length, found);
+    if (refused) {
+        printf("editor: refused with %u, the proof shows nothing\n", (unsigned)refused);
+        return 0;
+    }
+    printf("editor: %s\n", found[0] ? "the grant stands" : "there is no such grant");
+    return found[0];
+}
+
+int main(void) {
+    uint8_t plugin[32], other[32], score[32], first[32], second[32], batch[2 * RECORD], length[4];
+    size_t proof_length;
+    memset(plugin, 0x40, 32);
+    memset(other, 0x80, 32);
+    memset(score, 7, 32);
+    store = malloc(STORE);
+    proof = malloc(LONGEST_PROOF);
+    if (!store || !proof || grants_format(store, STORE)) return 1;
+
+    /* Two grants are published; then one of them is withdrawn. */
+    ask(batch, plugin, score);
+    ask(batch + RECORD, other, score);
+    if (publish(batch, 2, first)) return 1;
+    ask(batch, plugin, NULL);
+    if (publish(batch, 1, second)) return 1;
+
+    /* The grant stood in version 1, and not in version 2. */
+    proof_length = show(1, plugin);
+    if (!granted(first, plugin, proof_length)) return 1;
+    proof_length = show(2, plugin);
+    if (granted(second, plugin, proof_length)) return 1;
+
+    /* An old proof under the new root is refused. */
+    proof_length = show(1, plugin);
+    if (granted(second, plugin, proof_length)) return 1;
+
+    /* So are keys out of order, a version that is not kept, and a proof for which there is no room; none of these writes anything. */
+    ask(batch, other, score);
+    ask(batch + RECORD, plugin, score);
+    printf("keys out of order: refused with %u\n", (unsigned)publish(batch, 2, second));
+    printf("version 3: refused with %u\n", (unsigned)grants_root(store, STORE, 3, second));
+    printf("no room: refused with %u\n", (unsigned)grants_prove(store, STORE, 1, plugin, 32, proof, proof_length - 1, length));
+    printf("the store is %s\n", grants_check(store, STORE) == 0 ? "sound" : "not sound");
+    free(proof);
+    free(store);
+    return 0;
+}

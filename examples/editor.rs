@@ -1,0 +1,83 @@
+//! A marketplace publishes grants, and an editor checks one: format, apply, prove, verify, and what refusals look like.
+//!
+//!     cargo run --offline --manifest-path rust/Cargo.toml --example editor
+//!
+//! An editor needs `granted` alone: a root whose signature it has checked, a key, and a proof from anybody.
+
+use grants::{Applied, Batch, Error, Key, Proof, Root, Store, Value};
+
+/// What an editor does. Unless the proof shows that the grant stands, nothing is opened.
+fn granted(root: Root, key: Key, proof: &Proof) -> bool {
+    match proof.verify(root, key) {
+        Ok(Some(_)) => println!("editor: the grant stands"),
+        Ok(None) => println!("editor: there is no such grant"),
+        Err(e) => println!(
+            "editor: refused with {}, the proof shows nothing",
+            e.number()
+        ),
+    }
+    matches!(proof.verify(root, key), Ok(Some(_)))
+}
+
+fn tell(made: &Applied) {
+    let Applied {
+        version,
+        root,
+        new_records,
+    } = made;
+    println!("version {version}, new records: {new_records}, root {root}");
+}
+
+fn main() -> Result<(), Box<dyn std::error::Error>> {
+    let (plugin, other) = (Key::from([0x40; 32]), Key::from([0x80; 32]));
+    let score = Value::from([7; 32]);
+    let mut store = Store::with_capacity(20)?;
+
+    // Two grants are published; then one of them is withdrawn.
+    let mut batch = Batch::new();
+    batch.insert(plugin, score)?.insert(other, score)?;
+    let first = store.apply(&batch)?;
+    tell(&first);
+    let mut batch = Batch::new();
+    batch.delete(plugin)?;
+    let second = store.apply(&batch)?;
+    tell(&second);
+
+    // The grant stood in version 1, and not in version 2.
+    let old = store.prove(1, plugin)?;
+    assert!(granted(first.root, plugin, &old));
+    assert!(!granted(second.root, plugin, &store.prove(2, plugin)?));
+
+    // An old proof under the new root is refused.
+    assert!(!granted(second.root, plugin, &old));
+
+    // So are keys out of order, a version that is not kept, and a proof for which there is no room; none of these writes anything. A `Batch` puts
+    // its keys in order, so disorder takes bytes from elsewhere.
+    let mut both = Batch::new();
+    both.insert(plugin, score)?.insert(other, score)?;
+    let mut bytes = both.to_bytes();
+    bytes.rotate_left(72);
+    let number = |refused: Result<(), Error>| refused.unwrap_err().number();
+    println!(
+        "keys out of order: refused with {}",
+        number(store.apply_bytes(&bytes).map(drop))
+    );
+    println!(
+        "version 3: refused with {}",
+        number(store.root(3).map(drop))
+    );
+    let mut room = vec![0; old.as_bytes().len() - 1];
+    println!(
+        "no room: refused with {}",
+        number(store.prove_into(1, plugin, &mut room).map(drop))
+    );
+    println!(
+        "the store is {}",
+        if store.check().is_ok() {
+            "sound"
+        } else {
+            "not sound"
+        }
+    );
+    Ok(())
+}

@@ -1,0 +1,58 @@
+//! Why a command did not do what was asked, and the exit status that says so.
+
+use grants::Error;
+use std::fmt;
+use std::io;
+use std::path::Path;
+
+#[derive(Debug)]
+pub enum Fail {
+    /// The command line is wrong: 2.
+    Usage(String),
+    /// A file, or standard input or output, could not be read or written: 3.
+    File(String),
+    /// The library refused, or would have: 10 and the number. The sentence says what to do.
+    Refused(Error, String),
+}
+
+impl Fail {
+    pub fn status(&self) -> u8 {
+        match self {
+            Fail::Usage(_) => 2,
+            Fail::File(_) => 3,
+            Fail::Refused(error, _) => 10 + error.number() as u8,
+        }
+    }
+
+    pub fn number(&self) -> Option<u32> {
+        match self {
+            Fail::Refused(error, _) => Some(error.number()),
+            _ => None,
+        }
+    }
+}
+
+impl fmt::Display for Fail {
+    fn fmt(&self, f: &mut fmt::Formatter<'_>) -> fmt::Result {
+        match self {
+            Fail::Usage(sentence) | Fail::File(sentence) => f.write_str(sentence),
+            Fail::Refused(error, advice) => {
+                write!(f, "refused with {}: {error}. {advice}", error.number())
+            }
+        }
+    }
+}
+
+/// 'cannot read STORE: it is a directory', and so on.
+pub fn file(verb: &str, path: &Path, error: &io::Error) -> Fail {
+    let why = match error.kind() {
+        io::ErrorKind::NotFound => "there is no such file".to_string(),
+        io::ErrorKind::IsADirectory => "it is a directory".to_string(),
+        io::ErrorKind::PermissionDenied => "permission denied".to_string(),
+        io::ErrorKind::StorageFull => "the disk is full".to_string(),
+        io::ErrorKind::FileTooLarge => "it would be larger than files may be here".to_string(),
+        io::ErrorKind::ReadOnlyFilesystem => "the file system is read-only".to_string(),
+        _ => error.to_string(),
+    };
+    Fail::File(format!("cannot {verb} {}: {why}", path.display()))
+}

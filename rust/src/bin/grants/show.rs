@@ -1,0 +1,303 @@
+//! The tree of a version, as text and as a graph. The store was checked: the records whose lifetime has the version are its tree, and a record
+//! stands below the one whose place is a bit shorter.
+
+use crate::args::{number, Args};
+use crate::commands::{counted, read_store, refused, Bytes};
+use crate::fail::Fail;
+use crate::files;
+use crate::json::Json;
+use crate::out::Out;
+use grants::{to_hex, Body, Child, Error, Key, Place, Record, Root, Value};
+use std::collections::{BTreeMap, BTreeSet};
+use std::fmt::Write as _;
+use std::io::Write as _;
+use std::path::Path;
+use std::process::{Command, Stdio};
+
+/// A record of one version, with the value that the library reads for a leaf's key.
+struct Node {
+    slot: usize,
+    record: Record,
+    grant: Option<(Key, Value)>,
+}
+
+/// The records of one version by place, so a node comes before those below it and left before right.
+struct Tree {
+    version: u32,
+    root: Root,
+    nodes: BTreeMap<Place, Node>,
+}
+
+impl Tree {
+    fn grants(&self) -> usize {
+        self.nodes.values().filter(|n| n.grant.is_some()).count()
+    }
+}
+
+pub fn show(args: &Args, out: &mut Out) -> Result<u8, Fail> {
+    let path = args.path(0);
+    let store = read_store(path)?;
+    let refused = refused(&store, path);
+    let slots = store.slots().map_err(&refused)?;
+    let latest = store.header().map_err(&refused)?.latest;
+    let mut trees = vec![];
+    for version in versions(args, latest)? {
+        trees.push(tree(&store, &slots, version).map_err(&refused)?);
+    }
+    let full = args.has("--full");
+    let picture = args.value("--svg").map(Path::new);
+    if out.json && (picture.is_some() || args.has("--dot")) {
+        return Err(Fail::Usage(
+            "--json is one form of the tree, --dot and --svg are others: choose one".to_string(),
+        ));
+    }
+    if let Some(to) = picture {
+        let picture = svg(&dot(&trees, full))?;
+        if to.as_os_str() == "-" {
+            out.raw(&picture)?;
+        } else {
+            files::write(to, &picture, &[path])?;
+            out.line(format_args!("{}: {} bytes", to.display(), picture.len()))?;
+        }
+    } else if args.has("--dot") {
+        out.raw(dot(&trees, full).as_bytes())?;
+    } else if out.json {
+        out.line(Json::List(trees.iter().map(object).collect()))?;
+    } else {
+        for tree in &trees {
+            out.raw(text(tree, full).as_bytes())?;
+        }
+    }
+    Ok(0)
+}
+
+/// The versions that are asked for, else the latest.
+fn versions(args: &Args, latest: u32) -> Result<Vec<u32>, Fail> {
+    let mut versions = vec![];
+    for word in args.rest(1) {
+        let version = number("VERSION", word)?;
+        if versions.contains(&version) {
+            return Err(Fail::Usage(format!("version {version} is named twice")));
+        }
+        versions.push(version);
+    }
+    if versions.is_empty() {
+        versions.push(latest);
+    }
+    Ok(versions)
+}
+
+fn tree(store: &Bytes, slots: &[Option<Record>], version: u32) -> Result<Tree, Error> {
+    let root = store.root(version)?;
+    let mut nodes = BTreeMap::new();
+    for (slot, record) in slots.iter().enumerate() {
+        let Some(record) = record.filter(|r| r.stands_in(version)) else {
+            continue;
+        };
+        let grant = match record.grant() {
+            Some((key, _)) => store.get(version, key)?.map(|value| (key, value)),
+            None => None,
+        };
+        nodes.insert(
+            record.place,
+            Node {
+                slot,
+                record,
+                grant,
+            },
+        );
+    }
+    Ok(Tree {
+        version,
+        root,
+        nodes,
+    })
+}
+
+/// 64 hex digits, or their two ends.
+fn word(bytes: &[u8], full: bool) -> String {
+    let digits = to_hex(bytes);
+    if full {
+        return digits;
+    }
+    format!("{}..{}", &digits[..8], &digits[60..])
+}
+
+/// The nodes below a place, left then right, each with its bit.
+fn below(tree: &Tree, place: Place) -> impl Iterator<Item = (u8, Place)> + '_ {
+    let sides = [(0, place.longer(false)), (1, place.longer(true))];
+    let places = sides.into_iter().filter_map(|(bit, p)| p.map(|p| (bit, p)));
+    places.filter(|(_, p)| tree.nodes.contains_key(p))
+}
+
+fn text(tree: &Tree, full: bool) -> String {
+    let mut text = format!(
+        "version {}: {}, {}, root {}\n",
+        tree.version,
+        counted(tree.grants(), "grant"),
+        counted(tree.nodes.len(), "record"),
+        tree.root
+    );
+    if tree.nodes.contains_key(&Place::EMPTY) {
+        draw(tree, Place::EMPTY, "  ", full, &mut text);
+    }
+    text
+}
+
+/// The node's own line after what stands before it, then its children's lines behind `margin`.
+fn draw(tree: &Tree, place: Place, margin: &str, full: bool, text: &mut String) {
+    let node = &tree.nodes[&place];
+    if place == Place::EMPTY {
+        text.push_str(margin);
+    }
+    let _ = match node.grant {
+        Some((key, value)) => write!(
+            text,
+            "leaf {} = {}",
+            word(key.as_ref(), full),
+            word(value.as_ref(), full)
+        ),
+        None => write!(text, "inner"),
+    };
+    let (version, slot) = (node.record.version, node.slot);
+    let _ = writeln!(text, "  (version {version}, slot {slot})");
+    let mut children = below(tree, place).peekable();
+    while let Some((bit, child)) = children.next() {
+        let (branch, bar) = match children.peek() {
+            Some(_) => ("├─", "│   "),
+            None => ("└─", "    "),
+        };
+        let _ = write!(text, "{margin}{branch}{bit} ");
+        draw(tree, child, &format!("{margin}{bar}"), full, text);
+    }
+}
+
+fn object(tree: &Tree) -> Json {
+    let mut records = vec![];
+    for (place, node) in &tree.nodes {
+        let mut fields: Vec<(&'static str, Json)> = vec![
+            ("slot", node.slot.into()),
+            ("place", place.to_string().into()),
+            ("version", node.record.version.into()),
+            ("retired_since", node.record.retired_since.into()),
+        ];
+        if let Some((key, value)) = node.grant {
+            fields.push(("key", key.to_string().into()));
+            fields.push(("value", value.to_string().into()));
+        }
+        if let Body::Inner { left, right } = node.record.body {
+            let hash = |child: Option<Child>| child.map(|c| to_hex(&c.hash)).into();
+            fields.push(("left", hash(left)));
+            fields.push(("right", hash(right)));
+        }
+        records.push(Json::Object(fields));
+    }
+    Json::Object(vec![
+        ("version", tree.version.into()),
+        ("root", tree.root.to_string().into()),
+        ("grants", tree.grants().into()),
+        ("records", Json::List(records)),
+    ])
+}
+
+const HEAD: &str = r#"digraph grants {
+  graph [ordering=out, ranksep=0.4, nodesep=0.3];
+  node [fontname="Helvetica", fontsize=11, style=filled, fillcolor=white];
+  edge [fontname="Helvetica", fontsize=10, arrowsize=0.6];
+"#;
+
+/// A graph in Graphviz's language: each record once, an arrow from each version to its root. Green is what the last version made, dashed what
+/// it no longer has.
+fn dot(trees: &[Tree], full: bool) -> String {
+    let mut text = String::from(HEAD);
+    let mut drawn = BTreeSet::new();
+    for tree in trees {
+        let _ = writeln!(
+            text,
+            "  v{} [shape=plaintext, style=\"\", label=\"version {}\\nroot {}\"];",
+            tree.version,
+            tree.version,
+            word(tree.root.as_ref(), full)
+        );
+        for (place, node) in &tree.nodes {
+            let slot = node.slot;
+            if drawn.insert(format!("{slot}")) {
+                let _ = writeln!(text, "  {}", shape(node, trees, full));
+            }
+            for (bit, child) in below(tree, *place) {
+                let below = tree.nodes[&child].slot;
+                if drawn.insert(format!("{slot}-{below}")) {
+                    let _ = writeln!(text, "  s{slot} -> s{below} [label=\" {bit}\"];");
+                }
+            }
+        }
+        if let Some(node) = tree.nodes.get(&Place::EMPTY) {
+            let _ = writeln!(text, "  v{} -> s{} [style=bold];", tree.version, node.slot);
+        }
+    }
+    if trees.len() > 1 {
+        // The versions stand side by side, in the order they were asked for.
+        let versions: Vec<String> = trees.iter().map(|t| format!("v{}", t.version)).collect();
+        let row = versions.join(" -> ");
+        let _ = writeln!(text, "  {{ rank=same; {row} [style=invis]; }}");
+    }
+    text + "}\n"
+}
+
+fn shape(node: &Node, trees: &[Tree], full: bool) -> String {
+    let (slot, record) = (node.slot, &node.record);
+    let place = match record.place.count() {
+        0 => "root".to_string(),
+        count if count > 16 => format!("{count} bits"),
+        _ => record.place.to_string(),
+    };
+    let since = match record.retired_since {
+        Some(since) => format!(", retired since {since}"),
+        None => String::new(),
+    };
+    let head = format!("{place}\\nversion {}{since}", record.version);
+    let several = trees.len() > 1;
+    let last = trees.last().map_or(0, |tree| tree.version);
+    let look = if several && !record.stands_in(last) {
+        "style=\"filled,dashed\", fillcolor=\"#f0f0f0\", fontcolor=\"#606060\""
+    } else if several && record.version == last {
+        "fillcolor=\"#d8f0d8\""
+    } else {
+        "fillcolor=white"
+    };
+    match node.grant {
+        Some((key, value)) => format!(
+            "s{slot} [shape=box, label=\"{head}\\n{}\\n= {}\", {look}];",
+            word(key.as_ref(), full),
+            word(value.as_ref(), full)
+        ),
+        None => format!("s{slot} [shape=ellipse, label=\"{head}\", {look}];"),
+    }
+}
+
+fn svg(graph: &str) -> Result<Vec<u8>, Fail> {
+    let failed = |e: std::io::Error| {
+        match e.kind() {
+        std::io::ErrorKind::NotFound => Fail::File(
+            "cannot draw: `dot` is not installed (Debian's package graphviz has it); --dot prints the graph"
+                .to_string(),
+        ),
+        _ => Fail::File(format!("cannot draw: dot: {e}")),
+    }
+    };
+    let mut dot = Command::new("dot")
+        .arg("-Tsvg")
+        .stdin(Stdio::piped())
+        .stdout(Stdio::piped())
+        .spawn()
+        .map_err(failed)?;
+    // dot reads all of the graph before it writes, so this does not wait for that.
+    if let Some(mut to) = dot.stdin.take() {
+        to.write_all(graph.as_bytes()).map_err(failed)?;
+    }
+    let done = dot.wait_with_output().map_err(failed)?;
+    if !done.status.success() {
+        return Err(Fail::File(format!("cannot draw: dot: {}", done.status)));
+    }
+    Ok(done.stdout)
+}

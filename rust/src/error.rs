@@ -1,0 +1,125 @@
+use std::fmt;
+
+/// A number of refusal of document 01. A refused call wrote nothing.
+///
+/// ```
+/// use grants::{Error, Store};
+///
+/// let refused = Store::over([0u8; 100]).check().unwrap_err();
+/// assert_eq!(refused, Error::Size);
+/// assert_eq!(refused.number(), 1);
+/// assert_eq!(refused.to_string(), "the store's length isn't 24 + 120n, n in 1 to 16,384");
+/// ```
+#[derive(Clone, Copy, Debug, PartialEq, Eq, Hash)]
+#[non_exhaustive]
+pub enum Error {
+    /// 1: the store's length isn't 24 + 120n, n in 1 to 16,384.
+    Size,
+    /// 2: a header field isn't right, its capacity isn't n, or oldest is above latest.
+    Header,
+    /// 3: the store isn't sound (check, apply, prune), or the walk says so (reads).
+    Unsound,
+    /// 4: the batch isn't whole records in form, or has over 1,024.
+    BatchForm,
+    /// 5: the batch's keys aren't strictly ascending.
+    BatchOrder,
+    /// 6: latest is 4,294,967,295.
+    LastVersion,
+    /// 7: fewer free slots than new records.
+    NoRoom,
+    /// 8: the version isn't in oldest to latest.
+    VersionNotKept,
+    /// 9: the proof is longer than the room.
+    ProofTooLong,
+    /// 10: the proof isn't one whole record in form, no byte over.
+    ProofForm,
+    /// 11: the proof is in form, but doesn't hold.
+    ProofFails,
+    /// 12: a key or root handed in isn't 32 bytes.
+    NotThirtyTwoBytes,
+}
+
+/// 01's table, number 1 first, in the words of include/grants.h.
+const TABLE: [(Error, &str); 12] = [
+    (
+        Error::Size,
+        "the store's length isn't 24 + 120n, n in 1 to 16,384",
+    ),
+    (
+        Error::Header,
+        "a header field isn't right, its capacity isn't n, or oldest is above latest",
+    ),
+    (
+        Error::Unsound,
+        "the store isn't sound (check, apply, prune), or the walk says so (reads)",
+    ),
+    (
+        Error::BatchForm,
+        "the batch isn't whole records in form, or has over 1,024",
+    ),
+    (
+        Error::BatchOrder,
+        "the batch's keys aren't strictly ascending",
+    ),
+    (Error::LastVersion, "latest is 4,294,967,295"),
+    (Error::NoRoom, "fewer free slots than new records"),
+    (
+        Error::VersionNotKept,
+        "the version isn't in oldest to latest",
+    ),
+    (Error::ProofTooLong, "the proof is longer than the room"),
+    (
+        Error::ProofForm,
+        "the proof isn't one whole record in form, no byte over",
+    ),
+    (Error::ProofFails, "the proof is in form, but doesn't hold"),
+    (
+        Error::NotThirtyTwoBytes,
+        "a key or root handed in isn't 32 bytes",
+    ),
+];
+
+impl Error {
+    /// The number that 01's table gives it, 1 to 12.
+    pub fn number(self) -> u32 {
+        self as u32 + 1
+    }
+
+    /// The refusal of a number, none where the table has no such row.
+    ///
+    /// ```
+    /// use grants::Error;
+    ///
+    /// assert_eq!(Error::from_number(7), Some(Error::NoRoom));
+    /// assert_eq!(Error::from_number(0), None);
+    /// ```
+    pub fn from_number(number: u32) -> Option<Error> {
+        let row = usize::try_from(number).ok()?.checked_sub(1)?;
+        TABLE.get(row).map(|(error, _)| *error)
+    }
+}
+
+impl fmt::Display for Error {
+    fn fmt(&self, f: &mut fmt::Formatter<'_>) -> fmt::Result {
+        f.write_str(TABLE[*self as usize].1)
+    }
+}
+
+impl std::error::Error for Error {}
+
+#[cfg(test)]
+mod tests {
+    use super::*;
+
+    #[test]
+    fn numbers_are_the_rows_of_the_table() {
+        for number in 1..=12 {
+            let error = Error::from_number(number).unwrap();
+            assert_eq!(error.number(), number);
+            assert_eq!(TABLE[number as usize - 1].0, error);
+        }
+        assert_eq!(Error::from_number(0), None);
+        assert_eq!(Error::from_number(13), None);
+        assert_eq!(Error::from_number(u32::MAX), None);
+    }
+}

@@ -1,0 +1,148 @@
+//! The library's boundary, as functions over slices. All `unsafe` of the crate is here.
+//!
+//! What each block relies on, and what the library's contracts promise: a call reads and writes only the bytes it is lent, keeps no pointer,
+//! and writes nothing where it refuses. A slice's pointer is never null, and Rust's borrows keep the buffers of one call apart, which is
+//! all that `include/grants.h` asks of a caller.
+#![allow(unsafe_code)]
+
+use crate::Error;
+
+extern "C" {
+    fn grants_format(store: *mut u8, store_len: usize) -> u32;
+    fn grants_check(store: *const u8, store_len: usize) -> u32;
+    fn grants_apply(
+        store: *mut u8,
+        store_len: usize,
+        batch: *const u8,
+        batch_len: usize,
+        answer: *mut [u8; 40],
+    ) -> u32;
+    fn grants_prune(store: *mut u8, store_len: usize, version: u32, freed: *mut [u8; 4]) -> u32;
+    fn grants_root(store: *const u8, store_len: usize, version: u32, root: *mut [u8; 32]) -> u32;
+    fn grants_get(
+        store: *const u8,
+        store_len: usize,
+        version: u32,
+        key: *const u8,
+        key_len: usize,
+        found: *mut [u8; 33],
+    ) -> u32;
+    fn grants_prove(
+        store: *const u8,
+        store_len: usize,
+        version: u32,
+        key: *const u8,
+        key_len: usize,
+        room: *mut u8,
+        room_len: usize,
+        length: *mut [u8; 4],
+    ) -> u32;
+    fn grants_verify(
+        root: *const u8,
+        root_len: usize,
+        key: *const u8,
+        key_len: usize,
+        proof: *const u8,
+        proof_len: usize,
+        found: *mut [u8; 33],
+    ) -> u32;
+    fn grants_sha256(bytes: *const u8, len: usize, digest: *mut [u8; 32]) -> u32;
+}
+
+/// 0 is accepted; the library gives no number that is not in the table.
+fn accepted(number: u32) -> Result<(), Error> {
+    match number {
+        0 => Ok(()),
+        number => Err(Error::from_number(number)
+            .unwrap_or_else(|| panic!("the library gave {number}, which no table has"))),
+    }
+}
+
+pub fn format(store: &mut [u8]) -> Result<(), Error> {
+    accepted(unsafe { grants_format(store.as_mut_ptr(), store.len()) })
+}
+
+pub fn check(store: &[u8]) -> Result<(), Error> {
+    accepted(unsafe { grants_check(store.as_ptr(), store.len()) })
+}
+
+pub fn apply(store: &mut [u8], batch: &[u8]) -> Result<[u8; 40], Error> {
+    let mut answer = [0; 40];
+    accepted(unsafe {
+        grants_apply(
+            store.as_mut_ptr(),
+            store.len(),
+            batch.as_ptr(),
+            batch.len(),
+            &mut answer,
+        )
+    })?;
+    Ok(answer)
+}
+
+pub fn prune(store: &mut [u8], version: u32) -> Result<[u8; 4], Error> {
+    let mut freed = [0; 4];
+    accepted(unsafe { grants_prune(store.as_mut_ptr(), store.len(), version, &mut freed) })?;
+    Ok(freed)
+}
+
+pub fn root(store: &[u8], version: u32) -> Result<[u8; 32], Error> {
+    let mut root = [0; 32];
+    accepted(unsafe { grants_root(store.as_ptr(), store.len(), version, &mut root) })?;
+    Ok(root)
+}
+
+pub fn get(store: &[u8], version: u32, key: &[u8]) -> Result<[u8; 33], Error> {
+    let mut found = [0; 33];
+    accepted(unsafe {
+        grants_get(
+            store.as_ptr(),
+            store.len(),
+            version,
+            key.as_ptr(),
+            key.len(),
+            &mut found,
+        )
+    })?;
+    Ok(found)
+}
+
+pub fn prove(store: &[u8], version: u32, key: &[u8], room: &mut [u8]) -> Result<[u8; 4], Error> {
+    let mut length = [0; 4];
+    accepted(unsafe {
+        grants_prove(
+            store.as_ptr(),
+            store.len(),
+            version,
+            key.as_ptr(),
+            key.len(),
+            room.as_mut_ptr(),
+            room.len(),
+            &mut length,
+        )
+    })?;
+    Ok(length)
+}
+
+pub fn verify(root: &[u8], key: &[u8], proof: &[u8]) -> Result<[u8; 33], Error> {
+    let mut found = [0; 33];
+    accepted(unsafe {
+        grants_verify(
+            root.as_ptr(),
+            root.len(),
+            key.as_ptr(),
+            key.len(),
+            proof.as_ptr(),
+            proof.len(),
+            &mut found,
+        )
+    })?;
+    Ok(found)
+}
+
+pub fn sha256(bytes: &[u8]) -> [u8; 32] {
+    let mut digest = [0; 32];
+    accepted(unsafe { grants_sha256(bytes.as_ptr(), bytes.len(), &mut digest) })
+        .expect("never refused");
+    digest
+}

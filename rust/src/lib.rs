@@ -1,0 +1,63 @@
+//! A versioned, authenticated key-value store over lent memory: safe Rust over the proved library, `libgrants.a`.
+//!
+//! Each publishing is a version with one SHA-256 root. Any copy of the store, however little trusted, shows by a short [`Proof`] that a key has
+//! a value in a version, or that it has none; whoever knows the version's [`Root`] checks that with [`verify`] alone.
+//!
+//! ```
+//! use grants::{Batch, Error, Store, Value};
+//!
+//! // A store of 20 slots, in memory of our own. `Store::over` takes any bytes: borrowed, mapped, from a file.
+//! let mut store = Store::with_capacity(20)?;
+//!
+//! // Publish two grants: version 1.
+//! let mut batch = Batch::new();
+//! batch.insert([0x40; 32], [1; 32]).unwrap().insert([0x80; 32], [2; 32]).unwrap();
+//! let first = store.apply(&batch)?;
+//!
+//! // Withdraw one of them: version 2.
+//! let mut batch = Batch::new();
+//! batch.delete([0x40; 32]).unwrap();
+//! let second = store.apply(&batch)?;
+//!
+//! // The grant stood in version 1, and doesn't stand in version 2.
+//! let then = store.prove(first.version, [0x40; 32])?;
+//! let now = store.prove(second.version, [0x40; 32])?;
+//! assert_eq!(then.verify(first.root, [0x40; 32])?, Some(Value::from([1; 32])));
+//! assert_eq!(now.verify(second.root, [0x40; 32])?, None);
+//!
+//! // A proof holds against the root it was made for, and no other.
+//! assert_eq!(then.verify(second.root, [0x40; 32]), Err(Error::ProofFails));
+//! # Ok::<(), Error>(())
+//! ```
+//!
+//! What is proved is the library: that every call ends, stays inside its buffers, and answers or refuses as document 01 says. This crate is a
+//! thin layer over it and is not proved. It adds no rule of its own; all its `unsafe` is in one module, `ffi`.
+#![deny(unsafe_code)]
+#![warn(missing_debug_implementations)]
+
+mod batch;
+mod error;
+mod ffi;
+mod hex;
+mod proof;
+mod records;
+mod store;
+mod words;
+
+pub use batch::{Batch, DoubledKey, BATCH_RECORDS};
+pub use error::Error;
+pub use hex::{from_hex, to_hex, HexError};
+pub use proof::{verify, Proof, PROOF_BYTES};
+pub use records::{Body, Child, Place, Record};
+pub use store::{store_bytes, Applied, Header, Store, MOST_SLOTS};
+pub use words::{Key, Root, Value};
+
+/// SHA-256 of any bytes, by the library's own proved code.
+///
+/// ```
+/// let digest = grants::sha256(b"abc");
+/// assert_eq!(grants::to_hex(&digest[..4]), "ba7816bf");
+/// ```
+pub fn sha256(bytes: &[u8]) -> [u8; 32] {
+    ffi::sha256(bytes)
+}

@@ -1,0 +1,87 @@
+use crate::{ffi, Error, Value};
+
+/// The longest proof has this many bytes.
+pub const PROOF_BYTES: usize = 17_080;
+
+/// That a key is in a version, or that it isn't. Whoever has the version's root can check it; nothing else need be trusted.
+///
+/// ```
+/// use grants::{Batch, Error, Proof, Store, Value};
+///
+/// let mut store = Store::with_capacity(20)?;
+/// let mut batch = Batch::new();
+/// batch.insert([1; 32], [7; 32]).unwrap();
+/// let root = store.apply(&batch)?.root;
+///
+/// let sent: Vec<u8> = store.prove(1, [1; 32])?.into_bytes();
+///
+/// // In the editor, which has the root from a signature and the proof from anybody:
+/// let proof = Proof::from_bytes(sent);
+/// assert_eq!(proof.verify(root, [1; 32])?, Some(Value::from([7; 32])));
+/// assert_eq!(proof.verify(root, [2; 32]), Err(Error::ProofFails));
+/// # Ok::<(), Error>(())
+/// ```
+#[derive(Clone, Debug, PartialEq, Eq)]
+pub struct Proof {
+    bytes: Vec<u8>,
+}
+
+impl Proof {
+    /// Any bytes, from anybody; [`Proof::verify`] judges them.
+    pub fn from_bytes(bytes: impl Into<Vec<u8>>) -> Proof {
+        Proof {
+            bytes: bytes.into(),
+        }
+    }
+
+    pub fn as_bytes(&self) -> &[u8] {
+        &self.bytes
+    }
+
+    pub fn into_bytes(self) -> Vec<u8> {
+        self.bytes
+    }
+
+    /// See [`verify`].
+    pub fn verify(
+        &self,
+        root: impl AsRef<[u8]>,
+        key: impl AsRef<[u8]>,
+    ) -> Result<Option<Value>, Error> {
+        verify(root, key, &self.bytes)
+    }
+}
+
+impl AsRef<[u8]> for Proof {
+    fn as_ref(&self) -> &[u8] {
+        &self.bytes
+    }
+}
+
+/// What a proof shows of a key against a root: its value, or none for 'absent'. Refused: 12, 10, 11.
+///
+/// ```
+/// use grants::{verify, Error, Root};
+///
+/// // Nothing is in the empty version: a proof without neighbours, 40 bytes.
+/// let mut proof = [0; 40];
+/// proof[0] = 40;
+/// proof[4] = 17;
+/// assert_eq!(verify(Root::EMPTY, [0; 32], proof), Ok(None));
+/// assert_eq!(verify(Root::EMPTY, [0; 31], proof), Err(Error::NotThirtyTwoBytes));
+/// assert_eq!(verify(Root::EMPTY, [0; 32], &proof[1..]), Err(Error::ProofForm));
+/// ```
+pub fn verify(
+    root: impl AsRef<[u8]>,
+    key: impl AsRef<[u8]>,
+    proof: impl AsRef<[u8]>,
+) -> Result<Option<Value>, Error> {
+    ffi::verify(root.as_ref(), key.as_ref(), proof.as_ref()).map(found)
+}
+
+/// 1 and the value, or 0.
+pub(crate) fn found(answer: [u8; 33]) -> Option<Value> {
+    let (present, value) = answer.split_first().expect("33 bytes");
+    let value: [u8; 32] = value.try_into().expect("32 bytes");
+    (*present == 1).then_some(Value::from(value))
+}

@@ -1,0 +1,152 @@
+//! Reading the records of a sound store, to list or draw them. Nothing is judged here: the library has said before that every slot is free or
+//! in form, and which records stand in a version follows from their lifetimes, by the last sentence of 01's 'Sound'.
+
+use crate::{Header, Key, Value};
+use std::fmt;
+
+pub(crate) fn u32_at(bytes: &[u8], at: usize) -> u32 {
+    u32::from_le_bytes([bytes[at], bytes[at + 1], bytes[at + 2], bytes[at + 3]])
+}
+
+fn u16_at(bytes: &[u8], at: usize) -> u16 {
+    u16::from_le_bytes([bytes[at], bytes[at + 1]])
+}
+
+fn word_at(bytes: &[u8], at: usize) -> [u8; 32] {
+    let mut word = [0; 32];
+    word.copy_from_slice(&bytes[at..at + 32]);
+    word
+}
+
+/// A string of bits: where a node stands in the tree. Ordered so that a place comes before those below it, left before right.
+#[derive(Clone, Copy, Debug, PartialEq, Eq, PartialOrd, Ord, Hash)]
+pub struct Place {
+    // Unused bits are zero, so comparing the bits and then the count is the order of bit strings.
+    bits: [u8; 32],
+    count: u16,
+}
+
+impl Place {
+    /// Where the root stands.
+    pub const EMPTY: Place = Place {
+        bits: [0; 32],
+        count: 0,
+    };
+
+    /// How many bits, 0 to 256.
+    pub fn count(&self) -> usize {
+        usize::from(self.count)
+    }
+
+    /// Bit i: false is left, true is right.
+    pub fn bit(&self, i: usize) -> bool {
+        self.bits[i / 8] >> (7 - i % 8) & 1 == 1
+    }
+
+    /// The place one bit longer, to the left or to the right. A place of 256 bits is the longest.
+    pub fn longer(&self, right: bool) -> Option<Place> {
+        let (byte, mask) = (self.count() / 8, 0x80 >> (self.count % 8));
+        let mut longer = *self;
+        let bits = longer.bits.get_mut(byte)?;
+        *bits |= if right { mask } else { 0 };
+        longer.count += 1;
+        Some(longer)
+    }
+}
+
+/// The bits, as 0 and 1.
+impl fmt::Display for Place {
+    fn fmt(&self, f: &mut fmt::Formatter<'_>) -> fmt::Result {
+        let bits: String = (0..self.count())
+            .map(|i| if self.bit(i) { '1' } else { '0' })
+            .collect();
+        f.pad(&bits)
+    }
+}
+
+/// What an inner record says of a child: its version and its hash.
+#[derive(Clone, Copy, Debug, PartialEq, Eq)]
+pub struct Child {
+    pub version: u32,
+    pub hash: [u8; 32],
+}
+
+#[derive(Clone, Copy, Debug, PartialEq, Eq)]
+pub enum Body {
+    Leaf {
+        key: Key,
+        value: Value,
+    },
+    Inner {
+        left: Option<Child>,
+        right: Option<Child>,
+    },
+}
+
+/// One node of one or more versions.
+#[derive(Clone, Copy, Debug, PartialEq, Eq)]
+pub struct Record {
+    pub place: Place,
+    pub version: u32,
+    /// The version that it is retired since, if it is retired.
+    pub retired_since: Option<u32>,
+    pub body: Body,
+}
+
+impl Record {
+    /// Whether the record is in a kept version's tree: its version is at most that one, and it isn't retired by it.
+    pub fn stands_in(&self, version: u32) -> bool {
+        self.version <= version && self.retired_since.is_none_or(|since| version < since)
+    }
+
+    /// The grant of a leaf.
+    pub fn grant(&self) -> Option<(Key, Value)> {
+        match self.body {
+            Body::Leaf { key, value } => Some((key, value)),
+            Body::Inner { .. } => None,
+        }
+    }
+}
+
+pub(crate) fn header(store: &[u8]) -> Header {
+    Header {
+        capacity: u32_at(store, 8),
+        oldest: u32_at(store, 12),
+        latest: u32_at(store, 16),
+    }
+}
+
+pub(crate) fn slots(store: &[u8]) -> Vec<Option<Record>> {
+    store[24..].chunks_exact(120).map(slot).collect()
+}
+
+fn slot(slot: &[u8]) -> Option<Record> {
+    let body = match u16_at(slot, 4) {
+        0 => return None,
+        2 => Body::Leaf {
+            key: Key::from(word_at(slot, 48)),
+            value: Value::from(word_at(slot, 80)),
+        },
+        _ => Body::Inner {
+            left: child(slot, 48),
+            right: child(slot, 84),
+        },
+    };
+    Some(Record {
+        place: Place {
+            bits: word_at(slot, 8),
+            count: u16_at(slot, 6),
+        },
+        version: u32_at(slot, 40),
+        retired_since: Some(u32_at(slot, 44)).filter(|since| *since != 0),
+        body,
+    })
+}
+
+fn child(slot: &[u8], at: usize) -> Option<Child> {
+    Some(Child {
+        version: u32_at(slot, at),
+        hash: word_at(slot, at + 4),
+    })
+    .filter(|child| child.version != 0)
+}

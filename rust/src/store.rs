@@ -1,0 +1,235 @@
+use crate::records::{self, Record};
+use crate::{ffi, proof, Batch, Error, Proof, Root, Value, PROOF_BYTES};
+
+/// The most slots that a store may have.
+pub const MOST_SLOTS: u32 = 16_384;
+
+/// The bytes of a store with this many slots.
+///
+/// ```
+/// assert_eq!(grants::store_bytes(20), 2_424);
+/// ```
+pub const fn store_bytes(capacity: u32) -> usize {
+    24 + 120 * capacity as usize
+}
+
+/// A store over bytes, borrowed or owned: `&[u8]`, `&mut [u8]`, `Vec<u8>`, an array, a mapped file.
+///
+/// Nothing is judged when a `Store` is made. Each call takes any bytes, tests what document 01 wants tested, and answers or refuses; a refused
+/// call changes no byte.
+///
+/// ```
+/// use grants::{Batch, Error, Store, Value};
+///
+/// let mut store = Store::with_capacity(20)?;
+/// let mut batch = Batch::new();
+/// batch.insert([1; 32], [7; 32]).unwrap().insert([2; 32], [8; 32]).unwrap();
+/// let made = store.apply(&batch)?;
+/// assert_eq!(made.version, 1);
+/// assert_eq!(store.root(1)?, made.root);
+/// assert_eq!(store.get(1, [2; 32])?, Some(Value::from([8; 32])));
+/// assert_eq!(store.get(1, [3; 32])?, None);
+/// assert_eq!(store.get(5, [3; 32]), Err(Error::VersionNotKept));
+/// # Ok::<(), Error>(())
+/// ```
+#[derive(Clone, Debug, PartialEq, Eq)]
+pub struct Store<B> {
+    bytes: B,
+}
+
+/// What an accepted batch made.
+#[derive(Clone, Copy, Debug, PartialEq, Eq)]
+pub struct Applied {
+    pub version: u32,
+    pub root: Root,
+    /// How many records are new.
+    pub new_records: u32,
+}
+
+/// What the header of a store says.
+#[derive(Clone, Copy, Debug, PartialEq, Eq)]
+pub struct Header {
+    pub capacity: u32,
+    /// The oldest version that is kept.
+    pub oldest: u32,
+    pub latest: u32,
+}
+
+impl Store<Vec<u8>> {
+    /// A fresh, empty store of this many slots, 1 to 16,384. Refused: 1.
+    ///
+    /// ```
+    /// use grants::{Error, Store};
+    ///
+    /// assert_eq!(Store::with_capacity(20)?.header()?.latest, 0);
+    /// assert_eq!(Store::with_capacity(0), Err(Error::Size));
+    /// assert_eq!(Store::with_capacity(16_385), Err(Error::Size));
+    /// # Ok::<(), Error>(())
+    /// ```
+    pub fn with_capacity(capacity: u32) -> Result<Store<Vec<u8>>, Error> {
+        // One slot too many is refused as any larger number is, and takes little memory.
+        let bytes = store_bytes(capacity.min(MOST_SLOTS + 1));
+        let mut store = Store::over(vec![0; bytes]);
+        store.format()?;
+        Ok(store)
+    }
+}
+
+impl<B> Store<B> {
+    pub fn over(bytes: B) -> Store<B> {
+        Store { bytes }
+    }
+
+    pub fn into_bytes(self) -> B {
+        self.bytes
+    }
+}
+
+impl<B: AsRef<[u8]>> Store<B> {
+    pub fn as_bytes(&self) -> &[u8] {
+        self.bytes.as_ref()
+    }
+
+    /// Whether the store is sound: every kept version is a whole tree with every hash true. Refused: 1, 2, 3.
+    pub fn check(&self) -> Result<(), Error> {
+        ffi::check(self.as_bytes())
+    }
+
+    /// The root of a version, [`Root::EMPTY`] where it holds no grant. Refused: 1, 2, 8.
+    pub fn root(&self, version: u32) -> Result<Root, Error> {
+        ffi::root(self.as_bytes(), version).map(Root::from)
+    }
+
+    /// A key in a version: its value, or none where the key is absent. Refused: 12, 1, 2, 8, 3.
+    pub fn get(&self, version: u32, key: impl AsRef<[u8]>) -> Result<Option<Value>, Error> {
+        ffi::get(self.as_bytes(), version, key.as_ref()).map(proof::found)
+    }
+
+    /// The proof that a key is in a version, or that it isn't. Refused: 12, 1, 2, 8, 3.
+    pub fn prove(&self, version: u32, key: impl AsRef<[u8]>) -> Result<Proof, Error> {
+        let mut room = vec![0; PROOF_BYTES];
+        let length = self.prove_into(version, key, &mut room)?;
+        room.truncate(length);
+        Ok(Proof::from_bytes(room))
+    }
+
+    /// The same, written to the front of `room`; the answer is the proof's length, and the rest of `room` stays. Refused: 12, 1, 2, 8, 3, 9.
+    ///
+    /// ```
+    /// use grants::{Error, Store};
+    ///
+    /// let store = Store::with_capacity(1)?;
+    /// let mut room = [9; 41];
+    /// assert_eq!(store.prove_into(0, [1; 32], &mut room)?, 40);
+    /// assert_eq!(room[40], 9);
+    /// assert_eq!(store.prove_into(0, [1; 32], &mut room[..39]), Err(Error::ProofTooLong));
+    /// # Ok::<(), Error>(())
+    /// ```
+    pub fn prove_into(
+        &self,
+        version: u32,
+        key: impl AsRef<[u8]>,
+        room: &mut [u8],
+    ) -> Result<usize, Error> {
+        let length = ffi::prove(self.as_bytes(), version, key.as_ref(), room)?;
+        Ok(u32::from_le_bytes(length) as usize)
+    }
+
+    /// Capacity, oldest and latest. Refused: 1, 2.
+    pub fn header(&self) -> Result<Header, Error> {
+        let bytes = self.as_bytes();
+        // A root read tests the header and then the version, so all but 8 is said of the header.
+        match ffi::root(bytes, 0) {
+            Ok(_) | Err(Error::VersionNotKept) => Ok(records::header(bytes)),
+            Err(refused) => Err(refused),
+        }
+    }
+
+    /// The slots in order: the record that is in each, none where it is free. For a sound store only, so that there is nothing to judge: each
+    /// slot is free or in form. Refused: 1, 2, 3.
+    ///
+    /// ```
+    /// use grants::{Batch, Error, Key, Store};
+    ///
+    /// let mut store = Store::with_capacity(2)?;
+    /// let mut batch = Batch::new();
+    /// batch.insert([1; 32], [7; 32]).unwrap();
+    /// store.apply(&batch)?;
+    /// let slots = store.slots()?;
+    /// let record = slots[0].unwrap();
+    /// assert_eq!(record.version, 1);
+    /// assert_eq!(record.grant(), Some((Key::from([1; 32]), [7; 32].into())));
+    /// assert_eq!(slots[1], None);
+    /// # Ok::<(), Error>(())
+    /// ```
+    pub fn slots(&self) -> Result<Vec<Option<Record>>, Error> {
+        let bytes = self.as_bytes();
+        ffi::check(bytes)?;
+        Ok(records::slots(bytes))
+    }
+}
+
+impl<B: AsRef<[u8]> + AsMut<[u8]>> Store<B> {
+    /// Makes a fresh, empty store of whatever bytes are there, if their number is right. Refused: 1.
+    ///
+    /// ```
+    /// use grants::{Error, Store};
+    ///
+    /// let mut lent = [0xaa; grants::store_bytes(4)];
+    /// let mut store = Store::over(&mut lent[..]);
+    /// assert_eq!(store.check(), Err(Error::Header));
+    /// store.format()?;
+    /// assert_eq!(store.check(), Ok(()));
+    /// # Ok::<(), Error>(())
+    /// ```
+    pub fn format(&mut self) -> Result<(), Error> {
+        ffi::format(self.bytes.as_mut())
+    }
+
+    /// Publishes the next version: the latest grants with the batch applied. Refused: 1, 2, 3, 4, 5, 6, 7.
+    ///
+    /// ```
+    /// use grants::{Batch, Error, Store};
+    ///
+    /// let mut store = Store::with_capacity(1)?;
+    /// let mut batch = Batch::new();
+    /// batch.insert([1; 32], [7; 32]).unwrap().insert([2; 32], [8; 32]).unwrap();
+    /// assert_eq!(store.apply(&batch), Err(Error::NoRoom));
+    /// // Refused, and nothing changed.
+    /// assert_eq!(store, Store::with_capacity(1)?);
+    /// # Ok::<(), Error>(())
+    /// ```
+    pub fn apply(&mut self, batch: &Batch) -> Result<Applied, Error> {
+        self.apply_bytes(&batch.to_bytes())
+    }
+
+    /// The same, of document 01's batch records of 72 bytes, from anybody. Refused: 1, 2, 3, 4, 5, 6, 7.
+    pub fn apply_bytes(&mut self, batch: &[u8]) -> Result<Applied, Error> {
+        let answer = ffi::apply(self.bytes.as_mut(), batch)?;
+        let mut root = [0; 32];
+        root.copy_from_slice(&answer[4..36]);
+        Ok(Applied {
+            version: records::u32_at(&answer, 0),
+            root: Root::from(root),
+            new_records: records::u32_at(&answer, 36),
+        })
+    }
+
+    /// Frees every record retired since the version or earlier, and keeps no older version; the answer is how many it freed. Refused: 1, 2, 3, 8.
+    ///
+    /// ```
+    /// use grants::{Batch, Error, Store};
+    ///
+    /// let mut store = Store::with_capacity(4)?;
+    /// let mut batch = Batch::new();
+    /// batch.insert([1; 32], [7; 32]).unwrap();
+    /// store.apply(&batch)?;
+    /// store.apply(&Batch::new())?;
+    /// assert_eq!(store.prune(2)?, 1);
+    /// assert_eq!(store.root(1), Err(Error::VersionNotKept));
+    /// # Ok::<(), Error>(())
+    /// ```
+    pub fn prune(&mut self, version: u32) -> Result<u32, Error> {
+        ffi::prune(self.bytes.as_mut(), version).map(u32::from_le_bytes)
+    }
+}

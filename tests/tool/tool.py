@@ -1,0 +1,902 @@
+"""The command line tool as a person or a script meets it. Arguments: the tool, fault.so, the README, then names of tests where not all are
+to run, or --write-tour, which puts what the tour's commands print into the README. The last line counts what passed."""
+
+import difflib
+import json
+import os
+import random
+import resource
+import shutil
+import signal
+import stat
+import subprocess
+import sys
+import tempfile
+import time
+import traceback
+
+TOOL, FAULT, README = [os.path.abspath(p) for p in sys.argv[1:4]]
+
+ZERO = "00" * 32
+LARGEST = 16384
+A, B, C, D = ["%02x" % first + "00" * 31 for first in (0x00, 0x40, 0x60, 0x80)]
+
+
+def value(n):
+    return "%02x" % n * 32
+
+
+FOUR = "".join("+ %s %s\n" % (k, value(n)) for k, n in ((A, 1), (B, 2), (C, 3), (D, 4)))
+WITHDRAW = "- %s\n+ %s %s\n" % (B, C, value(5))
+
+tests = []
+
+
+def test(function):
+    tests.append(function)
+    return function
+
+
+class Ran:
+    """What a run gave; it prints itself where a test of it fails."""
+
+    def __init__(self, words, done):
+        self.words, self.status = words, done.returncode
+        self.out, self.err = done.stdout, done.stderr
+
+    def __repr__(self):
+        return "grants %s: status %s\n%s%s" % (" ".join(self.words), self.status, self.out, self.err)
+
+
+def grants(*words, input="", env=None, **more):
+    words = [str(w) for w in words]
+    full = dict(os.environ, **(env or {}))
+    more.setdefault("stdout", subprocess.PIPE)
+    binary = isinstance(input, bytes)
+    done = subprocess.run([TOOL] + words, input=input, stderr=subprocess.PIPE, text=not binary, env=full, timeout=60, **more)
+    return Ran(words, done)
+
+
+def answered(status, *words, **more):
+    """The output of a run that must end with this status; one that fails must say why, and one that doesn't must be silent beside."""
+    ran = grants(*words, **more)
+    assert ran.status == status, "status %s was expected\n%r" % (status, ran)
+    if status in (0, 1):
+        assert ran.err in ("", b""), ran
+    else:
+        assert ran.err.startswith("grants: ") and ran.err.count("\n") == 1, ran
+        assert "panicked" not in ran.err, ran
+    return ran.out
+
+
+def refused(status, sentence, *words, **more):
+    """The run fails with this status and this among its words."""
+    ran = grants(*words, **more)
+    assert ran.status == status and sentence in ran.err, "%r\n%s and %r were expected" % (ran, status, sentence)
+    assert ran.err.startswith("grants: ") and ran.err.count("\n") == 1, ran
+
+
+def read(path):
+    with open(path, "rb") as f:
+        return f.read()
+
+
+def write(path, content):
+    with open(path, "wb") as f:
+        f.write(content if isinstance(content, bytes) else content.encode())
+    return path
+
+
+def desk(name="desk.grants", capacity=20):
+    """A store with two versions."""
+    answered(0, "format", name, capacity)
+    answered(0, "apply", name, "-", input=FOUR)
+    answered(0, "apply", name, "-", input=WITHDRAW)
+    return name
+
+
+def number(n, size):
+    return n.to_bytes(size, "little")
+
+
+def record(key, insert=None):
+    if insert is None:
+        return number(40, 4) + number(2, 2) + bytes(2) + bytes.fromhex(key) + bytes(32)
+    return number(72, 4) + number(1, 2) + bytes(2) + bytes.fromhex(key) + bytes.fromhex(insert)
+
+
+def store_bytes(capacity, latest=0):
+    head = number(24, 4) + number(1, 2) + bytes(2) + number(capacity, 4) + number(0, 4) + number(latest, 4) + bytes(4)
+    return head + bytes(120 * capacity)
+
+
+def many(count, seed=1):
+    rng = random.Random(seed)
+    return "".join("+ %s %s\n" % (rng.randbytes(32).hex(), rng.randbytes(32).hex()) for _ in range(count))
+
+
+def untouched(path, status, sentence, *words, **more):
+    """The run fails so, leaves the file as it was, and leaves nothing beside it."""
+    before, around = read(path), sorted(os.listdir("."))
+    refused(status, sentence, *words, **more)
+    assert read(path) == before, "the file was changed"
+    assert sorted(os.listdir(".")) == around, "something was left: %s" % os.listdir(".")
+
+
+# What it answers.
+
+
+@test
+def the_example_of_document_01():
+    answered(0, "format", "s", 20)
+    made = [
+        (FOUR, (1, 7)),
+        (WITHDRAW, (2, 3)),
+        ("", (3, 1)),
+        ("- %s\n" % A, (4, 2)),
+        ("- %s\n" % D, (5, 1)),
+        ("- %s\n" % C, (6, 0)),
+    ]
+    for batch, (version, new) in made:
+        out = json.loads(answered(0, "apply", "s", "-", "--json", input=batch))["published"]
+        assert [(p["version"], p["new_records"]) for p in out] == [(version, new)]
+        assert out[0]["root"] == answered(0, "root", "s").strip()
+    assert answered(0, "root", "s").strip() == ZERO
+    assert answered(0, "prune", "s", 4) == "10 records freed, versions 4 to 6 kept\n"
+    out = answered(0, "apply", "s", "-", input="+ %s %s" % (D[:-1] + "1", value(6)))
+    assert out.startswith("version 7, 1 new record, root ")
+    assert answered(0, "prune", "s", 4).startswith("0 records freed")
+    untouched("s", 18, "keeps versions 4 to 7", "prune", "s", 8)
+    assert answered(0, "check", "s") == "s is sound, versions 4 to 7\n"
+
+
+@test
+def get_and_root():
+    s = desk()
+    assert answered(0, "get", s, C) == value(5) + "\n"
+    assert answered(0, "get", s, C, 1) == value(3) + "\n"
+    assert answered(1, "get", s, B) == "absent\n"
+    assert answered(1, "get", s, A, 0) == "absent\n"
+    assert answered(0, "get", s, C.upper(), "--json") == '{"version":2,"key":"%s","value":"%s"}\n' % (C, value(5))
+    assert answered(1, "get", s, B, "--json") == '{"version":2,"key":"%s","value":null}\n' % B
+    assert answered(0, "root", s, 0) == ZERO + "\n"
+    assert answered(0, "root", s) == answered(0, "root", s, 2) != answered(0, "root", s, 1)
+    refused(18, "keeps versions 0 to 2", "get", s, A, 3)
+
+
+@test
+def proofs_are_made_and_checked():
+    s = desk()
+    root = answered(0, "root", s).strip()
+    for key, found in ((A, value(1)), (B, None), (C, value(5)), (D, value(4)), ("ff" * 32, None)):
+        status, shown = (0, "present %s\n" % found) if found else (1, "absent\n")
+        out = answered(0, "prove", s, key, "--out", "proof")
+        assert out == "proof: %d bytes, %s in version 2\n" % (os.path.getsize("proof"), shown.split()[0])
+        assert answered(status, "verify", root, key, "proof") == shown
+        # As hex, and through a pipe.
+        hexed = answered(0, "prove", s, key)
+        assert bytes.fromhex(hexed) == read("proof")
+        assert answered(status, "verify", root, key, "-", input=hexed) == shown
+        raw = grants("prove", s, key, "--out", "-", input=b"").out
+        assert raw == read("proof")
+        assert grants("verify", root, key, "-", input=raw).status == status
+        told = json.loads(answered(status, "verify", root, key, "proof", "--json"))
+        assert (told["present"], told["value"]) == (found is not None, found)
+        told = json.loads(answered(0, "prove", s, key, "--json"))
+        assert (told["root"], told["value"], told["proof"]) == (root, found, hexed.strip())
+        # Against another version's root, and of another key.
+        old = answered(0, "root", s, 1).strip()
+        refused(21, "not to be trusted", "verify", old, key, "proof")
+        refused(21, "refused with 11", "verify", root, "ab" * 32, "proof")
+
+
+@test
+def proofs_off_form():
+    s = desk()
+    root = answered(0, "root", s).strip()
+    answered(0, "prove", s, B, "--out", "proof")
+    good = read("proof")
+    for bad in (b"", good[:-1], good + b"\0", b"\xff" * 100, good.hex()[:-1].encode(), bytes(40)):
+        refused(20, "refused with 10", "verify", root, B, write("bad", bad))
+    refused(3, "there is no such file", "verify", root, B, "none")
+    refused(3, "it is a directory", "verify", root, B, ".")
+
+
+@test
+def batches_as_text():
+    answered(0, "format", "s", 100)
+    text = "# a comment\n\n  + %s   %s # another\r\n\t- %s\n" % (D.upper(), value(1), A)
+    answered(0, "apply", "s", write("b", text))
+    assert answered(0, "get", "s", D) == value(1) + "\n"
+    # Out of order: it sorts.
+    lines = FOUR.splitlines(True)
+    answered(0, "apply", "s", "-", input="".join(reversed(lines)))
+    answered(0, "format", "t", 100)
+    answered(0, "apply", "t", "-", input=FOUR)
+    assert answered(0, "root", "s") == answered(0, "root", "t")
+
+
+@test
+def batches_in_binary():
+    binary = record(A, value(1)) + record(B) + record(C, value(3))
+    answered(0, "format", "s", 100)
+    answered(0, "apply", "s", write("b", binary))
+    assert answered(0, "get", "s", C) == value(3) + "\n"
+    assert grants("apply", "s", "-", "--json", input=binary).status == 0
+    untouched("s", 15, "the batch's keys aren't strictly ascending", "apply", "s", write("b", record(C) + record(A)))
+    untouched("s", 15, "the batch's keys aren't strictly ascending", "apply", "s", write("b", record(A) + record(A)))
+    for bad in (binary[:-1], binary + b"\0", b"\0" * 72, record(A)[:-1] + b"\1"):
+        untouched("s", 14, "72 bytes", "apply", "s", write("b", bad))
+    untouched("s", 14, "refused with 4", "apply", "s", write("b", FOUR), "--binary")
+
+
+@test
+def batches_that_are_wrong():
+    s = desk()
+    for text, sentence in (
+        ("+ %s\n" % A, "Line 1 of the batch: it is neither '+ KEY VALUE' nor '- KEY'"),
+        ("\n* %s\n" % A, "Line 2"),
+        ("- %s %s\n" % (A, A), "Line 1"),
+        ("+ %s %s\n" % (A[:-1], value(1)), "the key is wrong (63 hex digits, not 64)"),
+        ("+ %s %s\n" % (A, value(1) + "00"), "the value is wrong (66 hex digits, not 64)"),
+        ("- %s\n" % ("g" + A[1:]), "'g' is no hex digit"),
+        ("hello", "Line 1"),
+    ):
+        untouched(s, 14, sentence, "apply", s, write("b", text))
+    untouched(s, 14, "neither text nor binary", "apply", s, write("b", b"\xff\xfe"))
+    untouched(s, 15, "in line 1 and again in line 3", "apply", s, write("b", "- %s\n- %s\n+ %s %s\n" % (A, B, A, value(1))))
+    write("b", "")
+    untouched(s, 3, "there is no such file", "apply", s, "none")
+    untouched(s, 3, "it is a directory", "apply", s, "/")
+
+
+@test
+def a_batch_too_long_and_its_split():
+    answered(0, "format", "s", LARGEST)
+    answered(0, "apply", "s", write("b", many(1024)))
+    write("c", many(2500, 2))
+    untouched("s", 14, "--split to publish it as 3 versions", "apply", "s", "c")
+    untouched("s", 14, "This one has 1025", "apply", "s", write("d", many(1025, 3)))
+    published = json.loads(answered(0, "apply", "s", "c", "--split", "--json"))["published"]
+    assert [p["version"] for p in published] == [2, 3, 4]
+    told = json.loads(answered(0, "log", "s", "--json"))
+    assert [v["grants"] for v in told] == [0, 1024, 2048, 3072, 3524], told
+    assert [v["root"] for v in told][2:] == [p["root"] for p in published]
+    # Too little room for the last part: no part is published.
+    answered(0, "format", "t", 4000)
+    untouched("t", 17, "grants prune", "apply", "t", "c", "--split")
+    # Binary records are cut where they stand.
+    sorted_lines = sorted(line.split() for line in many(1100, 4).splitlines())
+    write("e", b"".join(record(k, v) for _, k, v in sorted_lines))
+    untouched("s", 14, "This one has 1100", "apply", "s", "e")
+    assert answered(0, "apply", "s", "e", "--split").count("version") == 2
+    # A short batch with --split is one version, and so is an empty one.
+    assert answered(0, "apply", "t", "-", "--split", input=FOUR).count("\n") == 1
+    assert answered(0, "apply", "t", "-", "--split", input="").count("\n") == 1
+    assert answered(0, "apply", "t", "-", "--split", "--binary", input="").count("\n") == 1
+
+
+@test
+def log_show_and_get_agree():
+    rng = random.Random(7)
+    keys = [rng.randbytes(32).hex() for _ in range(40)]
+    answered(0, "format", "s", 2000)
+    for _ in range(12):
+        some = rng.sample(keys, 9)
+        text = "".join("- %s\n" % k if rng.random() < 0.4 else "+ %s %s\n" % (k, rng.randbytes(32).hex()) for k in some)
+        answered(0, "apply", "s", "-", input=text)
+    answered(0, "prune", "s", 3)
+    told = json.loads(answered(0, "log", "s", "--json"))
+    lines = [line.split() for line in answered(0, "log", "s").splitlines()[1:]]
+    assert [v["version"] for v in told] == list(range(3, 13))
+    for entry, line in zip(told, lines):
+        assert line == [str(entry[k]) for k in ("version", "grants", "records", "new", "root")]
+    trees = json.loads(answered(0, "show", "s", "--json", *range(3, 13)))
+    for entry, tree in zip(told, trees):
+        leaves = {r["key"]: r["value"] for r in tree["records"] if "key" in r}
+        assert (entry["grants"], entry["records"]) == (len(leaves), len(tree["records"])) == (tree["grants"], len(tree["records"]))
+        assert entry["root"] == tree["root"] == answered(0, "root", "s", entry["version"]).strip()
+        for key in rng.sample(keys, 6):
+            out = answered(0 if key in leaves else 1, "get", "s", key, entry["version"]).strip()
+            assert out == leaves.get(key, "absent")
+        text = answered(0, "show", "s", entry["version"], "--full")
+        assert all("leaf %s = %s" % grant in text for grant in leaves.items()), text
+        assert text.count("\n") == 1 + entry["records"]
+    assert answered(0, "log", "s", "--last", 2).splitlines()[1:] == answered(0, "log", "s").splitlines()[-2:]
+    assert answered(0, "log", "s", "--last=99") == answered(0, "log", "s")
+    refused(18, "keeps versions 3 to 12", "show", "s", 2)
+
+
+@test
+def show_draws_a_tree():
+    s = desk()
+    out = answered(0, "show", s, 1)
+    assert out.split("\n")[1:] == [
+        "  inner  (version 1, slot 6)",
+        "  ├─0 inner  (version 1, slot 4)",
+        "  │   ├─0 leaf 00000000..0000 = 01010101..0101  (version 1, slot 2)",
+        "  │   └─1 inner  (version 1, slot 3)",
+        "  │       ├─0 leaf 40000000..0000 = 02020202..0202  (version 1, slot 0)",
+        "  │       └─1 leaf 60000000..0000 = 03030303..0303  (version 1, slot 1)",
+        "  └─1 leaf 80000000..0000 = 04040404..0404  (version 1, slot 5)",
+        "",
+    ], out
+    assert answered(0, "show", s, 0) == "version 0: 0 grants, 0 records, root %s\n" % ZERO
+    graph = answered(0, "show", s, 1, 2, "--dot")
+    assert graph.startswith("digraph grants {") and graph.endswith("}\n")
+    assert all(graph.count("  s%d [" % slot) == 1 for slot in range(10)), graph
+    # The longest path there is: two keys that differ in the last bit.
+    answered(0, "format", "t", 300)
+    answered(0, "apply", "t", "-", input="+ %s %s\n+ %s %s\n" % (A, value(1), A[:-1] + "1", value(2)))
+    assert answered(0, "show", "t").count("\n") == 1 + 258
+    refused(2, "named twice", "show", s, 1, 1)
+    refused(2, "--json", "show", s, "--dot", "--json")
+
+
+@test
+def show_draws_a_picture_where_dot_is():
+    s = desk()
+    if shutil.which("dot"):
+        answered(0, "show", s, 1, 2, "--svg", "tree.svg")
+        assert b"</svg>" in read("tree.svg")
+        assert grants("show", s, 1, 2, "--svg", "-", input=b"").out == read("tree.svg")
+    refused(3, "`dot` is not installed", "show", s, "--svg", "t.svg", env={"PATH": "/nonexistent"})
+    untouched(s, 2, "would be lost", "show", s, "--svg", s) if shutil.which("dot") else None
+    untouched(s, 2, "would be lost", "prove", s, A, "--out", s)
+
+
+@test
+def stat_tells_sizes():
+    s = desk()
+    told = json.loads(answered(0, "stat", s, "--json"))
+    assert told == {"capacity": 20, "used": 10, "free": 10, "oldest": 0, "latest": 2, "kept": 3, "bytes": 2424}
+    out = answered(0, "stat", s)
+    assert out == "capacity  20 slots\nused      10\nfree      10\nkept      0 to 2, 3 versions\nbytes     2424\n"
+    # All versions there can be, in a store that is sound: no loop over them.
+    write("wide", store_bytes(50, 2**32 - 1))
+    assert json.loads(answered(0, "stat", "wide", "--json"))["kept"] == 2**32
+    assert answered(0, "log", "wide", "--last", 2).count(ZERO) == 2
+    answered(0, "check", "wide")
+    untouched("wide", 16, "latest is 4,294,967,295", "apply", "wide", "/dev/null")
+    answered(0, "prune", "wide", 2**32 - 1)
+
+
+@test
+def a_store_on_standard_input():
+    s = desk()
+    raw = read(s)
+    for words in (("check", "-"), ("root", "-"), ("get", "-", C), ("prove", "-", B), ("log", "-"), ("show", "-"), ("stat", "-")):
+        ran = grants(*words, input=raw)
+        assert ran.status == 0, ran
+        named = grants(*[s if w == "-" else w for w in words])
+        assert ran.out.decode().replace("- is sound", s + " is sound") == named.out
+    for words in (("apply", "-", "-"), ("prune", "-", 1), ("format", "-", 20)):
+        refused(2, "must be a file", *words)
+
+
+# What it says when something is wrong.
+
+
+@test
+def the_command_line_is_wrong():
+    s = desk()
+    refused(2, "`grants --help` lists them")
+    refused(2, "there is no command \"frobnicate\"", "frobnicate")
+    refused(2, "STORE is missing. Usage: grants get STORE KEY [VERSION]", "get")
+    refused(2, "KEY is missing", "get", s)
+    refused(2, "one word too many", "get", s, A, 1, 2)
+    refused(2, "there is no option --frob", "get", s, A, "--frob")
+    refused(2, "--json takes no value", "get", s, A, "--json=1")
+    refused(2, "--out wants FILE", "prove", s, A, "--out")
+    refused(2, "'g' is no hex digit", "get", s, "g" * 64)
+    refused(2, "VERSION is a number from 0", "get", s, A, "x")
+    refused(2, "VERSION is a number from 0", "get", s, A, 2**32)
+    refused(2, "CAPACITY is a number", "format", "t", "many")
+    refused(2, "--last wants 1 or more", "log", s, "--last", 0)
+    refused(2, "there is no option -1", "prune", s, "-1")
+    for words in (("frobnicate", "--json"), ("get", "--json"), ("check", "none", "--json"), ("get", s, "g", "--json")):
+        ran = grants(*words)
+        told = json.loads(ran.out)
+        assert told["refused"] is None and told["status"] == ran.status and "grants: %s\n" % told["message"] == ran.err, ran
+    assert not os.path.exists("t")
+
+
+@test
+def a_key_or_root_of_another_length():
+    s = desk()
+    for key in (A[:-1], A + "0", A[:-2], "", A + "00"):
+        refused(22, "Write it as 64 hex digits", "get", s, key)
+        refused(22, "Write it as 64 hex digits", "prove", s, key)
+        refused(22, "Write it as 64 hex digits", "verify", ZERO, key, "/dev/null")
+        refused(22, "Write it as 64 hex digits", "verify", key, A, "/dev/null")
+    refused(22, "The key has 63 hex digits", "get", s, A[:-1])
+    # 12 comes first in 01's order, whatever the store is.
+    refused(22, "refused with 12", "get", write("bad", b"x"), A[:-2])
+
+
+@test
+def bad_files():
+    good = read(desk())
+    for name, content, status, sentence in (
+        ("empty", b"", 11, "empty has 0 bytes"),
+        ("short", good[:-1], 11, "short has 2423 bytes"),
+        ("long", good + b"\0", 11, "is it the right file, and whole?"),
+        ("huge", bytes(24 + 120 * (LARGEST + 1)), 11, "more than 1966104 bytes"),
+        ("noise", bytes((i * 7 + 3) % 256 for i in range(2424)), 12, "no grant store"),
+        ("zeros", bytes(2424), 12, "refused with 2"),
+        ("text", b"hello\n", 11, "text has 6 bytes"),
+    ):
+        write(name, content)
+        for words in (
+            ("check", name),
+            ("root", name),
+            ("get", name, A),
+            ("prove", name, A),
+            ("log", name),
+            ("show", name),
+            ("stat", name),
+            ("apply", name, "/dev/null"),
+            ("prune", name, 0),
+        ):
+            untouched(name, status, sentence, *words)
+    told = grants("check", "short", "--json")
+    assert told.status == 11 and json.loads(told.out)["refused"] == 1, told
+
+
+@test
+def damaged_stores():
+    good = bytearray(read(desk()))
+    for at in (24 + 8, 24 + 44, 24 + 90, 24 + 6 * 120 + 60, 24 + 9 * 120 + 48, 24 + 15 * 120):
+        bad = bytearray(good)
+        bad[at] ^= 1
+        write("bad", bytes(bad))
+        for words in (("check", "bad"), ("log", "bad"), ("show", "bad"), ("apply", "bad", "/dev/null"), ("prune", "bad", 1)):
+            untouched("bad", 13, "bad is damaged: take another copy", *words)
+        answered(0, "stat", "bad")
+
+
+@test
+def other_things_than_files():
+    os.mkdir("folder")
+    for words in (("check", "folder"), ("get", "folder", A), ("show", "folder"), ("stat", "folder")):
+        refused(3, "cannot read folder: it is a directory", *words)
+    for words in (("apply", "folder", "/dev/null"), ("prune", "folder", 1), ("format", "folder", 5, "--force")):
+        refused(3, "it is a directory", *words)
+    refused(3, "is there already", "format", "folder", 5)
+    assert os.listdir(".") == ["folder"] and os.listdir("folder") == []
+    for words in (("check", "none"), ("apply", "none", "/dev/null"), ("prune", "none", 1)):
+        refused(3, "there is no such file", *words)
+    refused(3, "cannot write", "format", "none/s", 5)
+    write("plain", "x")
+    refused(3, "cannot", "check", "plain/s")
+    refused(11, "more than 1966104 bytes", "check", "/dev/zero")
+    assert sorted(os.listdir(".")) == ["folder", "plain"]
+
+
+@test
+def format_loses_nothing():
+    s = desk()
+    untouched(s, 3, "is there already and was left alone", "format", s, 20)
+    untouched(s, 11, "0 slots were asked for", "format", s, 0, "--force")
+    refused(11, "a store has 1 to 16,384", "format", "t", LARGEST + 1)
+    refused(11, "4294967295 slots", "format", "t", 2**32 - 1)
+    assert not os.path.exists("t")
+    answered(0, "format", s, 1, "--force")
+    assert read(s) == store_bytes(1)
+    assert json.loads(answered(0, "format", "t", LARGEST, "--json")) == {"capacity": LARGEST, "bytes": 24 + 120 * LARGEST}
+    untouched(s, 17, "format a larger store", "apply", s, write("b", FOUR))
+
+
+@test
+def a_read_only_file():
+    s = desk()
+    os.chmod(s, 0o444)
+    for words in (("apply", s, "/dev/null"), ("prune", s, 1), ("format", s, 5, "--force")):
+        untouched(s, 3, "it is read-only (chmod u+w allows it); it is as it was", *words)
+    answered(0, "check", s)
+
+
+@test
+def a_folder_that_may_not_be_written():
+    if os.getuid() != 0:
+        return
+    s = desk()
+    os.chmod(".", 0o755)
+    shutil.copy(TOOL, "tool")
+
+    def other():
+        os.setuid(65534)
+
+    try:
+        subprocess.run(["true"], preexec_fn=other, check=True)
+    except subprocess.SubprocessError:
+        print("  no other user can be had here: what a user may not write is not tested")
+        return
+    before = read(s)
+    for words in (["apply", s, "/dev/null"], ["format", "t", "5"]):
+        done = subprocess.run(["./tool"] + words, capture_output=True, text=True, preexec_fn=other)
+        assert done.returncode == 3 and "permission denied" in done.stderr, done
+    os.chmod(s, 0o600)
+    done = subprocess.run(["./tool", "check", s], capture_output=True, text=True, preexec_fn=other)
+    assert done.returncode == 3 and "cannot read" in done.stderr, done
+    assert read(s) == before and sorted(os.listdir(".")) == [s, "tool"]
+
+
+@test
+def links_and_modes_are_kept():
+    s = desk()
+    os.chmod(s, 0o640)
+    os.mkdir("elsewhere")
+    os.symlink("../" + s, "elsewhere/link")
+    answered(0, "apply", "elsewhere/link", "-", input="")
+    assert os.path.islink("elsewhere/link") and answered(0, "root", s, 3) == answered(0, "root", s, 2)
+    assert stat.S_IMODE(os.stat(s).st_mode) == 0o640
+    assert os.listdir("elsewhere") == ["link"]
+    os.symlink("nowhere", "dangling")
+    refused(3, "cannot write dangling", "format", "dangling", 5)
+
+
+@test
+def the_answer_can_not_be_written():
+    s = desk()
+    with open("/dev/full", "w") as full:
+        refused(3, "cannot write the answer to standard output", "root", s, stdout=full)
+        refused(3, "the store is changed all the same", "apply", s, "-", stdout=full)
+        deaf = subprocess.run([TOOL, "check", "none"], stderr=full)
+        assert deaf.returncode == 3, deaf
+    assert json.loads(answered(0, "stat", s, "--json"))["latest"] == 3
+    piped = subprocess.run("'%s' log %s | head -n 1" % (TOOL, s), shell=True, capture_output=True, text=True)
+    assert piped.returncode == 0 and piped.stderr == "", piped
+
+
+@test
+def help_is_there():
+    out = answered(0, "--help")
+    names = [line.split()[0] for line in out.splitlines() if line.startswith("  ")]
+    assert names == "format check apply prune root get prove verify log show stat".split(), names
+    assert answered(0, "help") == answered(0, "-h") == out
+    for name in names:
+        told = answered(0, name, "--help")
+        assert "usage: grants %s " % name in told and "--json" in told and "exit status" in told
+        assert told == answered(0, "help", name) == answered(0, name, "-h")
+    assert answered(0, "--version").startswith("grants ")
+
+
+@test
+def any_bytes_and_words():
+    """Noise, and good files with noise in them: always one of the statuses, never a file changed that the command refused."""
+    rng = random.Random(9)
+    good = read(desk())
+    answered(0, "prove", "desk.grants", B, "--out", "proof")
+    proof, batch = read("proof"), record(A, value(9)) + record(B) + record(D, value(8))
+    root = answered(0, "root", "desk.grants").strip()
+
+    def noisy(content):
+        changed = bytearray(content)
+        for _ in range(rng.choice((0, 1, 1, 3))):
+            changed[rng.randrange(len(changed))] = rng.choice((0, 1, 255, rng.randrange(256)))
+        if rng.random() < 0.2:
+            del changed[rng.randrange(len(changed)) :]
+        return bytes(changed)
+
+    seen = set()
+    for _ in range(250):
+        before = noisy(good)
+        write("s", before)
+        write("p", noisy(proof))
+        write("b", noisy(batch) if rng.random() < 0.6 else noisy(FOUR.encode()))
+        version = rng.choice(("0", "1", "2", "3", "4294967295", "x"))
+        key = rng.choice((A, B, C, "ff" * 32, A[:-1], "zz"))
+        words = rng.choice(
+            (
+                ["check", "s"],
+                ["apply", "s", "b"],
+                ["apply", "s", "b", "--split"],
+                ["prune", "s", version],
+                ["root", "s", version],
+                ["get", "s", key, version],
+                ["prove", "s", key],
+                ["verify", root, key, "p"],
+                ["log", "s"],
+                ["show", "s", "--dot"],
+                ["show", "s", version],
+                ["stat", "s", "--json"],
+            )
+        )
+        done = subprocess.run([TOOL] + words, capture_output=True, timeout=60)
+        assert done.returncode in (0, 1, 2, *range(11, 23)), (words, done)
+        assert b"panicked" not in done.stderr and (done.returncode in (0, 1)) == (done.stderr == b""), (words, done)
+        if done.returncode != 0 or words[0] not in ("apply", "prune"):
+            assert read("s") == before, words
+        seen.add(done.returncode)
+    assert {0, 1, 2, 11, 12, 13, 14, 18, 20, 21, 22} <= seen, seen
+
+
+# A file that can't be written, a process that is killed.
+
+
+def limited(bytes_, ignored):
+    def before():
+        resource.setrlimit(resource.RLIMIT_FSIZE, (bytes_, bytes_))
+        signal.signal(signal.SIGXFSZ, signal.SIG_IGN if ignored else signal.SIG_DFL)
+
+    return {"preexec_fn": before, "restore_signals": False}
+
+
+@test
+def a_file_may_not_grow():
+    s = desk()
+    for bytes_ in (0, 1, 24, 1000, 2423):
+        untouched(s, 3, "s as it was", "apply", s, "/dev/null", **limited(bytes_, True))
+        refused(3, "was not made", "format", "t", 20, **limited(bytes_, True))
+    # Where the signal is not ignored the system ends the process.
+    before = read(s)
+    ran = grants("apply", s, "/dev/null", **limited(1000, False))
+    assert ran.status == -signal.SIGXFSZ and read(s) == before, ran
+    answered(0, "apply", s, "/dev/null", **limited(2424, True))
+    assert sorted(os.listdir(".")) == [s]
+
+
+@test
+def a_full_disk():
+    os.mkdir("disk")
+    mounted = subprocess.run(["mount", "-t", "tmpfs", "-o", "size=64k", "tmpfs", "disk"], capture_output=True)
+    if mounted.returncode != 0:
+        print("  no file system can be mounted here; a_file_may_not_grow stands for a full disk")
+        return
+    try:
+        before = read(desk("s", 300))
+        s = write("disk/s", before)
+        # Room for the store of 36 kB, none for a second one beside it.
+        for words in (("apply", s, "/dev/null"), ("prune", s, 1), ("format", s, 300, "--force"), ("format", "disk/t", 300)):
+            refused(3, "the disk is full", *words)
+            assert read(s) == before and os.listdir("disk") == ["s"]
+        answered(0, "check", s)
+        refused(3, "the disk is full", "format", "disk/u", LARGEST)
+        refused(3, "cannot write disk/proof", "prove", s, A, "--out", "disk/proof", **limited(0, True))
+    finally:
+        subprocess.run(["umount", "disk"], check=True)
+
+
+def outcomes(s, words, before, after, env, **more):
+    """A run with something going wrong in it leaves the old store or the new one, and the next run is not hindered."""
+    write(s, before)
+    ran = grants(*words, env=dict(env, LD_PRELOAD=FAULT), **more)
+    left = read(s)
+    assert left in (before, after), "neither the old store nor the new one\n%r" % ran
+    answered(0, "check", s)
+    grants(*words)
+    assert read(s) == (after if left == before else read(s))
+    assert sorted(os.listdir(".")) == around, os.listdir(".")
+    return ran, left == after
+
+
+around = []
+
+
+def calls_of(s, words, before):
+    """The calls by which the command reads and writes files, in order."""
+    write(s, before)
+    log = os.path.abspath("../calls.log")
+    if os.path.exists(log):
+        os.remove(log)
+    answered(0, *words, env={"LD_PRELOAD": FAULT, "FAULT_LOG": log})
+    with open(log) as f:
+        return [line.split(" ", 1) for line in f.read().splitlines()]
+
+
+def faulty(kind):
+    s = desk()
+    write("b", "+ %s %s\n" % ("ee" * 32, value(7)))
+    before = read(s)
+    for words in (("apply", s, "b"), ("prune", s, 2)):
+        calls = calls_of(s, words, before)
+        after = read(s)
+        assert len(calls) > 10 and before != after
+        around[:] = sorted(os.listdir("."))
+        seen = []
+        for at in range(1, len(calls) + 1):
+            ran, done = outcomes(s, words, before, after, {"FAULT": kind, "FAULT_AT": str(at)})
+            seen.append(done)
+            name = calls[at - 1][0]
+            if kind == "fail":
+                # Keeping the owner is the one thing that may fail without a word.
+                assert ran.status == (0 if name == "chown" else 3), "%s %r" % (name, ran)
+            else:
+                assert ran.status == -signal.SIGKILL, ran
+        # The old store up to the rename, the new one from there on.
+        names = [name for name, _ in calls]
+        turn = names.index("rename")
+        if kind != "fail":
+            assert seen == [i > turn for i in range(len(calls))], seen
+
+
+@test
+def killed_at_every_call():
+    faulty("kill")
+
+
+@test
+def killed_in_the_middle_of_a_write():
+    faulty("half")
+
+
+@test
+def every_call_fails_once():
+    faulty("fail")
+
+
+@test
+def written_beside_synced_renamed_synced():
+    s = desk()
+    calls = calls_of(s, ("apply", s, "/dev/null"), read(s))
+    beside, folder = os.path.abspath(".desk.grants.grants-new"), os.getcwd()
+    order = [c for c in calls if c[0] in ("flock", "write", "fsync", "rename")][:-1]
+    assert order == [
+        ["flock", beside],
+        ["write", beside],
+        ["fsync", beside],
+        ["rename", beside],
+        ["fsync", folder],
+    ], calls
+
+
+@test
+def a_fresh_store_is_made_or_not():
+    write("../empty", "")
+    calls = calls_of("../empty", ("format", "t", 20), b"")
+    for at in range(1, len(calls) + 1):
+        if os.path.exists("t"):
+            os.remove("t")
+        ran = grants("format", "t", 20, env={"LD_PRELOAD": FAULT, "FAULT": "kill", "FAULT_AT": str(at)})
+        assert ran.status == -signal.SIGKILL
+        assert not os.path.exists("t") or read("t") == store_bytes(20)
+        grants("format", "t", 20)
+        assert read("t") == store_bytes(20) and os.listdir(".") == ["t"]
+
+
+@test
+def a_leftover_is_written_over():
+    s = desk()
+    beside = ".desk.grants.grants-new"
+    write(beside, b"x" * 5000)
+    answered(0, "apply", s, "/dev/null")
+    assert os.path.getsize(s) == 2424 and os.listdir(".") == [s]
+    answered(0, "check", s)
+    # What else may stand there is not touched.
+    write("mine", "dear")
+    os.symlink("mine", beside)
+    untouched(s, 3, "it is a symbolic link; remove it", "apply", s, "/dev/null")
+    os.remove(beside)
+    os.mkdir(beside)
+    untouched(s, 3, "it is a directory", "apply", s, "/dev/null")
+    assert read("mine") == b"dear"
+
+
+@test
+def killed_after_any_time():
+    """A store of 2 MB, so that writing it takes a while; killed after delays that go from before the start to past the end."""
+    answered(0, "format", "s", LARGEST)
+    answered(0, "apply", "s", "-", input=many(50))
+    write("b", "+ %s %s\n" % ("ee" * 32, value(7)))
+    before = read("s")
+    start = time.time()
+    answered(0, "apply", "s", "b")
+    whole = time.time() - start
+    after = read("s")
+    rng = random.Random(5)
+    seen = {True: 0, False: 0}
+    for _ in range(150):
+        write("s", before)
+        run = subprocess.Popen([TOOL, "apply", "s", "b"], stdout=subprocess.DEVNULL, stderr=subprocess.DEVNULL)
+        time.sleep(rng.random() * whole * 1.3)
+        run.kill()
+        run.wait()
+        left = read("s")
+        assert left in (before, after), "neither the old store nor the new one"
+        seen[left == after] += 1
+    answered(0, "apply", "s", "b")
+    assert sorted(os.listdir(".")) == ["b", "s"]
+    assert seen[False] > 0, seen
+
+
+@test
+def many_writers_and_readers():
+    answered(0, "format", "s", 500)
+    writers = []
+    for n in range(4):
+        loop = "for i in 1 2 3 4 5 6 7 8 9 10; do '%s' apply s - </dev/null || exit 1; done" % TOOL
+        writers.append(subprocess.Popen(["bash", "-c", loop], stdout=subprocess.DEVNULL))
+    looks = 0
+    while any(w.poll() is None for w in writers):
+        answered(0, "check", "s")
+        looks += 1
+    assert all(w.wait() == 0 for w in writers)
+    assert json.loads(answered(0, "stat", "s", "--json"))["latest"] == 40, "a version was lost"
+    assert looks > 0 and os.listdir(".") == ["s"]
+
+
+# The README's tour.
+
+
+def steps(lines):
+    """The console blocks of the README: each command with the lines it goes on with, and where the output below it begins and ends."""
+    found, inside = [], False
+    for i, line in enumerate(lines):
+        if line.startswith("```"):
+            inside = line.strip() == "```console"
+        elif inside and line.startswith("$ "):
+            found.append([line[2:], i + 1, i + 1])
+        elif inside and line.startswith("> "):
+            found[-1] = [found[-1][0] + line[2:], i + 1, i + 1]
+        elif inside:
+            found[-1][2] = i + 1
+    return found
+
+
+def toured(text):
+    """The README with what its commands print now, all of them in one shell."""
+    lines = text.splitlines(True)
+    found = steps(lines)
+    script = "".join("%s\nprintf '\\0'\n" % command for command, _, _ in found)
+    path = os.path.dirname(TOOL) + ":" + os.environ["PATH"]
+    run = subprocess.run(["bash"], input=script, text=True, stdout=subprocess.PIPE, stderr=subprocess.STDOUT, env=dict(os.environ, PATH=path))
+    came = run.stdout.split("\0")
+    assert len(came) == len(found) + 1 and len(found) > 5, "%d commands of %d were run" % (len(came) - 1, len(found))
+    for (_, start, end), out in reversed(list(zip(found, came))):
+        lines[start:end] = [out]
+    return "".join(lines)
+
+
+@test
+def the_readme_s_tour():
+    with open(README) as f:
+        text = f.read()
+    came = toured(text)
+    difference = "\n".join(difflib.unified_diff(text.splitlines(), came.splitlines(), "the README says", "what came", lineterm=""))
+    assert came == text, difference
+    # The picture in docs/ is drawn from this store.
+    assert read(os.path.join(os.path.dirname(README), "docs/tree.dot")) == read("tree.dot"), "docs/tree.dot is another graph"
+
+
+def write_tour():
+    """Puts what the tour's commands print into the README, and draws the picture."""
+    with open(README) as f:
+        text = f.read()
+    os.chdir(tempfile.mkdtemp(prefix="grants-tour-"))
+    came = toured(text)
+    with open(README, "w") as f:
+        f.write(came)
+    docs = os.path.join(os.path.dirname(README), "docs")
+    shutil.copy("tree.dot", docs)
+    subprocess.run(["dot", "-Tsvg", "tree.dot", "-o", os.path.join(docs, "tree.svg")], check=True)
+
+
+def main():
+    passed = failed = 0
+    os.umask(0o022)
+    top = tempfile.mkdtemp(prefix="grants-tool-")
+    only = sys.argv[4:]
+    if only == ["--write-tour"]:
+        return write_tour()
+    for function in tests:
+        if only and function.__name__ not in only:
+            continue
+        folder = os.path.join(top, function.__name__, "here")
+        os.makedirs(folder)
+        os.chmod(top, 0o755)
+        os.chdir(folder)
+        try:
+            function()
+            passed += 1
+        except Exception:
+            failed += 1
+            print("%s failed" % function.__name__)
+            traceback.print_exc(file=sys.stdout)
+    os.chdir("/")
+    shutil.rmtree(top)
+    print("%d passed, %d failed" % (passed, failed))
+    sys.exit(failed != 0)
+
+
+main()
