@@ -14,7 +14,7 @@ use Rattle.terms.proofs.Fields.{num-le, length-le, cuts, cuts-flat}
 use Rattle.meaning.specs.Tree.{withBatch, treeOf, hash, unversioned, nextTree}
 use Rattle.meaning.specs.Store.{freeSlots, newRecords}
 use Rattle.meaning.specs.Sound.{Kept}
-use Rattle.meaning.specs.Calls.{Answer, refused, accepted, refuse, Applied, prune, apply}
+use Rattle.meaning.specs.Calls.{Answer, accepted, refuse, Applied, prune, apply}
 use Rattle.meaning.specs.Reading.{answerOf}
 use Rattle.histories.specs.Claims.{AfterApply, AfterPrune}
 use Rattle.histories.proofs.Calls.{recordsNeeded, apply-cases}
