@@ -136,7 +136,9 @@ pub fn deep_leaves(store: &[u8], slots: usize) -> usize {
 }
 
 // How many bit counts below 256 have one inner node.
-pub fn inner_levels(store: &[u8], slots: usize) -> usize {
+pub fn inner_levels(store: &[u8], slots: usize) -> usize
+    ensures { λ r. ⌜ r ≤ 256 ⌝ }
+{
     let mut n = 0;
     let mut count = 0;
     while count < 256 {
@@ -144,4 +146,9 @@ pub fn inner_levels(store: &[u8], slots: usize) -> usize {
         count += 1;
     }
     n
+}
+
+// With that of the deepest leaves.
+pub fn levels(store: &[u8], slots: usize) -> usize {
+    inner_levels(store, slots) + tally(deep_leaves(store, slots) != 0)
 }

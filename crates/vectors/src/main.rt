@@ -225,8 +225,10 @@ fn deep_levels(store: &[u8]) {
     say::came();
     say::text(b"leaves at 256 bits: ");
     say::count(held::deep_leaves(store, 258));
-    say::text(b"; levels with an inner node: ");
+    say::text(b", levels with an inner node: ");
     say::count(held::inner_levels(store, 258));
+    say::text(b", levels in all: ");
+    say::count(held::levels(store, 258));
     say::text(b"\n");
 }
 
@@ -334,11 +336,11 @@ fn short_root() -> Hash {
 
 fn short_proofs(store: &[u8], room: &mut [u8; 17080]) {
     let there = bytes(key(0, 0b001));
-    run::prove_in(store, b"the key that ends in 001", &there, room, 8520);
-    run::prove_in(store, b"the key that ends in 001", &there, room, 8519);
+    run::prove_in(store, 1, b"the key that ends in 001", &there, room, 8520);
+    run::prove_in(store, 1, b"the key that ends in 001", &there, room, 8519);
     let missing = bytes(key(0, 0b010));
-    run::prove_in(store, b"the key that ends in 010", &missing, room, 17080);
-    run::prove_in(store, b"the key that ends in 010", &missing, room, 17079);
+    run::prove_in(store, 1, b"the key that ends in 010", &missing, room, 17080);
+    run::prove_in(store, 1, b"the key that ends in 010", &missing, room, 17079);
 }
 
 fn odd_in(store: &mut [u8; 2423]) {

@@ -126,7 +126,6 @@ fn say_key(name: &[u8], version: u32) {
     say::text(name);
     say::text(b" in version ");
     say::number(version);
-    say::text(b": ");
 }
 
 fn say_found(found: &[u8]) {
@@ -154,6 +153,7 @@ pub fn get(store: &[u8], version: u32, name: &[u8], key: &[u8; 32]) {
     say::came();
     say::text(b"get ");
     say_key(name, version);
+    say::text(b": ");
     let mut found = [0u8; 33];
     let no = grants::grants_get(store, version, key, &mut found);
     say_answer(no, &found);
@@ -177,16 +177,23 @@ fn verify(store: &[u8], version: u32, key: &[u8; 32], proof: &[u8]) {
     verify_under(&root, key, proof);
 }
 
+fn say_room(room: &[u8]) {
+    say::text(b", buffer ");
+    say::count(room.len());
+    say::text(b" bytes: ");
+}
+
 // A proof's length, and the count of its steps or, of an absence proof, its flags.
 fn say_proof(proof: &[u8]) {
+    say::text(b"length ");
     say::count(proof.len());
     if proof.len() < 8 {
         return;
     }
     if fields::get_u16(proof, 4) == 16 {
-        say::text(b" bytes, steps ");
+        say::text(b", steps ");
     } else {
-        say::text(b" bytes, flags ");
+        say::text(b", flags ");
     }
     say::number(fields::get_u16(proof, 6) as u32);
     say::text(b"; verify: ");
@@ -197,6 +204,7 @@ pub fn prove(store: &[u8], version: u32, name: &[u8], key: &[u8; 32], room: &mut
     say::came();
     say::text(b"prove ");
     say_key(name, version);
+    say_room(room);
     let mut length = [0u8; 4];
     let no = grants::grants_prove(store, version, key, room, &mut length);
     if no != 0 {
@@ -211,14 +219,17 @@ pub fn prove(store: &[u8], version: u32, name: &[u8], key: &[u8; 32], room: &mut
     verify(store, version, key, &room[0..n]);
 }
 
-// Proves a key in version 1 into the first so many bytes of the room.
-pub fn prove_in(store: &[u8], name: &[u8], key: &[u8; 32], room: &mut [u8], n: usize) {
+// The same into the first n bytes of the room.
+pub fn prove_in(
+    store: &[u8],
+    version: u32,
+    name: &[u8],
+    key: &[u8; 32],
+    room: &mut [u8],
+    n: usize,
+) {
     if room.len() < n {
         return;
     }
-    say::came();
-    say::text(b"a buffer of ");
-    say::count(n);
-    say::text(b" bytes:\n");
-    prove(store, 1, name, key, &mut room[0..n]);
+    prove(store, version, name, key, &mut room[0..n]);
 }
