@@ -1,17 +1,13 @@
 -- The outcome of each way through apply: the steps over lent memory leave the store and give the answer of the definition. Assumes nothing.
 use Prim.Native.Nat.{ℕ, _+_, _<_, _≤_}
-use native.Mathlib.Omega.{arith}
-use mathlib.Core.Path.{_≡_, refl, ap, sym, _∙_, subst}
-use mathlib.Core.Bool.{Bool, true, false}
-use mathlib.Core.List.{List, []}
-use mathlib.Core.Option.{some}
+use mathlib.Core.Path.{_≡_, ap, sym, _∙_, subst}
+use mathlib.Core.Bool.{true, false}
 use lib.ListN.{length}
-use lib.Dec.{ltb}
 use borrow.Author.Tests.{lt-ltb, le-ltb, eq-eqb, ne-eqb}
 use Rattle.terms.specs.Bits.{Bytes, Byte, All}
 use Rattle.terms.specs.Fields.{le}
 use Rattle.terms.specs.Form.{top32}
-use Rattle.terms.specs.Records.{Ask, Child, Store}
+use Rattle.terms.specs.Records.{Child, Store}
 use Rattle.fields.specs.Written.{written}
 use Rattle.meaning.specs.Tree.{unversioned, hash}
 use Rattle.meaning.specs.Store.{childOf, freeSlots, treeAtVersion}
@@ -33,8 +29,8 @@ use Rattle.outcomes.specs.declared.Outcome as declared
 use Rattle.outcomes.specs.Outcomes.{nodeChild, Did}
 use Rattle.outcomes.proofs.Saying.{says-child}
 use Rattle.calls.specs.Calls.{SoundBytes, refuses, accepts}
-use Rattle.applying.specs.Apply.{Applies, Ready, FreeCount}
-use Rattle.applying.proofs.Ready.{shaped, older, stored}
+use Rattle.applying.specs.Apply.{Applies, Ready}
+use Rattle.applying.proofs.Ready.{shaped, older}
 
 -- refused before a step is taken
 module _ {s : Bytes} (w : SoundBytes s) (batch : Bytes) where

@@ -1,29 +1,28 @@
 -- The next version of a sound store: the steps are taken twice on the same bytes, first to count, then to write. Assumes nothing.
 use Prim.Native.Nat.{ℕ, _+_, _<_, _≤_}
 use native.Mathlib.Omega.{arith}
-use mathlib.Core.Path.{_≡_, ap, ap₂, sym, _∙_, subst, subst₂}
+use mathlib.Core.Path.{_≡_, ap, sym, _∙_, subst, subst₂}
 use mathlib.Core.Bool.{Bool, true, false}
 use mathlib.Core.List.{[]}
 use lib.ListN.{length}
 use Rattle.terms.specs.Bits.{Bytes, Byte, All}
 use Rattle.terms.specs.Fields.{le}
 use Rattle.terms.specs.Form.{top32}
-use Rattle.terms.specs.Records.{Store}
 use Rattle.fields.specs.Written.{written}
 use Rattle.meaning.specs.Tree.{VTree}
-use Rattle.meaning.specs.Store.{find, freeSlots, treeAtVersion}
+use Rattle.meaning.specs.Store.{find, freeSlots}
 use Rattle.meaning.specs.Calls.{refused, accepted}
 use Rattle.hash.specs.Hash.{hashBytes}
 use Rattle.nodehash.specs.Node.{leafHash, innerHash}
 use Rattle.place.specs.declared.Place as place
 use Rattle.place.specs.Place as places
 use Rattle.place.specs.Place.{placeOf}
-use Rattle.layout.specs.Stores.{storeOf, storeBytes}
+use Rattle.layout.specs.Stores.{storeOf}
 use Rattle.slots.specs.declared.Child as child
 use Rattle.slots.specs.Answer.{childSays}
 use Rattle.batch.specs.Batch.{asks}
 use Rattle.steps.specs.Step as step
-use Rattle.placing.specs.Placing.{putSlots, Changed}
+use Rattle.placing.specs.Placing.{putSlots}
 use Rattle.outcomes.specs.declared.Outcome as declared
 use Rattle.outcomes.specs.Outcomes.{nodeChild, Did}
 use Rattle.nodeat.specs.Standing.{treeHere}

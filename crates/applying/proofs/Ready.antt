@@ -1,15 +1,14 @@
 -- In a sound store the latest tree stands at the empty place, older than the next version, and each node is there once: the steps may be
 -- taken. Assumes nothing.
-use Prim.Native.Nat.{ℕ, _+_, _-_, _<_, _≤_}
+use Prim.Native.Nat.{ℕ, _+_, _-_, _<_}
 use native.Mathlib.Omega.{arith}
 use mathlib.Core.Path.{_≡_, refl, ap, ap₂, sym, _∙_}
 use mathlib.Core.Logic.{inl, inr}
 use mathlib.Core.Bool.{true, false}
 use mathlib.Core.List.{[]}
 use mathlib.Core.Option.{Option, none, some}
-use lib.ListN.{length}
 use Rattle.terms.specs.Bits.{Bytes, Byte, All, Place, longer}
-use Rattle.terms.specs.Records.{Body, Record, Slot, Store}
+use Rattle.terms.specs.Records.{Body, Record, Store}
 use Rattle.meaning.specs.Tree.{VTree, vnone, vleaf, vinner, unversioned, topVersion}
 use Rattle.meaning.specs.Store.{find, treeFrom, treeAtVersion}
 use Rattle.meaning.specs.Sound.{Kept, Found, Stands}
@@ -27,9 +26,7 @@ use Rattle.steps.specs.Given.{Older}
 use Rattle.placing.specs.Placing.{Stored}
 use Rattle.keeping.proofs.Keeping.{unique-single}
 use Rattle.nodeat.specs.Standing.{treeHere}
-use Rattle.stepping.specs.Stepping.{Here}
 use Rattle.rootstep.specs.Root.{HereRoot}
-use Rattle.calls.specs.Calls.{SoundBytes}
 use Rattle.calls.proofs.Calls.{sound-form, sound-back}
 use Rattle.applying.specs.Apply.{Ready, rootVersion}
 

@@ -1,7 +1,7 @@
 -- What the call for C leaves, by the cases of the answer; and 40 bytes written in three parts. Assumes nothing.
 use Prim.Native.Nat.{ℕ, _-_}
 use native.Mathlib.Omega.{arith}
-use mathlib.Core.Path.{_≡_, refl, ap, sym, _∙_, subst}
+use mathlib.Core.Path.{_≡_, ap, sym, _∙_, subst}
 use mathlib.Core.List.{[], _∷_, _++_, append-nil}
 use lib.ListN.{length, take, drop, length-take, length-drop}
 use Rattle.terms.specs.Bits.{Bytes}

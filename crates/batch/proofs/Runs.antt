@@ -12,8 +12,8 @@ use Rattle.terms.specs.Records.{Ask, askKey}
 use Rattle.terms.specs.Form.{AskForm}
 use Rattle.terms.proofs.Tests.{and-left, and-right}
 use Rattle.terms.proofs.Lists.{filter-all, filter-none, filter-passed, all-filter, all-map, all-map₂, all-at}
-use Rattle.terms.proofs.Places.{begins-longer, begins-whole}
-use Rattle.terms.proofs.Order.{before-trans, before-irrefl, before-lex, lex-mono}
+use Rattle.terms.proofs.Places.{begins-longer}
+use Rattle.terms.proofs.Order.{before-trans, before-lex, lex-mono}
 use Rattle.terms.proofs.Fields.{all-of-tests}
 use Rattle.meaning.specs.Calls.{ascending}
 use Rattle.place.specs.declared.Place as declared

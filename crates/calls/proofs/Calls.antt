@@ -16,7 +16,7 @@ use Rattle.layout.specs.Headers.{Headed, refusal, header, headerOf, sizeRight, 
 use Rattle.layout.specs.Slots.{SlotForm}
 use Rattle.layout.specs.Stores.{storeOf, storeBytes, StoreForm}
 use Rattle.layout.proofs.Headers.{accepted as header-accepted}
-use Rattle.layout.proofs.Stores.{store-back, store-form}
+use Rattle.layout.proofs.Stores.{store-back}
 use Rattle.soundness.specs.Check.{Checked}
 use Rattle.soundness.specs.Check as check
 use Rattle.calls.specs.Calls.{SoundBytes, Does, wrong-header, not-sound, refuses, accepts, Exports, exports-refusal, exports-answer}

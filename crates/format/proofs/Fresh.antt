@@ -1,14 +1,14 @@
 -- A header over zero bytes is a fresh store: free slots are zero bytes. Assumes nothing.
-use Prim.Native.Nat.{ℕ, zero, suc, _+_, _*_, _-_, _/_, _≤_}
+use Prim.Native.Nat.{ℕ, zero, suc, _+_, _*_, _-_, _/_}
 use native.Mathlib.Omega.{arith}
-use mathlib.Core.Path.{_≡_, refl, ap, ap₂, sym, _∙_}
-use mathlib.Core.Bool.{Bool, true, false, cond}
-use mathlib.Core.List.{List, [], _∷_, _++_}
-use lib.ListN.{length, take, drop, replicate, length-replicate, replicate-append-replicate}
+use mathlib.Core.Path.{_≡_, refl, ap, sym, _∙_}
+use mathlib.Core.Bool.{true}
+use mathlib.Core.List.{_++_}
+use lib.ListN.{length, drop, replicate, length-replicate, replicate-append-replicate}
 use lib.Seq.{drop-at}
 use Rattle.terms.specs.Bits.{Bytes}
 use Rattle.terms.specs.Fields.{zeroBytes}
-use Rattle.terms.specs.Records.{Slot, free}
+use Rattle.terms.specs.Records.{free}
 use Rattle.meaning.specs.Store.{formatted}
 use Rattle.fields.specs.Written.{written}
 use Rattle.layout.specs.Sizes.{roomOf}
@@ -16,7 +16,6 @@ use Rattle.layout.specs.Headers.{sizeRight, headerBytes}
 use Rattle.layout.specs.Slots.{slotBytes}
 use Rattle.layout.specs.Stores.{slotsBytes, storeBytes}
 use Rattle.layout.proofs.Headers.{size-says, length-header}
-use Rattle.format.specs.Format.{formatBytes}
 
 free-bytes : (n : ℕ) → slotsBytes (replicate n free) ≡ zeroBytes (120 * n)
 unfolding slotBytes zeroBytes

@@ -1,23 +1,11 @@
 // The public calls, for C, Rust and others to link. Each answers 0 where it is accepted, else document 01's number of refusal; a refused
 // call writes nothing, its answer included. A slice is passed as a pointer and a length, an array as a pointer alone.
-ghost use mathlib.Core.Path.{_≡_};
-ghost use Rattle.sha256.specs.Sha256.{sha256};
-ghost use Rattle.format.specs.Format.{formatAnswer, formatBytes};
-ghost use Rattle.soundness.specs.Check.{Checked};
-ghost use Rattle.applying_c.specs.Export as apply;
-ghost use Rattle.pruning_c.specs.Export as prune;
-ghost use Rattle.reads.specs.Reads.{rootAnswer, keyAnswer};
-ghost use Rattle.answers.specs.Answers.{numberOf, foundAfter};
-ghost use Rattle.reads_c.specs.Export.{rootBytes};
-ghost use Rattle.proving.specs.Proving.{roomAfter};
-ghost use Rattle.proving_c.specs.Export.{provedInto, lengthBytes};
-ghost use Rattle.verify.specs.Verify.{verified};
+ghost use Rattle.grants.specs.Contracts.{Formats, Checks, Applies, Prunes, ReadsRoot, ReadsKey, Proves, Verifies, Hashes};
 
 // Makes a fresh store of any bytes of the right length.
 #[no_mangle]
 pub extern "C" fn grants_format(store: &mut [u8]) -> u32
-    ensures answer { λ r. ⌜ r ≡ formatAnswer (now (store .entry)) ⌝ }
-    ensures bytes { λ _. ⌜ now (store .exit) ≡ formatBytes (now (store .entry)) ⌝ }
+    ensures { λ r. ⌜ Formats (now (store .entry)) r (now (store .exit)) ⌝ }
 {
     format::format(store)
 }
@@ -25,7 +13,7 @@ pub extern "C" fn grants_format(store: &mut [u8]) -> u32
 // Whether a store is sound.
 #[no_mangle]
 pub extern "C" fn grants_check(store: &[u8]) -> u32
-    ensures { λ r. ⌜ Checked (now (store .entry)) r ⌝ }
+    ensures { λ r. ⌜ Checks (now (store .entry)) r ⌝ }
 {
     soundness::check(store)
 }
@@ -33,7 +21,7 @@ pub extern "C" fn grants_check(store: &[u8]) -> u32
 // Makes the next version of a batch; answer: version, root and count of new records, little-endian.
 #[no_mangle]
 pub extern "C" fn grants_apply(store: &mut [u8], batch: &[u8], answer: &mut [u8; 40]) -> u32
-    ensures { λ r. ⌜ apply.Exports (now (batch .entry)) (now (store .entry)) (now (answer .entry)) r (now (store .exit)) (now (answer .exit)) ⌝ }
+    ensures { λ r. ⌜ Applies (now (batch .entry)) (now (store .entry)) (now (answer .entry)) r (now (store .exit)) (now (answer .exit)) ⌝ }
 {
     applying_c::grants_apply(store, batch, answer)
 }
@@ -41,7 +29,7 @@ pub extern "C" fn grants_apply(store: &mut [u8], batch: &[u8], answer: &mut [u8;
 // Frees every record retired since a version or earlier; freed: how many, little-endian.
 #[no_mangle]
 pub extern "C" fn grants_prune(store: &mut [u8], version: u32, freed: &mut [u8; 4]) -> u32
-    ensures { λ r. ⌜ prune.Exports version (now (store .entry)) (now (freed .entry)) r (now (store .exit)) (now (freed .exit)) ⌝ }
+    ensures { λ r. ⌜ Prunes version (now (store .entry)) (now (freed .entry)) r (now (store .exit)) (now (freed .exit)) ⌝ }
 {
     pruning_c::grants_prune(store, version, freed)
 }
@@ -49,8 +37,7 @@ pub extern "C" fn grants_prune(store: &mut [u8], version: u32, freed: &mut [u8; 
 // The root of a version.
 #[no_mangle]
 pub extern "C" fn grants_root(store: &[u8], version: u32, root: &mut [u8; 32]) -> u32
-    ensures answer { λ r. ⌜ r ≡ numberOf (rootAnswer (now (store .entry)) version) ⌝ }
-    ensures bytes { λ _. ⌜ now (root .exit) ≡ rootBytes (rootAnswer (now (store .entry)) version) (now (root .entry)) ⌝ }
+    ensures { λ r. ⌜ ReadsRoot (now (store .entry)) version (now (root .entry)) r (now (root .exit)) ⌝ }
 {
     reads_c::grants_root(store, version, root)
 }
@@ -58,8 +45,7 @@ pub extern "C" fn grants_root(store: &[u8], version: u32, root: &mut [u8; 32]) -
 // A key in a version: 1 and its value, or 0 and 32 zero bytes where it is absent.
 #[no_mangle]
 pub extern "C" fn grants_get(store: &[u8], version: u32, key: &[u8], found: &mut [u8; 33]) -> u32
-    ensures answer { λ r. ⌜ r ≡ numberOf (keyAnswer (now (store .entry)) version (now (key .entry))) ⌝ }
-    ensures bytes { λ _. ⌜ now (found .exit) ≡ foundAfter (keyAnswer (now (store .entry)) version (now (key .entry))) (now (found .entry)) ⌝ }
+    ensures { λ r. ⌜ ReadsKey (now (store .entry)) version (now (key .entry)) (now (found .entry)) r (now (found .exit)) ⌝ }
 {
     reads_c::grants_get(store, version, key, found)
 }
@@ -73,9 +59,7 @@ pub extern "C" fn grants_prove(
     room: &mut [u8],
     length: &mut [u8; 4],
 ) -> u32
-    ensures answer { λ r. ⌜ r ≡ numberOf (provedInto (now (store .entry)) version (now (key .entry)) (now (room .entry))) ⌝ }
-    ensures bytes { λ _. ⌜ now (room .exit) ≡ roomAfter (provedInto (now (store .entry)) version (now (key .entry)) (now (room .entry))) (now (room .entry)) ⌝ }
-    ensures told { λ _. ⌜ now (length .exit) ≡ lengthBytes (provedInto (now (store .entry)) version (now (key .entry)) (now (room .entry))) (now (length .entry)) ⌝ }
+    ensures { λ r. ⌜ Proves (now (store .entry)) version (now (key .entry)) (now (room .entry)) (now (length .entry)) r (now (room .exit)) (now (length .exit)) ⌝ }
 {
     proving_c::grants_prove(store, version, key, room, length)
 }
@@ -83,8 +67,7 @@ pub extern "C" fn grants_prove(
 // What a proof shows of a key against a root: 1 and the value, or 0 and 32 zero bytes for 'absent'.
 #[no_mangle]
 pub extern "C" fn grants_verify(root: &[u8], key: &[u8], proof: &[u8], found: &mut [u8; 33]) -> u32
-    ensures answer { λ r. ⌜ r ≡ numberOf (verified (now (root .entry)) (now (key .entry)) (now (proof .entry))) ⌝ }
-    ensures bytes { λ _. ⌜ now (found .exit) ≡ foundAfter (verified (now (root .entry)) (now (key .entry)) (now (proof .entry))) (now (found .entry)) ⌝ }
+    ensures { λ r. ⌜ Verifies (now (root .entry)) (now (key .entry)) (now (proof .entry)) (now (found .entry)) r (now (found .exit)) ⌝ }
 {
     verify::grants_verify(root, key, proof, found)
 }
@@ -92,8 +75,7 @@ pub extern "C" fn grants_verify(root: &[u8], key: &[u8], proof: &[u8], found: &m
 // SHA-256 of the bytes; never refused.
 #[no_mangle]
 pub extern "C" fn grants_sha256(bytes: &[u8], digest: &mut [u8; 32]) -> u32
-    ensures answer { λ r. ⌜ r ≡ 0 ⌝ }
-    ensures bytes { λ _. ⌜ now (digest .exit) ≡ sha256 (now (bytes .entry)) ⌝ }
+    ensures { λ r. ⌜ Hashes (now (bytes .entry)) r (now (digest .exit)) ⌝ }
 {
     sha256_c::grants_sha256(bytes, digest)
 }

@@ -10,9 +10,8 @@ use lib.ListN.{length}
 use borrow.Author.Tests.{eqb-true, eq-eqb}
 use Rattle.terms.specs.Bits.{Bytes, Side, left, right, Place, longer, filter, prefix}
 use Rattle.terms.specs.Records.{Record, Body, leafBody, innerBody}
-use Rattle.terms.proofs.Tests.{bit-same}
 use Rattle.terms.proofs.Lists.{all-append, all-filter}
-use Rattle.terms.proofs.Places.{length-longer, prefix-longer, prefix-length}
+use Rattle.terms.proofs.Places.{length-longer, prefix-longer, prefix-self, prefix-length}
 use Rattle.terms.proofs.Members.{In, in-left, in-right, in-append, in-filter, filter-in, all-in}
 use Rattle.meaning.specs.Tree.{VTree, vnone, vleaf, vinner, topVersion, kid}
 use Rattle.meaning.specs.Store.{isNode, hasNode, childOf, recordAt, recordsBelow, recordsOf, newRecords}
@@ -22,10 +21,6 @@ use Rattle.histories.proofs.Slots.{is-node, not-node}
 use Rattle.histories.proofs.Writing.{Not, Distinct, New}
 
 -- places
-
-prefix-self : (p : Place) → prefix p p ≡ true
-prefix-self [] = refl
-prefix-self (b ∷ p) = rw (bit-same b) (prefix-self p)
 
 sides-apart : (p q : Place) → prefix (longer left p) q ≡ true → prefix (longer right p) q ≡ true → ⊥
 sides-apart p q h k = false≢true (sym (prefix-longer left p q h .1) ∙ prefix-longer right p q k .1)

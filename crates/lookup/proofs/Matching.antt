@@ -1,15 +1,15 @@
 -- Whether a slot is the node asked for, from its bytes: a record in form is its own bytes, so version, bit count and bits decide. Assumes
 -- nothing.
-use Prim.Native.Nat.{ℕ, zero, suc, _+_, _*_, _<_, _≤_}
+use Prim.Native.Nat.{ℕ, zero, suc, _+_, _<_, _≤_}
 use native.Mathlib.Omega.{arith}
 use mathlib.Core.Path.{_≡_, refl, ap, ap₂, sym, _∙_, subst}
-use mathlib.Core.Bool.{Bool, true, false, cond, _&&_, true≢false}
-use mathlib.Core.List.{List, [], _∷_}
+use mathlib.Core.Bool.{Bool, true, false, cond, true≢false}
+use mathlib.Core.List.{[], _∷_}
 use lib.ListN.{length, getD, take, drop}
 use lib.Seq.{ext-getD, getD-drop, getD-take}
 use lib.Dec.{eqb}
 use borrow.Author.Tests.{eqb-true, eq-eqb}
-use Rattle.terms.specs.Bits.{Bytes, Byte, All, Place, pack, bits, samePlace}
+use Rattle.terms.specs.Bits.{Bytes, Byte, All, Place, pack, bits}
 use Rattle.terms.specs.Fields.{num, field, slice, allZero}
 use Rattle.terms.specs.Records.{Body, leafBody, innerBody, Record, free, used, spoiled}
 use Rattle.terms.specs.Form.{RecordForm, placeLimit}

@@ -1,11 +1,11 @@
 -- A search from slot to slot: what no earlier slot matched is found from here on. Assumes nothing.
-use Prim.Native.Nat.{ℕ, zero, suc, _+_, _*_, _-_, _<_, _≤_}
+use Prim.Native.Nat.{ℕ, suc, _+_, _*_, _-_, _<_, _≤_}
 use native.Mathlib.Omega.{arith}
 use native.Mathlib.Numerals.{add-one}
-use mathlib.Core.Path.{_≡_, refl, ap, sym, _∙_, subst}
-use mathlib.Core.Bool.{Bool, true, false, cond, false≢true, true≢false}
-use mathlib.Core.List.{List, [], _∷_}
-use mathlib.Core.Option.{Option, none, some}
+use mathlib.Core.Path.{_≡_, refl, ap, sym, _∙_}
+use mathlib.Core.Bool.{true, false, false≢true, true≢false}
+use mathlib.Core.List.{List, _∷_}
+use mathlib.Core.Option.{none, some}
 use lib.ListN.{length, getD, take, drop, drop-of-length-le, length-take}
 use lib.Seq.{drop-cons, getD-drop, getD-take}
 use borrow.Author.Count.{below-more}
@@ -19,7 +19,7 @@ use Rattle.meaning.specs.Store.{find, isNode}
 use Rattle.layout.specs.Sizes.{roomOf}
 use Rattle.layout.specs.Headers.{sizeRight}
 use Rattle.layout.specs.Slots.{slotOf}
-use Rattle.layout.specs.Stores.{slotIn, slotsOf, storeOf}
+use Rattle.layout.specs.Stores.{slotIn, storeOf}
 use Rattle.layout.proofs.Headers.{size-says, room-of}
 use Rattle.layout.proofs.Stores.{slot-at, length-slots}
 use Rattle.lookup.specs.Lookup.{isUsed, FoundIn}

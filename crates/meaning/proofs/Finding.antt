@@ -1,11 +1,11 @@
 -- Finding a node: what `find` finds stands in a slot and is the node asked for; and where a subtree stands within a tree. Assumes nothing.
-use Prim.Native.Nat.{ℕ, zero, suc, _+_, _<_, _≤_}
+use Prim.Native.Nat.{ℕ, zero, suc, _<_}
 use native.Mathlib.Omega.{arith}
 use native.Mathlib.Nat.{le-of-suc-le-suc, not-suc-le-zero}
-use mathlib.Core.Path.{_≡_, refl, ap, sym, _∙_}
+use mathlib.Core.Path.{_≡_, refl}
 use mathlib.Core.Logic.{_⊎_, inl, inr}
-use mathlib.Core.Bool.{Bool, true, false, cond, _&&_}
-use mathlib.Core.List.{List, [], _∷_, _++_}
+use mathlib.Core.Bool.{Bool, true, false, cond}
+use mathlib.Core.List.{List, [], _∷_}
 use mathlib.Core.Option.{Option, none, some}
 use lib.ListN.{length, getD}
 use lib.Dec.{eqb}
@@ -13,7 +13,7 @@ use borrow.Author.Tests.{eqb-true, eq-eqb}
 use Rattle.terms.specs.Bits.{Bytes, Side, left, right, Place, longer, samePlace}
 use Rattle.terms.specs.Records.{Grant, Record, Slot, free, used, spoiled}
 use Rattle.terms.proofs.Tests.{and-left, and-right, same-place, place-same}
-use Rattle.meaning.specs.Tree.{VTree, vnone, vleaf, vinner, topVersion, kid}
+use Rattle.meaning.specs.Tree.{VTree, vleaf, vinner, topVersion, kid}
 use Rattle.meaning.specs.Store.{find, isNode}
 use Rattle.meaning.specs.Sound.{NodeOf}
 

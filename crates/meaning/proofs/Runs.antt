@@ -4,8 +4,8 @@ use Prim.Native.Nat.{ℕ}
 use mathlib.Core.Path.{_≡_, refl, ap, sym, _∙_}
 use mathlib.Core.Bool.{Bool, true, false, cond, Bool·beq, true≢false}
 use mathlib.Core.List.{List, [], _∷_, _++_}
-use Rattle.terms.specs.Bits.{Bytes, Side, All, filter, bit, before}
-use Rattle.terms.specs.Records.{Grant, grant, Ask, insert, delete, askKey}
+use Rattle.terms.specs.Bits.{Bytes, All, filter, bit, before}
+use Rattle.terms.specs.Records.{Grant, grant, Ask, insert, delete}
 use Rattle.terms.specs.Form.{GrantForm, AskForm}
 use Rattle.terms.proofs.Tests.{is-true}
 use Rattle.terms.proofs.Lists.{filter-append, filter-comm, filter-all, filter-none, all-filter, all-map, all-append, filter-passed}

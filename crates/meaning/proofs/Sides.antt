@@ -1,12 +1,12 @@
 -- The tree of a set of grants by its sides: of the grants at a place, those that go on with 0 stand before those that go on with 1, and
 -- the tree is the join of the trees of the two; so its leaves are the grants. Assumes nothing.
-use Prim.Native.Nat.{ℕ, zero, suc, _+_, _<_, _≤_}
+use Prim.Native.Nat.{ℕ, zero, suc, _+_, _<_}
 use native.Mathlib.Omega.{arith}
 use mathlib.Core.Path.{_≡_, refl, ap, ap₂, sym, _∙_, fun-ext}
 use mathlib.Core.Bool.{Bool, true, false, cond, _&&_, Bool·beq}
 use mathlib.Core.List.{List, [], _∷_, _++_, nil≢cons, tail-eq-of-cons-eq}
 use lib.ListN.{length, getD}
-use Rattle.terms.specs.Bits.{Bytes, Side, Place, longer, All, filter, bits, bit, prefix, begins}
+use Rattle.terms.specs.Bits.{Place, longer, All, filter, bits, bit, prefix, begins}
 use Rattle.terms.specs.Records.{Grant}
 use Rattle.terms.proofs.Lists.{filter-twice, filter-ext, filter-all, filter-none, all-filter, all-map, all-map₂, all-always, filter-passed}
 use Rattle.terms.proofs.Places.{prefix-snoc, length-longer}

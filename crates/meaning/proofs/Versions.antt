@@ -29,10 +29,6 @@ same-test true b f g = sym (f refl)
 same-test false true f g = g refl
 same-test false false f g = refl
 
-pub same-iff : (gs hs ks ls : List Grant) → (gs ≡ hs → ks ≡ ls) → (ks ≡ ls → gs ≡ hs) → sameGrants gs hs ≡ sameGrants ks ls
-same-iff gs hs ks ls f g =
-    same-test _ _ (λ h. rw (f (sameGrants-eq gs hs h)) (sameGrants-refl ls)) (λ h. rw (g (sameGrants-eq ks ls h)) (sameGrants-refl hs))
-
 pub versioned-tree : (new : ℕ) (old : VTree) (t : Tree) → unversioned (versioned new old t) ≡ t
 versioned-tree new old none = refl
 versioned-tree new old (leaf g) = refl

@@ -1,7 +1,7 @@
 -- Document 01, 'Numbers of refusal': what format, apply and prune answer and leave. 1, 2 and 12 are refused before there is a store or a
 -- key to speak of, and 3 by soundness, in the calls that test it; here the store is sound. Assumes nothing.
-use Prim.Native.Nat.{ℕ, suc, _+_, _-_}
-use mathlib.Core.Bool.{Bool, true, false, cond, _&&_}
+use Prim.Native.Nat.{ℕ, _+_, _-_}
+use mathlib.Core.Bool.{Bool, true, cond, _&&_}
 use mathlib.Core.List.{List, [], _∷_}
 use mathlib.Core.Option.{Option, none, some}
 use lib.ListN.{length}

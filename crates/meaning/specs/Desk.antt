@@ -4,12 +4,12 @@ use Prim.Native.Nat.{ℕ}
 use mathlib.Core.Path.{_≡_}
 use mathlib.Core.Bool.{Bool, true, false}
 use mathlib.Core.List.{List, [], _∷_, _++_}
-use mathlib.Core.Option.{Option, none, some}
+use mathlib.Core.Option.{none, some}
 use lib.ListN.{replicate}
-use Rattle.terms.specs.Bits.{Bytes, Place, All}
-use Rattle.terms.specs.Records.{grant, Ask, insert, delete, Store, Slot, free, used, Record, leafBody, innerBody, child, zeros}
+use Rattle.terms.specs.Bits.{Bytes, Place}
+use Rattle.terms.specs.Records.{grant, Ask, insert, delete, Store, Slot, free, used, leafBody, innerBody, child, zeros}
 use Rattle.meaning.specs.Store.{formatted}
-use Rattle.meaning.specs.Calls.{Answer, refused, accepted, Applied, Outcome, apply, prune}
+use Rattle.meaning.specs.Calls.{Answer, refused, accepted, Applied, apply, prune}
 use Rattle.meaning.specs.History.{Call, applying, pruning, looking, Entry, entry}
 
 -- A row: a batch on a store, or a pruning.

@@ -3,12 +3,12 @@
 use Prim.Native.Nat.{ℕ, suc, _≤_, _<_, max}
 use mathlib.Core.Path.{_≡_}
 use mathlib.Core.Logic.{_⊎_}
-use mathlib.Core.Bool.{Bool, true, false, cond}
-use mathlib.Core.List.{List, []}
+use mathlib.Core.Bool.{true, cond}
+use mathlib.Core.List.{[]}
 use lib.ListN.{length, getD}
 use lib.Dec.{eqb}
 use Rattle.terms.specs.Bits.{Bytes, Side, left, right, Place, longer, begins}
-use Rattle.terms.specs.Records.{Child, Body, leafBody, innerBody, Record, free, spoiled, Store, zeros}
+use Rattle.terms.specs.Records.{Child, Body, leafBody, innerBody, Record, free, spoiled, Store}
 use Rattle.terms.specs.Form.{RecordForm, top32}
 use Rattle.meaning.specs.Store.{childOn}
 use Rattle.meaning.specs.Sound.{At, mostSlots}

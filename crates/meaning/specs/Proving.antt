@@ -6,7 +6,7 @@ use mathlib.Core.Option.{Option, none, some}
 use lib.ListN.{length}
 use lib.Dec.{ltb}
 use Rattle.terms.specs.Bits.{Bytes, Side, left, right, before, sameBytes}
-use Rattle.terms.specs.Records.{Store, Step, Presence, Absence, Proof, presence, absence}
+use Rattle.terms.specs.Records.{Store, Step, Presence, Proof, presence, absence}
 use Rattle.meaning.specs.Calls.{Answer, refused, accepted, isKept}
 use Rattle.meaning.specs.Reading.{Seen, lost, gap, leafSeen, fork, seen, Pass, End, broken, atLeaf, atGap, walk}
 

@@ -3,11 +3,11 @@ use Prim.Native.Nat.{ℕ, _≤_, _<_}
 use mathlib.Core.Path.{_≡_}
 use mathlib.Core.Logic.{_↔_, _⊎_}
 use mathlib.Core.Bool.{Bool, true, false}
-use mathlib.Core.List.{List, []}
-use mathlib.Core.Option.{Option, some}
+use mathlib.Core.List.{[]}
+use mathlib.Core.Option.{some}
 use lib.ListN.{length, getD}
-use Rattle.terms.specs.Bits.{Bytes, Whole32, Side, left, right, Place, longer, begins}
-use Rattle.terms.specs.Records.{Grant, Body, leafBody, innerBody, Record, Slot, free, used, spoiled, Store}
+use Rattle.terms.specs.Bits.{Bytes, Whole32, left, right, Place, longer, begins}
+use Rattle.terms.specs.Records.{Body, leafBody, innerBody, Record, free, used, spoiled, Store}
 use Rattle.terms.specs.Form.{RecordForm, top32}
 use Rattle.meaning.specs.Tree.{VTree, vnone, vleaf, vinner}
 use Rattle.meaning.specs.Store.{find, treeAtVersion, childOf, retiredBy}

@@ -6,8 +6,8 @@ use mathlib.Core.Option.{Option, none, some}
 use lib.ListN.{replicate}
 use lib.Dec.{eqb, leb}
 use Rattle.terms.specs.Bits.{Bytes, Side, left, right, Place, longer, filter, samePlace}
-use Rattle.terms.specs.Records.{Grant, grant, Child, child, Body, leafBody, innerBody, Record, Slot, free, used, spoiled, Store}
-use Rattle.meaning.specs.Tree.{Tree, hash, VTree, vnone, vleaf, vinner, topVersion, unversioned}
+use Rattle.terms.specs.Records.{grant, Child, child, Body, leafBody, innerBody, Record, Slot, free, used, spoiled, Store}
+use Rattle.meaning.specs.Tree.{hash, VTree, vnone, vleaf, vinner, topVersion, unversioned}
 
 -- Formatted: oldest and latest are 0 and all slots free.
 unfoldable pub formatted : ℕ → Store

@@ -7,9 +7,8 @@ use mathlib.Core.Bool.{true, true≢false}
 use mathlib.Core.List.{[], _∷_}
 use types.Run.{OneOf}
 use denote.Enum.Declared.{tagOf}
-use Rattle.terms.specs.Bits.{left, right}
 use Rattle.terms.specs.Records.{Child}
-use Rattle.meaning.specs.Tree.{VTree, vinner, topVersion, kid}
+use Rattle.meaning.specs.Tree.{VTree, topVersion}
 use Rattle.meaning.specs.Store.{childOf}
 use Rattle.nodehash.specs.Node.{leafHash, innerHash}
 use Rattle.slots.specs.declared.Child as child

@@ -29,13 +29,6 @@ module _ (p : declared.Place) (w : Proper p) where
   unfolding placeOf
   proper-count = let h = w .short in simp (length-take, length-bits) (omega (arith, proper-whole))
 
--- two proper places with the same bits are the same value
-pub proper-same : (p q : declared.Place) → Proper p → Proper q → placeOf p ≡ placeOf q → p ≡ q
-proper-same p q v w e =
-    let b : p .bits ≡ q .bits = v .trimmed ∙ ap (pack 32) e ∙ sym (w .trimmed) in
-    let n : p .count ≡ q .count = sym (proper-count p v) ∙ ap length e ∙ proper-count q w in
-    ap₂ (λ (x : Bytes) (m : ℕ). record { bits = x; count = m }) b n
-
 -- the bytes of a string of bits, with its length
 pub stands : (b : Place) (r : declared.Place) → length b ≤ 256 → r .count ≡ length b → r .bits ≡ pack 32 b → Stands b (length b) r
 unfolding placeOf

@@ -1,22 +1,21 @@
 -- Proofs there and back: the bytes of a proof in form are read as that proof, and bytes that are read as a proof are its bytes. The fields fill
 -- the record, and each is its number or its part. Assumes nothing.
-use Prim.Native.Nat.{ℕ, zero, suc, _+_, _*_, _-_, _<_, _≤_}
+use Prim.Native.Nat.{ℕ, zero, suc, _+_, _*_, _-_, _≤_}
 use native.Mathlib.Omega.{arith}
 use mathlib.Core.Path.{_≡_, refl, ap, ap₂, sym, _∙_, subst}
-use mathlib.Core.Bool.{Bool, true, false, cond, _&&_, false≢true}
+use mathlib.Core.Bool.{Bool, true, false, cond, _&&_}
 use mathlib.Core.List.{List, [], _∷_, _++_, append-nil}
 use mathlib.Core.Option.{Option, none, some}
 use lib.ListN.{length, getD, take, drop, length-append, length-drop, drop-of-length-le}
 use lib.Seq.{take-all, take-at, drop-at, drop-drop, take-append-le}
-use lib.Dec.{eqb, leb}
-use borrow.Author.Tests.{eqb-true, eqb-false, eq-eqb, ne-eqb, leb-true, leb-false, le-leb, lt-leb}
+use borrow.Author.Tests.{eqb-true, eq-eqb, leb-true, le-leb}
 use Rattle.terms.specs.Bits.{Bytes, Byte, All, Whole32}
-use Rattle.terms.specs.Fields.{le, num, field, slice, flat, allOf}
-use Rattle.terms.specs.Records.{Step, Presence, Absence, Proof, presence, absence}
+use Rattle.terms.specs.Fields.{le, num, field, slice}
+use Rattle.terms.specs.Records.{Presence, Absence, Proof, presence, absence}
 use Rattle.terms.proofs.Tests.{and-left, and-right, is-false}
 use Rattle.terms.proofs.Lists.{all-drop}
-use Rattle.terms.proofs.Fields.{num-le, length-le, le-field, length-slice, all-slice, cuts, total, flat-cuts, all-of-tests, test-failed, tests-all, Sized, cuts-flat, length-flat, drop-fields, slice-rest}
-use Rattle.proofrecords.specs.ProofBytes.{presenceBytes, stepsBytes, neighbourBytes, flagsOf, absenceBytes, proofBytes, stepsIn, sidesRight, stepCount, presenceTests, isPresence, presenceIn, leftLength, leftPart, rightPart, flags, neighboursFit, absenceTests, isAbsence, absenceIn, proofIn, StepForm, PresenceForm, NeighbourForm, ProofForm}
+use Rattle.terms.proofs.Fields.{num-le, length-le, le-field, length-slice, all-slice, cuts, flat-cuts, all-of-tests, tests-all, Sized, cuts-flat, length-flat, drop-fields, slice-rest}
+use Rattle.proofrecords.specs.ProofBytes.{presenceBytes, stepsBytes, neighbourBytes, flagsOf, absenceBytes, proofBytes, stepCount, presenceTests, isPresence, presenceIn, leftLength, leftPart, rightPart, flags, neighboursFit, absenceTests, isAbsence, absenceIn, proofIn, PresenceForm, NeighbourForm, ProofForm}
 use Rattle.proofrecords.proofs.Steps.{length-steps, steps-back, sides-written, steps-are, length-steps-in, steps-form}
 
 -- the last field is the rest
@@ -107,10 +106,6 @@ module _ (x : Bytes) (h : All Byte x) (e : isPresence x ≡ true) where
 
   whole : length x ≡ 72 + 33 * stepCount x
   whole = eqb-true _ _ (tests .1 .1 .1 .1 .0)
-
-  count-in : length (presenceIn x .steps) ≡ stepCount x
-  unfolding presenceIn
-  count-in = length-steps-in (stepCount x) (drop 72 x)
 
   rest-length : length (drop 72 x) ≡ 33 * stepCount x
   rest-length = simp length-drop (omega (arith, whole))

@@ -1,14 +1,14 @@
 -- The steps of a path there and back, 33 bytes each. Assumes nothing.
-use Prim.Native.Nat.{ℕ, zero, suc, _+_, _*_, _<_, _≤_}
+use Prim.Native.Nat.{ℕ, zero, suc, _+_, _*_, _≤_}
 use native.Mathlib.Omega.{arith}
 use mathlib.Core.Path.{_≡_, refl, ap, ap₂, sym, _∙_}
-use mathlib.Core.Bool.{Bool, true, false, _&&_}
+use mathlib.Core.Bool.{true, false}
 use mathlib.Core.List.{List, [], _∷_, _++_, append-assoc}
 use lib.ListN.{length, getD, drop, length-append, length-drop, take-append-drop}
 use lib.Seq.{take-at, drop-at}
 use lib.Dec.{eqb, leb}
 use borrow.Author.Tests.{leb-true}
-use Rattle.terms.specs.Bits.{Bytes, Byte, Whole32, All, Side, digit}
+use Rattle.terms.specs.Bits.{Bytes, Byte, All, Side, digit}
 use Rattle.terms.specs.Fields.{slice}
 use Rattle.terms.specs.Records.{Step}
 use Rattle.terms.proofs.Tests.{and-left, and-right}

@@ -1,12 +1,11 @@
 -- Document 01, 'Bytes': presence and absence proofs. Assumes nothing.
 use Prim.Native.Nat.{ℕ, zero, suc, _+_, _*_, _≤_}
-use mathlib.Core.Path.{_≡_}
-use mathlib.Core.Bool.{Bool, true, false, cond, _&&_}
+use mathlib.Core.Bool.{Bool, true, cond, _&&_}
 use mathlib.Core.List.{List, [], _∷_, _++_}
 use mathlib.Core.Option.{Option, none, some}
 use lib.ListN.{length, getD, drop}
 use lib.Dec.{eqb, leb}
-use Rattle.terms.specs.Bits.{Bytes, Whole32, All, Side, digit}
+use Rattle.terms.specs.Bits.{Bytes, Whole32, All, digit}
 use Rattle.terms.specs.Fields.{le, slice, field, flat, allOf}
 use Rattle.terms.specs.Records.{Step, Presence, Absence, Proof, presence, absence}
 

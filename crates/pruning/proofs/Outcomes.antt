@@ -1,10 +1,8 @@
 -- The outcome of each way through the call: the header and soundness first, then whether the version is kept; freeing the retired records
 -- and setting oldest is pruning. Assumes nothing.
 use Prim.Native.Nat.{ℕ, _≤_, _<_}
-use native.Mathlib.Omega.{arith}
 use mathlib.Core.Path.{_≡_, ap, sym, _∙_, subst}
 use mathlib.Core.Bool.{true, false}
-use lib.ListN.{length}
 use lib.Dec.{leb}
 use borrow.Author.Tests.{le-leb, lt-leb}
 use Rattle.terms.specs.Bits.{Bytes, Byte, All}

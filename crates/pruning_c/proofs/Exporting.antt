@@ -1,13 +1,11 @@
 -- What the call for C leaves, by the cases of the answer: four bytes written over four bytes are all there is. Assumes nothing.
 use Prim.Native.Nat.{ℕ}
-use native.Mathlib.Omega.{arith}
-use mathlib.Core.Path.{_≡_, refl, ap, sym, _∙_, subst}
+use mathlib.Core.Path.{_≡_, sym, _∙_, subst}
 use mathlib.Core.List.{[], _∷_, append-nil}
 use lib.ListN.{length}
 use Rattle.terms.specs.Bits.{Bytes}
 use Rattle.terms.specs.Fields.{le}
 use Rattle.terms.proofs.Fields.{length-le}
-use Rattle.meaning.specs.Calls.{Answer, refused, accepted}
 use Rattle.fields.specs.Written.{written}
 use Rattle.fields.proofs.Written.{fields-fill}
 use Rattle.pruning.specs.Prune.{prunedSays, Prunes}

@@ -2,14 +2,14 @@
 -- root. Assumes nothing.
 use Prim.Native.Nat.{ℕ, _+_, _-_, _≤_}
 use native.Mathlib.Omega.{arith}
-use mathlib.Core.Path.{_≡_, refl, ap, ap₂, sym, _∙_, subst, subst₂}
+use mathlib.Core.Path.{_≡_, refl, ap, ap₂, sym, _∙_, subst}
 use mathlib.Core.Bool.{Bool, true, false}
 use mathlib.Core.List.{List, [], _++_}
 use lib.ListN.{length, length-append}
 use Rattle.terms.specs.Bits.{Bytes, All, Place}
 use Rattle.terms.specs.Records.{Record, Slot}
 use Rattle.terms.specs.Form.{top32, RecordForm}
-use Rattle.meaning.specs.Tree.{VTree, vnone, vleaf, vinner, unversioned, topVersion, newRoot}
+use Rattle.meaning.specs.Tree.{VTree, vnone, vleaf, vinner, unversioned, newRoot}
 use Rattle.meaning.specs.Store.{placed, recordAt}
 use Rattle.meaning.proofs.Shaped.{Shaped}
 use Rattle.histories.proofs.Growing.{root-tree}
@@ -21,17 +21,17 @@ use Rattle.layout.specs.Stores.{storeOf}
 use Rattle.batch.specs.Batch.{asks}
 use Rattle.steps.specs.Step as step
 use Rattle.steps.specs.Given.{Older}
-use Rattle.steps.specs.Writing.{written, mark}
+use Rattle.steps.specs.Writing.{mark}
 use Rattle.steps.proofs.Among.{at-node}
 use Rattle.steps.proofs.Writing.{AllNew, AllOlder, two-turns}
 use Rattle.placing.specs.declared.Node as node
 use Rattle.placing.specs.declared.Node.the-variants as N
-use Rattle.placing.specs.Placing.{Stored, Changed, whenWrites, Single, recordSays}
-use Rattle.placing.proofs.Changing.{changed-as, changed-stored, changed-then}
+use Rattle.placing.specs.Placing.{Changed, whenWrites, Single, recordSays}
+use Rattle.placing.proofs.Changing.{changed-as, changed-then}
 use Rattle.outcomes.specs.declared.Change as change
 use Rattle.outcomes.specs.declared.Change.the-variants.{Deleted}
 use Rattle.outcomes.specs.declared.Outcome as declared
-use Rattle.outcomes.specs.Outcomes.{beyond, capped, nodeSize, changeSays, NodeSays, Did}
+use Rattle.outcomes.specs.Outcomes.{beyond, capped, nodeSize, NodeSays, Did}
 use Rattle.outcomes.proofs.Saying.{says-record, node-size}
 use Rattle.outcomes.proofs.Forms.{Number, Numbered, says-form}
 use Rattle.ending.specs.Ending.{childNodes, endsSays}

@@ -1,11 +1,10 @@
 -- A tree that stands at a place stands there after writes for newer nodes, and so do its children: each is where its parent's record says.
 -- Assumes nothing.
-use Prim.Native.Nat.{ℕ, _+_, _-_, _<_, _≤_}
+use Prim.Native.Nat.{ℕ, _-_, _<_, _≤_}
 use native.Mathlib.Omega.{arith}
 use mathlib.Core.Path.{_≡_, refl, sym, subst}
 use mathlib.Core.Logic.{inl}
 use mathlib.Core.Bool.{Bool, true, false}
-use lib.ListN.{length}
 use Rattle.terms.specs.Bits.{Bytes, Side, Place, longer}
 use Rattle.terms.specs.Records.{Body, Store, used}
 use Rattle.terms.proofs.Members.{in-getD}

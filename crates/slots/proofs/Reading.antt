@@ -7,14 +7,14 @@ use lib.ListN.{drop}
 use borrow.Author.Tests.{leb-true}
 use Rattle.terms.specs.Bits.{Bytes, bits, noneSet}
 use Rattle.terms.specs.Fields.{slice, allZero}
-use Rattle.terms.specs.Records.{Body, leafBody, innerBody, used}
+use Rattle.terms.specs.Records.{Body, innerBody, used}
 use Rattle.terms.specs.Form.{placeLimit}
-use Rattle.terms.proofs.Fields.{all-of-tests, slice-slice}
+use Rattle.terms.proofs.Fields.{all-of-tests}
 use Rattle.layout.specs.Slots.{countIn, leafIn, childIn, innerIn, recordIn, headRight, isLeaf, isInner, slotOf}
 use Rattle.slots.specs.declared.Child as declared-child
 use Rattle.slots.specs.declared.Kind.the-variants.{Free, Leaf, Inner, Spoiled}
 use Rattle.slots.specs.declared.Slot as declared
-use Rattle.slots.specs.Answer.{childSays, kindSays, slotSays, Made, Held, Read, grantBody}
+use Rattle.slots.specs.Answer.{childSays, kindSays, slotSays, Made, Held, Read}
 
 -- the bit count of a record in form, and its unused bits
 abbrev HeadSays : Bytes → Type 0
@@ -34,11 +34,6 @@ leaf-head x e = head-says (leafIn x) x (omega arith) (all-of-tests _ e .0)
 pub inner-head : (x : Bytes) → isInner x ≡ true → HeadSays x
 unfolding isInner innerIn
 inner-head x e = head-says (innerIn x) x (omega arith) (all-of-tests _ e .0)
-
--- the grant in a leaf's bytes is its body
-pub grant-in : (x : Bytes) → grantBody (slice 48 64 x) ≡ leafIn x
-unfolding grantBody leafIn
-grant-in x = ap₂ leafBody (slice-slice 48 64 0 32 x (omega arith)) (slice-slice 48 64 32 32 x (omega arith))
 
 module _ {x : Bytes} {r : declared.Slot} where
   pub read-free : Made Free r → allZero x ≡ true → Read x r

@@ -2,11 +2,11 @@
 use Prim.Native.Nat.{ℕ, zero, suc, _-_, _<_, max}
 use native.Mathlib.Omega.{arith}
 use mathlib.Core.Path.{_≡_, refl, ap, sym, _∙_}
-use mathlib.Core.Bool.{Bool, true, false, _&&_}
+use mathlib.Core.Bool.{Bool, true, false}
 use mathlib.Core.List.{[]}
 use lib.ListN.{length, take}
 use lib.Seq.{take-suc}
-use lib.Dec.{eqb, leb}
+use lib.Dec.{eqb}
 use Rattle.terms.specs.Bits.{Bytes, Side, Place, bits, bit, longer, samePlace}
 use Rattle.terms.specs.Records.{Body, free}
 use Rattle.terms.proofs.Tests.{is-false, same-place}

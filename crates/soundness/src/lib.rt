@@ -28,7 +28,7 @@ ghost use mathlib.Core.Path.{_≡_};
 ghost use mathlib.Core.Bool.{true, _&&_};
 ghost use Prim.Native.Nat.{suc, _<_};
 ghost use lib.ListN.{length};
-ghost use lib.Dec.{eqb, leb};
+ghost use lib.Dec.{eqb};
 ghost use Rattle.terms.specs.Bits.{left, right};
 ghost use Rattle.terms.specs.Records.{innerBody};
 ghost use Rattle.local.specs.Test.{recordTest, slotTest, slotsTest};

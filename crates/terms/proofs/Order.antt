@@ -1,15 +1,15 @@
 -- The order of keys is the order of their bits, and it is a strict total order: the first byte that differs decides, and in it the first
 -- bit that differs. Assumes nothing.
-use Prim.Native.Nat.{ℕ, zero, suc, _+_, _*_, _<_, _≤_, _^_, _/_, _%_}
+use Prim.Native.Nat.{ℕ, zero, suc, _+_, _<_, _^_, _/_, _%_}
 use native.Mathlib.Omega.{arith}
-use mathlib.Core.Path.{_≡_, refl, ap, ap₂, sym, _∙_}
+use mathlib.Core.Path.{_≡_, refl, ap₂, sym, _∙_}
 use mathlib.Core.Logic.{_⊎_, inl, inr}
-use mathlib.Core.Bool.{Bool, true, false, cond, not, _&&_, _||_, Bool·beq, true≢false, false≢true}
+use mathlib.Core.Bool.{Bool, true, false, not, _&&_, _||_, Bool·beq, true≢false, false≢true}
 use mathlib.Core.List.{List, [], _∷_, _++_, append-assoc}
 use lib.ListN.{length, getD}
 use lib.Dec.{ltb, eqb}
 use borrow.Author.Tests.{ltb-true, ltb-false, eqb-true, eqb-false, lt-ltb, le-ltb, eq-eqb, ne-eqb}
-use Rattle.terms.specs.Bits.{Bytes, Byte, Side, left, right, Place, longer, All, bits, byteBits, odd, prefix, begins, before}
+use Rattle.terms.specs.Bits.{Bytes, Byte, left, right, Place, longer, All, bits, byteBits, odd, prefix, begins, before}
 use Rattle.terms.proofs.Tests.{is-false}
 
 -- the order of bit strings
@@ -23,14 +23,6 @@ lex (a ∷ as′) (b ∷ bs) = (not a && b) || (Bool·beq a b && lex as′ bs)
 abbrev pub low : ℕ → ℕ → List Bool
 low zero x = []
 low (suc w) x = low w (x / 2) ++ (odd x ∷ [])
-
-odd-one : (x : ℕ) → x % 2 ≡ 1 → odd x ≡ true
-unfolding odd
-odd-one x h = eq-eqb (x % 2) 1 h
-
-odd-zero : (x : ℕ) → x % 2 ≡ 0 → odd x ≡ false
-unfolding odd
-odd-zero x h = ne-eqb (x % 2) 1 (λ e. omega arith)
 
 abbrev step : Bool → Bool → Bool → Bool
 step l e r = l || (e && r)

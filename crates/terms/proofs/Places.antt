@@ -4,13 +4,13 @@ use Prim.Native.Nat.{ℕ, zero, suc, _+_, _*_, _-_, _<_, _≤_, _/_, _%_}
 use native.Mathlib.Omega.{arith}
 use native.Mathlib.Nat.{zero-add, not-suc-le-zero, le-of-suc-le-suc}
 use mathlib.Core.Path.{_≡_, refl, ap, ap₂, sym, _∙_}
-use mathlib.Core.Bool.{Bool, true, false, not, _&&_, Bool·beq, false≢true}
+use mathlib.Core.Bool.{Bool, true, false, _&&_, Bool·beq, false≢true}
 use mathlib.Core.List.{List, [], _∷_, _++_}
 use lib.ListN.{length, getD, take, drop, List·getD-append, List·getD-eq-default, length-append, length-take}
-use lib.Seq.{take-all, getD-append-add, getD-drop, getD-take, ext-getD}
+use lib.Seq.{getD-append-add, getD-drop, getD-take, ext-getD}
 use lib.Dec.{eqb, ltb}
 use borrow.Author.Tests.{ltb-true, ltb-false}
-use Rattle.terms.specs.Bits.{Bytes, Byte, Side, Place, All, left, longer, bits, byteBits, odd, bit, prefix, begins, noneSet, digit, packed, pack, samePlace}
+use Rattle.terms.specs.Bits.{Bytes, Byte, Side, Place, All, longer, bits, byteBits, odd, bit, prefix, begins, noneSet, digit, packed, pack, samePlace}
 use Rattle.terms.proofs.Tests.{and-left, and-right, and-true, and-assoc, same-bit, bit-same, bothBits, both-bits, same-place}
 
 pub length-byteBits : (x : ℕ) → length (byteBits x) ≡ 8
@@ -87,10 +87,6 @@ prefix-take [] bs = refl
 prefix-take (b ∷ p) [] = refl
 prefix-take (b ∷ p) (c ∷ bs) = ap (Bool·beq b c &&_) (prefix-take p bs)
 
-pub begins-front : (p : Place) (k : Bytes) → begins p k ≡ true → p ≡ take (length p) (bits k)
-unfolding begins
-begins-front p k h = same-place p (take (length p) (bits k)) (sym (prefix-take p (bits k)) ∙ h)
-
 digit-odd : (n : ℕ) → digit (odd n) ≡ n % 2
 unfolding odd
 digit-odd n = go (n % 2) (omega arith)
@@ -140,18 +136,6 @@ take-clear (suc c) (b ∷ bs) h (suc i) = take-clear c bs h i
 -- a place, from the bytes of its bits and back
 pub pack-place : (c : ℕ) (p : Bytes) → All Byte p → noneSet (drop c (bits p)) ≡ true → pack (length p) (take c (bits p)) ≡ p
 pack-place c p h k = pack-ext (length p) (take c (bits p)) (bits p) (take-clear c (bits p) k) ∙ pack-bits p h
-
--- two byte strings with the same bits are equal
-pub bits-same : (x y : Bytes) → All Byte x → All Byte y → length x ≡ length y → bits x ≡ bits y → x ≡ y
-bits-same x y h k l e = sym (pack-bits x h) ∙ ap (λ n. pack n (bits x)) l ∙ ap (pack (length y)) e ∙ pack-bits y k
-
--- two keys that begin with one place of all their bits are equal
-pub begins-whole : (p : Place) (x y : Bytes) → All Byte x → All Byte y → length p ≡ 8 * length x → length x ≡ length y → begins p x ≡ true → begins p y ≡ true → x ≡ y
-begins-whole p x y h k n l u w =
-    bits-same x y h k l
-    (sym (take-all (length p) (bits x) (simp length-bits (omega arith)))
-    ∙ sym (begins-front p x u) ∙ begins-front p y w
-    ∙ take-all (length p) (bits y) (simp length-bits (omega arith)))
 
 pub length-pack : (n : ℕ) (b : List Side) → length (pack n b) ≡ n
 unfolding pack

@@ -1,9 +1,9 @@
 -- Document 01, 'Bytes': which records have a form in bytes. A number has four bytes; a child's version 0 means no child, and its hash is
 -- then zero; at least one child is present. Assumes nothing.
-use Prim.Native.Nat.{ℕ, _≤_, _<_}
+use Prim.Native.Nat.{ℕ, _≤_}
 use mathlib.Core.Path.{_≡_}
 use lib.ListN.{length}
-use Rattle.terms.specs.Bits.{Bytes, Whole32}
+use Rattle.terms.specs.Bits.{Whole32}
 use Rattle.terms.specs.Records.{Grant, Ask, insert, delete, Child, Body, leafBody, innerBody, Record, zeros}
 
 -- The largest number of four bytes.

@@ -1,9 +1,8 @@
 -- `format::format` meets its contract: the size is tested first, and a header over zero bytes is a fresh store. Assumes nothing.
 use native.Mathlib.Omega.{arith}
-use mathlib.Core.Path.{_≡_, refl, sym, ap, _∙_}
+use mathlib.Core.Path.{sym, _∙_}
 use borrow.Author.Needs.{needs}
 use borrow.Author.Tests.{not-true, not-false}
-use lib.ListN.{length}
 use Rattle.layout.proofs.Headers.{size-says}
 use Rattle.format.specs.Format.{formatAnswer, formatBytes}
 use Rattle.format.proofs.Fresh.{fresh-bytes}

@@ -1,9 +1,8 @@
 -- `lookup::find` meets its contract: each slot passed does not match, so the first that does is the one found. Assumes nothing.
 use Prim.Native.Nat.{_-_}
-use mathlib.Core.Path.{_≡_, refl, sym, _∙_}
+use mathlib.Core.Path.{refl, sym, _∙_}
 use native.Mathlib.Omega.{arith}
 use borrow.Author.Needs.{needs}
-use borrow.Author.Tests.{not-true, not-false}
 use Rattle.place.specs.Place.{placeOf}
 use Rattle.layout.specs.Sizes.{roomOf}
 use Rattle.layout.proofs.Headers.{size-least}

@@ -4,7 +4,6 @@ use native.Mathlib.Omega.{arith}
 use lib.ListN.{length}
 use Rattle.terms.specs.Bits.{All}
 use Rattle.terms.specs.Form.{RecordForm}
-use Rattle.meaning.specs.Store.{placed}
 use Rattle.place.specs.Place.{placeOf}
 use Rattle.outcomes.proofs.Saying.{is-updated, not-updated, nothing-placed, placed-as, node-size, size-small}
 use borrow.Author.Needs.{needs}

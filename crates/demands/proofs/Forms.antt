@@ -1,0 +1,200 @@
+-- A proof drawn from a store whose slots are in form is in form: what a read sees there has keys, values and hashes of 32 bytes, so have the
+-- nodes that a walk passes, and so have the paths of walk and searches. Assumes nothing.
+use Prim.Native.Nat.{ℕ, zero, suc, _≤_}
+use mathlib.Core.Path.{_≡_, subst}
+use mathlib.Core.Bool.{Bool, true, false, cond, not}
+use mathlib.Core.List.{List, [], _∷_, _++_, map}
+use mathlib.Core.Option.{Option, none, some}
+use lib.ListN.{length}
+use lib.Dec.{eqb}
+use Rattle.terms.specs.Bits.{Bytes, Whole32, Side, left, right, Place, longer, All, bit, begins, sameBytes}
+use Rattle.terms.specs.Records.{Child, Body, leafBody, innerBody, Record, Slot, free, used, spoiled, Store, Step, Presence, Proof, presence, absence}
+use Rattle.terms.specs.Form.{BodyForm}
+use Rattle.terms.proofs.Lists.{all-append}
+use Rattle.meaning.specs.Store.{isNode, find, rootOf, childOn}
+use Rattle.meaning.specs.Calls.{Answer, refused, accepted, isKept}
+use Rattle.meaning.specs.Reading.{Seen, lost, gap, leafSeen, fork, seenBody, seenChild, seenAt, seenRoot, seen, Pass, End, broken, atLeaf, atGap, walk}
+use Rattle.meaning.specs.Proving.{step, presenceOf, stepUp, isGap, raisedBy, descend, Sought, lostWay, nobody, somebody, sought, turnsAway, fromTrail, beyond, neighbour, absenceFrom, absenceAt, proveEnd, proveSeen, proof}
+use Rattle.shown.proofs.Lengths.{pathIf, pathsOf}
+use Rattle.shown.proofs.Theorems.{paths-have-256-steps}
+use Rattle.proofrecords.specs.ProofBytes.{StepForm, PresenceForm, NeighbourForm, ProofForm}
+use Rattle.layout.specs.Slots.{SlotForm}
+
+-- what holds of both holds of either
+either : {A : Type 0} (P : A → Type 0) (b : Bool) (x y : A) → P x → P y → P (cond b x y)
+either P true x y f g = f
+either P false x y f g = g
+
+-- what is seen
+abbrev SeenForm : Seen → Type 0
+SeenForm lost = Unit {0}
+SeenForm gap = Unit {0}
+SeenForm (leafSeen k x) = Whole32 k × Whole32 x
+SeenForm (fork hashes kids) = ((b : Side) → Whole32 (hashes b)) × ((b : Side) → SeenForm (kids b))
+
+body-seen : (p : Place) (o : Body) (kid : Side → Child → Seen) → BodyForm o → ((b : Side) (c : Child) → SeenForm (kid b c)) →
+    SeenForm (seenBody p o kid)
+body-seen p (leafBody k x) kid f h = either SeenForm (begins p k) (leafSeen k x) lost f tt
+body-seen p (innerBody l r) kid f h = (hashes, λ b. h b (childOn b l r))
+  where
+    hashes : (b : Side) → Whole32 (childOn b l r .hash)
+    hashes false = f .0 .hash32
+    hashes true = f .1 .hash32
+
+-- what is found in slots that are in form
+abbrev FoundForm : Option Record → Type 0
+FoundForm none = Unit {0}
+FoundForm (some r) = BodyForm (r .body)
+
+find-form : (v : ℕ) (p : Place) (s : List Slot) → All SlotForm s → FoundForm (find v p s)
+find-form v p [] h = tt
+find-form v p (free ∷ s) h = find-form v p s (h .1)
+find-form v p (used r ∷ s) h = either FoundForm (isNode v p r) (some r) (find v p s) (h .0 .body) (find-form v p s (h .1))
+find-form v p (spoiled x ∷ s) h = find-form v p s (h .1)
+
+child-seen : (v : ℕ) (p : Place) (o : Option Record) (kid : Side → Child → Seen) → FoundForm o →
+    ((b : Side) (c : Child) → SeenForm (kid b c)) → SeenForm (cond (eqb v 0) gap (seenChild p o kid))
+child-seen v p o kid f h = either SeenForm (eqb v 0) gap (seenChild p o kid) tt (go o f)
+  where
+    go : (o : Option Record) → FoundForm o → SeenForm (seenChild p o kid)
+    go none f = tt
+    go (some r) f = body-seen p (r .body) kid f h
+
+at-seen : (n : ℕ) (s : List Slot) (p : Place) (c : Child) → All SlotForm s → SeenForm (seenAt n s p c)
+at-seen zero s p c h = child-seen (c .version) p (find (c .version) p s) (λ b d. lost) (find-form (c .version) p s h) (λ b d. tt)
+at-seen (suc n) s p c h =
+    child-seen (c .version) p (find (c .version) p s) (λ b d. seenAt n s (longer b p) d) (find-form (c .version) p s h)
+    (λ b d. at-seen n s (longer b p) d h)
+
+root-seen : (n : ℕ) (s : List Slot) (o : Option Record) → All SlotForm s → FoundForm o →
+    SeenForm (seenRoot o (λ b d. seenAt n s (b ∷ []) d))
+root-seen n s none h f = tt
+root-seen n s (some r) h f = body-seen [] (r .body) (λ b d. seenAt n s (b ∷ []) d) f (λ b d. at-seen n s (b ∷ []) d h)
+
+-- paths
+record PathForm (q : Presence) : Type 0 where
+  key32 : Whole32 (q .key)
+  value32 : Whole32 (q .value)
+  steps32 : All StepForm (q .steps)
+
+abbrev PathIf : Option Presence → Type 0
+PathIf none = Unit {0}
+PathIf (some q) = PathForm q
+
+raised-form : (steps : List Step) (o : Option Presence) → All StepForm steps → PathIf o → PathIf (raisedBy steps o)
+raised-form steps none h f = tt
+raised-form steps (some q) h f =
+    record { key32 = f .key32; value32 = f .value32; steps32 = all-append StepForm (q .steps) steps (f .steps32) h }
+
+descent-form : (b : Side) (x : Seen) → SeenForm x → PathIf (descend b x)
+descent-form b lost h = tt
+descent-form b gap h = tt
+descent-form b (leafSeen k x) h = record { key32 = h .0; value32 = h .1; steps32 = tt }
+descent-form b (fork hashes kids) h =
+    let s : List Step = step (not b) (hashes b) ∷ [] in
+    let t : List Step = step b (hashes (not b)) ∷ [] in
+    let x : Option Presence = descend b (kids (not b)) in
+    let y : Option Presence = descend b (kids b) in
+    either PathIf (isGap (kids b)) (raisedBy s x) (raisedBy t y) (raised-form s x (h .0 b, tt) (descent-form b (kids (not b)) (h .1 (not b))))
+    (raised-form t y (h .0 (not b), tt) (descent-form b (kids b) (h .1 b)))
+
+-- the nodes that a walk passes
+abbrev PassForm : Pass → Type 0
+PassForm p = ((b : Side) → Whole32 (p .hashes b)) × ((b : Side) → SeenForm (p .kids b))
+
+up-form : (trail : List Pass) → All PassForm trail → All StepForm (map stepUp trail)
+up-form [] h = tt
+up-form (p ∷ trail) h = (h .0 .0 (not (p .turn)), up-form trail (h .1))
+
+abbrev EndForm : End → Type 0
+EndForm broken = Unit {0}
+EndForm (atLeaf k x trail) = Whole32 k × Whole32 x × All PassForm trail
+EndForm (atGap trail) = All PassForm trail
+
+walk-form : (k : Bytes) (i : ℕ) (trail : List Pass) (x : Seen) → SeenForm x → All PassForm trail → EndForm (walk k i trail x)
+walk-form k i trail lost h f = tt
+walk-form k i trail gap h f = f
+walk-form k i trail (leafSeen l x) h f = (h .0, h .1, f)
+walk-form k i trail (fork hashes kids) h f =
+    walk-form k (suc i) (record { turn = bit i k; hashes = hashes; kids = kids } ∷ trail) (kids (bit i k)) (h .1 (bit i k)) (h, f)
+
+-- the searches
+abbrev SoughtForm : Sought → Type 0
+SoughtForm lostWay = Unit {0}
+SoughtForm nobody = Unit {0}
+SoughtForm (somebody q) = PathForm q
+
+sought-form : (o : Option Presence) → PathIf o → SoughtForm (sought o)
+sought-form none f = tt
+sought-form (some q) f = f
+
+trail-form : (b : Side) (trail : List Pass) → All PassForm trail → SoughtForm (fromTrail b trail)
+trail-form b [] h = tt
+trail-form b (p ∷ trail) h =
+    let s : List Step = step b (p .hashes (not b)) ∷ map stepUp trail in
+    let x : Option Presence = descend (not b) (p .kids b) in
+    either SoughtForm (turnsAway b p) (sought (raisedBy s x)) (fromTrail b trail)
+    (sought-form (raisedBy s x)
+    (raised-form s x (h .0 .0 (not b), up-form trail (h .1)) (descent-form (not b) (p .kids b) (h .0 .1 b)))) (trail-form b trail (h .1))
+
+leaf-form : (k x : Bytes) (trail : List Pass) → Whole32 k → Whole32 x → All PassForm trail → PathForm (presenceOf k x (map stepUp trail))
+leaf-form k x trail a b h = record { key32 = a; value32 = b; steps32 = up-form trail h }
+
+neighbour-form : (b : Side) (k : Bytes) (e : End) → EndForm e → SoughtForm (neighbour b k e)
+neighbour-form b k broken h = tt
+neighbour-form b k (atLeaf l x trail) h =
+    either SoughtForm (beyond b l k) (somebody (presenceOf l x (map stepUp trail))) (fromTrail b trail)
+    (leaf-form l x trail (h .0) (h .1) (h .2)) (trail-form b trail (h .2))
+neighbour-form b k (atGap trail) h = trail-form b trail h
+
+-- what is given
+abbrev GivenForm : Answer Proof → Type 0
+GivenForm (refused n) = Unit {0}
+GivenForm (accepted (presence q)) = PathForm q
+GivenForm (accepted (absence a)) = Whole32 (a .key) × PathIf (a .leftward) × PathIf (a .rightward)
+
+absence-form : (k : Bytes) (x y : Sought) → Whole32 k → SoughtForm x → SoughtForm y → GivenForm (absenceFrom k x y)
+absence-form k lostWay y w f g = tt
+absence-form k nobody lostWay w f g = tt
+absence-form k nobody nobody w f g = (w, tt, tt)
+absence-form k nobody (somebody q) w f g = (w, tt, g)
+absence-form k (somebody p) lostWay w f g = tt
+absence-form k (somebody p) nobody w f g = (w, f, tt)
+absence-form k (somebody p) (somebody q) w f g = (w, f, g)
+
+sides-form : (k : Bytes) (e : End) → Whole32 k → EndForm e → GivenForm (absenceAt k e)
+unfolding absenceAt
+sides-form k e w h = absence-form k (neighbour left k e) (neighbour right k e) w (neighbour-form left k e h) (neighbour-form right k e h)
+
+end-form : (k : Bytes) (e : End) → Whole32 k → EndForm e → GivenForm (proveEnd k e)
+end-form k broken w h = tt
+end-form k (atLeaf l x trail) w h =
+    let e = atLeaf l x trail in
+    either GivenForm (sameBytes k l) (accepted (presence (presenceOf l x (map stepUp trail)))) (absenceAt k e)
+    (leaf-form l x trail (h .0) (h .1) (h .2)) (sides-form k e w h)
+end-form k (atGap trail) w h = sides-form k (atGap trail) w h
+
+given-form : (st : Store) (v : ℕ) (k : Bytes) → All SlotForm (st .slots) → Whole32 k → GivenForm (proof st v k)
+unfolding proof proveSeen seen rootOf
+given-form st v k h w =
+    let x : Seen = seenRoot (find v [] (st .slots)) (λ b d. seenAt 255 (st .slots) (b ∷ []) d) in
+    let f : SeenForm x = root-seen 255 (st .slots) (find v [] (st .slots)) h (find-form v [] (st .slots) h) in
+    either GivenForm (isKept st v) (proveEnd k (walk k 0 [] x)) (refused 8) (end-form k (walk k 0 [] x) w (walk-form k 0 [] x f tt)) tt
+
+-- with at most 256 steps in each path
+path-whole : (q : Presence) → PathForm q → length (q .steps) ≤ 256 → PresenceForm q
+path-whole q f h = record { key32 = f .key32; value32 = f .value32; short = h; steps32 = f .steps32 }
+
+pub proof-form : (st : Store) (v : ℕ) (k : Bytes) (p : Proof) → All SlotForm (st .slots) → Whole32 k → proof st v k ≡ accepted p → ProofForm p
+proof-form st v k p h w e = go p (subst GivenForm e (given-form st v k h w)) (paths-have-256-steps st v k p e)
+  where
+    go : (p : Proof) → GivenForm (accepted p) → All (λ q. length (q .steps) ≤ 256) (pathsOf p) → ProofForm p
+    go (presence q) f s = path-whole q f (s .0)
+    go (absence a) f s = let n = sides (a .leftward) (a .rightward) (f .1) (f .2) s in (f .0, n .0, n .1)
+      where
+        sides : (l r : Option Presence) → PathIf l → PathIf r → All (λ q. length (q .steps) ≤ 256) (pathIf l ++ pathIf r) →
+            NeighbourForm l × NeighbourForm r
+        sides none none f g s = (tt, tt)
+        sides none (some q) f g s = (tt, path-whole q g (s .0))
+        sides (some p) none f g s = (path-whole p f (s .0), tt)
+        sides (some p) (some q) f g s = (path-whole p f (s .0), path-whole q g (s .1 .0))

@@ -1,0 +1,159 @@
+-- Demand 3 over the bytes: each public call keeps that the bytes are those of a sound store which holds what the history has given it, because
+-- what its contract leaves are the bytes of the store that the definition leaves. Assumes nothing.
+use Prim.Native.Nat.{ℕ}
+use native.Mathlib.Omega.{arith}
+use mathlib.Core.Path.{_≡_, refl, ap, sym, _∙_, subst}
+use mathlib.Core.Bool.{Bool, true, false, cond}
+use mathlib.Core.List.{List, [], _∷_}
+use mathlib.Core.Option.{Option, none, some}
+use lib.ListN.{length}
+use lib.Dec.{eqb}
+use borrow.Author.Tests.{eq-eqb, ne-eqb}
+use Rattle.terms.specs.Bits.{Bytes, Byte, All, Whole32}
+use Rattle.terms.specs.Records.{Grant, Ask, Store}
+use Rattle.meaning.specs.Tree.{treeOf, hash}
+use Rattle.meaning.specs.Store.{formatted}
+use Rattle.meaning.specs.Sound.{Kept}
+use Rattle.meaning.specs.Calls.{refused, accepted, Outcome}
+use Rattle.meaning.specs.Reading.{answerOf}
+use Rattle.meaning.specs.History.{Call, formatting, applying, pruning, CallForm, Entry, entry, noted, ledger, grantsOf, Holds}
+use Rattle.histories.proofs.Histories.{Keeps, keeps-holds, keeps-formatted, keeps-calls}
+use Rattle.histories.proofs.Theorems.{records-stand-in-their-lifetimes, paths-have-at-most-256-steps}
+use Rattle.nodehash.specs.Node.{leafHash, innerHash}
+use Rattle.layout.specs.Sizes.{roomOf}
+use Rattle.layout.specs.Headers.{Headed, refusal, header, sizeRight}
+use Rattle.layout.specs.Stores.{storeOf, storeBytes}
+use Rattle.layout.proofs.Headers.{size-right-of, size-says}
+use Rattle.layout.proofs.Headers as headers
+use Rattle.batch.specs.Batch.{batchOf}
+use Rattle.batch.proofs.Batches.{batch-of-back}
+use Rattle.format.specs.Format.{formatAnswer, formatBytes}
+use Rattle.calls.specs.Calls.{SoundBytes, wrong-header, not-sound, refuses, accepts, Exports, exports-refusal, exports-answer}
+use Rattle.grants.specs.Contracts.{ReadsRoot, ReadsKey}
+use Rattle.answers.specs.Answers.{foundBytes}
+use Rattle.demands.specs.Calls.{Called, formats, applies, prunes, checks, reads-root, reads-key, proves, verifies, hashes, Calls, none-yet, then-called, Life}
+use Rattle.demands.specs.Claims.{AfterHistory}
+use Rattle.demands.proofs.Hashes.{leaf-hash-whole, inner-hash-whole}
+use Rattle.demands.proofs.Stored.{stored-is, stored-sound}
+use Rattle.demands.proofs.Given.{told-short}
+use Rattle.demands.proofs.Showing.{root-of-tree, key-of-grants}
+use Rattle.demands.proofs.Refusals.{never-0, apply-refusals, prune-refusals}
+
+-- what is kept from call to call
+record Keeping (s : Bytes) (es : List Entry) : Type 0 where
+  bytes : s ≡ storeBytes (storeOf s)
+  keeps : Keeps leafHash innerHash (storeOf s) es
+
+-- the bytes of a store keep what the store does
+of-store : (st : Store) (es : List Entry) → Keeps leafHash innerHash st es → Keeping (storeBytes st) es
+of-store st es k =
+    let said = stored-is st (k .sound) in
+    record { bytes = ap storeBytes (sym said); keeps = subst (λ x. Keeps leafHash innerHash x es) (sym said) k }
+
+module _ {s : Bytes} {es : List Entry} (k : Keeping s es) where
+  -- they are those of a sound store
+  sound-bytes : SoundBytes s
+  sound-bytes = subst SoundBytes (sym (k .bytes)) (stored-sound (storeOf s) (k .keeps .sound))
+
+  size-right : sizeRight (length s) ≡ true
+  size-right =
+      let w = sound-bytes in
+      let a = headers.accepted s (w .capacity) (w .oldest) (w .latest) (w .headed) in
+      size-right-of (length s) (w .capacity) (a .size) (a .some) (a .fits)
+
+fresh-keeps : (s : Bytes) → sizeRight (length s) ≡ true → Keeping (formatBytes s) (entry 0 [] ∷ [])
+unfolding formatBytes
+fresh-keeps s e =
+    let z = size-says (length s) e in
+    rw e (of-store (formatted (roomOf (length s))) (entry 0 [] ∷ []) (keeps-formatted leafHash innerHash (roomOf (length s)) (z .1, z .2)))
+
+-- a header is refused or accepted
+not-headed : {A : Type 0} {h : Headed} {m c o l : ℕ} → h ≡ refusal m → h ≡ header c o l → A
+not-headed e f = let z : _≡_ {A = ℕ} 0 1 = cc in absurd (omega arith)
+
+-- a call that tests soundness, refused or accepted
+export-keeps : {A : Type 0} {call : Store → Outcome A} {told : A → Bytes} {s f t g : Bytes} {r : ℕ} {es now : List Entry} →
+    Exports call told s f r t g → Keeping s es → ((m : ℕ) → call (storeOf s) .answer ≡ refused m → m ≡ 0 → ⊥) →
+    ((a : A) → call (storeOf s) .answer ≡ accepted a → Keeps leafHash innerHash (call (storeOf s) .store) now) →
+    Keeping t (cond (eqb r 0) now es)
+export-keeps (exports-refusal (wrong-header e)) k never then = not-headed e (sound-bytes k .headed)
+export-keeps (exports-refusal (not-sound e n)) k never then = absurd (n (k .keeps .sound))
+export-keeps (exports-refusal {m} (refuses w e)) k never then = rw (ne-eqb m 0 (never m e)) k
+export-keeps {now = now} (exports-answer {a} (accepts w e)) k never then = of-store _ now (then a e)
+
+asks-form : (batch : Bytes) → All Byte batch → CallForm (applying (batchOf batch))
+asks-form batch h = go (batchOf batch) refl
+  where
+    go : (o : Option (List Ask)) → batchOf batch ≡ o → CallForm (applying o)
+    go none e = tt
+    go (some asks) e = batch-of-back batch asks h e .2
+
+-- each public call
+called-keeps : {s t : Bytes} {e : Call × Bool} (es : List Entry) → Called s e t → Keeping s es →
+    Keeping t (cond (e .1) (noted (e .0) es) es)
+unfolding formatAnswer
+called-keeps {s} {t} es (formats {r} w) k =
+    let z : r ≡ 0 = w .answer ∙ ap (λ b. cond b 0 1) (size-right k) in
+    let fresh : Keeping t (noted formatting es) = subst (λ x. Keeping x (entry 0 [] ∷ [])) (sym (w .bytes)) (fresh-keeps s (size-right k)) in
+    subst (λ b. Keeping t (cond b (noted formatting es) es)) (sym (eq-eqb r 0 z)) fresh
+called-keeps {s} es (applies batch h w) k =
+    export-keeps w k (λ m e. never-0 (4 ∷ 5 ∷ 6 ∷ 7 ∷ []) refl (apply-refusals (batchOf batch) (storeOf s) m e))
+    (λ a e.
+    let f = asks-form batch h in
+    let kept = keeps-calls leafHash innerHash leaf-hash-whole inner-hash-whole (applying (batchOf batch) ∷ []) (storeOf s) es (f, tt) (k .keeps) in
+    rw e at kept)
+called-keeps {s} es (prunes {n} w) k =
+    export-keeps w k (λ m e. never-0 (8 ∷ []) refl (prune-refusals n (storeOf s) m e))
+    (λ a e.
+    let kept = keeps-calls leafHash innerHash leaf-hash-whole inner-hash-whole (pruning n ∷ []) (storeOf s) es (tt, tt) (k .keeps) in
+    rw e at kept)
+called-keeps es (checks w) k = k
+called-keeps es (reads-root w) k = k
+called-keeps es (reads-key w) k = k
+called-keeps es (proves w) k = k
+called-keeps es (verifies w) k = k
+called-keeps es (hashes w) k = k
+
+calls-keep : {s t : Bytes} {history : List (Call × Bool)} (es : List Entry) → Calls s history t → Keeping s es →
+    Keeping t (ledger history es)
+calls-keep es none-yet k = k
+calls-keep {history = e ∷ _} es (then-called c calls) k = calls-keep (cond (e .1) (noted (e .0) es) es) calls (called-keeps es c k)
+
+-- what a store holds, the reads answer
+module _ {t : Bytes} (w : SoundBytes t) {es : List Entry} (h : Holds leafHash innerHash (storeOf t) es) {v : ℕ} {gs : List Grant}
+    (kept : Kept (storeOf t) v) (given : grantsOf v es ≡ some gs) where
+  same-grants : h .gives v kept .0 ≡ gs
+  same-grants = one (sym (h .gives v kept .1) ∙ given)
+    where
+      one : {x y : List Grant} → some x ≡ some y → x ≡ y
+      one e = cc
+
+  held-root : {f g : Bytes} {r : ℕ} → ReadsRoot t v f r g → (r ≡ 0) × (g ≡ hash leafHash innerHash (treeOf gs))
+  held-root x =
+      let e = root-of-tree w kept x in (e .0, e .1 ∙ ap (hash leafHash innerHash) (h .gives v kept .2 ∙ ap treeOf same-grants))
+
+  held-key : {k f g : Bytes} {r : ℕ} → Whole32 k → ReadsKey t v k f r g → (r ≡ 0) × (g ≡ foundBytes (answerOf k gs))
+  held-key {k} whole x =
+      let e = key-of-grants w kept whole x in (e .0, e .1 ∙ ap (λ y. foundBytes (answerOf k y)) (h .gives v kept .3 ∙ same-grants))
+
+-- Demand 3. After any sequence of public calls a store that only they wrote is sound and holds what its history gives it.
+pub store-after-history : {history : List (Call × Bool)} {t : Bytes} → Life history t → AfterHistory history t
+unfolding formatAnswer
+store-after-history {t = t} life =
+    let start = subst (λ x. Keeping x (entry 0 [] ∷ [])) (sym (life .formatted .bytes)) (fresh-keeps (life .before) (right _ (life .formatted .answer))) in
+    let k = calls-keep (entry 0 [] ∷ []) (life .calls) start in
+    let h = keeps-holds leafHash innerHash (storeOf t) _ (k .keeps) in
+    record {
+      sound = sound-bytes k;
+      bytes = k .bytes;
+      holds = h;
+      lifetimes = records-stand-in-their-lifetimes leafHash innerHash (storeOf t) _ h;
+      reads-root = λ a b. held-root (sound-bytes k) h a b;
+      reads-key = λ a b. held-key (sound-bytes k) h a b;
+      paths = paths-have-at-most-256-steps leafHash innerHash (storeOf t) (k .keeps .sound);
+      proofs = λ w. told-short w;
+    }
+  where
+    right : (b : Bool) → _≡_ {A = ℕ} 0 (cond b 0 1) → b ≡ true
+    right true e = refl
+    right false e = absurd (omega arith)

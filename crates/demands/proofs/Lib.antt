@@ -1,0 +1,9 @@
+pub mod Hashes
+pub mod Stored
+pub mod Outcomes
+pub mod Refusals
+pub mod Forms
+pub mod Given
+pub mod Showing
+pub mod Versions
+pub mod Histories

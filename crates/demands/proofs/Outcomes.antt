@@ -1,0 +1,37 @@
+-- Demand 1: two outcomes that the contract of a public call allows are equal, in the answer and in every byte. Most contracts are equations, so
+-- both outcomes are the same term; the others are by cases that exclude each other. Assumes nothing.
+use Prim.Native.Nat.{ℕ}
+use mathlib.Core.Path.{_≡_, sym, _∙_}
+use Rattle.terms.specs.Bits.{Bytes}
+use Rattle.soundness.proofs.Answers.{one-answer}
+use Rattle.calls.proofs.Calls.{one-export}
+use Rattle.grants.specs.Contracts.{Formats, Checks, Applies, Prunes, ReadsRoot, ReadsKey, Proves, Verifies, Hashes}
+
+module _ {s : Bytes} {a b : ℕ} where
+  pub one-format : {t u : Bytes} → Formats s a t → Formats s b u → (a ≡ b) × (t ≡ u)
+  one-format x y = (x .answer ∙ sym (y .answer), x .bytes ∙ sym (y .bytes))
+
+  pub one-check : Checks s a → Checks s b → a ≡ b
+  one-check x y = one-answer s a b x y
+
+  pub one-apply : (batch : Bytes) {f t u g h : Bytes} → Applies batch s f a t g → Applies batch s f b u h → (a ≡ b) × (t ≡ u) × (g ≡ h)
+  one-apply batch x y = one-export x y
+
+  pub one-prune : (n : ℕ) {f t u g h : Bytes} → Prunes n s f a t g → Prunes n s f b u h → (a ≡ b) × (t ≡ u) × (g ≡ h)
+  one-prune n x y = one-export x y
+
+  pub one-root : {v : ℕ} {f g h : Bytes} → ReadsRoot s v f a g → ReadsRoot s v f b h → (a ≡ b) × (g ≡ h)
+  one-root x y = (x .answer ∙ sym (y .answer), x .root ∙ sym (y .root))
+
+  pub one-get : {v : ℕ} {k f g h : Bytes} → ReadsKey s v k f a g → ReadsKey s v k f b h → (a ≡ b) × (g ≡ h)
+  one-get x y = (x .answer ∙ sym (y .answer), x .found ∙ sym (y .found))
+
+  pub one-prove : {v : ℕ} {k room f t u g h : Bytes} → Proves s v k room f a t g → Proves s v k room f b u h → (a ≡ b) × (t ≡ u) × (g ≡ h)
+  one-prove x y = (x .answer ∙ sym (y .answer), x .proof ∙ sym (y .proof), x .told ∙ sym (y .told))
+
+module _ {a b : ℕ} where
+  pub one-verify : {root k x f g h : Bytes} → Verifies root k x f a g → Verifies root k x f b h → (a ≡ b) × (g ≡ h)
+  one-verify x y = (x .answer ∙ sym (y .answer), x .found ∙ sym (y .found))
+
+  pub one-sha256 : {x g h : Bytes} → Hashes x a g → Hashes x b h → (a ≡ b) × (g ≡ h)
+  one-sha256 x y = (x .answer ∙ sym (y .answer), x .digest ∙ sym (y .digest))

@@ -1,0 +1,200 @@
+-- Demand 2, an accepted batch: the bytes that are left are those of the store that the definition leaves, and what is told is the definition's
+-- answer, field by field. Assumes nothing.
+use Prim.Native.Nat.{ℕ, _+_, _≤_}
+use native.Mathlib.Omega.{arith}
+use mathlib.Core.Path.{_≡_, refl, ap, sym, _∙_, subst, subst₂}
+use mathlib.Core.List.{List, [], _∷_, _++_, append-nil}
+use mathlib.Core.Option.{Option, none, some}
+use lib.ListN.{length, getD}
+use Rattle.terms.specs.Bits.{Bytes, Byte, All, Whole32}
+use Rattle.terms.specs.Fields.{le, num, field, slice, flat}
+use Rattle.terms.specs.Records.{Ask, Slot, free, used, spoiled, Store}
+use Rattle.terms.specs.Form.{top32}
+use Rattle.terms.proofs.Fields.{num-le, length-le, cuts, cuts-flat}
+use Rattle.meaning.specs.Tree.{withBatch, treeOf, hash, unversioned, nextTree}
+use Rattle.meaning.specs.Store.{freeSlots, newRecords}
+use Rattle.meaning.specs.Sound.{Kept}
+use Rattle.meaning.specs.Calls.{Answer, accepted, refuse, Applied, prune, apply}
+use Rattle.meaning.specs.Reading.{answerOf}
+use Rattle.histories.specs.Claims.{AfterApply, AfterPrune}
+use Rattle.histories.proofs.Calls.{recordsNeeded, apply-cases}
+use Rattle.histories.proofs.Theorems.{sound-tree-of-grants, prune-keeps-sound, apply-keeps-sound}
+use Rattle.nodehash.specs.Node.{leafHash, innerHash}
+use Rattle.layout.specs.Stores.{storeOf, storeBytes}
+use Rattle.batch.specs.Batch.{batchOf}
+use Rattle.batch.proofs.Batches.{batch-of-back}
+use Rattle.calls.specs.Calls.{SoundBytes, accepts, exports-refusal, exports-answer}
+use Rattle.applying_c.specs.Export.{answerBytes, told}
+use Rattle.answers.specs.Answers.{foundBytes}
+use Rattle.grants.specs.Contracts.{Applies, Prunes, ReadsRoot, ReadsKey}
+use Rattle.demands.specs.Claims.{treeOfVersion, grantsOfVersion, latestOf, NextVersion, Pruned}
+use Rattle.demands.proofs.Hashes.{leaf-hash-whole, inner-hash-whole, hash-whole}
+use Rattle.demands.proofs.Stored.{stored-is, stored-sound}
+use Rattle.demands.proofs.Refusals.{no-refusal, never-0, apply-refusals, prune-refusals, does-numbers}
+use Rattle.demands.proofs.Showing.{root-of-tree, key-of-grants}
+
+-- what an accepted batch makes, on the store of the bytes
+record Makes (batch s t g : Bytes) : Type 0 where
+  asks : List Ask
+  asked : batchOf batch ≡ some asks
+  was : SoundBytes s
+  answer : Applied
+  accepted-as : apply leafHash innerHash (some asks) (storeOf s) .answer ≡ accepted answer
+  bytes : t ≡ storeBytes (apply leafHash innerHash (some asks) (storeOf s) .store)
+  told-as : g ≡ told answer
+
+makes : (batch : Bytes) {s f t g : Bytes} {r : ℕ} → Applies batch s f r t g → r ≡ 0 → Makes batch s t g
+unfolding refuse
+makes batch {s} (exports-refusal d) z =
+    absurd (never-0 (1 ∷ 2 ∷ 3 ∷ 4 ∷ 5 ∷ 6 ∷ 7 ∷ []) refl (does-numbers (4 ∷ 5 ∷ 6 ∷ 7 ∷ []) (apply-refusals (batchOf batch)) d) z)
+makes batch {s} (exports-answer {a} (accepts w e)) z = go (batchOf batch) refl e
+  where
+    go : (o : Option (List Ask)) → batchOf batch ≡ o → apply leafHash innerHash o (storeOf s) .answer ≡ accepted a →
+        Makes batch s (storeBytes (apply leafHash innerHash (batchOf batch) (storeOf s) .store)) (told a)
+    go none f h = no-refusal (sym h)
+    go (some asks) f h = record {
+      asks = asks;
+      asked = f;
+      was = w;
+      answer = a;
+      accepted-as = h;
+      bytes = ap (λ o. storeBytes (apply leafHash innerHash o (storeOf s) .store)) f;
+      told-as = refl;
+    }
+
+-- the fields of what is told
+module _ {g : Bytes} (a : Applied) (is : g ≡ told a) (root32 : length (a .root) ≡ 32) where
+  cut : (i : ℕ) → getD (cuts (4 ∷ 32 ∷ 4 ∷ []) 0 g) i [] ≡ getD (le 4 (a .version) ∷ a .root ∷ le 4 (a .count) ∷ []) i []
+  unfolding answerBytes
+  cut i =
+      let fs : List Bytes = le 4 (a .version) ∷ a .root ∷ le 4 (a .count) ∷ [] in
+      let whole : g ≡ flat fs = is ∙ ap (λ x. le 4 (a .version) ++ (a .root ++ x)) (sym (append-nil (le 4 (a .count)))) in
+      ap (λ x. getD (cuts (4 ∷ 32 ∷ 4 ∷ []) 0 x) i []) whole
+      ∙ ap (λ x. getD x i []) (cuts-flat (4 ∷ 32 ∷ 4 ∷ []) fs (length-le 4 (a .version), (root32, (length-le 4 (a .count), tt))))
+
+  version-told : a .version ≤ top32 → field 0 4 g ≡ a .version
+  unfolding field
+  version-told h = ap num (cut 0) ∙ num-le 4 (a .version) (omega arith)
+
+  root-told : slice 4 32 g ≡ a .root
+  root-told = cut 1
+
+  count-told : a .count ≤ top32 → field 36 4 g ≡ a .count
+  unfolding field
+  count-told h = ap num (cut 2) ∙ num-le 4 (a .count) (omega arith)
+
+-- there are no more free slots than slots
+free-most : (s : List Slot) → freeSlots s ≤ length s
+free-most [] = omega arith
+free-most (free ∷ s) = let h = free-most s in omega arith
+free-most (used r ∷ s) = let h = free-most s in omega arith
+free-most (spoiled x ∷ s) = let h = free-most s in omega arith
+
+-- the count is that of the records that the new tree needs
+count-is : (asks : List Ask) (st : Store) (a : Applied) → apply leafHash innerHash (some asks) st .answer ≡ accepted a →
+    a .count ≡ length (recordsNeeded leafHash innerHash asks st)
+unfolding refuse
+count-is asks st a =
+    apply-cases leafHash innerHash (λ o. o .answer ≡ accepted a → a .count ≡ length (recordsNeeded leafHash innerHash asks st)) asks st
+    (λ b e. no-refusal (sym e)) (λ b m e. no-refusal (sym e)) (λ b m h e. no-refusal (sym e)) (λ b m room e. same e)
+  where
+    same : {x : Applied} → _≡_ {A = Answer Applied} (accepted x) (accepted a) → a .count ≡ x .count
+    same e = cc
+
+module _ {batch s t g : Bytes} (bytes : All Byte batch) (m : Makes batch s t g) where
+  abbrev st′ : Store
+  st′ = apply leafHash innerHash (some (m .asks)) (storeOf s) .store
+
+  made : AfterApply leafHash innerHash (m .asks) (storeOf s) (m .answer) st′
+  made =
+      apply-keeps-sound leafHash innerHash leaf-hash-whole inner-hash-whole (m .asks) (storeOf s) (m .answer) (m .was .sound)
+      (batch-of-back batch (m .asks) bytes (m .asked) .2) (m .accepted-as)
+
+  sound : SoundBytes t
+  sound = subst SoundBytes (sym (m .bytes)) (stored-sound st′ (made .sound))
+
+  store-is : storeOf t ≡ st′
+  store-is = ap storeOf (m .bytes) ∙ stored-is st′ (made .sound)
+
+  after : AfterApply leafHash innerHash (m .asks) (storeOf s) (m .answer) (storeOf t)
+  after = subst (AfterApply leafHash innerHash (m .asks) (storeOf s) (m .answer)) (sym store-is) made
+
+  kept : Kept (storeOf t) (latestOf t)
+  kept = (sound .sound .header .0, omega arith)
+
+  tree : unversioned (treeOfVersion t (latestOf t)) ≡ treeOf (withBatch (m .asks) (grantsOfVersion s (latestOf s)))
+  tree = sound-tree-of-grants leafHash innerHash (storeOf t) (sound .sound) (latestOf t) kept .0 ∙ ap treeOf (after .grants)
+
+  root32 : length (m .answer .root) ≡ 32
+  root32 = ap length (after .root) ∙ hash-whole (unversioned (treeOfVersion t (latestOf t))) .0
+
+  version : field 0 4 g ≡ latestOf t
+  version =
+      let small = sound .sound .header .1 in
+      version-told (m .answer) (m .told-as) root32 (omega (arith, after .version)) ∙ after .version
+
+  root : slice 4 32 g ≡ hash leafHash innerHash (unversioned (treeOfVersion t (latestOf t)))
+  root = root-told (m .answer) (m .told-as) root32 ∙ after .root
+
+  needed : recordsNeeded leafHash innerHash (m .asks) (storeOf s)
+      ≡ newRecords leafHash innerHash (latestOf t) (treeOfVersion t (latestOf t))
+  needed =
+      let next : latestOf s + 1 ≡ latestOf t = omega (arith, after .latest) in
+      ap (λ v. newRecords leafHash innerHash v (nextTree v (treeOfVersion s (latestOf s)) (m .asks))) next
+      ∙ ap (newRecords leafHash innerHash (latestOf t)) (sym (after .tree))
+
+  count : field 36 4 g ≡ length (newRecords leafHash innerHash (latestOf t) (treeOfVersion t (latestOf t)))
+  count =
+      let few : m .answer .count ≤ top32 = omega (arith, after .count, free-most (storeOf s .slots), m .was .sound .size .1) in
+      count-told (m .answer) (m .told-as) root32 few ∙ count-is (m .asks) (storeOf s) (m .answer) (m .accepted-as) ∙ ap length needed
+
+  root-read : {f h : Bytes} {r : ℕ} → ReadsRoot t (field 0 4 g) f r h → (r ≡ 0) × (h ≡ slice 4 32 g)
+  root-read {f} {h} {r} x = let e = root-of-tree sound kept (subst (λ v. ReadsRoot t v f r h) version x) in (e .0, e .1 ∙ sym root)
+
+  key-read : {k f h : Bytes} {r : ℕ} → Whole32 k → ReadsKey t (field 0 4 g) k f r h →
+      (r ≡ 0) × (h ≡ foundBytes (answerOf k (withBatch (m .asks) (grantsOfVersion s (latestOf s)))))
+  key-read {k} {f} {h} {r} whole x =
+      let e = key-of-grants sound kept whole (subst (λ v. ReadsKey t v k f r h) version x) in
+      (e .0, e .1 ∙ ap (λ gs. foundBytes (answerOf k gs)) (after .grants))
+
+  next-version : NextVersion batch s t g
+  next-version = record {
+    asks = m .asks;
+    asked = m .asked;
+    was = m .was;
+    sound = sound;
+    bytes = m .bytes ∙ ap storeBytes (sym store-is);
+    answer = m .answer;
+    answered = m .told-as;
+    after = after;
+    version = version ∙ omega (arith, after .latest);
+    latest = omega (arith, after .latest);
+    grants = after .grants;
+    tree = tree;
+    root = root ∙ ap (hash leafHash innerHash) tree;
+    count = count;
+    reads-root = root-read;
+    reads-key = key-read;
+  }
+
+-- An accepted batch makes the next version.
+pub accepted-batch-makes-next-version : (batch : Bytes) {s f t g : Bytes} → All Byte batch → Applies batch s f 0 t g → NextVersion batch s t g
+accepted-batch-makes-next-version batch bytes w = next-version bytes (makes batch w refl)
+
+-- An accepted pruning frees the records that it counts, and leaves the versions still kept their trees.
+pub accepted-prune-frees : (n : ℕ) {s f t g : Bytes} → Prunes n s f 0 t g → Pruned n s t g
+accepted-prune-frees n {s} w = go w refl
+  where
+    go : {f t g : Bytes} {r : ℕ} → Prunes n s f r t g → r ≡ 0 → Pruned n s t g
+    go (exports-refusal d) z = absurd (never-0 (1 ∷ 2 ∷ 3 ∷ 8 ∷ []) refl (does-numbers (8 ∷ []) (prune-refusals n) d) z)
+    go (exports-answer {a} (accepts w e)) z =
+        let st = prune n (storeOf s) .store in
+        let made = prune-keeps-sound leafHash innerHash n (storeOf s) a (w .sound) e in
+        let few : a ≤ top32 = omega (arith, made .count, made .capacity, free-most (st .slots), w .sound .size .1) in
+        let said = stored-is st (made .sound) in
+        record {
+          was = w;
+          sound = stored-sound st (made .sound);
+          bytes = ap storeBytes (sym said);
+          after = subst₂ (λ k x. AfterPrune leafHash innerHash n (storeOf s) k x) (sym (num-le 4 a (omega arith))) (sym said) made;
+        }

@@ -1,0 +1,39 @@
+-- Demand 3: any sequence of public calls on one store, refused ones included. Each call is its contract, and the bytes it leaves are those that
+-- the next one is lent. Assumes nothing.
+use Prim.Native.Nat.{ℕ}
+use mathlib.Core.Bool.{Bool, false}
+use mathlib.Core.List.{List, [], _∷_}
+use lib.Dec.{eqb}
+use Rattle.terms.specs.Bits.{Bytes, Byte, All}
+use Rattle.meaning.specs.History.{Call, formatting, applying, pruning, looking}
+use Rattle.batch.specs.Batch.{batchOf}
+use Rattle.grants.specs.Contracts.{Formats, Checks, Applies, Prunes, ReadsRoot, ReadsKey, Proves, Verifies, Hashes}
+
+-- A public call with any arguments, lent the bytes s whole and as the store, leaves the bytes t. A history notes of it what was asked and
+-- whether it was accepted, that is, answered with 0.
+pub data Called (s : Bytes) : Call × Bool → Bytes → Type 0 where
+  -- formatting again, too
+  formats : {r : ℕ} {t : Bytes} → Formats s r t → Called s (formatting, eqb r 0) t
+  -- a batch is lent bytes
+  applies : (batch : Bytes) {f t g : Bytes} {r : ℕ} → All Byte batch → Applies batch s f r t g → Called s (applying (batchOf batch), eqb r 0) t
+  prunes : {n r : ℕ} {f t g : Bytes} → Prunes n s f r t g → Called s (pruning n, eqb r 0) t
+  -- these look at the store
+  checks : {r : ℕ} → Checks s r → Called s (looking, false) s
+  reads-root : {v r : ℕ} {f g : Bytes} → ReadsRoot s v f r g → Called s (looking, false) s
+  reads-key : {v r : ℕ} {k f g : Bytes} → ReadsKey s v k f r g → Called s (looking, false) s
+  proves : {v r : ℕ} {k room f t g : Bytes} → Proves s v k room f r t g → Called s (looking, false) s
+  -- and these are lent none
+  verifies : {r : ℕ} {root k x f g : Bytes} → Verifies root k x f r g → Called s (looking, false) s
+  hashes : {r : ℕ} {x g : Bytes} → Hashes x r g → Called s (looking, false) s
+
+-- Calls one after the other, from the bytes s to the bytes t, with their history.
+pub data Calls : Bytes → List (Call × Bool) → Bytes → Type 0 where
+  none-yet : {s : Bytes} → Calls s [] s
+  then-called : {s t u : Bytes} {e : Call × Bool} {history : List (Call × Bool)} → Called s e t → Calls t history u → Calls s (e ∷ history) u
+
+-- A store that only public calls wrote: format accepted some bytes, and these calls came after.
+pub record Life (history : List (Call × Bool)) (t : Bytes) : Type 0 where
+  pub before : Bytes
+  pub fresh : Bytes
+  pub formatted : Formats before 0 fresh
+  pub calls : Calls fresh history t

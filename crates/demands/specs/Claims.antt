@@ -1,0 +1,114 @@
+-- What the demands claim of the public calls, in the words of their contracts. Assumes nothing.
+use Prim.Native.Nat.{ℕ, _+_, _≤_}
+use mathlib.Core.Path.{_≡_}
+use mathlib.Core.Logic.{_↔_}
+use mathlib.Core.Bool.{Bool}
+use mathlib.Core.List.{List, [], _∷_}
+use mathlib.Core.Option.{some}
+use lib.ListN.{length, take}
+use Rattle.terms.specs.Bits.{Bytes, Whole32, Place}
+use Rattle.terms.specs.Fields.{num, field, slice}
+use Rattle.terms.specs.Records.{Grant, Ask, Record, Proof}
+use Rattle.meaning.specs.Tree.{withBatch, treeOf, hash, VTree, unversioned, grantsIn}
+use Rattle.meaning.specs.Store.{treeAtVersion, newRecords}
+use Rattle.meaning.specs.Sound.{At, Kept, NodeOf, Lives}
+use Rattle.meaning.specs.Calls.{accepted, Applied}
+use Rattle.meaning.specs.Reading.{present, absent, answerOf}
+use Rattle.meaning.specs.Proving.{proof, proofLength}
+use Rattle.meaning.specs.History.{Call, Entry, entry, ledger, grantsOf, Holds}
+use Rattle.histories.specs.Claims.{AfterApply, AfterPrune}
+use Rattle.nodehash.specs.Node.{leafHash, innerHash}
+use Rattle.proofrecords.specs.ProofBytes.{presenceKind, absenceKind}
+use Rattle.layout.specs.Stores.{storeOf, storeBytes}
+use Rattle.batch.specs.Batch.{batchOf}
+use Rattle.calls.specs.Calls.{SoundBytes}
+use Rattle.applying_c.specs.Export.{told}
+use Rattle.answers.specs.Answers.{foundBytes}
+use Rattle.grants.specs.Contracts.{ReadsRoot, ReadsKey, Proves, Verifies}
+
+-- Of the store that bytes hold: the tree of a version, its grants, and the latest version.
+abbrev pub treeOfVersion : Bytes → ℕ → VTree
+treeOfVersion s v = treeAtVersion (storeOf s) v
+
+abbrev pub grantsOfVersion : Bytes → ℕ → List Grant
+grantsOfVersion s v = grantsIn (treeOfVersion s v)
+
+abbrev pub latestOf : Bytes → ℕ
+latestOf s = storeOf s .latest
+
+-- The latest grants with a batch applied.
+abbrev pub grantsWith : List Ask → Bytes → List Grant
+grantsWith asks s = withBatch asks (grantsOfVersion s (latestOf s))
+
+-- The grants by version that a history gives to a fresh store.
+abbrev pub ledgerOf : List (Call × Bool) → List Entry
+ledgerOf history = ledger history (entry 0 [] ∷ [])
+
+-- Demand 3: the bytes t of a store after its history.
+pub record AfterHistory (history : List (Call × Bool)) (t : Bytes) : Type 0 where
+  -- the store is sound, and the bytes are its bytes
+  pub sound : SoundBytes t
+  pub bytes : t ≡ storeBytes (storeOf t)
+  -- it holds exactly the grants that the history gives it
+  pub holds : Holds leafHash innerHash (storeOf t) (ledgerOf history)
+  -- each record stands in exactly the kept versions of its lifetime
+  pub lifetimes : (v : ℕ) → Kept (storeOf t) v → (i : ℕ) (r : Record) → At (storeOf t) i r →
+      NodeOf (r .version) (r .place) (treeOfVersion t v) [] ↔ Lives v r
+  -- the reads of a kept version answer for the grants that the history gives it
+  pub reads-root : {v : ℕ} {gs : List Grant} {f g : Bytes} {r : ℕ} → Kept (storeOf t) v → grantsOf v (ledgerOf history) ≡ some gs →
+      ReadsRoot t v f r g → (r ≡ 0) × (g ≡ hash leafHash innerHash (treeOf gs))
+  pub reads-key : {v : ℕ} {gs : List Grant} {k f g : Bytes} {r : ℕ} → Kept (storeOf t) v → grantsOf v (ledgerOf history) ≡ some gs →
+      Whole32 k → ReadsKey t v k f r g → (r ≡ 0) × (g ≡ foundBytes (answerOf k gs))
+  -- no path is longer than 256 steps
+  pub paths : (v : ℕ) → Kept (storeOf t) v → (w : ℕ) (p : Place) → NodeOf w p (treeOfVersion t v) [] → length p ≤ 256
+  -- no proof is longer than 17,080 bytes
+  pub proofs : {v : ℕ} {k room f u g : Bytes} → Proves t v k room f 0 u g → num g ≤ 17080
+
+-- Demand 2: a batch was applied to the bytes s and accepted; t are the bytes left, and g what was told: version 4, root 32, count 4.
+pub record NextVersion (batch s t g : Bytes) : Type 0 where
+  pub asks : List Ask
+  pub asked : batchOf batch ≡ some asks
+  pub was : SoundBytes s
+  pub sound : SoundBytes t
+  pub bytes : t ≡ storeBytes (storeOf t)
+  -- the new tree with its node versions, the retired nodes, and nothing else
+  pub answer : Applied
+  pub answered : g ≡ told answer
+  pub after : AfterApply leafHash innerHash asks (storeOf s) answer (storeOf t)
+  -- the new version is the next, and its grants are the old ones with the batch
+  pub version : field 0 4 g ≡ latestOf s + 1
+  pub latest : latestOf t ≡ latestOf s + 1
+  pub grants : grantsOfVersion t (latestOf t) ≡ grantsWith asks s
+  pub tree : unversioned (treeOfVersion t (latestOf t)) ≡ treeOf (grantsWith asks s)
+  -- the root is that of those grants, and the count that of the new records
+  pub root : slice 4 32 g ≡ hash leafHash innerHash (treeOf (grantsWith asks s))
+  pub count : field 36 4 g ≡ length (newRecords leafHash innerHash (latestOf t) (treeOfVersion t (latestOf t)))
+  -- a root read of the new version answers the root that was told, and a key read what those grants say
+  pub reads-root : {f h : Bytes} {r : ℕ} → ReadsRoot t (field 0 4 g) f r h → (r ≡ 0) × (h ≡ slice 4 32 g)
+  pub reads-key : {k f h : Bytes} {r : ℕ} → Whole32 k → ReadsKey t (field 0 4 g) k f r h →
+      (r ≡ 0) × (h ≡ foundBytes (answerOf k (grantsWith asks s)))
+
+-- Pruning the bytes s to n was accepted; t are the bytes left, and g what was told: the count of records freed.
+pub record Pruned (n : ℕ) (s t g : Bytes) : Type 0 where
+  pub was : SoundBytes s
+  pub sound : SoundBytes t
+  pub bytes : t ≡ storeBytes (storeOf t)
+  -- the versions still kept have their trees, and as many slots more are free as was told
+  pub after : AfterPrune leafHash innerHash n (storeOf s) (num g) (storeOf t)
+
+-- Demand 2: what is shown of a key in a kept version of a sound store.
+pub record Shown (s : Bytes) (v : ℕ) (k : Bytes) : Type 0 where
+  -- the key read answers what the version's grants say
+  pub reads-key : {f g : Bytes} {r : ℕ} → ReadsKey s v k f r g → (r ≡ 0) × (g ≡ foundBytes (answerOf k (grantsOfVersion s v)))
+  -- there is a proof, which is given exactly if there is room for it; 17,080 bytes are enough
+  pub proved : Proof
+  pub is-proved : proof (storeOf s) v k ≡ accepted proved
+  pub given : {room f t g : Bytes} {r : ℕ} → Proves s v k room f r t g → (r ≡ 0) ↔ (proofLength proved ≤ length room)
+  pub room : {room f t g : Bytes} {r : ℕ} → Proves s v k room f r t g → 17080 ≤ length room → r ≡ 0
+  -- it shows a grant exactly if the key is in the version, else its absence
+  pub presence : {room f t g : Bytes} → Proves s v k room f 0 t g →
+      (field 4 2 t ≡ presenceKind) ↔ ((x : Bytes) × (answerOf k (grantsOfVersion s v) ≡ present x))
+  pub absence : {room f t g : Bytes} → Proves s v k room f 0 t g → (field 4 2 t ≡ absenceKind) ↔ (answerOf k (grantsOfVersion s v) ≡ absent)
+  -- and the checker accepts it against the version's root, and finds what the key read finds
+  pub checked : {room f t g f₁ root f₂ found : Bytes} {r₁ r₂ : ℕ} → Proves s v k room f 0 t g → ReadsRoot s v f₁ r₁ root →
+      Verifies root k (take (num g) t) f₂ r₂ found → (r₁ ≡ 0) × (r₂ ≡ 0) × (found ≡ foundBytes (answerOf k (grantsOfVersion s v)))
