@@ -1,5 +1,7 @@
 // The program of vectors: the desk's example of document 01, M1 to M12, and its closing cases, through the public calls. Each row has 01's
 // words and below them what came. The gate holds all that is written here to the file stdout.
+//
+// A store of n slots has 24 + 120n bytes. What takes a store or a batch as an array, and not as a slice, need not show its length.
 mod ask;
 mod held;
 mod run;
@@ -31,10 +33,10 @@ const F: u8 = 0b0001_0000;
 fn main() {
     let mut store = [0u8; 2424];
     desk(&mut store);
-    split();
-    deep();
-    again(&mut store);
-    full();
+    m9();
+    m10();
+    m11(&mut store);
+    m12();
     many();
     short();
 }
@@ -67,7 +69,7 @@ fn four_root() -> Hash {
     inner_hash(left, leaf(key(D, 0), 4))
 }
 
-// B's value and a proof of it.
+// B in a version: what a read finds, and what a proof shows.
 fn look(store: &[u8], version: u32) {
     let k = bytes(key(B, 0));
     run::get(store, version, b"B", &k);
@@ -118,6 +120,7 @@ fn m3(store: &mut [u8]) {
     run::apply(store, 20, b"empty batch", b"", three_root());
 }
 
+// Deletes one key.
 fn without(store: &mut [u8], batch: &mut [u8; 72], name: &[u8], first: u8, root: Hash) {
     delete(batch, 0, key(first, 0));
     run::apply(store, 20, name, batch, root);
@@ -166,62 +169,62 @@ fn m8_batch(store: &mut [u8], batch: &mut [u8; 72]) {
     run::apply(store, 20, b"insert E", batch, leaf(key(D, 1), 6));
 }
 
-fn split() {
+fn m9() {
     say::row(
         b"M9",
         b"fresh, keys beginning 0000 and 0001, other bits zero: six records; capacity 5 gives 7.",
     );
     let mut store = [0u8; 2424];
-    split_in(&mut store);
+    m9_large(&mut store);
     let mut small = [0u8; 624];
-    split_small(&mut small);
+    m9_small(&mut small);
 }
 
-fn split_in(store: &mut [u8; 2424]) {
+fn m9_large(store: &mut [u8; 2424]) {
     run::format(store);
     let mut batch = [0u8; 144];
-    split_batch(store, &mut batch);
+    m9_batch(store, &mut batch);
 }
 
-fn split_small(store: &mut [u8; 624]) {
+fn m9_small(store: &mut [u8; 624]) {
     run::format(store);
     let mut batch = [0u8; 144];
-    split_batch(store, &mut batch);
+    m9_batch(store, &mut batch);
 }
 
-fn split_batch(store: &mut [u8], batch: &mut [u8; 144]) {
+fn m9_batch(store: &mut [u8], batch: &mut [u8; 144]) {
     insert(batch, 0, key(A, 0), 1);
     insert(batch, 1, key(F, 0), 2);
     let root = lone(inner_hash(leaf(key(A, 0), 1), leaf(key(F, 0), 2)), 3);
     run::apply(store, 20, b"insert both", batch, root);
 }
 
-fn deep() {
+fn m10() {
     say::row(
         b"M10",
         b"keys that differ in the last bit only: leaves at 256 bits, 257 inner and leaf levels, proofs of 256 steps.",
     );
     let mut store = [0u8; 30984];
-    deep_in(&mut store);
+    m10_in(&mut store);
 }
 
-fn deep_in(store: &mut [u8; 30984]) {
+fn m10_in(store: &mut [u8; 30984]) {
     run::format(store);
     let mut batch = [0u8; 144];
-    deep_batch(store, &mut batch);
-    deep_levels(store);
+    m10_batch(store, &mut batch);
+    m10_levels(store);
     let mut room = [0u8; 8520];
-    deep_proofs(store, &mut room);
+    m10_proofs(store, &mut room);
 }
 
-fn deep_batch(store: &mut [u8], batch: &mut [u8; 144]) {
+fn m10_batch(store: &mut [u8], batch: &mut [u8; 144]) {
     insert(batch, 0, key(A, 0), 1);
     insert(batch, 1, key(A, 1), 2);
     let root = lone(inner_hash(leaf(key(A, 0), 1), leaf(key(A, 1), 2)), 255);
     run::apply(store, 258, b"insert both", batch, root);
 }
 
-fn deep_levels(store: &[u8]) {
+fn m10_levels(store: &[u8]) {
     say::came();
     say::text(b"leaves at 256 bits: ");
     say::count(held::deep_leaves(store, 258));
@@ -232,12 +235,12 @@ fn deep_levels(store: &[u8]) {
     say::text(b"\n");
 }
 
-fn deep_proofs(store: &[u8], room: &mut [u8; 8520]) {
+fn m10_proofs(store: &[u8], room: &mut [u8; 8520]) {
     run::prove(store, 1, b"the first", &bytes(key(A, 0)), room);
     run::prove(store, 1, b"the second", &bytes(key(A, 1)), room);
 }
 
-fn again(store: &mut [u8; 2424]) {
+fn m11(store: &mut [u8; 2424]) {
     say::row(
         b"M11",
         b"after M8, prune to 4: accepted, frees 0. Prune to 8: refused with 8.",
@@ -247,25 +250,25 @@ fn again(store: &mut [u8; 2424]) {
     run::check(store);
 }
 
-fn full() {
+fn m12() {
     say::row(
         b"M12",
         b"M1 at capacity 7: then an empty batch gives 7; deleting all four keys is accepted.",
     );
     let mut store = [0u8; 864];
-    full_in(&mut store);
+    m12_in(&mut store);
 }
 
-fn full_in(store: &mut [u8; 864]) {
+fn m12_in(store: &mut [u8; 864]) {
     run::format(store);
     let mut batch = [0u8; 288];
     four(&mut batch);
     m1_batch(store, 7, &batch);
     run::apply(store, 7, b"empty batch", b"", four_root());
-    none_left(store, &mut batch);
+    m12_deletes(store, &mut batch);
 }
 
-fn none_left(store: &mut [u8], batch: &mut [u8; 288]) {
+fn m12_deletes(store: &mut [u8], batch: &mut [u8; 288]) {
     delete(batch, 0, key(A, 0));
     delete(batch, 1, key(B, 0));
     delete(batch, 2, key(C, 0));
@@ -273,6 +276,7 @@ fn none_left(store: &mut [u8], batch: &mut [u8; 288]) {
     run::apply(store, 7, b"delete A, B, C, D", batch, no_hash());
 }
 
+// The larger batch comes first: the store is then empty, and its test for soundness quick.
 fn many() {
     say::row(b"Closing cases", b"1,024 records pass, 1,025 give 4;");
     let mut store = [0u8; 245664];
@@ -343,6 +347,7 @@ fn short_proofs(store: &[u8], room: &mut [u8; 17080]) {
     run::prove_in(store, 1, b"the key that ends in 010", &missing, room, 17079);
 }
 
+// One byte less than 20 slots have.
 fn odd_in(store: &mut [u8; 2423]) {
     run::format(store);
 }

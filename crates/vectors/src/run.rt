@@ -1,16 +1,29 @@
 // The public calls, each with a line that says what came.
 use crate::held;
 use crate::say;
+use digest::digest;
 use hash::Hash;
+
+// A call was refused that may write to these bytes. `before` is what they hashed to before it.
+fn say_refused(no: u32, before: Hash, bytes: &[u8]) {
+    say::text(b"refused with ");
+    say::number(no);
+    if hash::same_hash(before, digest(bytes)) {
+        say::text(b", nothing written\n");
+    } else {
+        say::text(b", BUT SOMETHING WRITTEN\n");
+    }
+}
 
 pub fn format(store: &mut [u8]) {
     say::came();
     say::text(b"format ");
     say::count(store.len());
     say::text(b" bytes: ");
+    let before = digest(store);
     let no = grants::grants_format(store);
     if no != 0 {
-        say::refusal(no);
+        say_refused(no, before, store);
         return;
     }
     say::text(b"accepted\n");
@@ -90,10 +103,11 @@ pub fn apply(store: &mut [u8], slots: usize, name: &[u8], batch: &[u8], root: Ha
     say::came();
     say::text(name);
     say::text(b": ");
+    let before = digest(store);
     let mut answer = [0u8; 40];
     let no = grants::grants_apply(store, batch, &mut answer);
     if no != 0 {
-        say::refusal(no);
+        say_refused(no, before, store);
         return;
     }
     say_made(store, slots, &answer, root);
@@ -109,10 +123,11 @@ pub fn prune(store: &mut [u8], slots: usize, version: u32) {
     say::text(b"prune to ");
     say::number(version);
     say::text(b": ");
+    let before = digest(store);
     let mut freed = [0u8; 4];
     let no = grants::grants_prune(store, version, &mut freed);
     if no != 0 {
-        say::refusal(no);
+        say_refused(no, before, store);
         return;
     }
     say::text(b"freed ");
@@ -205,10 +220,11 @@ pub fn prove(store: &[u8], version: u32, name: &[u8], key: &[u8; 32], room: &mut
     say::text(b"prove ");
     say_key(name, version);
     say_room(room);
+    let before = digest(room);
     let mut length = [0u8; 4];
     let no = grants::grants_prove(store, version, key, room, &mut length);
     if no != 0 {
-        say::refusal(no);
+        say_refused(no, before, room);
         return;
     }
     let n = number_in(&length) as usize;
