@@ -1,7 +1,7 @@
 // The program of vectors: the desk's example of document 01, M1 to M12, and its closing cases, through the public calls. Each row has 01's
 // words and below them what came. The gate holds all that is written here to the file stdout.
 //
-// A store of n slots has 24 + 120n bytes. What takes a store or a batch as an array, and not as a slice, need not show its length.
+// A store of n slots has 24 + 120n bytes.
 mod ask;
 mod held;
 mod run;
@@ -42,7 +42,7 @@ fn main() {
 }
 
 // M1 to M8, on one store.
-fn desk(store: &mut [u8; 2424]) {
+fn desk(store: &mut [u8]) {
     say::text(b"A begins 00, B 010, C 011, D 1; other bits zero; capacity 20.\n");
     run::format(store);
     m1(store);
@@ -55,14 +55,7 @@ fn desk(store: &mut [u8; 2424]) {
     m8(store);
 }
 
-// M1's batch, and the hash of its tree.
-fn four(batch: &mut [u8; 288]) {
-    insert(batch, 0, key(A, 0), 1);
-    insert(batch, 1, key(B, 0), 2);
-    insert(batch, 2, key(C, 0), 3);
-    insert(batch, 3, key(D, 0), 4);
-}
-
+// M1's tree.
 fn four_root() -> Hash {
     let right = inner_hash(leaf(key(B, 0), 2), leaf(key(C, 0), 3));
     let left = inner_hash(leaf(key(A, 0), 1), right);
@@ -82,14 +75,17 @@ fn m1(store: &mut [u8]) {
         b"M1",
         b"insert all: version 1, slots 0 to 6 hold 010, 011, 00, 01, 0, 1, root.",
     );
-    let mut batch = [0u8; 288];
-    four(&mut batch);
-    m1_batch(store, 20, &batch);
+    insert_all(store, 20);
     look(store, 1);
 }
 
-fn m1_batch(store: &mut [u8], slots: usize, batch: &[u8; 288]) {
-    run::apply(store, slots, b"insert A, B, C, D", batch, four_root());
+fn insert_all(store: &mut [u8], slots: usize) {
+    let mut batch = [0u8; 288];
+    insert(&mut batch, 0, key(A, 0), 1);
+    insert(&mut batch, 1, key(B, 0), 2);
+    insert(&mut batch, 2, key(C, 0), 3);
+    insert(&mut batch, 3, key(D, 0), 4);
+    run::apply(store, slots, b"insert A, B, C, D", &batch, four_root());
 }
 
 // The tree after M2, and after M3.
@@ -104,15 +100,11 @@ fn m2(store: &mut [u8]) {
         b"delete B, new value for C: slots 7 to 9 hold leaf 01, inner 0, root; five retired since 2.",
     );
     let mut batch = [0u8; 144];
-    m2_batch(store, &mut batch);
+    delete(&mut batch, 0, key(B, 0));
+    insert(&mut batch, 1, key(C, 0), 5);
+    run::apply(store, 20, b"delete B, insert C", &batch, three_root());
     look(store, 1);
     look(store, 2);
-}
-
-fn m2_batch(store: &mut [u8], batch: &mut [u8; 144]) {
-    delete(batch, 0, key(B, 0));
-    insert(batch, 1, key(C, 0), 5);
-    run::apply(store, 20, b"delete B, insert C", batch, three_root());
 }
 
 fn m3(store: &mut [u8]) {
@@ -121,9 +113,10 @@ fn m3(store: &mut [u8]) {
 }
 
 // Deletes one key.
-fn without(store: &mut [u8], batch: &mut [u8; 72], name: &[u8], first: u8, root: Hash) {
-    delete(batch, 0, key(first, 0));
-    run::apply(store, 20, name, batch, root);
+fn without(store: &mut [u8], name: &[u8], first: u8, root: Hash) {
+    let mut batch = [0u8; 72];
+    delete(&mut batch, 0, key(first, 0));
+    run::apply(store, 20, name, &batch, root);
 }
 
 fn m4(store: &mut [u8]) {
@@ -131,21 +124,18 @@ fn m4(store: &mut [u8]) {
         b"M4",
         b"delete A: slots 11, 12 hold leaf 0, root; four retired.",
     );
-    let mut batch = [0u8; 72];
     let root = inner_hash(leaf(key(C, 0), 5), leaf(key(D, 0), 4));
-    without(store, &mut batch, b"delete A", A, root);
+    without(store, b"delete A", A, root);
 }
 
 fn m5(store: &mut [u8]) {
     say::row(b"M5", b"delete D: slot 13, the root a leaf; three retired.");
-    let mut batch = [0u8; 72];
-    without(store, &mut batch, b"delete D", D, leaf(key(C, 0), 5));
+    without(store, b"delete D", D, leaf(key(C, 0), 5));
 }
 
 fn m6(store: &mut [u8]) {
     say::row(b"M6", b"delete C: no new record, root zero; one retired.");
-    let mut batch = [0u8; 72];
-    without(store, &mut batch, b"delete C", C, no_hash());
+    without(store, b"delete C", C, no_hash());
     look(store, 6);
 }
 
@@ -161,12 +151,8 @@ fn m8(store: &mut [u8]) {
         b"insert E (D with its last bit set): version 7, slot 0.",
     );
     let mut batch = [0u8; 72];
-    m8_batch(store, &mut batch);
-}
-
-fn m8_batch(store: &mut [u8], batch: &mut [u8; 72]) {
-    insert(batch, 0, key(D, 1), 6);
-    run::apply(store, 20, b"insert E", batch, leaf(key(D, 1), 6));
+    insert(&mut batch, 0, key(D, 1), 6);
+    run::apply(store, 20, b"insert E", &batch, leaf(key(D, 1), 6));
 }
 
 fn m9() {
@@ -175,28 +161,19 @@ fn m9() {
         b"fresh, keys beginning 0000 and 0001, other bits zero: six records; capacity 5 gives 7.",
     );
     let mut store = [0u8; 2424];
-    m9_large(&mut store);
+    run::format(&mut store);
+    m9_batch(&mut store);
     let mut small = [0u8; 624];
-    m9_small(&mut small);
+    run::format(&mut small);
+    m9_batch(&mut small);
 }
 
-fn m9_large(store: &mut [u8; 2424]) {
-    run::format(store);
+fn m9_batch(store: &mut [u8]) {
     let mut batch = [0u8; 144];
-    m9_batch(store, &mut batch);
-}
-
-fn m9_small(store: &mut [u8; 624]) {
-    run::format(store);
-    let mut batch = [0u8; 144];
-    m9_batch(store, &mut batch);
-}
-
-fn m9_batch(store: &mut [u8], batch: &mut [u8; 144]) {
-    insert(batch, 0, key(A, 0), 1);
-    insert(batch, 1, key(F, 0), 2);
+    insert(&mut batch, 0, key(A, 0), 1);
+    insert(&mut batch, 1, key(F, 0), 2);
     let root = lone(inner_hash(leaf(key(A, 0), 1), leaf(key(F, 0), 2)), 3);
-    run::apply(store, 20, b"insert both", batch, root);
+    run::apply(store, 20, b"insert both", &batch, root);
 }
 
 fn m10() {
@@ -205,23 +182,18 @@ fn m10() {
         b"keys that differ in the last bit only: leaves at 256 bits, 257 inner and leaf levels, proofs of 256 steps.",
     );
     let mut store = [0u8; 30984];
-    m10_in(&mut store);
+    run::format(&mut store);
+    m10_batch(&mut store);
+    m10_levels(&store);
+    m10_proofs(&store);
 }
 
-fn m10_in(store: &mut [u8; 30984]) {
-    run::format(store);
+fn m10_batch(store: &mut [u8]) {
     let mut batch = [0u8; 144];
-    m10_batch(store, &mut batch);
-    m10_levels(store);
-    let mut room = [0u8; 8520];
-    m10_proofs(store, &mut room);
-}
-
-fn m10_batch(store: &mut [u8], batch: &mut [u8; 144]) {
-    insert(batch, 0, key(A, 0), 1);
-    insert(batch, 1, key(A, 1), 2);
+    insert(&mut batch, 0, key(A, 0), 1);
+    insert(&mut batch, 1, key(A, 1), 2);
     let root = lone(inner_hash(leaf(key(A, 0), 1), leaf(key(A, 1), 2)), 255);
-    run::apply(store, 258, b"insert both", batch, root);
+    run::apply(store, 258, b"insert both", &batch, root);
 }
 
 fn m10_levels(store: &[u8]) {
@@ -235,12 +207,13 @@ fn m10_levels(store: &[u8]) {
     say::text(b"\n");
 }
 
-fn m10_proofs(store: &[u8], room: &mut [u8; 8520]) {
-    run::prove(store, 1, b"the first", &bytes(key(A, 0)), room);
-    run::prove(store, 1, b"the second", &bytes(key(A, 1)), room);
+fn m10_proofs(store: &[u8]) {
+    let mut room = [0u8; 8520];
+    run::prove(store, 1, b"the first", &bytes(key(A, 0)), &mut room);
+    run::prove(store, 1, b"the second", &bytes(key(A, 1)), &mut room);
 }
 
-fn m11(store: &mut [u8; 2424]) {
+fn m11(store: &mut [u8]) {
     say::row(
         b"M11",
         b"after M8, prune to 4: accepted, frees 0. Prune to 8: refused with 8.",
@@ -256,27 +229,21 @@ fn m12() {
         b"M1 at capacity 7: then an empty batch gives 7; deleting all four keys is accepted.",
     );
     let mut store = [0u8; 864];
-    m12_in(&mut store);
+    run::format(&mut store);
+    insert_all(&mut store, 7);
+    run::apply(&mut store, 7, b"empty batch", b"", four_root());
+    delete_all(&mut store);
 }
 
-fn m12_in(store: &mut [u8; 864]) {
-    run::format(store);
+fn delete_all(store: &mut [u8]) {
     let mut batch = [0u8; 288];
-    four(&mut batch);
-    m1_batch(store, 7, &batch);
-    run::apply(store, 7, b"empty batch", b"", four_root());
-    m12_deletes(store, &mut batch);
+    delete(&mut batch, 0, key(A, 0));
+    delete(&mut batch, 1, key(B, 0));
+    delete(&mut batch, 2, key(C, 0));
+    delete(&mut batch, 3, key(D, 0));
+    run::apply(store, 7, b"delete A, B, C, D", &batch, no_hash());
 }
 
-fn m12_deletes(store: &mut [u8], batch: &mut [u8; 288]) {
-    delete(batch, 0, key(A, 0));
-    delete(batch, 1, key(B, 0));
-    delete(batch, 2, key(C, 0));
-    delete(batch, 3, key(D, 0));
-    run::apply(store, 7, b"delete A, B, C, D", batch, no_hash());
-}
-
-// The larger batch comes first: the store is then empty, and its test for soundness quick.
 fn many() {
     say::row(b"Closing cases", b"1,024 records pass, 1,025 give 4;");
     let mut store = [0u8; 245664];
@@ -284,49 +251,46 @@ fn many() {
     many_in(&mut store, &mut batch);
 }
 
+// The length of so large an array is known where it is a parameter.
 fn many_in(store: &mut [u8; 245664], batch: &mut [u8; 73800]) {
     run::format(store);
     ask::fill(batch);
-    many_batches(store, batch);
+    many_batches(store, batch, 1024 * 72);
 }
 
-fn many_batches(store: &mut [u8], batch: &[u8]) {
-    if batch.len() != 73800 {
+// The larger batch comes first: the store is then empty, and its test for soundness quick.
+fn many_batches(store: &mut [u8], batch: &[u8], most: usize) {
+    if batch.len() < most {
         return;
     }
     let root = tree::whole(0, 10);
     run::apply(store, 2047, b"1,025 records", batch, root);
-    run::apply(store, 2047, b"1,024 of them", &batch[0..73728], root);
+    run::apply(store, 2047, b"1,024 of them", &batch[0..most], root);
 }
 
 fn short() {
     say::text(b"  01    a buffer one byte short gives 9.\n");
     let mut store = [0u8; 31464];
-    short_in(&mut store);
+    run::format(&mut store);
+    short_batch(&mut store);
+    short_proofs(&store);
     say::text(b"  01    1: the store's length isn't 24 + 120n, n in 1 to 16,384.\n");
     let mut odd = [0u8; 2423];
-    odd_in(&mut odd);
-}
-
-fn short_in(store: &mut [u8; 31464]) {
-    run::format(store);
-    let mut batch = [0u8; 288];
-    short_batch(store, &mut batch);
-    let mut room = [0u8; 17080];
-    short_proofs(store, &mut room);
+    run::format(&mut odd);
 }
 
 // Four keys that make the longest proofs: those between the second and the third are shown absent by two paths of 256 steps.
-fn short_batch(store: &mut [u8], batch: &mut [u8; 288]) {
-    insert(batch, 0, key(0, 0b000), 1);
-    insert(batch, 1, key(0, 0b001), 2);
-    insert(batch, 2, key(0, 0b110), 3);
-    insert(batch, 3, key(0, 0b111), 4);
+fn short_batch(store: &mut [u8]) {
+    let mut batch = [0u8; 288];
+    insert(&mut batch, 0, key(0, 0b000), 1);
+    insert(&mut batch, 1, key(0, 0b001), 2);
+    insert(&mut batch, 2, key(0, 0b110), 3);
+    insert(&mut batch, 3, key(0, 0b111), 4);
     run::apply(
         store,
         262,
         b"insert keys that end in 000, 001, 110, 111",
-        batch,
+        &batch,
         short_root(),
     );
 }
@@ -338,16 +302,24 @@ fn short_root() -> Hash {
     lone(both, 253)
 }
 
-fn short_proofs(store: &[u8], room: &mut [u8; 17080]) {
+fn short_proofs(store: &[u8]) {
+    let mut room = [0u8; 17080];
     let there = bytes(key(0, 0b001));
-    run::prove_in(store, 1, b"the key that ends in 001", &there, room, 8520);
-    run::prove_in(store, 1, b"the key that ends in 001", &there, room, 8519);
+    run::prove_in(store, b"the key that ends in 001", &there, &mut room, 8520);
+    run::prove_in(store, b"the key that ends in 001", &there, &mut room, 8519);
     let missing = bytes(key(0, 0b010));
-    run::prove_in(store, 1, b"the key that ends in 010", &missing, room, 17080);
-    run::prove_in(store, 1, b"the key that ends in 010", &missing, room, 17079);
-}
-
-// One byte less than 20 slots have.
-fn odd_in(store: &mut [u8; 2423]) {
-    run::format(store);
+    run::prove_in(
+        store,
+        b"the key that ends in 010",
+        &missing,
+        &mut room,
+        17080,
+    );
+    run::prove_in(
+        store,
+        b"the key that ends in 010",
+        &missing,
+        &mut room,
+        17079,
+    );
 }

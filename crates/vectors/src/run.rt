@@ -235,17 +235,10 @@ pub fn prove(store: &[u8], version: u32, name: &[u8], key: &[u8; 32], room: &mut
     verify(store, version, key, &room[0..n]);
 }
 
-// The same into the first n bytes of the room.
-pub fn prove_in(
-    store: &[u8],
-    version: u32,
-    name: &[u8],
-    key: &[u8; 32],
-    room: &mut [u8],
-    n: usize,
-) {
+// Proves a key in version 1 into the first n bytes of the room.
+pub fn prove_in(store: &[u8], name: &[u8], key: &[u8; 32], room: &mut [u8], n: usize) {
     if room.len() < n {
         return;
     }
-    prove(store, version, name, key, &mut room[0..n]);
+    prove(store, 1, name, key, &mut room[0..n]);
 }
