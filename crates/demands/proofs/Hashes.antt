@@ -1,14 +1,13 @@
 -- A digest has 32 bytes, so the hash of every tree has. Assumes nothing.
-use Prim.Native.Nat.{ℕ, zero, suc, _/_}
-use native.Mathlib.Omega.{arith}
+use Prim.Native.Nat.{ℕ, _/_}
 use mathlib.Core.Path.{refl}
 use mathlib.Core.List.{_++_}
-use lib.ListN.{length, replicate}
+use lib.ListN.{length}
 use Rattle.terms.specs.Bits.{Bytes, Byte, All, Whole32}
-use Rattle.terms.specs.Records.{zeros}
 use Rattle.terms.proofs.Lists.{all-append}
-use Rattle.meaning.specs.Tree.{Tree, none, leaf, inner, hash}
+use Rattle.meaning.specs.Tree.{Tree, hash}
 use Rattle.meaning.specs.Sound.{Hashes32}
+use Rattle.histories.proofs.Forms.{hash32}
 use Rattle.hash.specs.BigEndian.{big}
 use Rattle.hash.proofs.Digits.{bytes-big}
 use Rattle.sha256.specs.declared.State.{State}
@@ -43,15 +42,5 @@ pub inner-hash-whole : Hashes32 innerHash
 unfolding innerHash
 inner-hash-whole l r = digest-whole _
 
-zeros-whole : Whole32 zeros
-unfolding zeros
-zeros-whole = (refl, go 32)
-  where
-    go : (n : ℕ) → All Byte (replicate n 0)
-    go zero = tt
-    go (suc n) = (omega arith, go n)
-
 pub hash-whole : (t : Tree) → Whole32 (hash leafHash innerHash t)
-hash-whole none = zeros-whole
-hash-whole (leaf g) = leaf-hash-whole (g .key) (g .value)
-hash-whole (inner l r) = inner-hash-whole (hash leafHash innerHash l) (hash leafHash innerHash r)
+hash-whole = hash32 leafHash innerHash leaf-hash-whole inner-hash-whole

@@ -25,11 +25,11 @@ zeros32 = (refl, all-zero 32)
     all-zero zero = tt
     all-zero (suc n) = (omega arith, all-zero n)
 
-two-missing : (l r : VTree) → l ≡ vnone → r ≡ vnone → 1 < length (grantsIn l ++ grantsIn r) → ⊥
+pub two-missing : (l r : VTree) → l ≡ vnone → r ≡ vnone → 1 < length (grantsIn l ++ grantsIn r) → ⊥
 two-missing l r e f h = let k : 1 < 0 = subst₂ (λ x y. 1 < length (grantsIn x ++ grantsIn y)) e f h in omega arith
 
 module _ (leafHash innerHash : Bytes → Bytes → Bytes) (lh : Hashes32 leafHash) (ih : Hashes32 innerHash) where
-  hash32 : (t : Tree) → Whole32 (hash leafHash innerHash t)
+  pub hash32 : (t : Tree) → Whole32 (hash leafHash innerHash t)
   hash32 none = zeros32
   hash32 (leaf g) = lh (g .key) (g .value)
   hash32 (inner l r) = ih (hash leafHash innerHash l) (hash leafHash innerHash r)

@@ -1,7 +1,7 @@
 -- The records of a shaped tree are in form, where its versions are numbers of four bytes. Assumes nothing.
 use Prim.Native.Nat.{ℕ, _<_, _≤_}
 use native.Mathlib.Omega.{arith}
-use mathlib.Core.Path.{_≡_, refl, ap, sym, _∙_, subst, subst₂}
+use mathlib.Core.Path.{_≡_, refl, ap, sym, _∙_, subst}
 use mathlib.Core.Bool.{Bool, true, false, cond}
 use mathlib.Core.List.{List, [], _∷_, _++_}
 use lib.ListN.{length}
@@ -13,6 +13,7 @@ use Rattle.meaning.specs.Tree.{Tree, none, leaf, inner, grants, hash, VTree, vn
 use Rattle.meaning.specs.Store.{childOf}
 use Rattle.meaning.proofs.Versions.{sameGrants-eq, versioned-tree}
 use Rattle.meaning.proofs.Shaped.{Shaped}
+use Rattle.histories.proofs.Forms.{two-missing}
 use Rattle.hash.specs.Hash.{hashBytes}
 use Rattle.hash.proofs.Laws.{hash-whole}
 use Rattle.nodehash.specs.Node.{leafHash, innerHash}
@@ -57,9 +58,6 @@ child-form c t n e =
 child-missing : (c : declared-child.Child) (t : VTree) → Numbered t → childSays c ≡ childOf leafHash innerHash t → childSays c .version ≡ 0 → t ≡ vnone
 unfolding childOf
 child-missing c t n e z = top-number t n .1 (sym (ap (λ (x : Child). x .version) e) ∙ z)
-
-two-missing : (l r : VTree) → l ≡ vnone → r ≡ vnone → 1 < length (grantsIn l ++ grantsIn r) → ⊥
-two-missing l r e f h = let k : 1 < 0 = subst₂ (λ x y. 1 < length (grantsIn x ++ grantsIn y)) e f h in omega arith
 
 -- the record of a node by value
 pub says-form : (n : node.Node) (t : VTree) (p : Place) → NodeSays n t → Shaped p (unversioned t) → Numbered t → All RecordForm (recordSays p n)

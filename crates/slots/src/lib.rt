@@ -18,11 +18,11 @@ ghost use mathlib.Core.Bool.{true};
 ghost use Prim.Native.Nat.{_+_, _≤_};
 ghost use lib.ListN.{length, drop};
 ghost use Rattle.terms.specs.Bits.{bits, noneSet};
-ghost use Rattle.terms.specs.Fields.{le, slice, flat, allOf};
+ghost use Rattle.terms.specs.Fields.{slice, flat, allOf};
 ghost use Rattle.terms.specs.Records.{used, free, innerBody};
 ghost use Rattle.fields.specs.Written.{written};
 ghost use Rattle.place.specs.Place.{placeOf, Proper};
-ghost use Rattle.layout.specs.Sizes.{slotSize, grantSize, childSize, bitsAt, retiredAt, keyAt, valueAt};
+ghost use Rattle.layout.specs.Sizes.{slotSize, grantSize, childSize, bitsAt, keyAt, valueAt};
 ghost use Rattle.layout.specs.Slots.{countIn, childIn, recordOf, headTests, isLeaf, childRight, isInner, headFields, childFields, slotBytes};
 ghost use Rattle.slots.specs.Answer.{childSays, Made, Held, Read, grantBody};
 
@@ -236,14 +236,6 @@ pub fn clear_slot(s: &mut [u8])
     ensures { λ _. ⌜ now (s .exit) ≡ slotBytes free ⌝ }
 {
     clear(s);
-}
-
-// Writes the retired-since of a record, and nothing else.
-pub fn put_retired(s: &mut [u8], since: u32)
-    requires { ⌜ length (now s) ≡ slotSize ⌝ }
-    ensures { λ _. ⌜ now (s .exit) ≡ written retiredAt (le 4 since) (now (s .entry)) ⌝ }
-{
-    put_u32(s, sizes::RETIRED_AT, since);
 }
 
 // The grant of a leaf, in the slot's own bytes: key and value.
