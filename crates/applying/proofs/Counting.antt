@@ -14,9 +14,9 @@ use Rattle.layout.specs.Sizes.{roomOf}
 use Rattle.layout.specs.Slots.{slotOf}
 use Rattle.layout.specs.Stores.{slotIn, storeOf}
 use Rattle.layout.proofs.Stores.{slot-at}
-use Rattle.placing.specs.Placing.{Stored}
-use Rattle.placing.proofs.Changing.{stored-accepted, stored-room}
-use Rattle.placing.proofs.Placing.{zero-free, not-free}
+use Rattle.apply_place.specs.Placing.{Stored}
+use Rattle.apply_place.proofs.Changing.{stored-accepted, stored-room}
+use Rattle.apply_place.proofs.Placing.{zero-free, not-free}
 use Rattle.applying.specs.Apply.{FreeCount}
 
 -- a slot that is free counts one more

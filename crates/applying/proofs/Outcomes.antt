@@ -24,11 +24,11 @@ use Rattle.steps.specs.Step as step
 use Rattle.steps.specs.Writing as steps
 use Rattle.steps.specs.Apply.{stepped, applySteps}
 use Rattle.steps.proofs.Root.{apply-by-steps}
-use Rattle.placing.specs.Placing.{putSlots}
-use Rattle.outcomes.specs.declared.Outcome as declared
-use Rattle.outcomes.specs.Outcomes.{nodeChild, Did}
-use Rattle.outcomes.proofs.Saying.{says-child}
-use Rattle.calls.specs.Calls.{SoundBytes, refuses, accepts}
+use Rattle.apply_place.specs.Placing.{putSlots}
+use Rattle.apply_outcome.specs.declared.Outcome as declared
+use Rattle.apply_outcome.specs.Outcomes.{nodeChild, Did}
+use Rattle.apply_outcome.proofs.Saying.{says-child}
+use Rattle.promises.specs.Calls.{SoundBytes, refuses, accepts}
 use Rattle.applying.specs.Apply.{Applies, Ready}
 use Rattle.applying.proofs.Ready.{shaped, older}
 

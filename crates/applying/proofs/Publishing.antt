@@ -22,11 +22,11 @@ use Rattle.slots.specs.declared.Child as child
 use Rattle.slots.specs.Answer.{childSays}
 use Rattle.batch.specs.Batch.{asks}
 use Rattle.steps.specs.Step as step
-use Rattle.placing.specs.Placing.{putSlots}
-use Rattle.outcomes.specs.declared.Outcome as declared
-use Rattle.outcomes.specs.Outcomes.{nodeChild, Did}
-use Rattle.nodeat.specs.Standing.{treeHere}
-use Rattle.rootstep.specs.Root.{HereRoot}
+use Rattle.apply_place.specs.Placing.{putSlots}
+use Rattle.apply_outcome.specs.declared.Outcome as declared
+use Rattle.apply_outcome.specs.Outcomes.{nodeChild, Did}
+use Rattle.apply_read.specs.Standing.{treeHere}
+use Rattle.apply_root.specs.Root.{HereRoot}
 use Rattle.applying.specs.Apply.{Applies, Ready, rootVersion, FreeCount}
 use Rattle.applying.proofs.Ready.{stored, tree-is, here-root}
 use Rattle.applying.proofs.Outcomes.{outcome, refused-7, made}

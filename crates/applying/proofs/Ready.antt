@@ -23,11 +23,11 @@ use Rattle.place.specs.Place as places
 use Rattle.place.specs.Place.{placeOf}
 use Rattle.layout.specs.Stores.{storeOf}
 use Rattle.steps.specs.Given.{Older}
-use Rattle.placing.specs.Placing.{Stored}
-use Rattle.keeping.proofs.Keeping.{unique-single}
-use Rattle.nodeat.specs.Standing.{treeHere}
-use Rattle.rootstep.specs.Root.{HereRoot}
-use Rattle.calls.proofs.Calls.{sound-form, sound-back}
+use Rattle.apply_place.specs.Placing.{Stored}
+use Rattle.apply_place.proofs.Keeping.{unique-single}
+use Rattle.apply_read.specs.Standing.{treeHere}
+use Rattle.apply_root.specs.Root.{HereRoot}
+use Rattle.promises.proofs.Calls.{sound-form, sound-back}
 use Rattle.applying.specs.Apply.{Ready, rootVersion}
 
 -- a tree of records that are older is older

@@ -15,7 +15,7 @@ use Rattle.layout.specs.Sizes.{mostSlots}
 use Rattle.layout.specs.Stores.{storeOf}
 use Rattle.batch.specs.Batch.{batchOf, batchForm}
 use Rattle.batch.specs.Runs.{Run}
-use Rattle.calls.specs.Calls.{SoundBytes, Does}
+use Rattle.promises.specs.Calls.{SoundBytes, Does}
 use Rattle.applying.specs.declared.Applied as declared
 use Rattle.applying.specs.declared.Applied.the-variants.{Refused, Made}
 

@@ -1,5 +1,7 @@
 // Applying a batch to a store in lent memory, document 01: the next version, or a number of refusal. Room is known before the first byte is
 // written: the steps are taken once without writing, to count the new records, and once with.
+use apply_outcome::child_of;
+use apply_root::at_root;
 use batch::batch_form;
 use batch::batch_order;
 use fields::all_zero;
@@ -9,9 +11,7 @@ use hash::Hash;
 use layout::sizes;
 use lookup::Found;
 use lookup::find;
-use outcomes::child_of;
 use place::Place;
-use rootstep::at_root;
 use soundness::check;
 use store::slot_of;
 ghost use mathlib.Core.Path.{_≡_};
@@ -21,7 +21,7 @@ ghost use Rattle.meaning.specs.Store.{find};
 ghost use Rattle.place.specs.Place.{placeOf, Proper};
 ghost use Rattle.layout.specs.Headers.{sizeRight};
 ghost use Rattle.layout.specs.Stores.{storeOf};
-ghost use Rattle.placing.specs.Placing.{Stored};
+ghost use Rattle.apply_place.specs.Placing.{Stored};
 ghost use Rattle.applying.specs.Apply.{appliedSays, Applies, rootVersion, FreeCount, Ready};
 
 // 4: the batch isn't whole records in form, or they are more than 1,024.

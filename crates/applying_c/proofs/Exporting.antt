@@ -12,7 +12,7 @@ use Rattle.hash.specs.Hash.{hashBytes}
 use Rattle.hash.proofs.Laws.{hash-whole, put-over}
 use Rattle.fields.specs.Written.{written}
 use Rattle.fields.proofs.Written.{length-written, part-written, fields-fill}
-use Rattle.calls.specs.Calls.{exports-refusal, exports-answer}
+use Rattle.promises.specs.Calls.{exports-refusal, exports-answer}
 use Rattle.applying.specs.Apply.{appliedSays, Applies}
 use Rattle.applying.specs.declared.Applied as declared
 use Rattle.applying.specs.declared.Applied.the-variants.{Refused, Made}

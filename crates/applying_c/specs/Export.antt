@@ -6,7 +6,7 @@ use Rattle.terms.specs.Fields.{le}
 use Rattle.meaning.specs.Calls.{Applied, apply}
 use Rattle.nodehash.specs.Node.{leafHash, innerHash}
 use Rattle.batch.specs.Batch.{batchOf}
-use Rattle.calls.specs.Calls as calls
+use Rattle.promises.specs.Calls as calls
 
 -- Version 4, root 32, count 4.
 unfoldable pub answerBytes : ℕ → Bytes → ℕ → Bytes

@@ -27,10 +27,10 @@ use Rattle.layout.specs.Stores.{storeOf}
 use Rattle.format.specs.Format.{formatAnswer, formatBytes}
 use Rattle.soundness.specs.Check as check
 use Rattle.batch.specs.Batch.{batchOf}
-use Rattle.calls.specs.Calls.{Does, wrong-header, not-sound, refuses, Exports, exports-refusal, exports-answer}
-use Rattle.calls.proofs.Calls.{refused-writes-nothing}
-use Rattle.answers.specs.Answers.{numberOf, foundAfter}
-use Rattle.walk.specs.Walk.{byHeader}
+use Rattle.promises.specs.Calls.{Does, wrong-header, not-sound, refuses, Exports, exports-refusal, exports-answer}
+use Rattle.promises.proofs.Calls.{refused-writes-nothing}
+use Rattle.meaning.specs.Answers.{numberOf, foundAfter}
+use Rattle.read_step.specs.Walk.{byHeader}
 use Rattle.reads.specs.Reads.{rootAnswer, keyAnswer}
 use Rattle.reads.proofs.Theorems.{OneOf, root-refusals, key-refusals}
 use Rattle.reads_c.specs.Export.{rootBytes}

@@ -8,7 +8,7 @@ use Rattle.format.specs.Format.{formatAnswer, formatBytes}
 use Rattle.soundness.specs.Check.{Checked}
 use Rattle.applying_c.specs.Export as apply
 use Rattle.pruning_c.specs.Export as prune
-use Rattle.answers.specs.Answers.{numberOf, foundAfter}
+use Rattle.meaning.specs.Answers.{numberOf, foundAfter}
 use Rattle.reads.specs.Reads.{rootAnswer, keyAnswer}
 use Rattle.reads_c.specs.Export.{rootBytes}
 use Rattle.proving.specs.Proving.{roomAfter}

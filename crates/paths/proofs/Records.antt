@@ -17,7 +17,7 @@ use Rattle.layout.specs.Slots.{childIn}
 use Rattle.layout.specs.Stores.{slotIn}
 use Rattle.meaning.specs.Store.{childOn}
 use Rattle.proofrecords.specs.ProofBytes.{stepsBytes, presenceBytes, neighbourBytes, flagsOf, absenceBytes}
-use Rattle.walk.specs.Walk.{kidIn}
+use Rattle.read_step.specs.Walk.{kidIn}
 use Rattle.paths.specs.Paths.{stepAt, stepsOf, pathSteps, presenceAt, PathIn}
 use Rattle.paths.specs.Neighbours.{wayAt, found, neighbourAt, WayIn, NeighbourIn, wayRoom, roomFor, wayFlag, flagFor, absentOf}
 use Rattle.paths.specs.declared.Path as declared-path

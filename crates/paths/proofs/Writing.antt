@@ -12,7 +12,7 @@ use Rattle.layout.specs.Stores.{slotIn}
 use Rattle.proofrecords.specs.ProofBytes.{stepsBytes}
 use Rattle.meaning.specs.Store.{childOn}
 use Rattle.layout.specs.Slots.{childIn}
-use Rattle.walk.specs.Walk.{kidIn}
+use Rattle.read_step.specs.Walk.{kidIn}
 use Rattle.paths.specs.Paths.{stepBytes, stepAt, stepsOf}
 
 -- what is left of a slice whose part from i to e was lent and came back as y

@@ -11,7 +11,7 @@ use Rattle.meaning.specs.Proving.{step, presenceOf}
 use Rattle.place.specs.Place.{placeOf, Proper}
 use Rattle.layout.specs.Sizes.{slotSize, slotAt, keyAt, valueAt}
 use Rattle.layout.specs.Stores.{slotIn}
-use Rattle.walk.specs.Walk.{kidIn}
+use Rattle.read_step.specs.Walk.{kidIn}
 use Rattle.paths.specs.declared.Path as declared
 
 -- A step is a side and the sibling's hash.

@@ -19,13 +19,13 @@ use Rattle.meaning.specs.Proving.{presenceOf, stepUp, neighbour, beyond, somebo
 use Rattle.place.specs.Place.{placeOf}
 use Rattle.layout.specs.Headers.{sizeRight, headerOf}
 use Rattle.layout.specs.Stores.{slotIn, storeOf}
-use Rattle.walk.specs.Walk.{opened, openedSays, byHeader, leafAt}
-use Rattle.walk.specs.declared.Opened as declared-opened
-use Rattle.walk.specs.declared.Opened.the-variants as first
-use Rattle.walk.specs.declared.Seen as declared-seen
-use Rattle.walk.specs.declared.Seen.the-variants.{Gap, Lost, Leaf, Inner}
-use Rattle.walk.proofs.Seen as Seen
-use Rattle.walk.proofs.Opening as opening
+use Rattle.read_step.specs.Walk.{opened, openedSays, byHeader, leafAt}
+use Rattle.read_step.specs.declared.Opened as declared-opened
+use Rattle.read_step.specs.declared.Opened.the-variants as first
+use Rattle.read_step.specs.declared.Seen as declared-seen
+use Rattle.read_step.specs.declared.Seen.the-variants.{Gap, Lost, Leaf, Inner}
+use Rattle.read_step.proofs.Seen as Seen
+use Rattle.read_step.proofs.Opening as opening
 use Rattle.paths.specs.Paths.{presenceAt, pathSteps}
 use Rattle.trails.specs.Trails.{shownAt, shownBy, stepsBy, forkSays, forkOn, Walks}
 use Rattle.trails.specs.Searches.{pathOf, endSays, neighbourSays}

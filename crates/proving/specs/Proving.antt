@@ -15,7 +15,7 @@ use Rattle.proofrecords.specs.ProofBytes.{proofBytes}
 use Rattle.layout.specs.Sizes.{keyAt}
 use Rattle.layout.specs.Headers.{headerOf}
 use Rattle.layout.specs.Stores.{slotIn, storeOf}
-use Rattle.walk.specs.Walk.{byHeader}
+use Rattle.read_step.specs.Walk.{byHeader}
 use Rattle.paths.specs.Paths.{presenceAt}
 use Rattle.trails.specs.Searches.{pathOf, neighbourSays}
 use Rattle.trails.specs.declared.Walked as declared-walked

@@ -15,7 +15,7 @@ use Rattle.meaning.specs.Proving.{proofLength}
 use Rattle.proving.specs.Proving.{lengthOf, roomAfter, provedSays}
 use Rattle.proving.specs.declared.Proved as declared
 use Rattle.proving.specs.declared.Proved.the-variants.{Refused, Length}
-use Rattle.answers.specs.Answers.{numberOf}
+use Rattle.meaning.specs.Answers.{numberOf}
 use Rattle.proving_c.specs.Export.{lengthBytes}
 
 -- the number and the four bytes of an answer

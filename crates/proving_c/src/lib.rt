@@ -5,7 +5,7 @@ use proving::Proved;
 use proving::prove;
 ghost use mathlib.Core.Path.{_≡_};
 ghost use Rattle.proving.specs.Proving.{roomAfter};
-ghost use Rattle.answers.specs.Answers.{numberOf};
+ghost use Rattle.meaning.specs.Answers.{numberOf};
 ghost use Rattle.proving_c.specs.Export.{provedInto, lengthBytes};
 
 // The proof for a key in a version fills the front of the room; its length goes out in four bytes.

@@ -11,8 +11,8 @@ use Rattle.fields.specs.Written.{written}
 use Rattle.meaning.specs.Calls.{refused, accepted, refuse, isKept, prune}
 use Rattle.layout.specs.Stores.{storeOf, storeBytes, putBounds}
 use Rattle.layout.proofs.Stores.{oldest-put-bytes}
-use Rattle.calls.specs.Calls.{SoundBytes, refuses, accepts}
-use Rattle.calls.proofs.Calls.{sound-form, sound-back}
+use Rattle.promises.specs.Calls.{SoundBytes, refuses, accepts}
+use Rattle.promises.proofs.Calls.{sound-form, sound-back}
 use Rattle.pruning.specs.Free.{Readable, emptied, Frees}
 use Rattle.pruning.specs.Prune.{Prunes}
 

@@ -11,7 +11,7 @@ ghost use lib.ListN.{length};
 ghost use Rattle.meaning.specs.Calls.{isKept};
 ghost use Rattle.layout.specs.Sizes.{headerSize, slotSize, slotAt};
 ghost use Rattle.layout.specs.Stores.{storeOf};
-ghost use Rattle.calls.specs.Calls.{SoundBytes};
+ghost use Rattle.promises.specs.Calls.{SoundBytes};
 ghost use Rattle.pruning.specs.Free.{freedSlot, freedCount, Readable, Frees};
 ghost use Rattle.pruning.specs.Prune.{prunedSays, Prunes};
 

@@ -11,7 +11,7 @@ use Rattle.fields.proofs.Written.{fields-fill}
 use Rattle.pruning.specs.Prune.{prunedSays, Prunes}
 use Rattle.pruning.specs.declared.Pruned as declared
 use Rattle.pruning.specs.declared.Pruned.the-variants.{Refused, Freed}
-use Rattle.calls.specs.Calls.{exports-refusal, exports-answer}
+use Rattle.promises.specs.Calls.{exports-refusal, exports-answer}
 use Rattle.pruning_c.specs.Export.{Exports}
 
 module _ (n : ℕ) {s f t : Bytes} {p : declared.Pruned} (o : Prunes n s (prunedSays p) t) where

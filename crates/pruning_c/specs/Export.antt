@@ -3,7 +3,7 @@ use Prim.Native.Nat.{ℕ}
 use Rattle.terms.specs.Bits.{Bytes}
 use Rattle.terms.specs.Fields.{le}
 use Rattle.meaning.specs.Calls.{prune}
-use Rattle.calls.specs.Calls as calls
+use Rattle.promises.specs.Calls as calls
 
 -- Pruning the bytes s to n, with the array f for the count, in four bytes: what is answered, and what is left of s and of f.
 abbrev pub Exports : ℕ → Bytes → Bytes → ℕ → Bytes → Bytes → Type 0

@@ -16,10 +16,10 @@ use Rattle.hash.specs.Hash.{hashBytes}
 use Rattle.nodehash.specs.Node.{leafHash, innerHash}
 use Rattle.layout.specs.Headers.{sizeRight}
 use Rattle.layout.specs.Stores.{slotIn, storeOf}
-use Rattle.walk.specs.Walk.{opened, openedSays, leafAt}
-use Rattle.walk.specs.declared.Opened as declared-opened
-use Rattle.walk.specs.declared.Opened.the-variants.{Refused, Kept}
-use Rattle.walk.proofs.Opening as opening
+use Rattle.read_step.specs.Walk.{opened, openedSays, leafAt}
+use Rattle.read_step.specs.declared.Opened as declared-opened
+use Rattle.read_step.specs.declared.Opened.the-variants.{Refused, Kept}
+use Rattle.read_step.proofs.Opening as opening
 use Rattle.reads.specs.Reads.{rootAnswer, keyAnswer, rootSays, readSays, leafRead, walkRead}
 use Rattle.reads.specs.declared.KeyRead as declared
 use Rattle.reads.specs.declared.KeyRead.the-variants as read

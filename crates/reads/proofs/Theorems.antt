@@ -26,7 +26,7 @@ use Rattle.hash.proofs.Laws.{hash-bytes-injective}
 use Rattle.nodehash.specs.Node.{leafHash, innerHash}
 use Rattle.layout.specs.Headers.{Headed, refusal, header, sizeRight, headerRight, headerOf}
 use Rattle.layout.specs.Stores.{storeOf}
-use Rattle.walk.specs.Walk.{byHeader}
+use Rattle.read_step.specs.Walk.{byHeader}
 use Rattle.reads.specs.Reads.{rootAnswer, keyAnswer, rootSays, readSays}
 use Rattle.reads.proofs.Granted.{Among, answered-among, among-answered}
 use Rattle.reads.specs.declared.RootRead as declared-root

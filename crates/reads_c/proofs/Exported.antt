@@ -16,7 +16,7 @@ use Rattle.reads.specs.declared.RootRead as declared-root
 use Rattle.reads.specs.declared.RootRead.the-variants as root
 use Rattle.reads.specs.declared.KeyRead as declared-read
 use Rattle.reads.specs.declared.KeyRead.the-variants as read
-use Rattle.answers.specs.Answers.{numberOf, foundAfter}
+use Rattle.meaning.specs.Answers.{numberOf, foundAfter}
 use Rattle.reads_c.specs.Export.{rootBytes}
 
 -- What a call leaves: its number, and its answer's array.

@@ -10,7 +10,7 @@ ghost use mathlib.Core.List.{_∷_};
 ghost use lib.ListN.{length};
 ghost use Rattle.hash.specs.Hash.{hashBytes};
 ghost use Rattle.reads.specs.Reads.{rootAnswer, keyAnswer};
-ghost use Rattle.answers.specs.Answers.{numberOf, foundAfter};
+ghost use Rattle.meaning.specs.Answers.{numberOf, foundAfter};
 ghost use Rattle.reads_c.specs.Export.{rootBytes};
 
 // The root of a version.

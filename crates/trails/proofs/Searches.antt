@@ -20,11 +20,11 @@ use Rattle.shown.proofs.Loops.{descendBelow, descend-below}
 use Rattle.place.specs.Place.{placeOf}
 use Rattle.layout.specs.Sizes.{slotAt}
 use Rattle.layout.specs.Stores.{slotIn, storeOf}
-use Rattle.walk.specs.Walk.{kidIn, leafAt, forkAt}
-use Rattle.walk.specs.declared.Seen as declared-seen
-use Rattle.walk.specs.declared.Seen.the-variants.{Gap, Lost, Leaf, Inner}
-use Rattle.walk.proofs.Seen as Seen
-use Rattle.walk.proofs.Seeing.{slot-fits}
+use Rattle.read_step.specs.Walk.{kidIn, leafAt, forkAt}
+use Rattle.read_step.specs.declared.Seen as declared-seen
+use Rattle.read_step.specs.declared.Seen.the-variants.{Gap, Lost, Leaf, Inner}
+use Rattle.read_step.proofs.Seen as Seen
+use Rattle.read_step.proofs.Seeing.{slot-fits}
 use Rattle.paths.specs.Paths.{stepAt, pathSteps, presenceAt, PathIn}
 use Rattle.paths.specs.declared.Way.the-variants as way
 use Rattle.paths.specs.declared.Sought as declared-sought

@@ -7,8 +7,8 @@ use Rattle.terms.specs.Fields.{slice}
 use Rattle.meaning.specs.Proving.{raisedBy, descend, Sought, somebody, sought, beyond}
 use Rattle.layout.specs.Sizes.{keyAt}
 use Rattle.layout.specs.Stores.{slotIn}
-use Rattle.walk.specs.declared.Seen as declared-seen
-use Rattle.walk.specs.declared.Seen.the-variants.{Gap, Lost, Leaf, Inner}
+use Rattle.read_step.specs.declared.Seen as declared-seen
+use Rattle.read_step.specs.declared.Seen.the-variants.{Gap, Lost, Leaf, Inner}
 use Rattle.paths.specs.declared.Path as declared-path
 use Rattle.paths.specs.declared.Way as declared-way
 use Rattle.paths.specs.declared.Sought as declared-sought

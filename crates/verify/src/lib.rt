@@ -13,7 +13,7 @@ ghost use Rattle.meaning.specs.Reading.{present};
 ghost use Rattle.meaning.specs.Proving.{beyond};
 ghost use Rattle.hash.specs.Hash.{hashBytes};
 ghost use Rattle.proofrecords.specs.ProofBytes.{isPresence, isAbsence};
-ghost use Rattle.answers.specs.Answers.{numberOf, foundBytes, foundAfter};
+ghost use Rattle.meaning.specs.Answers.{numberOf, foundBytes, foundAfter};
 ghost use Rattle.verify.specs.Holding.{leads, presenceHolds, neighbour, loneNeighbour, bothNeighbours, neighbours, absenceProofHolds};
 ghost use Rattle.verify.specs.Verify.{verified, says};
 use fields::clear;

@@ -5,7 +5,7 @@ use mathlib.Core.Path.{refl, ap, sym, _∙_}
 use borrow.Author.Needs.{needs}
 use Rattle.terms.specs.Fields.{allZero}
 use Rattle.layout.specs.Sizes.{roomOf}
-use Rattle.placing.proofs.Changing.{stored-accepted}
+use Rattle.apply_place.proofs.Changing.{stored-accepted}
 use Rattle.applying.proofs.Counting.{Counted, from-none, one-free, not-one, all-counted}
 use Rattle.applying.proofs.count_free.Statement.{statement}
 use Rattle.applying.proofs.count_free.Tie as tie

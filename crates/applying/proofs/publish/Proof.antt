@@ -4,8 +4,8 @@ use mathlib.Core.Path.{sym, _∙_}
 use Rattle.terms.specs.Bits.{Byte}
 use Rattle.terms.proofs.Lists.{all-of}
 use Rattle.layout.specs.Stores.{storeOf}
-use Rattle.placing.proofs.Changing.{changed-stored, stored-accepted, stored-size}
-use Rattle.calls.proofs.Calls.{sound-long}
+use Rattle.apply_place.proofs.Changing.{changed-stored, stored-accepted, stored-size}
+use Rattle.promises.proofs.Calls.{sound-long}
 use Rattle.applying.specs.Apply.{appliedSays}
 use Rattle.applying.proofs.Ready.{stored}
 use Rattle.applying.proofs.Outcomes.{refused-6}

@@ -2,7 +2,7 @@
 use mathlib.Core.Path.{ap, sym}
 use Rattle.place.specs.Place.{placeOf}
 use Rattle.layout.specs.Stores.{storeOf}
-use Rattle.placing.proofs.Marking.{found-none, found-at}
+use Rattle.apply_place.proofs.Marking.{found-none, found-at}
 use Rattle.applying.specs.Apply.{rootVersion}
 use borrow.Author.Needs.{needs}
 use Rattle.applying.proofs.root_version.Statement.{statement}

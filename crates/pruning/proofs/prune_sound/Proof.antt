@@ -7,7 +7,7 @@ use borrow.Author.Tests.{not-true, not-false}
 use Rattle.terms.specs.Bits.{Byte}
 use Rattle.terms.proofs.Lists.{all-of}
 use Rattle.pruning.specs.Prune.{prunedSays}
-use Rattle.calls.proofs.Calls.{sound-long}
+use Rattle.promises.proofs.Calls.{sound-long}
 use Rattle.pruning.proofs.Outcomes.{sound-readable, refused-8, pruned-to}
 use Rattle.pruning.proofs.prune_sound.Statement.{statement}
 use Rattle.pruning.proofs.prune_sound.Tie as tie

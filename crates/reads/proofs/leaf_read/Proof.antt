@@ -3,7 +3,7 @@ use native.Mathlib.Omega.{arith}
 use mathlib.Core.Path.{ap, _∙_}
 use lib.ListN.{length}
 use Rattle.terms.proofs.Fields.{length-slice}
-use Rattle.walk.proofs.Seeing.{slot-fits}
+use Rattle.read_step.proofs.Seeing.{slot-fits}
 use Rattle.reads.proofs.Answers.{leaf-present, leaf-absent}
 use borrow.Author.Needs.{needs}
 use Rattle.reads.proofs.leaf_read.Statement.{statement}
