@@ -1,10 +1,10 @@
--- `slots::put_inner` meets its contract: head and children fill the slot. Assumes nothing.
+-- `slots_put::put_inner` meets its contract: head and children fill the slot. Assumes nothing.
 use Rattle.hash.proofs.Laws.{hash-whole}
 use Rattle.slots.specs.Answer.{childSays}
-use Rattle.slots.proofs.Writing.{inner-put}
+use Rattle.slots_put.proofs.Writing.{inner-put}
 use borrow.Author.Needs.{needs}
-use Rattle.slots.proofs.put_inner.Statement.{statement}
-use Rattle.slots.proofs.put_inner.Tie as tie
+use Rattle.slots_put.proofs.put_inner.Statement.{statement}
+use Rattle.slots_put.proofs.put_inner.Tie as tie
 
 put-head-requires : tie.Need-put-head-requires
 put-head-requires c κs = search needs

@@ -1,10 +1,10 @@
--- `slots::put_child` meets its contract: version and hash are the fields of the child. Assumes nothing.
+-- `slots_put::put_child` meets its contract: version and hash are the fields of the child. Assumes nothing.
 use Rattle.hash.proofs.Laws.{hash-whole}
 use Rattle.slots.specs.Answer.{childSays}
-use Rattle.slots.proofs.Writing.{child-put}
+use Rattle.slots_put.proofs.Writing.{child-put}
 use borrow.Author.Needs.{needs}
-use Rattle.slots.proofs.put_child.Statement.{statement}
-use Rattle.slots.proofs.put_child.Tie as tie
+use Rattle.slots_put.proofs.put_child.Statement.{statement}
+use Rattle.slots_put.proofs.put_child.Tie as tie
 
 add-hash : tie.Need-add-hash
 add-hash c = search needs

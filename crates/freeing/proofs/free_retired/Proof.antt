@@ -1,9 +1,9 @@
--- `pruning::free_retired` meets its contract: each turn of the loop prunes one slot more. Assumes nothing.
+-- `freeing::free_retired` meets its contract: each turn of the loop prunes one slot more. Assumes nothing.
 use Prim.Native.Nat.{_-_}
 use native.Mathlib.Omega.{arith}
-use Rattle.pruning.proofs.Freeing.{Freeing, freeing-starts, freeing-small, freeing-long, freeing-same, freeing-next, freeing-done}
-use Rattle.pruning.proofs.free_retired.Statement.{statement}
-use Rattle.pruning.proofs.free_retired.Tie as tie
+use Rattle.freeing.proofs.Freeing.{Freeing, readable-size, freeing-starts, freeing-same, freeing-within, freeing-next, freeing-done}
+use Rattle.freeing.proofs.free_retired.Statement.{statement}
+use Rattle.freeing.proofs.free_retired.Tie as tie
 
 abbrev Inv-loop : tie.InvT-loop
 Inv-loop store₀ version slots freed₀ i₀ store freed i = Freeing version store₀ store slots freed i
@@ -11,23 +11,25 @@ Inv-loop store₀ version slots freed₀ i₀ store freed i = Freeing version st
 abbrev μ-loop : tie.MeasureT-loop
 μ-loop store₀ version slots freed₀ i₀ store freed i = slots - i
 
-sub-slots : tie.Need-sub-slots Inv-loop μ-loop
-sub-slots c = omega (arith, freeing-long (freeing-starts (c .before .args .version) (c .before .args .store .now) (c .before .pre)))
+slot-count-requires : tie.Need-slot-count-requires Inv-loop μ-loop
+slot-count-requires c κs = readable-size (c .before .before .pre)
 
 loop-holds : tie.Need-loop-holds Inv-loop μ-loop
-loop-holds c = freeing-starts (c .before .args .version) (c .before .args .store .now) (c .before .pre)
+loop-holds c =
+    let start = c .before .before .before in
+    freeing-starts (start .args .version) (start .args .store .now) (start .pre) (c .slot-count .ensures)
 
 free-slot-requires : tie.Need-free-slot-requires Inv-loop μ-loop
-free-slot-requires c κs = omega (arith, freeing-long (c .before .before .loop .inv), c .before .loop-test .taken)
+free-slot-requires c κs = freeing-within (c .before .before .loop .inv) (c .before .loop-test .taken)
 
 add-freed : tie.Need-add-freed Inv-loop μ-loop
 add-freed c =
     let d = c .before .before in
     let w = freeing-next (d .before .before .before .loop .inv) (d .before .before .loop-test .taken) (d .free-slot .ensures .1) (d .free-slot .ensures .0) in
-    omega (arith, w .few, w .within, freeing-small w)
+    omega (arith, w .few, w .scan .within, w .scan .small)
 
 add-i : tie.Need-add-i Inv-loop μ-loop
-add-i c = omega (arith, freeing-small (c .before .before .before .before .before .loop .inv), c .before .before .before .before .loop-test .taken)
+add-i c = omega (arith, c .before .before .before .before .before .loop .inv .scan .small, c .before .before .before .before .loop-test .taken)
 
 loop-less : tie.Need-loop-less Inv-loop μ-loop
 loop-less c = omega (arith, c .before .before .before .before .loop-test .taken)
@@ -49,7 +51,7 @@ free-retired-spec =
     (tie.spec
     Inv-loop
     μ-loop
-    sub-slots
+    slot-count-requires
     loop-holds
     free-slot-requires
     add-freed

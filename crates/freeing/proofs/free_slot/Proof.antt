@@ -1,10 +1,10 @@
--- `pruning::free_slot` meets its contract: the retired-since is 0, or later than the version, or the slot is cleared. Assumes nothing.
+-- `freeing::free_slot` meets its contract: the retired-since is 0, or later than the version, or the slot is cleared. Assumes nothing.
 use mathlib.Core.Path.{sym, _∙_}
 use native.Mathlib.Omega.{arith}
 use borrow.Author.Needs.{needs}
-use Rattle.pruning.proofs.Freeing.{kept-not-retired, kept-retired-later, freed-retired}
-use Rattle.pruning.proofs.free_slot.Statement.{statement}
-use Rattle.pruning.proofs.free_slot.Tie as tie
+use Rattle.freeing.proofs.Freeing.{kept-not-retired, kept-retired-later, freed-retired}
+use Rattle.freeing.proofs.free_slot.Statement.{statement}
+use Rattle.freeing.proofs.free_slot.Tie as tie
 
 retired-at-requires : tie.Need-retired-at-requires
 retired-at-requires c κs = search needs

@@ -6,21 +6,18 @@ use mathlib.Core.Bool.{Bool, cond, _&&_}
 use lib.ListN.{length, getD}
 use lib.Dec.{leb}
 use Rattle.terms.specs.Bits.{Bytes}
-use Rattle.terms.specs.Fields.{field}
 use Rattle.terms.specs.Records.{free, spoiled, Store}
-use Rattle.fields.specs.Written.{written}
 use Rattle.meaning.specs.Store.{freeSlots, pruned}
-use Rattle.layout.specs.Sizes.{retiredAt, slotAt}
-use Rattle.layout.specs.Slots.{slotBytes}
-use Rattle.layout.specs.Stores.{slotIn, storeOf, storeBytes, StoreForm}
+use Rattle.layout.specs.Slots.{sinceIn}
+use Rattle.layout.specs.Stores.{slotIn, storeOf, storeBytes, withSlot, StoreForm}
 
 -- The retired-since field of a slot's bytes says n or earlier; 0 means not retired.
 unfoldable pub retiredIn : ℕ → Bytes → Bool
-retiredIn n x = leb 1 (field retiredAt 4 x) && leb (field retiredAt 4 x) n
+retiredIn n x = leb 1 (sinceIn x) && leb (sinceIn x) n
 
 -- Slot i is freed if it says so: the bytes afterwards, and how many were freed.
 unfoldable pub freedSlot : ℕ → ℕ → Bytes → Bytes
-freedSlot n i s = cond (retiredIn n (slotIn i s)) (written (slotAt i) (slotBytes free) s) s
+freedSlot n i s = cond (retiredIn n (slotIn i s)) (withSlot i free s) s
 
 unfoldable pub freedCount : ℕ → ℕ → Bytes → ℕ
 freedCount n i s = cond (retiredIn n (slotIn i s)) 1 0

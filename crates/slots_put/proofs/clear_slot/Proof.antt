@@ -1,10 +1,10 @@
--- `slots::clear_slot` meets its contract: a free slot is 120 zero bytes. Assumes nothing.
+-- `slots_put::clear_slot` meets its contract: a free slot is 120 zero bytes. Assumes nothing.
 use mathlib.Core.Path.{ap, _∙_}
 use Rattle.terms.specs.Fields.{zeroBytes}
 use Rattle.layout.specs.Slots.{slotBytes}
 use borrow.Author.Needs.{needs}
-use Rattle.slots.proofs.clear_slot.Statement.{statement}
-use Rattle.slots.proofs.clear_slot.Tie as tie
+use Rattle.slots_put.proofs.clear_slot.Statement.{statement}
+use Rattle.slots_put.proofs.clear_slot.Tie as tie
 
 clear-requires : tie.Need-clear-requires
 clear-requires c κs = search needs

@@ -1,8 +1,8 @@
--- `slots::put_leaf` meets its contract: head, grant and 8 zero bytes fill the slot. Assumes nothing.
-use Rattle.slots.proofs.Writing.{leaf-put}
+-- `slots_put::put_leaf` meets its contract: head, grant and 8 zero bytes fill the slot. Assumes nothing.
+use Rattle.slots_put.proofs.Writing.{leaf-put}
 use borrow.Author.Needs.{needs}
-use Rattle.slots.proofs.put_leaf.Statement.{statement}
-use Rattle.slots.proofs.put_leaf.Tie as tie
+use Rattle.slots_put.proofs.put_leaf.Statement.{statement}
+use Rattle.slots_put.proofs.put_leaf.Tie as tie
 
 put-head-requires : tie.Need-put-head-requires
 put-head-requires c κs = search needs

@@ -1,12 +1,12 @@
--- `slots::put_head` meets its contract: its fields, written one after the other, are the head of a record. Assumes nothing.
+-- `slots_put::put_head` meets its contract: its fields, written one after the other, are the head of a record. Assumes nothing.
 use mathlib.Core.Path.{sym, _∙_}
 use native.Mathlib.Omega.{arith}
 use lib.ListN.{length-take, length-drop}
 use Rattle.place.proofs.Places.{proper-whole, proper-count}
-use Rattle.slots.proofs.Writing.{head-put}
+use Rattle.slots_put.proofs.Writing.{head-put}
 use borrow.Author.Needs.{needs}
-use Rattle.slots.proofs.put_head.Statement.{statement}
-use Rattle.slots.proofs.put_head.Tie as tie
+use Rattle.slots_put.proofs.put_head.Statement.{statement}
+use Rattle.slots_put.proofs.put_head.Tie as tie
 
 cast-count : tie.Need-cast-count
 cast-count c = search needs
