@@ -2,28 +2,19 @@
 use fields::copy;
 use fields::put_u16;
 use fields::put_u32;
-use layout::sizes::RIGHT_AT;
-use layout::sizes::SLOT_SIZE;
 use place::Place;
 use place::key_bit;
+use slots::child_hash;
 use slots::grant_of;
 use store::slot_of;
 ghost use mathlib.Core.Path.{_≡_};
-ghost use mathlib.Core.Bool.{not};
 ghost use Prim.Native.Nat.{_+_, _*_, _≤_};
 ghost use lib.ListN.{length};
 ghost use Rattle.terms.specs.Bits.{digit};
-ghost use Rattle.layout.specs.Sizes.{slotSize, slotAt, leftAt, rightAt};
-ghost use Rattle.layout.specs.Slots.{childIn};
-ghost use Rattle.meaning.specs.Store.{childOn};
+ghost use Rattle.layout.specs.Stores.{SlotWithin};
 ghost use Rattle.proofrecords.specs.ProofBytes.{stepSize, presenceHead, absenceHead, stepsBytes, presenceBytes, neighbourBytes, absenceBytes};
 ghost use Rattle.paths.specs.Paths.{stepBytes, stepAt, pathSteps, presenceAt, PathIn};
 ghost use Rattle.paths.specs.Neighbours.{roomFor, flagFor, neighbourAt, NeighbourIn, absentOf};
-
-// Where an inner record has its hashes.
-const LEFT_HASH_AT: usize = 52;
-
-const RIGHT_HASH_AT: usize = 88;
 
 // The sizes and kinds of proofs and steps.
 pub const STEP_SIZE: usize = 33;
@@ -53,23 +44,15 @@ fn digit(side: bool) -> u8
     0
 }
 
-// The hash of the sibling of the child on a side, as the inner record has it.
-fn sibling(s: &[u8], side: bool) -> &[u8]
-    requires { ⌜ length (now s) ≡ slotSize ⌝ }
-    ensures { λ r. ⌜ (now r ≡ childOn (not side) (childIn leftAt (now (s .entry))) (childIn rightAt (now (s .entry))) .hash) × (length (now r) ≡ 32) ⌝ }
-{
-    if side {
-        return &s[LEFT_HASH_AT..RIGHT_AT];
-    }
-    &s[RIGHT_HASH_AT..SLOT_SIZE]
-}
-
-// Writes the step up from the child on a side of the inner node in slot i.
+// Writes the step up from the child on a side of the inner node in slot i: the side, and the hash of the sibling as the node has it.
 fn put_step(part: &mut [u8], store: &[u8], i: usize, side: bool)
-    requires { ⌜ (length (now part) ≡ stepSize) × (slotAt i + slotSize ≤ length (now store)) ⌝ }
+    requires { ⌜ (length (now part) ≡ stepSize) × SlotWithin i (now store) ⌝ }
     ensures { λ _. ⌜ now (part .exit) ≡ stepBytes (stepAt (now (store .entry)) i side) ⌝ }
 {
-    copy(&mut part[1..STEP_SIZE], sibling(slot_of(store, i), side));
+    copy(
+        &mut part[1..STEP_SIZE],
+        child_hash(slot_of(store, i), !side),
+    );
     part[0] = digit(side);
 }
 

@@ -1,9 +1,9 @@
--- `read_step::child_place` meets its contract: the place is longer by the side's bit. Assumes nothing.
+-- `place::child_place` meets its contract: the place is longer by the side's bit. Assumes nothing.
 use mathlib.Core.Path.{sym, subst}
 use Rattle.place.specs.Place.{Grown}
 use borrow.Author.Needs.{needs}
-use Rattle.read_step.proofs.child_place.Statement.{statement}
-use Rattle.read_step.proofs.child_place.Tie as tie
+use Rattle.place.proofs.child_place.Statement.{statement}
+use Rattle.place.proofs.child_place.Tie as tie
 
 right-requires : tie.Need-right-requires
 right-requires c κs = search needs
