@@ -1,11 +1,11 @@
--- `pruning::is_kept` meets its contract: it compares with oldest, then with latest. Assumes nothing.
+-- `freeing::is_kept` meets its contract: it compares with oldest, then with latest. Assumes nothing.
 use borrow.Author.Needs.{needs}
 use native.Mathlib.Omega.{arith}
 use lib.Dec.{leb}
 use mathlib.Core.Path.{ap, _∙_}
-use Rattle.pruning.proofs.Outcomes.{below-oldest, up-to-latest}
-use Rattle.pruning.proofs.is_kept.Statement.{statement}
-use Rattle.pruning.proofs.is_kept.Tie as tie
+use Rattle.freeing.proofs.Kept.{below-oldest, up-to-latest}
+use Rattle.freeing.proofs.is_kept.Statement.{statement}
+use Rattle.freeing.proofs.is_kept.Tie as tie
 
 oldest-of-requires : tie.Need-oldest-of-requires
 oldest-of-requires c κs = search needs

@@ -1,12 +1,12 @@
--- `paths::put_neighbour` meets its contract: a presence proof, or nothing in an empty part. Assumes nothing.
+-- `paths_absence::put_neighbour` meets its contract: a presence proof, or nothing in an empty part. Assumes nothing.
 use mathlib.Core.Path.{refl, ap, sym, _∙_}
 use Rattle.proofrecords.specs.ProofBytes.{neighbourBytes}
 use Rattle.paths.specs.Neighbours.{wayAt, found, neighbourAt, roomFor}
 use Rattle.paths.specs.declared.Way.the-variants.{Lost, Nobody}
-use Rattle.paths.proofs.Records.{somebody-in, nobody-put}
+use Rattle.paths_absence.proofs.Absences.{somebody-in, nobody-put}
 use borrow.Author.Needs.{needs}
-use Rattle.paths.proofs.put_neighbour.Statement.{statement}
-use Rattle.paths.proofs.put_neighbour.Tie as tie
+use Rattle.paths_absence.proofs.put_neighbour.Statement.{statement}
+use Rattle.paths_absence.proofs.put_neighbour.Tie as tie
 
 enum-told : tie.Need-enum-told
 enum-told c = search needs

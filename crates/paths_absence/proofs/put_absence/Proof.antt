@@ -1,13 +1,14 @@
--- `paths::put_absence` meets its contract: head, key and the neighbours' records fill the part. Assumes nothing.
+-- `paths_absence::put_absence` meets its contract: head, key and the neighbours' records fill the part. Assumes nothing.
 use native.Mathlib.Omega.{arith}
 use mathlib.Core.Path.{_≡_, ap, ap₂, sym, _∙_}
 use lib.ListN.{length}
 use Prim.Native.Nat.{_+_}
 use Rattle.paths.specs.Neighbours.{roomFor}
-use Rattle.paths.proofs.Records.{given, part-room, given-long, neighbour-count, room-most, flag-most, absence-put}
+use Rattle.paths.proofs.Records.{given, part-room, given-long, neighbour-count, room-most}
+use Rattle.paths_absence.proofs.Absences.{flag-most, absence-put}
 use borrow.Author.Needs.{needs}
-use Rattle.paths.proofs.put_absence.Statement.{statement}
-use Rattle.paths.proofs.put_absence.Tie as tie
+use Rattle.paths_absence.proofs.put_absence.Statement.{statement}
+use Rattle.paths_absence.proofs.put_absence.Tie as tie
 
 flag-requires : tie.Need-flag-requires
 flag-requires c κs = search needs

@@ -1,9 +1,9 @@
--- `paths::flag` meets its contract, case by case. Assumes nothing.
+-- `paths_absence::flag` meets its contract, case by case. Assumes nothing.
 use mathlib.Core.Path.{ap, sym}
 use Rattle.paths.specs.Neighbours.{wayFlag, flagFor}
 use borrow.Author.Needs.{needs}
-use Rattle.paths.proofs.flag.Statement.{statement}
-use Rattle.paths.proofs.flag.Tie as tie
+use Rattle.paths_absence.proofs.flag.Statement.{statement}
+use Rattle.paths_absence.proofs.flag.Tie as tie
 
 enum-told : tie.Need-enum-told
 enum-told c = search needs
