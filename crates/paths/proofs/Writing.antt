@@ -15,10 +15,7 @@ use Rattle.layout.specs.Slots.{kidOn}
 use Rattle.read_step.specs.Walk.{kidIn}
 use Rattle.read_step.proofs.Seeing.{kid-is}
 use Rattle.paths.specs.Paths.{stepBytes, stepAt, stepsOf}
-
--- what is left of a slice whose part from i to e was lent and came back as y
-abbrev given : ℕ → ℕ → Bytes → Bytes → Bytes
-given i e s y = take i s ++ (y ++ drop (e - i) (drop i s))
+use Rattle.paths.proofs.Records.{given}
 
 -- a side and a hash fill the 33 bytes of a step
 pub step-put : {x h y : Bytes} {d : ℕ} (part s : Bytes) (i : ℕ) (b : Side) → length part ≡ 33 → d ≡ digit b → x ≡ slotIn i s → h ≡ kidOn (not b) x .hash →
