@@ -28,9 +28,9 @@ use Rattle.layout.proofs.Headers as headers
 use Rattle.batch.specs.Batch.{batchOf}
 use Rattle.batch.proofs.Batches.{batch-of-back}
 use Rattle.format.specs.Format.{formatAnswer, formatBytes}
-use Rattle.calls.specs.Calls.{SoundBytes, wrong-header, not-sound, refuses, accepts, Exports, exports-refusal, exports-answer}
+use Rattle.promises.specs.Calls.{SoundBytes, wrong-header, not-sound, refuses, accepts, Exports, exports-refusal, exports-answer}
 use Rattle.grants.specs.Contracts.{ReadsRoot, ReadsKey}
-use Rattle.answers.specs.Answers.{foundBytes}
+use Rattle.meaning.specs.Answers.{foundBytes}
 use Rattle.demands.specs.Calls.{Called, formats, applies, prunes, checks, reads-root, reads-key, proves, verifies, hashes, Calls, none-yet, then-called, Life}
 use Rattle.demands.specs.Claims.{AfterHistory}
 use Rattle.demands.proofs.Hashes.{leaf-hash-whole, inner-hash-whole}

@@ -4,7 +4,7 @@ use Prim.Native.Nat.{ℕ}
 use mathlib.Core.Path.{_≡_, sym, _∙_}
 use Rattle.terms.specs.Bits.{Bytes}
 use Rattle.soundness.proofs.Answers.{one-answer}
-use Rattle.calls.proofs.Calls.{one-export}
+use Rattle.promises.proofs.Calls.{one-export}
 use Rattle.grants.specs.Contracts.{Formats, Checks, Applies, Prunes, ReadsRoot, ReadsKey, Proves, Verifies, Hashes}
 
 module _ {s : Bytes} {a b : ℕ} where

@@ -23,15 +23,15 @@ use Rattle.nodehash.specs.Node.{leafHash, innerHash}
 use Rattle.proofrecords.specs.ProofBytes.{presenceKind, absenceKind, proofBytes, ProofForm}
 use Rattle.proofrecords.proofs.Proofs.{proof-back}
 use Rattle.layout.specs.Stores.{storeOf}
-use Rattle.calls.specs.Calls.{SoundBytes}
-use Rattle.calls.proofs.Calls.{sound-form}
+use Rattle.promises.specs.Calls.{SoundBytes}
+use Rattle.promises.proofs.Calls.{sound-form}
 use Rattle.reads.specs.Reads.{rootAnswer, keyAnswer}
 use Rattle.reads.proofs.Theorems.{root-read-of-sound, key-read-of-sound}
 use Rattle.reads_c.specs.Export.{rootBytes}
 use Rattle.proving.specs.Proving.{proveAnswer}
 use Rattle.proving_c.specs.Export.{provedInto}
 use Rattle.verify.specs.Verify.{verified}
-use Rattle.answers.specs.Answers.{numberOf, foundBytes, foundAfter}
+use Rattle.meaning.specs.Answers.{numberOf, foundBytes, foundAfter}
 use Rattle.grants.specs.Contracts.{ReadsRoot, ReadsKey, Proves, Verifies}
 use Rattle.demands.specs.Claims.{treeOfVersion, grantsOfVersion, Shown}
 use Rattle.demands.proofs.Hashes.{hash-whole}

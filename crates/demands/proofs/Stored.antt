@@ -5,8 +5,8 @@ use Rattle.meaning.specs.Sound.{Sound}
 use Rattle.nodehash.specs.Node.{leafHash, innerHash}
 use Rattle.layout.specs.Stores.{storeOf, storeBytes}
 use Rattle.layout.proofs.Stores.{store-accepted, store-said}
-use Rattle.calls.specs.Calls.{SoundBytes}
-use Rattle.calls.proofs.Calls.{sound-form}
+use Rattle.promises.specs.Calls.{SoundBytes}
+use Rattle.promises.proofs.Calls.{sound-form}
 
 module _ (st : Store) (s : Sound leafHash innerHash st) where
   pub stored-is : storeOf (storeBytes st) ≡ st

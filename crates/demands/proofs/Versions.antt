@@ -23,9 +23,9 @@ use Rattle.nodehash.specs.Node.{leafHash, innerHash}
 use Rattle.layout.specs.Stores.{storeOf, storeBytes}
 use Rattle.batch.specs.Batch.{batchOf}
 use Rattle.batch.proofs.Batches.{batch-of-back}
-use Rattle.calls.specs.Calls.{SoundBytes, accepts, exports-refusal, exports-answer}
+use Rattle.promises.specs.Calls.{SoundBytes, accepts, exports-refusal, exports-answer}
 use Rattle.applying_c.specs.Export.{answerBytes, told}
-use Rattle.answers.specs.Answers.{foundBytes}
+use Rattle.meaning.specs.Answers.{foundBytes}
 use Rattle.grants.specs.Contracts.{Applies, Prunes, ReadsRoot, ReadsKey}
 use Rattle.demands.specs.Claims.{treeOfVersion, grantsOfVersion, latestOf, NextVersion, Pruned}
 use Rattle.demands.proofs.Hashes.{leaf-hash-whole, inner-hash-whole, hash-whole}

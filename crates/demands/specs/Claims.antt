@@ -21,9 +21,9 @@ use Rattle.nodehash.specs.Node.{leafHash, innerHash}
 use Rattle.proofrecords.specs.ProofBytes.{presenceKind, absenceKind}
 use Rattle.layout.specs.Stores.{storeOf, storeBytes}
 use Rattle.batch.specs.Batch.{batchOf}
-use Rattle.calls.specs.Calls.{SoundBytes}
+use Rattle.promises.specs.Calls.{SoundBytes}
 use Rattle.applying_c.specs.Export.{told}
-use Rattle.answers.specs.Answers.{foundBytes}
+use Rattle.meaning.specs.Answers.{foundBytes}
 use Rattle.grants.specs.Contracts.{ReadsRoot, ReadsKey, Proves, Verifies}
 
 -- Of the store that bytes hold: the tree of a version, its grants, and the latest version.

@@ -10,3 +10,4 @@ pub mod History
 pub mod Local
 pub mod Desk
 pub mod Computed
+pub mod Answers

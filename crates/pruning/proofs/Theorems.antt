@@ -8,8 +8,8 @@ use Rattle.histories.specs.Claims.{AfterPrune}
 use Rattle.histories.proofs.Theorems.{prune-keeps-sound}
 use Rattle.layout.specs.Stores.{storeOf}
 use Rattle.layout.proofs.Stores.{store-said}
-use Rattle.calls.specs.Calls.{accepts}
-use Rattle.calls.proofs.Calls.{sound-form}
+use Rattle.promises.specs.Calls.{accepts}
+use Rattle.promises.proofs.Calls.{sound-form}
 use Rattle.pruning.specs.Prune.{Prunes}
 
 -- Pruning a sound store leaves a sound store, in which each version that is still kept has its tree, and as many slots more are free as

@@ -3,7 +3,7 @@
 use Prim.Native.Nat.{ℕ}
 use Rattle.terms.specs.Bits.{Bytes}
 use Rattle.meaning.specs.Calls.{Answer, refused, accepted, prune}
-use Rattle.calls.specs.Calls.{Does}
+use Rattle.promises.specs.Calls.{Does}
 use Rattle.pruning.specs.declared.Pruned as declared
 use Rattle.pruning.specs.declared.Pruned.the-variants.{Refused, Freed}
 

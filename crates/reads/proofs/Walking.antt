@@ -16,10 +16,10 @@ use Rattle.place.proofs.Places.{proper-count}
 use Rattle.layout.specs.Sizes.{roomOf}
 use Rattle.layout.specs.Headers.{sizeRight}
 use Rattle.layout.specs.Stores.{storeOf}
-use Rattle.walk.specs.Walk.{kidIn, seenBelow, leafAt, forkAt, Sees, Slotted}
-use Rattle.walk.specs.declared.Seen as declared
-use Rattle.walk.specs.declared.Seen.the-variants.{Gap, Lost, Leaf, Inner}
-use Rattle.walk.proofs.Seeing.{kid-seen}
+use Rattle.read_step.specs.Walk.{kidIn, seenBelow, leafAt, forkAt, Sees, Slotted}
+use Rattle.read_step.specs.declared.Seen as declared
+use Rattle.read_step.specs.declared.Seen.the-variants.{Gap, Lost, Leaf, Inner}
+use Rattle.read_step.proofs.Seeing.{kid-seen}
 use Rattle.reads.specs.Reads.{readSays, leafRead, walkRead}
 use Rattle.reads.specs.declared.KeyRead.the-variants as read
 

@@ -12,7 +12,7 @@ use Rattle.hash.specs.Hash.{hashBytes}
 use Rattle.nodehash.specs.Node.{leafHash, innerHash}
 use Rattle.layout.specs.Headers.{headerOf}
 use Rattle.layout.specs.Stores.{storeOf}
-use Rattle.walk.specs.Walk.{byHeader, leafAt}
+use Rattle.read_step.specs.Walk.{byHeader, leafAt}
 use Rattle.reads.specs.declared.RootRead as declared-root
 use Rattle.reads.specs.declared.RootRead.the-variants as root
 use Rattle.reads.specs.declared.KeyRead as declared-read

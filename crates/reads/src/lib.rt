@@ -4,21 +4,21 @@ use hash::Hash;
 use hash::hash_at;
 use hash::no_hash;
 use lookup::Found;
-use lookup::find;
+use lookup::find_root;
 use place::Place;
+use place::child_place;
 use place::key_bit;
 use place::same;
+use read_step::NOT_SOUND;
+use read_step::Opened;
+use read_step::Seen;
+use read_step::WRONG_KEY;
+use read_step::child;
+use read_step::open;
+use read_step::record_hash;
 use slots::key_of;
 use slots::value_of;
 use store::slot_of;
-use walk::NOT_SOUND;
-use walk::Opened;
-use walk::Seen;
-use walk::WRONG_KEY;
-use walk::child;
-use walk::child_place;
-use walk::open;
-use walk::record_hash;
 ghost use mathlib.Core.Path.{_≡_};
 ghost use mathlib.Core.Bool.{true};
 ghost use Prim.Native.Nat.{_<_};
@@ -51,7 +51,7 @@ fn root_hash(store: &[u8], version: u32) -> Hash
     requires { ⌜ sizeRight (length (now store)) ≡ true ⌝ }
     ensures { λ r. ⌜ hashBytes r ≡ rootHash leafHash innerHash (rootOf (storeOf (now (store .entry))) version) ⌝ }
 {
-    let found = find(store, version, Place::top());
+    let found = find_root(store, version);
     let Found::At(i) = found else {
         return no_hash();
     };
@@ -89,7 +89,7 @@ fn walk_read(store: &[u8], version: u32, key: &[u8]) -> KeyRead
     ensures { λ r. ⌜ readSays r ≡ walkRead (now (store .entry)) version (now (key .entry)) ⌝ }
 {
     let mut place = Place::top();
-    let mut seen = walk::root(store, version);
+    let mut seen = read_step::root(store, version);
     loop {
         match seen {
             Seen::Gap => return KeyRead::Absent,

@@ -22,9 +22,9 @@ use Rattle.place.proofs.Places.{proper-count}
 use Rattle.layout.specs.Sizes.{roomOf}
 use Rattle.layout.specs.Headers.{sizeRight}
 use Rattle.layout.specs.Stores.{storeOf}
-use Rattle.walk.specs.Walk.{kidIn, seenBelow, Sees}
-use Rattle.walk.specs.declared.Seen as declared-seen
-use Rattle.walk.specs.declared.Seen.the-variants.{Gap, Lost, Leaf, Inner}
+use Rattle.read_step.specs.Walk.{kidIn, seenBelow, Sees}
+use Rattle.read_step.specs.declared.Seen as declared-seen
+use Rattle.read_step.specs.declared.Seen.the-variants.{Gap, Lost, Leaf, Inner}
 use Rattle.paths.specs.Paths.{stepAt, stepsOf}
 use Rattle.trails.specs.Trails.{shownAt, SeenIn, shownBy, stepsBy, TrailIn, AtInner, Started, Further}
 use Rattle.trails.specs.declared.Trail as declared

@@ -19,10 +19,10 @@ use Rattle.meaning.specs.Proving.{stepUp, raisedBy, descend, Sought, nobody, so
 use Rattle.place.specs.declared.Place as declared-place
 use Rattle.place.specs.Place.{placeOf, Proper}
 use Rattle.layout.specs.Stores.{storeOf}
-use Rattle.walk.specs.Walk.{kidIn, forkAt}
-use Rattle.walk.specs.declared.Seen as declared-seen
-use Rattle.walk.specs.declared.Seen.the-variants.{Inner}
-use Rattle.walk.proofs.Seen as Seen
+use Rattle.read_step.specs.Walk.{kidIn, forkAt}
+use Rattle.read_step.specs.declared.Seen as declared-seen
+use Rattle.read_step.specs.declared.Seen.the-variants.{Inner}
+use Rattle.read_step.proofs.Seen as Seen
 use Rattle.paths.specs.Paths.{stepAt, stepsOf}
 use Rattle.trails.specs.Trails.{shownAt, shownBy, stepsBy, AtInner, Started, Further, forkAfter, sideways, forkSays, ForkIn, forkOn, Walking, Walks}
 use Rattle.trails.specs.declared.Trail as declared

@@ -14,9 +14,9 @@ use Rattle.layout.specs.Headers.{sizeRight}
 use Rattle.layout.specs.Stores.{storeOf}
 use Rattle.place.specs.Place.{placeOf, Proper, Grown}
 use Rattle.place.specs.declared.Place as declared-place
-use Rattle.walk.specs.Walk.{kidIn, seenBelow, leafAt, forkAt}
-use Rattle.walk.specs.declared.Seen as declared-seen
-use Rattle.walk.specs.declared.Seen.the-variants.{Gap, Lost, Leaf, Inner}
+use Rattle.read_step.specs.Walk.{kidIn, seenBelow, leafAt, forkAt}
+use Rattle.read_step.specs.declared.Seen as declared-seen
+use Rattle.read_step.specs.declared.Seen.the-variants.{Gap, Lost, Leaf, Inner}
 use Rattle.paths.specs.Paths.{stepAt, stepsOf}
 use Rattle.trails.specs.declared.Trail as declared
 use Rattle.trails.specs.declared.Fork as declared-fork

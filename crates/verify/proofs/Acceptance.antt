@@ -21,7 +21,7 @@ use Rattle.proofrecords.proofs.Proofs.{proof-bytes}
 use Rattle.verify.specs.declared.Checked.{Checked}
 use Rattle.verify.specs.declared.Checked.the-variants.{Refused, Present, Absent}
 use Rattle.verify.specs.Verify.{judged, verified, says}
-use Rattle.answers.specs.Answers.{numberOf, foundAfter}
+use Rattle.meaning.specs.Answers.{numberOf, foundAfter}
 
 -- An answer of the machine's: its numbers are in range.
 abbrev pub InRange : Checked → Type 0

@@ -5,7 +5,7 @@ use borrow.Author.Tests.{not-true, not-false}
 use Rattle.terms.specs.Bits.{Byte}
 use Rattle.terms.proofs.Lists.{all-of}
 use Rattle.batch.proofs.Runs.{run-of-batch}
-use Rattle.calls.proofs.Calls.{checked-refuses, checked-sound}
+use Rattle.promises.proofs.Calls.{checked-refuses, checked-sound}
 use Rattle.applying.specs.Apply.{appliedSays}
 use Rattle.applying.proofs.Outcomes.{refused-4, refused-5}
 use borrow.Author.Needs.{needs}

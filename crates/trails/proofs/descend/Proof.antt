@@ -3,7 +3,7 @@ use Prim.Native.Nat.{_-_}
 use native.Mathlib.Omega.{arith}
 use borrow.Author.Needs.{needs}
 use mathlib.Core.Path.{refl}
-use Rattle.walk.specs.declared.Seen.the-variants.{Gap, Lost}
+use Rattle.read_step.specs.declared.Seen.the-variants.{Gap, Lost}
 use Rattle.trails.proofs.Trails.{at-inner}
 use Rattle.trails.proofs.Searches.{Descent, descent-start, descent-next, descent-leaf, descent-lost}
 use Rattle.trails.proofs.descend.Statement.{statement}

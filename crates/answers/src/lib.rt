@@ -1,1 +1,0 @@
-// What an answer is for a caller in another language, without code.

@@ -1,0 +1,81 @@
+-- `apply_leaf::own_ask` meets its contract: no record passed asks for the key. Assumes nothing.
+use Prim.Native.Nat.{_+_, _-_}
+use mathlib.Core.Path.{refl, sym, _∙_}
+use native.Mathlib.Omega.{arith}
+use lib.ListN.{drop}
+use Rattle.hash.specs.Hash.{hashBytes}
+use Rattle.batch.specs.Batch.{asks, askAt}
+use Rattle.steps.specs.Step as step
+use Rattle.apply_leaf.proofs.Asked.{Looking, look-on, look-end, own-else, own-insert, own-delete}
+use borrow.Author.Needs.{needs}
+use Rattle.apply_leaf.proofs.own_ask.Statement.{statement}
+use Rattle.apply_leaf.proofs.own_ask.Tie as tie
+
+abbrev Inv-loop : tie.InvT-loop
+Inv-loop run key n i₀ i = Looking (step.ownAsk (hashBytes key)) run n i
+
+abbrev μ-loop : tie.MeasureT-loop
+μ-loop run key n i₀ i = n - i
+
+record-count-requires : tie.Need-record-count-requires Inv-loop μ-loop
+record-count-requires c κs = search needs
+
+loop-holds : tie.Need-loop-holds Inv-loop μ-loop
+loop-holds c = record { many = c .record-count .ensures; within = omega arith; rest = refl }
+
+asks-for-requires : tie.Need-asks-for-requires Inv-loop μ-loop
+asks-for-requires c κs = omega (arith, c .before .loop .inv)
+
+is-insert-requires : tie.Need-is-insert-requires Inv-loop μ-loop
+is-insert-requires c κs = omega (arith, c .before .before .before .loop .inv, c .before .before .loop-test)
+
+grant-requires : tie.Need-grant-requires Inv-loop μ-loop
+grant-requires c κs = (omega (arith, c .before .before .before .before .before .loop .inv, c .before .before .before .before .loop-test), sym (c .before .is-insert .ensures) ∙ c .if2 .taken)
+
+hash-at-requires : tie.Need-hash-at-requires Inv-loop μ-loop
+hash-at-requires c κs = search needs
+
+returns : tie.Need-returns Inv-loop μ-loop
+returns c =
+    let a = c .before .before .before .before .before .before .before .before .before .before .args in
+    let g = c .before .grant .ensures in
+    own-insert (hashBytes (a .key)) (a .run .now) (c .before .before .before .before .before .before .before .loop .inv) (c .before .before .before .before .before .before .loop-test .taken) (sym (c .before .before .before .before .before .asks-for .ensures) ∙ c .before .before .before .before .if1 .taken) (sym (c .before .before .before .is-insert .ensures) ∙ c .before .before .if2 .taken) _ _ (g .0) (g .1) (c .hash-at .ensures .1)
+
+returns-2 : tie.Need-returns-2 Inv-loop μ-loop
+returns-2 c =
+    let a = c .before .before .before .before .before .before .before .before .args in
+    own-delete (hashBytes (a .key)) (a .run .now) (c .before .before .before .before .before .loop .inv) (c .before .before .before .before .loop-test .taken) (sym (c .before .before .before .asks-for .ensures) ∙ c .before .before .if1 .taken) (sym (c .before .is-insert .ensures) ∙ c .if2 .left)
+
+add-i : tie.Need-add-i Inv-loop μ-loop
+add-i c = omega arith
+
+loop-less : tie.Need-loop-less Inv-loop μ-loop
+loop-less c = omega arith
+
+loop-again : tie.Need-loop-again Inv-loop μ-loop
+loop-again c =
+    let a = c .before .before .before .before .before .before .args in
+    let k = hashBytes (a .key) in
+    look-on (step.ownAsk k) (a .run .now) (c .before .before .before .loop .inv) (c .before .before .loop-test .taken) (own-else k (askAt (c .before .before .before .loop .i) (a .run .now)) (drop (c .before .before .before .loop .i + 1) (asks (a .run .now))) (sym (c .before .asks-for .ensures) ∙ c .if1 .left))
+
+returns-3 : tie.Need-returns-3 Inv-loop μ-loop
+returns-3 c = let a = c .before .before .before .before .args in look-end (step.ownAsk (hashBytes (a .key))) (a .run .now) (c .before .loop .inv) (c .loop-test .left)
+
+pub own-ask-spec : {M : Type 1} → statement M
+own-ask-spec =
+    tie.close
+    (tie.spec
+    Inv-loop
+    μ-loop
+    record-count-requires
+    loop-holds
+    asks-for-requires
+    is-insert-requires
+    grant-requires
+    hash-at-requires
+    returns
+    returns-2
+    add-i
+    loop-less
+    loop-again
+    returns-3)

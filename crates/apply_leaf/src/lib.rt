@@ -1,0 +1,149 @@
+// The step at a leaf, document 01: what the run asks for its key, and inserts beside it.
+use apply_grow::Stays;
+use apply_grow::grow;
+use apply_outcome::Change;
+use apply_outcome::Outcome;
+use apply_place::Node;
+use batch::grant;
+use batch::is_insert;
+use batch::record_count;
+use hash::Hash;
+use hash::hash_at;
+use hash::same_hash;
+use place::Place;
+ghost use mathlib.Core.Path.{_≡_};
+ghost use mathlib.Core.Bool.{true};
+ghost use Prim.Native.Nat.{_-_, _<_};
+ghost use Rattle.terms.specs.Bits.{sameBytes};
+ghost use Rattle.terms.specs.Records.{grant, askKey};
+ghost use Rattle.hash.specs.Hash.{hashBytes};
+ghost use Rattle.nodehash.specs.Node.{leafHash, innerHash};
+ghost use Rattle.place.specs.Place.{placeOf};
+ghost use Rattle.batch.specs.Batch.{count, asks, askAt};
+ghost use Rattle.steps.specs.Step as step;
+ghost use Rattle.apply_outcome.specs.Outcomes.{Did};
+ghost use Rattle.apply_leaf.specs.Leaf.{OwnSays, isMore, AtLeaf};
+
+// What a run asks for a key.
+enum Own {
+    Nothing,
+    Insert { value: Hash },
+    Delete,
+}
+
+// Whether record i of a run asks for a key.
+fn asks_for(run: &[u8], i: usize, key: Hash) -> bool
+    requires { ⌜ i < count (now run) ⌝ }
+    ensures { λ r. ⌜ r ≡ sameBytes (askKey (askAt i (now (run .entry)))) (hashBytes key) ⌝ }
+{
+    let k = batch::key(run, i);
+    same_hash(hash_at(k, 0), key)
+}
+
+fn own_ask(run: &[u8], key: Hash) -> Own
+    ensures { λ r. ⌜ OwnSays r (step.ownAsk (hashBytes key) (asks (now (run .entry)))) ⌝ }
+{
+    let n = record_count(run);
+    let mut i = 0;
+    while i < n {
+        if asks_for(run, i, key) {
+            if is_insert(run, i) {
+                let g = grant(run, i);
+                return Own::Insert {
+                    value: hash_at(g, 32),
+                };
+            }
+            return Own::Delete;
+        }
+        i += 1;
+    }
+    Own::Nothing
+}
+
+// Whether a run inserts another key.
+fn inserts_more(run: &[u8], key: Hash) -> bool
+    ensures { λ r. ⌜ r ≡ isMore (step.otherInserts (hashBytes key) (asks (now (run .entry)))) ⌝ }
+{
+    let n = record_count(run);
+    let mut i = 0;
+    while i < n {
+        if !is_insert(run, i) {
+            i += 1;
+            continue;
+        }
+        if !asks_for(run, i, key) {
+            return true;
+        }
+        i += 1;
+    }
+    false
+}
+
+// The step at a leaf (version, place) with its grant.
+pub fn at_leaf(
+    store: &mut [u8],
+    writes: bool,
+    new: u32,
+    place: Place,
+    version: u32,
+    key: Hash,
+    value: Hash,
+    run: &[u8],
+) -> Outcome
+    requires { ⌜ AtLeaf new (now store) place key (now run) ⌝ }
+    ensures { λ r. ⌜ Did new writes (now (store .entry)) (now (store .exit)) (step.stepLeaf leafHash innerHash new (256 - place .count) (placeOf place) version (grant (hashBytes key) (hashBytes value)) (asks (now (run .entry)))) r ⌝ }
+{
+    let own = own_ask(run, key);
+    let more = inserts_more(run, key);
+    match own {
+        Own::Nothing => {
+            if more {
+                return grow(store, writes, new, place, Stays::Grant { key, value }, run);
+            }
+            Outcome {
+                change: Change::Unchanged,
+                node: Node::Leaf {
+                    version,
+                    key,
+                    value,
+                },
+                count: 0,
+            }
+        }
+        Own::Insert { value: asked } => {
+            if more {
+                return grow(store, writes, new, place, Stays::Nothing, run);
+            }
+            if same_hash(asked, value) {
+                return Outcome {
+                    change: Change::Unchanged,
+                    node: Node::Leaf {
+                        version,
+                        key,
+                        value,
+                    },
+                    count: 0,
+                };
+            }
+            Outcome {
+                change: Change::Updated,
+                node: Node::Leaf {
+                    version: new,
+                    key,
+                    value: asked,
+                },
+                count: 0,
+            }
+        }
+        Own::Delete => {
+            if more {
+                return grow(store, writes, new, place, Stays::Nothing, run);
+            }
+            Outcome {
+                change: Change::Deleted,
+                node: Node::Nothing,
+                count: 0,
+            }
+        }
+    }
+}

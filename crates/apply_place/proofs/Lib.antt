@@ -1,0 +1,4 @@
+pub mod Changing
+pub mod Placing
+pub mod Marking
+pub mod Keeping

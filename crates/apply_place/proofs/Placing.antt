@@ -1,0 +1,172 @@
+-- The lowest free slot: the slots passed are not free, so a record that is placed goes to the first that is. Assumes nothing.
+use Prim.Native.Nat.{ℕ, zero, suc, _+_, _*_, _<_, _≤_}
+use native.Mathlib.Omega.{arith}
+use mathlib.Core.Path.{_≡_, refl, ap, sym, _∙_, subst}
+use mathlib.Core.Bool.{Bool, true, false, cond}
+use mathlib.Core.List.{List, [], _∷_, _++_, append-nil}
+use lib.ListN.{length, getD, set, take, drop, length-take, length-drop, drop-of-length-le}
+use lib.Seq.{take-at, drop-at, take-all}
+use borrow.Author.Count.{below-more}
+use Rattle.terms.specs.Bits.{Bytes, Place, All}
+use Rattle.terms.specs.Fields.{allZero, slice}
+use Rattle.terms.specs.Records.{leafBody, innerBody, Record, Slot, free, used, spoiled}
+use Rattle.terms.specs.Form.{RecordForm}
+use Rattle.meaning.specs.Store.{placed}
+use Rattle.fields.specs.Written.{written}
+use Rattle.meaning.proofs.Finding.{free-used}
+use Rattle.hash.specs.declared.Hash.{Hash}
+use Rattle.hash.specs.Hash.{hashBytes}
+use Rattle.hash.proofs.Laws.{hash-whole}
+use Rattle.layout.specs.Sizes.{roomOf}
+use Rattle.layout.specs.Slots.{isLeaf, isInner, recordOf, recordIn, leafIn, innerIn, slotOf, slotBytes}
+use Rattle.layout.specs.Stores.{slotIn, storeOf}
+use Rattle.layout.proofs.Stores.{slot-at}
+use Rattle.slots.specs.declared.Child as child
+use Rattle.slots.specs.Answer.{childSays, grantBody}
+use Rattle.lookup.specs.declared.Found as found
+use Rattle.lookup.specs.declared.Found.the-variants.{At, Nothing}
+use Rattle.apply_place.specs.declared.Node as declared
+use Rattle.apply_place.specs.declared.Node.the-variants.{Nothing as none, Leaf, Inner}
+use Rattle.apply_place.specs.Placing.{Stored, Changed, FreeIn, recordSays}
+use Rattle.apply_place.proofs.Changing.{stored-accepted, stored-room, slot-changed}
+
+spoiled-free : {A : Type 0} (x : Bytes) → spoiled x ≡ free → A
+spoiled-free x e = let z : _≡_ {A = ℕ} 0 1 = cc in absurd (omega arith)
+
+pub placed-nothing : (s : List Slot) → placed [] s ≡ s
+placed-nothing [] = refl
+placed-nothing (free ∷ s) = refl
+placed-nothing (used x ∷ s) = ap (used x ∷_) (placed-nothing s)
+placed-nothing (spoiled x ∷ s) = ap (spoiled x ∷_) (placed-nothing s)
+
+-- no slot before i is free
+abbrev NoneFree : List Slot → ℕ → Type 0
+NoneFree s i = (j : ℕ) → j < i → getD s j free ≡ free → ⊥
+
+placed-here : (r : Record) (s : List Slot) (i : ℕ) → i < length s → NoneFree s i → getD s i free ≡ free → placed (r ∷ []) s ≡ set s i (used r)
+placed-here r [] i l h e = absurd (omega arith)
+placed-here r (free ∷ s) zero l h e = ap (used r ∷_) (placed-nothing s)
+placed-here r (free ∷ s) (suc i) l h e = absurd (h 0 (omega arith) refl)
+placed-here r (used x ∷ s) zero l h e = free-used x (sym e)
+placed-here r (used x ∷ s) (suc i) l h e = ap (used x ∷_) (placed-here r s i (omega arith) (λ j k. h (suc j) (omega arith)) e)
+placed-here r (spoiled x ∷ s) zero l h e = spoiled-free x e
+placed-here r (spoiled x ∷ s) (suc i) l h e = ap (spoiled x ∷_) (placed-here r s i (omega arith) (λ j k. h (suc j) (omega arith)) e)
+
+placed-nowhere : (r : Record) (s : List Slot) → NoneFree s (length s) → placed (r ∷ []) s ≡ s
+placed-nowhere r [] h = refl
+placed-nowhere r (free ∷ s) h = absurd (h 0 (omega arith) refl)
+placed-nowhere r (used x ∷ s) h = ap (used x ∷_) (placed-nowhere r s (λ j k. h (suc j) (omega arith)))
+placed-nowhere r (spoiled x ∷ s) h = ap (spoiled x ∷_) (placed-nowhere r s (λ j k. h (suc j) (omega arith)))
+
+-- free is exactly all zero
+pub zero-free : (x : Bytes) → allZero x ≡ true → slotOf x ≡ free
+unfolding slotOf
+zero-free x e = rw e
+
+pub not-free : (x : Bytes) → allZero x ≡ false → slotOf x ≡ free → ⊥
+unfolding slotOf
+not-free x e = rw e (go (isLeaf x) (isInner x))
+  where
+    go : (a b : Bool) → cond a (used (recordIn x (leafIn x))) (cond b (used (recordIn x (innerIn x))) (spoiled x)) ≡ free → ⊥
+    go true b k = free-used _ (sym k)
+    go false true k = free-used _ (sym k)
+    go false false k = spoiled-free x k
+
+-- at slot i of n: no slot before it is free
+pub record Passed (s : Bytes) (n i : ℕ) : Type 0 where
+  pub stored : Stored s
+  pub size : length s ≡ 24 + 120 * n
+  pub small : n ≤ 16384
+  pub many : length (storeOf s .slots) ≡ n
+  pub within : i ≤ n
+  pub none : NoneFree (storeOf s .slots) i
+
+pub from-start : {s : Bytes} {n : ℕ} → Stored s → n ≡ roomOf (length s) → Passed s n 0
+from-start h e =
+    let a = stored-accepted h in
+    let k = e ∙ stored-room h in
+    record {
+      stored = h;
+      size = rw k (a .size);
+      small = rw k (a .fits);
+      many = sym k;
+      within = omega arith;
+      none = λ j l. absurd (omega arith);
+    }
+
+module _ {s : Bytes} {n i : ℕ} (w : Passed s n i) where
+  slot-here : i < n → getD (storeOf s .slots) i free ≡ slotOf (slotIn i s)
+  slot-here l = slot-at s i (rw (stored-room (w .stored), w .many) l)
+
+  pub one-more : i < n → allZero (slotIn i s) ≡ false → Passed s n (i + 1)
+  one-more l e = record {
+    stored = w .stored;
+    size = w .size;
+    small = w .small;
+    many = w .many;
+    within = omega arith;
+    none = below-more (λ j. getD (storeOf s .slots) j free ≡ free → ⊥) i (w .none) (λ k. not-free (slotIn i s) e (sym (slot-here l) ∙ k));
+  }
+
+  pub free-here : i < n → allZero (slotIn i s) ≡ true → FreeIn (storeOf s .slots) (At i)
+  free-here l e =
+      let k : i < length (storeOf s .slots) = rw (w .many) l in
+      (k, λ r. placed-here r (storeOf s .slots) i k (w .none) (slot-here l ∙ zero-free (slotIn i s) e))
+
+  pub none-free : n ≤ i → FreeIn (storeOf s .slots) Nothing
+  none-free l =
+      λ r. placed-nowhere r (storeOf s .slots) (λ j k. let m = w .within in w .none j (omega (arith, w .many)))
+
+-- a grant's 64 bytes from two hashes, one after the other
+pub two-hashes : (k v : Hash) (g₀ g₁ y : Bytes) → length g₀ ≡ 64 → g₁ ≡ hashBytes k ++ drop 32 g₀ → y ≡ hashBytes v ++ drop 32 (take 32 (drop 32 g₁)) →
+    take 32 g₁ ++ (y ++ drop 32 (drop 32 g₁)) ≡ hashBytes k ++ hashBytes v
+two-hashes k v g₀ g₁ y l e f =
+    let rest : Bytes = drop 32 g₀ in
+    let long : length rest ≡ 32 = simp length-drop (omega arith) in
+    let front = hash-whole k .0 in
+    let t : take 32 g₁ ≡ hashBytes k = ap (take 32) e ∙ take-at (hashBytes k) rest 32 front in
+    let d : drop 32 g₁ ≡ rest = ap (drop 32) e ∙ drop-at (hashBytes k) rest 32 front in
+    let none : drop 32 rest ≡ [] = drop-of-length-le rest {i = 32} (omega arith) in
+    let part : drop 32 (take 32 rest) ≡ [] = drop-of-length-le (take 32 rest) {i = 32} (simp length-take (omega arith)) in
+    rw (f, t, d, part, none, append-nil, append-nil)
+
+-- they are a leaf's body
+pub grant-hashes : (k v : Hash) → grantBody (hashBytes k ++ hashBytes v) ≡ leafBody (hashBytes k) (hashBytes v)
+unfolding grantBody slice
+grant-hashes k v =
+    let kl = hash-whole k .0 in
+    let vl = hash-whole v .0 in
+    rw (drop-at (hashBytes k) (hashBytes v) 32 kl, take-at (hashBytes k) (hashBytes v) 32 kl)
+    (ap (leafBody (hashBytes k)) (take-all 32 (hashBytes v) (omega arith)))
+
+-- a free slot that was found, by its case
+pub free-at : (s : List Slot) {o : found.Found} {i : ℕ} → o ≡ At i → FreeIn s o → (i < length s) × ((r : Record) → placed (r ∷ []) s ≡ set s i (used r))
+free-at s e f = subst (FreeIn s) e f
+
+-- with no free slot, nothing is placed
+pub placed-full : (p : Place) (n : declared.Node) {s : List Slot} {o : found.Found} → o ≡ Nothing → FreeIn s o → placed (recordSays p n) s ≡ s
+placed-full p none {s} e f = placed-nothing s
+placed-full p (Leaf v k x) {s} e f = subst (FreeIn s) e f _
+placed-full p (Inner v l r) {s} e f = subst (FreeIn s) e f _
+
+-- where no node is, there is nothing to place
+pub placed-gone : (p : Place) (n : declared.Node) → n ≡ none → (s : List Slot) → placed (recordSays p n) s ≡ s
+placed-gone p n e s = ap (λ m. placed (recordSays p m) s) e ∙ placed-nothing s
+
+-- one record in a free slot
+placed-one : {s s′ : Bytes} {i : ℕ} (rs : List Record) (r : Record) → Stored s → rs ≡ r ∷ [] → All RecordForm rs →
+    (i < length (storeOf s .slots)) × ((q : Record) → placed (q ∷ []) (storeOf s .slots) ≡ set (storeOf s .slots) i (used q)) →
+    s′ ≡ written (24 + 120 * i) (slotBytes (used r)) s → Changed (placed rs) s s′
+placed-one {s} {i = i} rs r h e k f w =
+    slot-changed h i (f .0) (placed rs) (used r) (subst (All RecordForm) e k .0) (ap (λ q. placed q (storeOf s .slots)) e ∙ f .1 r) w
+
+module _ (p : Place) (n : declared.Node) {s s′ : Bytes} {i : ℕ} (h : Stored s) where
+  pub placed-leaf : {v : ℕ} {k x : Hash} → n ≡ Leaf v k x → All RecordForm (recordSays p n) →
+      (i < length (storeOf s .slots)) × ((q : Record) → placed (q ∷ []) (storeOf s .slots) ≡ set (storeOf s .slots) i (used q)) →
+      s′ ≡ written (24 + 120 * i) (slotBytes (used (recordOf p v 0 (leafBody (hashBytes k) (hashBytes x))))) s → Changed (placed (recordSays p n)) s s′
+  placed-leaf e k f w = placed-one (recordSays p n) _ h (ap (recordSays p) e) k f w
+
+  pub placed-inner : {v : ℕ} {l r : child.Child} → n ≡ Inner v l r → All RecordForm (recordSays p n) →
+      (i < length (storeOf s .slots)) × ((q : Record) → placed (q ∷ []) (storeOf s .slots) ≡ set (storeOf s .slots) i (used q)) →
+      s′ ≡ written (24 + 120 * i) (slotBytes (used (recordOf p v 0 (innerBody (childSays l) (childSays r))))) s → Changed (placed (recordSays p n)) s s′
+  placed-inner e k f w = placed-one (recordSays p n) _ h (ap (recordSays p) e) k f w

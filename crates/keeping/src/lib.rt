@@ -1,1 +1,0 @@
-// Writing does not disturb reading, without code: proofs/ has the laws that the steps over lent memory stand on.

@@ -1,0 +1,22 @@
+-- What an answer is for a caller in another language: a number, and what is found in an array of 33 bytes. Assumes nothing.
+use Prim.Native.Nat.{ℕ}
+use mathlib.Core.List.{_∷_}
+use Rattle.terms.specs.Bits.{Bytes}
+use Rattle.terms.specs.Records.{zeros}
+use Rattle.meaning.specs.Calls.{Answer, refused, accepted}
+use Rattle.meaning.specs.Reading.{Verdict, present, absent}
+
+-- 0 where the call is accepted, else the number of refusal.
+abbrev pub numberOf : {A : Type 0} → Answer A → ℕ
+numberOf (refused n) = n
+numberOf (accepted a) = 0
+
+-- 1 and the value, or 0 and 32 zero bytes.
+abbrev pub foundBytes : Verdict → Bytes
+foundBytes (present x) = 1 ∷ x
+foundBytes absent = 0 ∷ zeros
+
+-- A refused call writes nothing.
+abbrev pub foundAfter : Answer Verdict → Bytes → Bytes
+foundAfter (refused n) found = found
+foundAfter (accepted v) found = foundBytes v

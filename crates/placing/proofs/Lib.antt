@@ -1,3 +1,0 @@
-pub mod Changing
-pub mod Placing
-pub mod Marking

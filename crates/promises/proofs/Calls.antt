@@ -1,0 +1,110 @@
+-- A call that tests soundness has one outcome: what check refuses it refuses, 0 is given to sound stores alone, and a refusal writes nothing.
+-- Assumes nothing.
+use Prim.Native.Nat.{ℕ, _<_}
+use native.Mathlib.Omega.{arith}
+use mathlib.Core.Path.{_≡_, refl, ap, sym, _∙_}
+use mathlib.Core.Logic.{⊎-elim}
+use lib.ListN.{length, getD}
+use Rattle.terms.specs.Bits.{Bytes, Byte, All}
+use Rattle.terms.specs.Records.{Slot, free, used, spoiled, Store}
+use Rattle.terms.proofs.Lists.{all-of}
+use Rattle.meaning.specs.Sound.{At, Sound}
+use Rattle.meaning.specs.Calls.{Answer, refused, accepted, Outcome}
+use Rattle.nodehash.specs.Node.{leafHash, innerHash}
+use Rattle.layout.specs.Headers.{Headed, refusal, header, headerOf}
+use Rattle.layout.specs.Slots.{SlotForm}
+use Rattle.layout.specs.Stores.{storeOf, storeBytes, HeaderWithin, StoreForm}
+use Rattle.layout.proofs.Headers.{header-refused, accepted as header-accepted}
+use Rattle.layout.proofs.Stores.{store-back}
+use Rattle.soundness.specs.Check.{Checked}
+use Rattle.soundness.specs.Check as check
+use Rattle.promises.specs.Calls.{SoundBytes, Does, wrong-header, not-sound, refuses, accepts, Exports, exports-refusal, exports-answer}
+
+-- a header is not refused with 0
+no-refusal : (s : Bytes) → headerOf s ≡ refusal 0 → ⊥
+no-refusal s e = ⊎-elim (λ z. omega arith) (λ z. omega arith) (header-refused s 0 e)
+
+-- a sound store is in form
+pub sound-form : (st : Store) → Sound leafHash innerHash st → StoreForm st
+unfolding At
+sound-form st w =
+    record {
+      some = w .size .0;
+      fits = w .size .1;
+      ordered = w .header .0;
+      number = w .header .1;
+      each = all-of SlotForm (st .slots) free (λ i h. go i h (getD (st .slots) i free) refl);
+    }
+  where
+    go : (i : ℕ) → i < length (st .slots) → (x : Slot) → getD (st .slots) i free ≡ x → SlotForm x
+    go i h free e = tt
+    go i h (used r) e = w .formed i r (h, e)
+    go i h (spoiled x) e = absurd (w .whole i x h e)
+
+module _ {s : Bytes} where
+  pub checked-sound : {r : ℕ} → Checked s r → r ≡ 0 → SoundBytes s
+  checked-sound (check.refused m e) z = absurd (no-refusal s (e ∙ ap refusal z))
+  checked-sound (check.unsound c o l e g) z = absurd (omega arith)
+  checked-sound (check.sound c o l e w) z = record { capacity = c; oldest = o; latest = l; headed = e; sound = w }
+
+  pub sound-long : SoundBytes s → HeaderWithin s
+  sound-long w = omega (arith, header-accepted s (w .capacity) (w .oldest) (w .latest) (w .headed) .size)
+
+  -- the bytes are those of the store
+  pub sound-back : SoundBytes s → All Byte s → storeBytes (storeOf s) ≡ s
+  sound-back w h = store-back s (w .capacity) (w .oldest) (w .latest) h (header-accepted s (w .capacity) (w .oldest) (w .latest) (w .headed))
+
+-- a header is refused or accepted, an answer too
+not-headed : {A : Type 0} {h : Headed} {m c o l : ℕ} → h ≡ refusal m → h ≡ header c o l → A
+not-headed e f = let g = sym e ∙ f in let z : _≡_ {A = ℕ} 0 1 = cc in absurd (omega arith)
+
+same-refusal : {h : Headed} {m n : ℕ} → h ≡ refusal m → h ≡ refusal n → m ≡ n
+same-refusal e f = let g = sym e ∙ f in cc
+
+not-answered : {A B : Type 0} {a : Answer A} {m : ℕ} {k : A} → a ≡ refused m → a ≡ accepted k → B
+not-answered e f = let g = sym e ∙ f in let z : _≡_ {A = ℕ} 0 1 = cc in absurd (omega arith)
+
+module _ {A : Type 0} {call : Store → Outcome A} {s : Bytes} where
+  pub checked-refuses : {r : ℕ} → Checked s r → (r ≡ 0 → ⊥) → Does call s (refused r) s
+  checked-refuses (check.refused m e) f = wrong-header e
+  checked-refuses (check.unsound c o l e g) f = not-sound e g
+  checked-refuses (check.sound c o l e w) f = absurd (f refl)
+
+  -- A refusal writes nothing.
+  pub refused-writes-nothing : {m : ℕ} {t : Bytes} → Does call s (refused m) t → t ≡ s
+  refused-writes-nothing (wrong-header e) = refl
+  refused-writes-nothing (not-sound e f) = refl
+  refused-writes-nothing (refuses w e) = refl
+
+  -- Two outcomes of the same call on the same bytes are equal.
+  pub one-outcome : {a b : Answer A} {t u : Bytes} → Does call s a t → Does call s b u → (a ≡ b) × (t ≡ u)
+  one-outcome (wrong-header e) (wrong-header f) = (ap refused (same-refusal e f), refl)
+  one-outcome (wrong-header e) (not-sound f g) = not-headed e f
+  one-outcome (wrong-header e) (refuses w f) = not-headed e (w .headed)
+  one-outcome (wrong-header e) (accepts w f) = not-headed e (w .headed)
+  one-outcome (not-sound e g) (wrong-header f) = not-headed f e
+  one-outcome (not-sound e g) (not-sound f h) = (refl, refl)
+  one-outcome (not-sound e g) (refuses w f) = absurd (g (w .sound))
+  one-outcome (not-sound e g) (accepts w f) = absurd (g (w .sound))
+  one-outcome (refuses v e) (wrong-header f) = not-headed f (v .headed)
+  one-outcome (refuses v e) (not-sound f g) = absurd (g (v .sound))
+  one-outcome (refuses v e) (refuses w f) = (sym e ∙ f, refl)
+  one-outcome (refuses v e) (accepts w f) = not-answered e f
+  one-outcome (accepts v e) (wrong-header f) = not-headed f (v .headed)
+  one-outcome (accepts v e) (not-sound f g) = absurd (g (v .sound))
+  one-outcome (accepts v e) (refuses w f) = not-answered f e
+  one-outcome (accepts v e) (accepts w f) = (sym e ∙ f, refl)
+
+-- and so are two outcomes of it for C
+same-number : {A : Type 0} {m n : ℕ} → _≡_ {A = Answer A} (refused m) (refused n) → m ≡ n
+same-number e = cc
+
+same-told : {A : Type 0} (told : A → Bytes) {a b : A} → _≡_ {A = Answer A} (accepted a) (accepted b) → told a ≡ told b
+same-told told e = cc
+
+module _ {A : Type 0} {call : Store → Outcome A} {told : A → Bytes} {s f : Bytes} where
+  pub one-export : {a b : ℕ} {t u g h : Bytes} → Exports call told s f a t g → Exports call told s f b u h → (a ≡ b) × (t ≡ u) × (g ≡ h)
+  one-export (exports-refusal x) (exports-refusal y) = let o = one-outcome x y in (same-number (o .0), o .1, refl)
+  one-export (exports-refusal x) (exports-answer y) = not-answered refl (one-outcome x y .0)
+  one-export (exports-answer x) (exports-refusal y) = not-answered refl (one-outcome y x .0)
+  one-export (exports-answer x) (exports-answer y) = let o = one-outcome x y in (refl, o .1, same-told told (o .0))

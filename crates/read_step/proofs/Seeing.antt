@@ -1,0 +1,238 @@
+-- What is seen at the root and at a child, by the slot that is found there: a record in form is what its bytes say, and an inner one
+-- has a place shorter than a key. Assumes nothing.
+use Prim.Native.Nat.{ℕ, suc, _-_, _<_, _≤_}
+use native.Mathlib.Omega.{arith}
+use mathlib.Core.Path.{_≡_, refl, ap, sym, _∙_, subst}
+use mathlib.Core.Bool.{Bool, true, false, cond}
+use mathlib.Core.List.{[]}
+use mathlib.Core.Option.{Option, none, some}
+use lib.ListN.{length}
+use Rattle.terms.specs.Bits.{Bytes, Byte, All, Side, Place, longer, begins}
+use Rattle.terms.specs.Fields.{allZero}
+use Rattle.terms.specs.Records.{Child, leafBody, innerBody, Record, free, used, spoiled, zeros}
+use Rattle.terms.specs.Form.{RecordForm, placeLimit}
+use Rattle.terms.proofs.Places.{length-longer}
+use Rattle.meaning.specs.Store.{find, rootOf, childOn}
+use Rattle.meaning.specs.Reading.{lost, gap, leafSeen, fork, seenAt, seen, bodyHash, rootHash}
+use Rattle.meaning.proofs.Finding.{found-in, used-eq}
+use Rattle.meaning.proofs.Roots.{root-at}
+use Rattle.shown.proofs.SeenAt.{root-gap, root-leaf, root-fork, child-gap, child-lost, child-leaf, child-fork}
+use Rattle.place.specs.declared.Place as declared-place
+use Rattle.place.specs.Place.{placeOf, Proper, Grown}
+use Rattle.place.proofs.Places.{proper-count}
+use Rattle.layout.specs.Sizes.{roomOf}
+use Rattle.layout.specs.Headers.{sizeRight}
+use Rattle.layout.specs.Slots.{keyIn, valueIn, leftIn, rightIn, kidOn, isLeaf, isInner, leafIn, innerIn, recordIn, slotOf, SlotForm}
+use Rattle.layout.specs.Stores.{slotIn, storeOf, Has}
+use Rattle.layout.proofs.Stores.{slot-at}
+use Rattle.store.proofs.Slots.{slots-many, slot-formed}
+use Rattle.lookup.specs.Lookup.{Located}
+use Rattle.lookup.specs.declared.Found as declared-found
+use Rattle.lookup.specs.declared.Found.the-variants.{At, Nothing}
+use Rattle.read_step.specs.Walk.{bodyIn, kidIn, seenBelow, bodySeen, leafAt, forkAt, Sees, Holds}
+use Rattle.read_step.specs.declared.Seen as declared
+use Rattle.read_step.specs.declared.Seen.the-variants.{Lost, Leaf, Inner}
+
+-- the child on a side of an inner record
+pub kid-is : (b : Side) (x : Bytes) → kidOn b x ≡ childOn b (leftIn x) (rightIn x)
+kid-is false x = refl
+kid-is true x = refl
+
+-- a record in form holds what its bytes say
+body-is : (x : Bytes) (r : Record) → slotOf x ≡ used r → r .body ≡ bodyIn x
+unfolding slotOf bodyIn recordIn
+body-is x r = go (allZero x) (isLeaf x) (isInner x)
+  where
+    go : (a b c : Bool) → cond a free (cond b (used (recordIn x (leafIn x))) (cond c (used (recordIn x (innerIn x))) (spoiled x))) ≡ used r →
+        r .body ≡ cond b (leafIn x) (innerIn x)
+    go true b c e = let z : _≡_ {A = ℕ} 0 1 = cc in absurd (omega arith)
+    go false true c e = ap (λ (q : Record). q .body) (sym (used-eq _ r e))
+    go false false true e = ap (λ (q : Record). q .body) (sym (used-eq _ r e))
+    go false false false e = let z : _≡_ {A = ℕ} 0 1 = cc in absurd (omega arith)
+
+pub leaf-body : (x : Bytes) → isLeaf x ≡ true → bodyIn x ≡ leafBody (keyIn x) (valueIn x)
+unfolding bodyIn leafIn
+leaf-body x e = rw e
+
+pub inner-body : (x : Bytes) → isLeaf x ≡ false → bodyIn x ≡ innerBody (leftIn x) (rightIn x)
+unfolding bodyIn innerIn
+inner-body x e = rw e
+
+by-kind : {A : Type 0} (b : Bool) → (b ≡ true → A) → (b ≡ false → A) → A
+by-kind true f g = f refl
+by-kind false f g = g refl
+
+-- the record sought stands at this place, where there is one
+abbrev pub PlacedAt : Option Record → declared-place.Place → Type 0
+PlacedAt o p = (q : Record) → o ≡ some q → q .place ≡ placeOf p
+
+-- so it is with the node of a version and place, and with a root at the empty place
+pub node-placed : (s : Bytes) (v : ℕ) (p : declared-place.Place) → PlacedAt (find v (placeOf p) (storeOf s .slots)) p
+node-placed s v p q e = found-in (storeOf s .slots) v (placeOf p) q e .3
+
+pub root-placed : (s : Bytes) (v : ℕ) (p : declared-place.Place) → placeOf p ≡ [] → PlacedAt (rootOf (storeOf s) v) p
+root-placed s v p top q e = root-at (storeOf s) v q e .2 ∙ sym top
+
+-- what was found of the record sought
+module _ (s : Bytes) (o : Option Record) {r : declared-found.Found} (located : Located (storeOf s .slots) o r) where
+  -- nothing
+  module _ (nothing : r ≡ Nothing) where
+    none-found : o ≡ none
+    none-found = subst (Located (storeOf s .slots) o) nothing located
+
+    pub root-nothing : (v : ℕ) → rootOf (storeOf s) v ≡ o → seen (storeOf s) v ≡ gap
+    root-nothing v e = root-gap (storeOf s) v (e ∙ none-found)
+
+    pub no-root-hash : (leafHash innerHash : Bytes → Bytes → Bytes) (v : ℕ) → rootOf (storeOf s) v ≡ o →
+        zeros ≡ rootHash leafHash innerHash (rootOf (storeOf s) v)
+    no-root-hash leafHash innerHash v e = ap (rootHash leafHash innerHash) (sym (e ∙ none-found))
+
+    pub child-nothing : (p : Place) (c : Child) → find (c .version) p (storeOf s .slots) ≡ o → 1 ≤ c .version → seenBelow s p c ≡ lost
+    unfolding seenBelow
+    child-nothing p c e h = child-lost (storeOf s .slots) p c (256 - length p) h (e ∙ none-found)
+
+  -- a record, in slot i
+  module _ {i : ℕ} (at-i : r ≡ At i) where
+    found : Located (storeOf s .slots) o (At i)
+    found = subst (Located (storeOf s .slots) o) at-i located
+
+    pub inside : i < roomOf (length s)
+    inside = rw (slots-many s) at (found .0)
+
+    slot-is : slotOf (slotIn i s) ≡ used (found .1 .0)
+    slot-is = sym (slot-at s i inside) ∙ found .1 .1
+
+    body : found .1 .0 .body ≡ bodyIn (slotIn i s)
+    body = body-is (slotIn i s) (found .1 .0) slot-is
+
+    pub root-hash : (leafHash innerHash : Bytes → Bytes → Bytes) (v : ℕ) → rootOf (storeOf s) v ≡ o →
+        bodyHash leafHash innerHash (bodyIn (slotIn i s)) ≡ rootHash leafHash innerHash (rootOf (storeOf s) v)
+    root-hash leafHash innerHash v e =
+        ap (bodyHash leafHash innerHash) (sym body) ∙ ap (rootHash leafHash innerHash) (sym (e ∙ found .1 .2))
+
+-- and at its place
+module _ (s : Bytes) (size : sizeRight (length s) ≡ true) (bytes : All Byte s) (p : declared-place.Place) (proper : Proper p)
+    {o : Option Record} (placed : PlacedAt o p) {r : declared-found.Found} (located : Located (storeOf s .slots) o r) {i : ℕ} (at-i : r ≡ At i) where
+  abbrev it : Record
+  it = found s o located at-i .1 .0
+
+  is-found : o ≡ some it
+  is-found = found s o located at-i .1 .2
+
+  has : Has s i
+  has = record { size = size; inside = inside s o located at-i }
+
+  form : RecordForm it
+  form = subst SlotForm (slot-is s o located at-i) (slot-formed has bytes)
+
+  holds : it .body ≡ bodyIn (slotIn i s)
+  holds = body s o located at-i
+
+  place : it .place ≡ placeOf p
+  place = placed it is-found
+
+  short : isLeaf (slotIn i s) ≡ false → length (placeOf p) ≤ 255
+  short e =
+      let limit : placeLimit (it .body) ≡ 255 = ap placeLimit (holds ∙ inner-body (slotIn i s) e) in
+      omega (arith, form .short, ap length place)
+
+  pub holds-found : Holds s i p
+  holds-found = record {
+    slotted = record { size = size; inside = has .inside; proper = proper };
+    short = λ e. omega (arith, short e, proper-count p proper);
+  }
+
+  -- the root
+  module _ (v : ℕ) (root : rootOf (storeOf s) v ≡ o) (top : placeOf p ≡ []) where
+    root-is : rootOf (storeOf s) v ≡ some it
+    root-is = root ∙ is-found
+
+    root-leaf-is : isLeaf (slotIn i s) ≡ true → seen (storeOf s) v ≡ bodySeen s (placeOf p) (bodyIn (slotIn i s))
+    unfolding begins
+    root-leaf-is e =
+        let k = keyIn (slotIn i s) in
+        let y = valueIn (slotIn i s) in
+        let b = leaf-body (slotIn i s) e in
+        root-leaf (storeOf s) v it k y root-is (holds ∙ b)
+        ∙ ap (λ q. cond (begins q k) (leafSeen k y) lost) (sym top)
+        ∙ ap (bodySeen s (placeOf p)) (sym b)
+
+    root-fork-is : isLeaf (slotIn i s) ≡ false → seen (storeOf s) v ≡ bodySeen s (placeOf p) (bodyIn (slotIn i s))
+    root-fork-is e =
+        let n = 255 - length (placeOf p) in
+        let l = leftIn (slotIn i s) in
+        let m = rightIn (slotIn i s) in
+        let b = inner-body (slotIn i s) e in
+        let w : 255 - length (placeOf p) ≡ 255 = omega (arith, ap length top) in
+        root-fork (storeOf s) v n it l m w root-is (holds ∙ b)
+        ∙ ap (λ q. fork (λ c. childOn c l m .hash) (λ c. seenAt n (storeOf s .slots) (longer c q) (childOn c l m))) (sym top)
+        ∙ ap (bodySeen s (placeOf p)) (sym b)
+
+    pub root-sees : (t : declared.Seen) → Sees s (placeOf p) (bodySeen s (placeOf p) (bodyIn (slotIn i s))) t → Sees s [] (seen (storeOf s) v) t
+    root-sees t h =
+        let e = by-kind (isLeaf (slotIn i s)) root-leaf-is root-fork-is in
+        subst (λ q. Sees s q (seen (storeOf s) v) t) top (subst (λ y. Sees s (placeOf p) y t) (sym e) h)
+
+  -- a child
+  module _ (c : Child) (child : find (c .version) (placeOf p) (storeOf s .slots) ≡ o) (present : 1 ≤ c .version) where
+    child-is : find (c .version) (placeOf p) (storeOf s .slots) ≡ some it
+    child-is = child ∙ is-found
+
+    child-leaf-is : isLeaf (slotIn i s) ≡ true → seenBelow s (placeOf p) c ≡ bodySeen s (placeOf p) (bodyIn (slotIn i s))
+    unfolding seenBelow
+    child-leaf-is e =
+        let b = leaf-body (slotIn i s) e in
+        rw b (child-leaf (storeOf s .slots) (placeOf p) c (256 - length (placeOf p)) it _ _ present child-is (holds ∙ b))
+
+    child-fork-is : isLeaf (slotIn i s) ≡ false → seenBelow s (placeOf p) c ≡ bodySeen s (placeOf p) (bodyIn (slotIn i s))
+    unfolding seenBelow
+    child-fork-is e =
+        let b = inner-body (slotIn i s) e in
+        let n : 256 - length (placeOf p) ≡ suc (255 - length (placeOf p)) = omega (arith, short e) in
+        rw (b, n) (child-fork (storeOf s .slots) (placeOf p) c (255 - length (placeOf p)) it _ _ present child-is (holds ∙ b))
+
+    pub child-sees : (t : declared.Seen) → Sees s (placeOf p) (bodySeen s (placeOf p) (bodyIn (slotIn i s))) t →
+        Sees s (placeOf p) (seenBelow s (placeOf p) c) t
+    child-sees t h = subst (λ y. Sees s (placeOf p) y t) (sym (by-kind (isLeaf (slotIn i s)) child-leaf-is child-fork-is)) h
+
+-- what an inner node has on a side is what is seen at the child's place
+pub kid-seen : {b : Side} {p q : declared-place.Place} (s : Bytes) (c : Child) → Grown b p q →
+    seenAt (255 - length (placeOf p)) (storeOf s .slots) (longer b (placeOf p)) c ≡ seenBelow s (placeOf q) c
+unfolding seenBelow
+kid-seen {b} {p} {q} s c g =
+    let n : 255 - length (placeOf p) ≡ 256 - length (placeOf q) = omega (arith, ap length (g .place) ∙ length-longer b (placeOf p)) in
+    ap (λ l. seenAt (255 - length (placeOf p)) (storeOf s .slots) l c) (sym (g .place)) ∙ ap (λ m. seenAt m (storeOf s .slots) (placeOf q) c) n
+
+-- version 0 is no child
+pub child-none : (s : Bytes) (p : Place) (c : Child) → c .version ≡ 0 → seenBelow s p c ≡ gap
+unfolding seenBelow
+child-none s p c e = child-gap (storeOf s .slots) p c (256 - length p) e
+
+-- an inner node, a leaf whose key does not begin with its place, and one whose key does
+module _ {s : Bytes} {i : ℕ} {p : declared-place.Place} (h : Holds s i p) where
+  -- What is seen there.
+  abbrev Here : declared.Seen → Type 0
+  Here t = Sees s (placeOf p) (bodySeen s (placeOf p) (bodyIn (slotIn i s))) t
+
+  pub inner-seen : {x : Bytes} {b : Bool} → x ≡ slotIn i s → b ≡ isLeaf x → b ≡ false → Here (Inner i)
+  unfolding forkAt kidIn
+  inner-seen q d e =
+      let f = ap isLeaf (sym q) ∙ sym d ∙ e in (
+        h .slotted .inside,
+        omega (arith, h .short f, proper-count p (h .slotted .proper)),
+        ap (bodySeen s (placeOf p)) (inner-body (slotIn i s) f),
+      )
+
+  module _ {x k : Bytes} {b : Bool} (q : x ≡ slotIn i s) (d : b ≡ isLeaf x) (e : b ≡ true) (key : k ≡ keyIn x) where
+    its-body : bodyIn (slotIn i s) ≡ leafBody (keyIn (slotIn i s)) (valueIn (slotIn i s))
+    its-body = leaf-body (slotIn i s) (ap isLeaf (sym q) ∙ sym d ∙ e)
+
+    its-key : {a : Bool} → a ≡ begins (placeOf p) k → begins (placeOf p) (keyIn (slotIn i s)) ≡ a
+    its-key f = ap (λ y. begins (placeOf p) (keyIn y)) (sym q) ∙ ap (begins (placeOf p)) (sym key) ∙ sym f
+
+    pub leaf-lost : {a : Bool} → a ≡ begins (placeOf p) k → a ≡ false → Here Lost
+    leaf-lost f g = rw (its-body, its-key f, g)
+
+    pub leaf-seen : {a : Bool} → a ≡ begins (placeOf p) k → a ≡ true → Here (Leaf i)
+    unfolding leafAt
+    leaf-seen f g = (h .slotted .inside, rw (its-body, its-key f, g))

@@ -1,0 +1,55 @@
+-- `read_step::seen_in` meets its contract: a record that is no leaf is an inner node; a leaf's key is compared with its place. Assumes nothing.
+use borrow.Author.Tests.{not-true, not-false}
+use Rattle.store.proofs.Slots.{slot-fits}
+use Rattle.read_step.proofs.Seeing.{inner-seen, leaf-lost, leaf-seen}
+use borrow.Author.Needs.{needs}
+use Rattle.read_step.proofs.seen_in.Statement.{statement}
+use Rattle.read_step.proofs.seen_in.Tie as tie
+
+slot-of-requires : tie.Need-slot-of-requires
+slot-of-requires c κs =
+    let a = c .before .args in
+    let h = c .before .pre .slotted in
+    slot-fits (a .store .now) (h .size) (a .i) (h .inside)
+
+is-leaf-requires : tie.Need-is-leaf-requires
+is-leaf-requires c κs = search needs
+
+returns : tie.Need-returns
+returns c =
+    let d = c .before .before in
+    inner-seen (d .before .before .pre) (d .slot-of .ensures .0) (c .before .is-leaf .ensures) (not-true _ (c .if1 .taken))
+
+key-of-requires : tie.Need-key-of-requires
+key-of-requires c κs = search needs
+
+begins-requires : tie.Need-begins-requires
+begins-requires c κs =
+    let d = c .before .before .before in
+    (c .key-of .ensures .1, d .before .before .pre .slotted .proper)
+
+returns-2 : tie.Need-returns-2
+returns-2 c =
+    let e = c .before .before .before in
+    let d = e .before .before in
+    leaf-lost (d .before .before .pre) (d .slot-of .ensures .0) (e .before .is-leaf .ensures) (not-false _ (e .if1 .left))
+    (c .before .before .key-of .ensures .0) (c .before .begins .ensures) (not-true _ (c .if2 .taken))
+
+returns-3 : tie.Need-returns-3
+returns-3 c =
+    let e = c .before .before .before in
+    let d = e .before .before in
+    leaf-seen (d .before .before .pre) (d .slot-of .ensures .0) (e .before .is-leaf .ensures) (not-false _ (e .if1 .left))
+    (c .before .before .key-of .ensures .0) (c .before .begins .ensures) (not-false _ (c .if2 .left))
+
+pub seen-in-spec : {M : Type 1} → statement M
+seen-in-spec =
+    tie.close
+    (tie.spec
+    slot-of-requires
+    is-leaf-requires
+    returns
+    key-of-requires
+    begins-requires
+    returns-2
+    returns-3)

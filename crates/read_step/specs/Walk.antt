@@ -1,0 +1,76 @@
+-- Document 01, 'Reading and proving', over the bytes of a store: whether a version is kept, and what a read sees at the root and at a
+-- child. Assumes nothing.
+use Prim.Native.Nat.{ℕ, _-_, _<_}
+use mathlib.Core.Path.{_≡_}
+use mathlib.Core.Bool.{true, false, cond}
+use lib.ListN.{length}
+use Rattle.terms.specs.Bits.{Bytes, Side, Place, longer}
+use Rattle.terms.specs.Records.{Child, Body}
+use Rattle.meaning.specs.Store.{childOn}
+use Rattle.meaning.specs.Calls.{Answer, refused, accepted, isKept}
+use Rattle.meaning.specs.Reading.{Seen, lost, gap, leafSeen, fork, seenBody, seenAt}
+use Rattle.layout.specs.Sizes.{roomOf}
+use Rattle.layout.specs.Headers.{Headed, refusal, header, sizeRight, headerOf}
+use Rattle.layout.specs.Slots.{keyIn, valueIn, leftIn, rightIn, isLeaf, leafIn, innerIn}
+use Rattle.layout.specs.Stores.{slotIn, storeOf}
+use Rattle.place.specs.declared.Place as declared-place
+use Rattle.place.specs.Place.{Proper}
+use Rattle.read_step.specs.declared.Opened as declared-opened
+use Rattle.read_step.specs.declared.Opened.the-variants.{Refused, Kept}
+use Rattle.read_step.specs.declared.Seen as declared
+use Rattle.read_step.specs.declared.Seen.the-variants.{Gap, Lost, Leaf, Inner}
+
+-- A read tests the header: 1 or 2, else what it answers of the store.
+abbrev pub byHeader : {A : Type 0} → Headed → Answer A → Answer A
+byHeader (refusal n) a = refused n
+byHeader (header n oldest latest) a = a
+
+-- What a read tests before it looks at a slot: 1, 2, and 8 where the version isn't kept.
+unfoldable pub opened : Bytes → ℕ → Answer (Unit {0})
+opened s v = byHeader (headerOf s) (cond (isKept (storeOf s) v) (accepted tt) (refused 8))
+
+abbrev pub openedSays : declared-opened.Opened → Answer (Unit {0})
+openedSays (Refused n) = refused n
+openedSays Kept = accepted tt
+
+-- What a slot's bytes hold that are a record in form.
+unfoldable pub bodyIn : Bytes → Body
+bodyIn x = cond (isLeaf x) (leafIn x) (innerIn x)
+
+-- What the inner record in slot i says of its child on a side.
+unfoldable pub kidIn : ℕ → Bytes → Side → Child
+kidIn i s b = childOn b (leftIn (slotIn i s)) (rightIn (slotIn i s))
+
+-- What is seen at a child that stands at a place.
+unfoldable pub seenBelow : Bytes → Place → Child → Seen
+seenBelow s p c = seenAt (256 - length p) (storeOf s .slots) p c
+
+-- What is seen at a place whose record holds a body.
+abbrev pub bodySeen : Bytes → Place → Body → Seen
+bodySeen s p b = seenBody p b (λ c d. seenAt (255 - length p) (storeOf s .slots) (longer c p) d)
+
+-- The leaf in slot i; the inner node in slot i, which stands at a place.
+unfoldable pub leafAt : ℕ → Bytes → Seen
+leafAt i s = leafSeen (keyIn (slotIn i s)) (valueIn (slotIn i s))
+
+unfoldable pub forkAt : ℕ → Bytes → Place → Seen
+forkAt i s p = fork (λ b. kidIn i s b .hash) (λ b. seenAt (255 - length p) (storeOf s .slots) (longer b p) (kidIn i s b))
+
+-- What each case of an answer says is seen at a place: a gap, lost, a leaf or an inner node in a slot of the store. An inner node's place is
+-- shorter than a key.
+abbrev pub Sees : Bytes → Place → Seen → declared.Seen → Type 0
+Sees s p x Gap = x ≡ gap
+Sees s p x Lost = x ≡ lost
+Sees s p x (Leaf i) = (i < roomOf (length s)) × (x ≡ leafAt i s)
+Sees s p x (Inner i) = (i < roomOf (length s)) × (length p < 256) × (x ≡ forkAt i s p)
+
+-- A slot of a store of the right size, and a place.
+pub record Slotted (s : Bytes) (i : ℕ) (p : declared-place.Place) : Type 0 where
+  pub size : sizeRight (length s) ≡ true
+  pub inside : i < roomOf (length s)
+  pub proper : Proper p
+
+-- Slot i holds a leaf, or an inner node whose place is shorter than a key.
+pub record Holds (s : Bytes) (i : ℕ) (p : declared-place.Place) : Type 0 where
+  pub slotted : Slotted s i p
+  pub short : isLeaf (slotIn i s) ≡ false → p .count < 256
