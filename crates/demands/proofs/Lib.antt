@@ -2,6 +2,7 @@ pub mod Hashes
 pub mod Stored
 pub mod Outcomes
 pub mod Refusals
+pub mod Exact
 pub mod Forms
 pub mod Given
 pub mod Showing
