@@ -2,9 +2,9 @@
 -- the steps from the top. Assumes nothing.
 use mathlib.Core.Path.{_≡_, refl, ap, sym, _∙_}
 use mathlib.Core.Logic.{_⊎_, inl, inr, _↔_}
-use mathlib.Core.Bool.{Bool, true, false, cond, _&&_, _||_, not, Bool·beq, true≢false, false≢true}
+use mathlib.Core.Bool.{Bool, true, false, cond, _&&_, _||_, not, Bool·beq, false≢true}
 use mathlib.Core.List.{List, [], _∷_, _++_, reverse, reverse-append, reverse-reverse, reverse-cons, append-assoc}
-use Rattle.terms.specs.Bits.{Side, left, right, All, sameBytes}
+use Rattle.terms.specs.Bits.{Side, left, right, sameBytes}
 use Rattle.terms.specs.Records.{Step, zeros}
 use Rattle.terms.proofs.Lists.{all-append}
 use Rattle.terms.proofs.Tests.{and-left, and-right, or-cases, same-bit, bit-same, same-bytes, bytes-same}

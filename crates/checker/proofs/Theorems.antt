@@ -1,17 +1,17 @@
 -- The checker accepts a proof exactly if it holds, with the answer that the words give. By the five cases of a proof. Assumes nothing.
 use native.Mathlib.Omega.{arith}
 use Prim.Native.Nat.{ℕ}
-use mathlib.Core.Path.{_≡_, refl, ap, sym, _∙_, subst}
+use mathlib.Core.Path.{_≡_, refl, sym, subst}
 use mathlib.Core.Logic.{_↔_}
 use mathlib.Core.Bool.{Bool, true, false, cond, _&&_}
 use mathlib.Core.Option.{Option, none, some}
 use Rattle.terms.specs.Bits.{Bytes, left, right, sameBytes}
 use Rattle.terms.specs.Records.{Presence, Proof, presence, absence, zeros}
 use Rattle.terms.proofs.Tests.{and-left, and-right, same-bytes, bytes-same}
-use Rattle.meaning.specs.Calls.{Answer, refused, accepted}
+use Rattle.meaning.specs.Calls.{refused, accepted}
 use Rattle.meaning.specs.Reading.{Verdict, present, absent}
 use Rattle.meaning.specs.Proving.{absenceOf, beyond}
-use Rattle.meaning.specs.Checking.{outermost, pathsPart, climb, leadsTo, neighbourHolds, absenceHolds, checked}
+use Rattle.meaning.specs.Checking.{outermost, pathsPart, leadsTo, neighbourHolds, absenceHolds, checked}
 use Rattle.checker.specs.Holding.{Leads, Holds, shown, neither, only-left, only-right, both}
 use Rattle.checker.proofs.Paths.{both-true, outermost-said, said-outermost, parted-exactly}
 
@@ -19,9 +19,9 @@ passed : (t : Bool) (a b : Verdict) → cond t (accepted a) (refused 11) ≡ acc
 passed true a b e = (refl, cc)
 passed false a b e = let z : _≡_ {A = ℕ} 0 1 = cc in absurd (omega arith)
 
-else-11 : (t : Bool) (a : Verdict) → (cond t (accepted a) (refused 11) ≡ accepted a → ⊥) → cond t (accepted a) (refused 11) ≡ refused 11
-else-11 true a f = absurd (f refl)
-else-11 false a f = refl
+only-11 : (t : Bool) (a : Verdict) {n : ℕ} → cond t (accepted a) (refused 11) ≡ refused n → n ≡ 11
+only-11 true a e = let z : _≡_ {A = ℕ} 0 1 = cc in absurd (omega arith)
+only-11 false a e = cc
 
 module _ (leafHash innerHash : Bytes → Bytes → Bytes) (root k : Bytes) where
   leads-said : (p : Presence) → leadsTo leafHash innerHash root p ≡ true → Leads leafHash innerHash root k p
@@ -101,11 +101,8 @@ module _ (leafHash innerHash : Bytes → Bytes → Bytes) (root k : Bytes) where
       (checked leafHash innerHash root k p ≡ accepted v) ↔ Holds leafHash innerHash root k p v
   accepted-exactly-if-holds p v = (holds-said p v, said-holds p v)
 
-  -- Else 11: no answer is left for it.
-  pub refused-if-not : (p : Proof) → ((v : Verdict) → Holds leafHash innerHash root k p v → ⊥) → checked leafHash innerHash root k p ≡ refused 11
-  refused-if-not (presence p) f =
-      else-11 (sameBytes k (p .key) && leadsTo leafHash innerHash root p) (present (p .value))
-      (λ e. f (present (p .value)) (holds-said (presence p) (present (p .value)) e))
-  refused-if-not (absence a) f =
-      else-11 (sameBytes k (a .key) && absenceHolds leafHash innerHash root k (a .leftward) (a .rightward)) absent
-      (λ e. f absent (holds-said (absence a) absent e))
+  -- It is refused with 11 and no other number.
+  pub refused-with-11 : (p : Proof) {n : ℕ} → checked leafHash innerHash root k p ≡ refused n → n ≡ 11
+  refused-with-11 (presence p) e = only-11 (sameBytes k (p .key) && leadsTo leafHash innerHash root p) (present (p .value)) e
+  refused-with-11 (absence a) e =
+      only-11 (sameBytes k (a .key) && absenceHolds leafHash innerHash root k (a .leftward) (a .rightward)) absent e

@@ -1,8 +1,7 @@
 -- Demand 1: a public call answers each number of document 01 exactly if its row deserves it and no earlier row of the call's order does, and
 -- 0 exactly if none does. By the cases of each contract, row by row. Assumes nothing.
 use Prim.Native.Nat.{ℕ}
-use native.Mathlib.Omega.{arith}
-use mathlib.Core.Path.{_≡_, refl, ap, sym, _∙_, subst}
+use mathlib.Core.Path.{_≡_, refl, sym, subst}
 use mathlib.Core.Logic.{inl, inr}
 use mathlib.Core.Bool.{Bool, true, false, cond, _&&_}
 use mathlib.Core.List.{[], _∷_, _++_}
@@ -13,9 +12,8 @@ use borrow.Author.Tests.{eqb-true, eqb-false}
 use Rattle.terms.specs.Bits.{Bytes, Byte, All}
 use Rattle.terms.specs.Records.{Store, Proof}
 use Rattle.meaning.specs.Calls.{Answer, refused, accepted, Outcome, apply, prune}
-use Rattle.meaning.specs.Reading.{Verdict, readKey, readRoot}
+use Rattle.meaning.specs.Reading.{readKey, readRoot}
 use Rattle.meaning.specs.Proving.{prove}
-use Rattle.meaning.specs.Checking.{checked}
 use Rattle.meaning.specs.Answers.{numberOf}
 use Rattle.nodehash.specs.Node.{leafHash, innerHash}
 use Rattle.proofrecords.specs.ProofBytes.{proofIn}
@@ -28,11 +26,10 @@ use Rattle.promises.specs.Calls.{Does, wrong-header, not-sound, refuses, accept
 use Rattle.read_step.specs.Walk.{byHeader}
 use Rattle.reads.specs.Reads.{rootAnswer, keyAnswer}
 use Rattle.proving.specs.Proving.{proveAnswer}
-use Rattle.proving_c.specs.Export.{provedInto}
 use Rattle.verify.specs.Verify.{judged, verified}
 use Rattle.refusals.specs.Exactly.{Table, Exactly}
-use Rattle.refusals.specs.Rows.{WrongLength, NotSound, NotKept, LostToGet, LostToProve, TooLong, ProofOffForm, DoesNotHold, Not32}
-use Rattle.refusals.specs.Tables.{headerRows, soundRows, formatRows, checkRows, applyRows, pruneRows, rootRows, getRows, proveRows, verifyRows, sha256Rows}
+use Rattle.refusals.specs.Rows.{NotSound, NotKept, LostToGet, LostToProve, TooLong, ProofOffForm, DoesNotHold, Not32}
+use Rattle.refusals.specs.Tables.{headerRows, formatRows, checkRows, applyRows, pruneRows, rootRows, getRows, proveRows, verifyRows, sha256Rows}
 use Rattle.refusals.proofs.Exactly.{First, past, within, exactly}
 use Rattle.refusals.proofs.Headers.{length-wrong, length-right, after-header, header-row, records-formed}
 use Rattle.refusals.proofs.Batches.{batchRows, batch-first}

@@ -1,15 +1,14 @@
 -- Rows 4 to 7: what a sound store answers to a batch is what they deserve. Assumes nothing.
-use Prim.Native.Nat.{ℕ, _+_, _<_}
+use Prim.Native.Nat.{ℕ}
 use native.Mathlib.Omega.{arith}
 use mathlib.Core.Path.{_≡_, refl, ap, sym, _∙_, subst}
 use mathlib.Core.Logic.{inl, inr}
-use mathlib.Core.Bool.{Bool, true, false, true≢false}
+use mathlib.Core.Bool.{true, false, true≢false}
 use mathlib.Core.List.{List, [], _∷_}
 use mathlib.Core.Option.{Option, none, some}
-use lib.ListN.{length}
 use Rattle.terms.specs.Bits.{Bytes, Byte, All}
 use Rattle.terms.specs.Records.{Ask}
-use Rattle.meaning.specs.Calls.{Answer, refused, accepted, Applied, ascending, refuse, apply}
+use Rattle.meaning.specs.Calls.{ascending, refuse, apply}
 use Rattle.meaning.specs.Answers.{numberOf}
 use Rattle.histories.proofs.Calls.{apply-cases}
 use Rattle.nodehash.specs.Node.{leafHash, innerHash}
@@ -49,12 +48,16 @@ module _ (batch : Bytes) (bytes : All Byte batch) where
           let same : (bs : List Ask) → AskedBy batch bs → bs ≡ asks = λ bs x. same-asks (sym (asked-as bs x) ∙ e) in
           let in-form : BatchOffForm batch → ⊥ = λ f. f asks w in
           let rising : ascending asks ≡ true → NotAscending batch → ⊥ =
-              λ a x. true≢false (sym a ∙ subst (λ bs. ascending bs ≡ false) (same (x .0) (x .1)) (x .2)) in
+          λ a x. true≢false (sym a ∙ subst (λ bs. ascending bs ≡ false) (same (x .0) (x .1)) (x .2)) in
           apply-cases leafHash innerHash (λ out. First (batchRows s) (numberOf (out .answer))) asks (storeOf s)
           (λ a. inr (in-form, inl ((asks, w, a), refl)))
           (λ a m. inr (in-form, inr (rising a, inl (m, refl))))
           (λ a m f. inr (in-form, inr (rising a, inr (m, inl ((asks, w, f), refl)))))
           (λ a m f.
-          inr (in-form,
-          inr (rising a,
-          inr (m, inr (λ x. absurd (omega (arith, f, ap (newCount s) (same (x .0) (x .1)), x .2)), refl)))))
+          inr (
+            in-form,
+            inr (
+              rising a,
+              inr (m, inr (λ x. absurd (omega (arith, f, ap (newCount s) (same (x .0) (x .1)), x .2)), refl)),
+            ),
+          ))

@@ -1,22 +1,19 @@
 -- Rows 1 and 2: what reading a header says is what they deserve; and the records of bytes with a right header are in form. Assumes nothing.
-use Prim.Native.Nat.{ℕ, _+_, _*_, _≤_, _<_}
+use Prim.Native.Nat.{ℕ, _+_, _≤_, _<_}
 use native.Mathlib.Omega.{arith}
 use mathlib.Core.Path.{_≡_, refl, ap, sym, _∙_, subst}
 use mathlib.Core.Logic.{inl, inr}
 use mathlib.Core.Bool.{Bool, true, false, cond, true≢false}
-use mathlib.Core.List.{List, [], _∷_, _++_}
-use mathlib.Core.Option.{Option, none, some}
+use mathlib.Core.Option.{some}
 use lib.ListN.{length, getD}
-use lib.Dec.{eqb, leb}
 use borrow.Author.Tests.{eqb-true, eq-eqb, leb-true, le-leb}
-use Rattle.terms.specs.Bits.{Bytes, Byte, All, Place}
-use Rattle.terms.specs.Fields.{field, slice, zeroBytes, allZero, allOf}
-use Rattle.terms.specs.Records.{Record, Slot, free, used}
+use Rattle.terms.specs.Bits.{Bytes, Byte, All}
+use Rattle.terms.specs.Fields.{field, slice, zeroBytes, allZero}
+use Rattle.terms.specs.Records.{free}
 use Rattle.terms.specs.Form.{RecordForm}
 use Rattle.terms.proofs.Lists.{all-at}
 use Rattle.terms.proofs.Fields.{length-slice, zero-bytes, all-zero, all-of-tests, tests-all}
-use Rattle.meaning.specs.Store.{find}
-use Rattle.meaning.proofs.Finding.{isNode-eq, Hit, miss, hit, hits}
+use Rattle.meaning.proofs.Finding.{isNode-eq, Hit, hit, hits}
 use Rattle.ways.proofs.Walking.{Formed}
 use Rattle.layout.specs.Sizes.{roomOf}
 use Rattle.layout.specs.Headers.{Headed, refusal, header, sizeRight, headerRight, headerTests, headerOf}
@@ -24,10 +21,9 @@ use Rattle.layout.specs.Slots.{SlotForm}
 use Rattle.layout.specs.Stores.{storeOf}
 use Rattle.layout.proofs.Headers.{room-of, size-right-of, size-says, size-least, accepted}
 use Rattle.layout.proofs.Stores.{store-form}
-use Rattle.refusals.specs.Exactly.{Table}
 use Rattle.refusals.specs.Rows.{WrongLength, RightHeader, WrongHeader}
 use Rattle.refusals.specs.Tables.{headerRows}
-use Rattle.refusals.proofs.Exactly.{First, NoneOf, past, within}
+use Rattle.refusals.proofs.Exactly.{First, NoneOf}
 
 -- row 1 by the test of the length
 pub length-wrong : (s : Bytes) → sizeRight (length s) ≡ false → WrongLength s

@@ -4,7 +4,7 @@ use native.Mathlib.Omega.{arith}
 use mathlib.Core.Path.{_≡_, refl, ap, sym, _∙_, subst}
 use mathlib.Core.Logic.{inl, inr}
 use mathlib.Core.List.{[], _∷_}
-use mathlib.Core.Option.{Option, none, some}
+use mathlib.Core.Option.{none, some}
 use Rattle.terms.specs.Bits.{Bytes, Byte, All}
 use Rattle.terms.specs.Records.{Proof}
 use Rattle.meaning.specs.Calls.{Answer, refused, accepted}
@@ -12,9 +12,9 @@ use Rattle.meaning.specs.Reading.{Verdict}
 use Rattle.meaning.specs.Checking.{checked}
 use Rattle.meaning.specs.Answers.{numberOf}
 use Rattle.checker.specs.Holding.{Holds}
-use Rattle.checker.proofs.Theorems.{accepted-exactly-if-holds, refused-if-not}
+use Rattle.checker.proofs.Theorems.{accepted-exactly-if-holds, refused-with-11}
 use Rattle.nodehash.specs.Node.{leafHash, innerHash}
-use Rattle.proofrecords.specs.ProofBytes.{proofBytes, ProofForm, proofIn}
+use Rattle.proofrecords.specs.ProofBytes.{proofIn}
 use Rattle.proofrecords.proofs.Proofs.{proof-back, proof-bytes}
 use Rattle.refusals.specs.Rows.{ProofIs, ProofOffForm, DoesNotHold}
 use Rattle.refusals.proofs.Exactly.{First}
@@ -27,9 +27,6 @@ no-proof e = let z : _≡_ {A = ℕ} 0 1 = cc in absurd (omega arith)
 
 not-both : {A : Type 0} {n : ℕ} {v : Verdict} → _≡_ {A = Answer Verdict} (refused n) (accepted v) → A
 not-both e = let z : _≡_ {A = ℕ} 0 1 = cc in absurd (omega arith)
-
-same-number : {m n : ℕ} → _≡_ {A = Answer Verdict} (refused m) (refused n) → m ≡ n
-same-number e = cc
 
 module _ (x : Bytes) (bytes : All Byte x) where
   -- bytes that are a proof are read as it
@@ -51,9 +48,12 @@ module _ (x : Bytes) (bytes : All Byte x) where
         go : (a : Answer Verdict) → checked leafHash innerHash root k p ≡ a → First ((11, DoesNotHold root k x) ∷ []) (numberOf a)
         go (refused n) f =
             let fails : (v : Verdict) → Holds leafHash innerHash root k p v → ⊥ =
-                λ v h. not-both (sym f ∙ accepted-exactly-if-holds leafHash innerHash root k p v .1 h) in
-            inl ((p, proof-is p e, fails), same-number (sym f ∙ refused-if-not leafHash innerHash root k p fails))
+            λ v h. not-both (sym f ∙ accepted-exactly-if-holds leafHash innerHash root k p v .1 h) in
+            inl ((p, proof-is p e, fails), refused-with-11 leafHash innerHash root k p f)
         go (accepted v) f =
-            inr (λ d.
-            let same = same-proof (sym e ∙ read-as (d .0) (d .1)) in
-            d .2 v (subst (λ q. Holds leafHash innerHash root k q v) same (accepted-exactly-if-holds leafHash innerHash root k p v .0 f)), refl)
+            inr (
+              λ d.
+                  let same = same-proof (sym e ∙ read-as (d .0) (d .1)) in
+                  d .2 v (subst (λ q. Holds leafHash innerHash root k q v) same (accepted-exactly-if-holds leafHash innerHash root k p v .0 f)),
+              refl,
+            )

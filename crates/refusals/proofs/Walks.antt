@@ -1,10 +1,10 @@
 -- Rows 8, 3 and 9 of prune and of the reads: what the definitions answer is what they deserve. Assumes nothing.
-use Prim.Native.Nat.{ℕ, _≤_, _<_}
+use Prim.Native.Nat.{ℕ}
 use native.Mathlib.Omega.{arith}
 use mathlib.Core.Path.{_≡_, refl, ap, sym, _∙_}
 use mathlib.Core.Logic.{inl, inr}
 use mathlib.Core.Bool.{Bool, true, false, cond, true≢false}
-use mathlib.Core.List.{List, [], _∷_, map}
+use mathlib.Core.List.{[], _∷_, map}
 use lib.ListN.{length}
 use lib.Dec.{leb, ltb}
 use borrow.Author.Tests.{leb-true, le-leb, ltb-true, ltb-false}
@@ -18,7 +18,6 @@ use Rattle.meaning.specs.Answers.{numberOf}
 use Rattle.meaning.specs.Reading.{seen, End, broken, atLeaf, atGap, walk, readEnd, readKey, rootHash, readRoot}
 use Rattle.meaning.specs.Proving.{stepUp, presenceOf, Sought, lostWay, nobody, somebody, neighbour, absenceFrom, absenceAt, proveEnd, proveSeen, proof, proofLength, fitted, prove}
 use Rattle.histories.proofs.Calls.{prune-cases}
-use Rattle.ways.specs.Ways.{KeyLost, ProofLost}
 use Rattle.ways.proofs.Walking.{Formed}
 use Rattle.ways.proofs.Theorems.{key-lost-exactly, proof-lost-exactly}
 use Rattle.layout.specs.Stores.{storeOf}

@@ -2,22 +2,20 @@
 use Prim.Native.Nat.{ℕ, zero, suc, _+_, _-_, _<_}
 use native.Mathlib.Omega.{arith}
 use mathlib.Core.Path.{_≡_, refl, ap, sym, _∙_, subst}
-use mathlib.Core.Logic.{_↔_}
 use mathlib.Core.Bool.{Bool, true, false, cond, not, _&&_, Bool·beq, true≢false, false≢true}
 use mathlib.Core.List.{List, [], _∷_, _++_, map}
 use mathlib.Core.Option.{Option, none, some}
 use lib.ListN.{length}
 use lib.Dec.{eqb}
-use borrow.Author.Tests.{eq-eqb, ne-eqb, eqb-true, eqb-false}
+use borrow.Author.Tests.{ne-eqb, eqb-true, eqb-false}
 use Rattle.terms.specs.Bits.{Bytes, Side, Place, longer, All, bit, begins}
-use Rattle.terms.specs.Records.{Child, innerBody, Store, Step, Presence}
+use Rattle.terms.specs.Records.{Child, Store, Step, Presence}
 use Rattle.terms.proofs.Places.{length-longer}
 use Rattle.terms.proofs.Tests.{and-left, and-right, same-bit, bit-same}
 use Rattle.meaning.specs.Store.{childOn}
-use Rattle.meaning.specs.Sound.{Found}
-use Rattle.meaning.specs.Reading.{Seen, gap, leafSeen, fork, seenAt, Pass}
+use Rattle.meaning.specs.Reading.{gap, leafSeen, fork, seenAt}
 use Rattle.meaning.specs.Reading as reading
-use Rattle.meaning.specs.Proving.{step, isGap, raisedBy, descend, Sought, lostWay, nobody, somebody, sought, turnsAway, fromTrail, stepUp}
+use Rattle.meaning.specs.Proving.{step, isGap, raisedBy, descend, Sought, lostWay, sought, turnsAway, fromTrail}
 use Rattle.ways.specs.Ways.{Present, to, Inner, inner, Stop, lost, leaf, missing, Way, no-child, not-found, misplaced, at-leaf, onward, Fork, DescentLost}
 use Rattle.ways.proofs.Walking.{Formed, inner-short, inner-child, seen-gap, seen-lost, seen-leaf, seen-fork, way-ends, passOf, view, View, gone, none-found, leaf-found, inner-found}
 

@@ -8,15 +8,15 @@ use mathlib.Core.Bool.{Bool, true, false, cond, true≢false}
 use mathlib.Core.List.{List, [], _∷_, map}
 use mathlib.Core.Option.{Option, none, some}
 use Rattle.terms.specs.Bits.{Bytes, Side, left, right, Place, longer, All, bit, begins, sameBytes}
-use Rattle.terms.specs.Records.{Child, Body, leafBody, innerBody, Record, Store, Proof, presence}
+use Rattle.terms.specs.Records.{Child, Body, leafBody, innerBody, Record, Store, presence}
 use Rattle.terms.proofs.Tests.{is-false, same-bytes, bytes-same}
 use Rattle.meaning.specs.Store.{find, rootOf, childOn}
 use Rattle.meaning.specs.Sound.{Found}
-use Rattle.meaning.specs.Calls.{Answer, refused, accepted}
-use Rattle.meaning.specs.Reading.{Seen, seen, seenBody, seenRoot, seenAt, End, broken, atLeaf, atGap, walk}
+use Rattle.meaning.specs.Calls.{refused, accepted}
+use Rattle.meaning.specs.Reading.{Seen, seen, seenBody, seenRoot, seenAt, broken, walk}
 use Rattle.meaning.specs.Proving.{stepUp, presenceOf, Sought, lostWay, nobody, somebody, beyond, neighbour, fromTrail, absenceFrom, absenceAt, proveEnd}
 use Rattle.ways.specs.Ways.{byKey, Inner, inner, Stop, lost, leaf, missing, Way, no-child, not-found, misplaced, at-leaf, onward, Walk, no-root, root-leaf, from-root, DescentLost, EndIsBeyond, EndIsKey, KeyLost, ProofLost, walk-lost, descent-lost}
-use Rattle.ways.proofs.Walking.{Formed, inner-short, Ends, way-ends, passOf, endOf, walk-is}
+use Rattle.ways.proofs.Walking.{Formed, inner-short, way-ends, passOf, endOf, walk-is}
 use Rattle.ways.proofs.Descending.{Short, search-said, said-search}
 
 clash : {A : Type 0} → _≡_ {A = ℕ} 0 1 → A

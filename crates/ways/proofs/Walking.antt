@@ -2,23 +2,22 @@
 -- nodes above the places of whole keys. Assumes nothing.
 use Prim.Native.Nat.{ℕ, zero, suc, _+_, _-_, _<_, _≤_}
 use native.Mathlib.Omega.{arith}
-use mathlib.Core.Path.{_≡_, refl, ap, sym, _∙_, subst}
-use mathlib.Core.Bool.{Bool, true, false, cond, not}
-use mathlib.Core.List.{List, [], _∷_, map}
+use mathlib.Core.Path.{_≡_, refl, ap, sym, _∙_}
+use mathlib.Core.Bool.{Bool, true, false, cond}
+use mathlib.Core.List.{List, _∷_, map}
 use mathlib.Core.Option.{Option, none, some}
 use lib.ListN.{length}
 use lib.Dec.{eqb}
 use borrow.Author.Tests.{eq-eqb, ne-eqb, eqb-true, eqb-false}
-use Rattle.terms.specs.Bits.{Bytes, Side, Place, longer, All, bit, begins}
+use Rattle.terms.specs.Bits.{Bytes, Place, longer, bit, begins}
 use Rattle.terms.specs.Records.{Child, Body, leafBody, innerBody, Record, Store}
 use Rattle.terms.specs.Form.{RecordForm}
 use Rattle.terms.proofs.Places.{length-longer}
-use Rattle.meaning.specs.Store.{find, rootOf, childOn}
+use Rattle.meaning.specs.Store.{find, childOn}
 use Rattle.meaning.specs.Sound.{Found}
-use Rattle.meaning.specs.Reading.{Seen, gap, leafSeen, fork, seenBody, seenChild, seenAt, seenRoot, seen, Pass, End, broken, atLeaf, atGap, walk}
+use Rattle.meaning.specs.Reading.{gap, leafSeen, fork, seenAt, seen, Pass, End, broken, atLeaf, atGap, walk}
 use Rattle.meaning.specs.Reading as reading
-use Rattle.meaning.proofs.Finding.{isNode-eq, Hit, hits}
-use Rattle.ways.specs.Ways.{Present, Rule, byKey, Inner, inner, Stop, lost, leaf, missing, Way, no-child, not-found, misplaced, at-leaf, onward, Walk, no-root, root-leaf, from-root}
+use Rattle.ways.specs.Ways.{Present, Rule, byKey, Inner, inner, Stop, lost, leaf, missing, Way, no-child, not-found, misplaced, at-leaf, onward}
 
 -- what is found is in form, as the records of every store read from bytes are
 abbrev pub Formed : Store → Type 0
