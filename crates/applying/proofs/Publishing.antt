@@ -10,13 +10,12 @@ use Rattle.terms.specs.Fields.{le}
 use Rattle.terms.specs.Form.{top32}
 use Rattle.fields.specs.Written.{written}
 use Rattle.meaning.specs.Tree.{VTree}
-use Rattle.meaning.specs.Store.{find, freeSlots}
+use Rattle.meaning.specs.Store.{freeSlots, rootOf}
 use Rattle.meaning.specs.Calls.{refused, accepted}
 use Rattle.hash.specs.Hash.{hashBytes}
 use Rattle.nodehash.specs.Node.{leafHash, innerHash}
 use Rattle.place.specs.declared.Place as place
 use Rattle.place.specs.Place as places
-use Rattle.place.specs.Place.{placeOf}
 use Rattle.layout.specs.Stores.{storeOf}
 use Rattle.slots.specs.declared.Child as child
 use Rattle.slots.specs.Answer.{childSays}
@@ -36,12 +35,12 @@ abbrev steps : ℕ → Bytes → place.Place → ℕ → Bytes → step.Outcome
 steps n s p v batch = step.stepRoot leafHash innerHash n (treeHere s p v) (asks batch)
 
 module _ {s batch : Bytes} (w : Ready s batch) (bytes : All Byte s) (batchBytes : All Byte batch) {latest : ℕ} (is : latest ≡ storeOf s .latest)
-    {p : place.Place} (t : places.Stands [] 0 p) {v : ℕ} (root : v ≡ rootVersion latest (find latest (placeOf p) (storeOf s .slots))) where
+    {p : place.Place} (t : places.Stands [] 0 p) {v : ℕ} (root : v ≡ rootVersion (rootOf (storeOf s) latest)) where
   next-is : latest + 1 ≡ storeOf s .latest + 1
   next-is = ap (_+ 1) is
 
-  root-of : v ≡ rootVersion (storeOf s .latest) (find (storeOf s .latest) (placeOf p) (storeOf s .slots))
-  root-of = root ∙ ap (λ n. rootVersion n (find n (placeOf p) (storeOf s .slots))) is
+  root-of : v ≡ rootVersion (rootOf (storeOf s) (storeOf s .latest))
+  root-of = root ∙ ap (λ n. rootVersion (rootOf (storeOf s) n)) is
 
   pub first-time : HereRoot (latest + 1) s p v batch
   first-time = here-root w bytes t root-of next-is

@@ -9,6 +9,7 @@ use layout::sizes::LEFT_AT;
 use layout::sizes::RIGHT_AT;
 use lookup::Found;
 use lookup::find;
+use lookup::find_root;
 use nodehash::inner_hash;
 use nodehash::leaf_hash;
 use place::Place;
@@ -113,7 +114,7 @@ pub fn root(store: &[u8], version: u32) -> Seen
     ensures { λ r. ⌜ Sees (now (store .entry)) [] (seen (storeOf (now (store .entry))) version) r ⌝ }
 {
     let top = Place::top();
-    let found = find(store, version, top);
+    let found = find_root(store, version);
     let Found::At(i) = found else {
         return Seen::Gap;
     };

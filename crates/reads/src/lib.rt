@@ -4,7 +4,7 @@ use hash::Hash;
 use hash::hash_at;
 use hash::no_hash;
 use lookup::Found;
-use lookup::find;
+use lookup::find_root;
 use place::Place;
 use place::key_bit;
 use place::same;
@@ -51,7 +51,7 @@ fn root_hash(store: &[u8], version: u32) -> Hash
     requires { ⌜ sizeRight (length (now store)) ≡ true ⌝ }
     ensures { λ r. ⌜ hashBytes r ≡ rootHash leafHash innerHash (rootOf (storeOf (now (store .entry))) version) ⌝ }
 {
-    let found = find(store, version, Place::top());
+    let found = find_root(store, version);
     let Found::At(i) = found else {
         return no_hash();
     };
