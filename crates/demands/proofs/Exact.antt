@@ -23,7 +23,7 @@ use Rattle.batch.specs.Batch.{batchOf}
 use Rattle.format.specs.Format.{formatAnswer}
 use Rattle.soundness.specs.Check as check
 use Rattle.promises.specs.Calls.{Does, wrong-header, not-sound, refuses, accepts, Exports, exports-refusal, exports-answer}
-use Rattle.read_step.specs.Walk.{byHeader}
+use Rattle.read_step.specs.Headed.{byHeader}
 use Rattle.reads.specs.Reads.{rootAnswer, keyAnswer}
 use Rattle.proving.specs.Proving.{proveAnswer}
 use Rattle.verify.specs.Verify.{judged, verified}

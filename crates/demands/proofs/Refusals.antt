@@ -26,7 +26,7 @@ use Rattle.format.specs.Format.{formatAnswer, formatBytes}
 use Rattle.promises.specs.Calls.{Does, wrong-header, not-sound, refuses, Exports, exports-refusal, exports-answer}
 use Rattle.promises.proofs.Calls.{refused-writes-nothing}
 use Rattle.meaning.specs.Answers.{numberOf, foundAfter}
-use Rattle.read_step.specs.Walk.{byHeader}
+use Rattle.read_step.specs.Headed.{byHeader}
 use Rattle.reads.specs.Reads.{rootAnswer, keyAnswer}
 use Rattle.reads.proofs.Theorems.{OneOf}
 use Rattle.reads_c.specs.Export.{rootBytes}

@@ -26,8 +26,9 @@ use Rattle.hash.proofs.Laws.{hash-bytes-injective}
 use Rattle.nodehash.specs.Node.{leafHash, innerHash}
 use Rattle.layout.specs.Headers.{Headed, refusal, header, sizeRight, headerRight, headerOf}
 use Rattle.layout.specs.Stores.{storeOf}
-use Rattle.read_step.specs.Walk.{byHeader}
-use Rattle.reads.specs.Reads.{rootAnswer, keyAnswer, rootSays, readSays}
+use Rattle.read_step.specs.Headed.{byHeader}
+use Rattle.reads.specs.Reads.{rootAnswer, keyAnswer}
+use Rattle.reads.specs.Parts.{rootSays, readSays}
 use Rattle.reads.proofs.Granted.{Among, answered-among, among-answered}
 use Rattle.reads.specs.declared.RootRead as declared-root
 use Rattle.reads.specs.declared.RootRead.the-variants as root
