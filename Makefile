@@ -1,5 +1,5 @@
 # The commands of the README. A fresh machine has the Rattle kit, make and cargo.
-.PHONY: demo test lib tool bench soak fmt
+.PHONY: demo test lib tool install uninstall bench soak fmt
 
 demo:
 	@tests/demo
@@ -9,12 +9,21 @@ test:
 	@tests/gate 'rt ci' tests/format tests/sha256/run tests/second/run tests/compare/run tests/rust/run \
 		tests/tool/run tests/examples/run
 
+# The static library, proved where `make test` has made the proofs, else the same sources compiled without them; the last line says which.
 lib:
-	@rt staticlib grants
+	@rust/lib
 
-# The command line tool: target/bin/grants.
+# The command line tool over that library: target/bin/grants.
 tool:
 	@rust/tool
+
+# Tool, manual page, completions, header, libraries and pkg-config file below PREFIX.
+PREFIX ?= /usr/local
+install:
+	@rust/install '$(PREFIX)'
+
+uninstall:
+	@rust/install '$(PREFIX)' remove
 
 bench:
 	@bench/run
