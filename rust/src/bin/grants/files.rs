@@ -240,7 +240,7 @@ impl Beside {
             let file = match made {
                 Ok(file) => file,
                 Err(e) if e.kind() == io::ErrorKind::AlreadyExists => {
-                    left_behind(&path)?;
+                    left_behind(&path, place)?;
                     // Where that was removed the same name will do, else the next.
                     match fs::symlink_metadata(&path) {
                         Err(_) => return Beside::make(given, place, mode),
@@ -318,12 +318,17 @@ fn beside_name(place: &Path, n: usize) -> OsString {
 }
 
 /// Removes what a writer left that is no more; what is held, or may not be removed, stays.
-fn left_behind(path: &Path) -> Result<(), Fail> {
+fn left_behind(path: &Path, place: &Path) -> Result<(), Fail> {
     let Ok(about) = fs::symlink_metadata(path) else {
         return Ok(());
     };
     if !about.is_file() {
         return Err(no_file(path, &about, "; remove it"));
+    }
+    // A second name of the file itself: it got its own, and the first was to go.
+    if fs::symlink_metadata(place).is_ok_and(|there| same(&there, &about)) {
+        let _ = fs::remove_file(path);
+        return Ok(());
     }
     let open = OpenOptions::new()
         .read(true)
