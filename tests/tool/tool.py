@@ -132,7 +132,7 @@ def untouched(path, status, sentence, *words, **more):
 
 
 @test
-def the_example_of_document_01():
+def the_example_of_the_rules():
     answered(0, "format", "s", 20)
     made = [
         (FOUR, (1, 7)),
@@ -427,7 +427,7 @@ def a_key_or_root_of_another_length():
         refused(22, "Write it as 64 hex digits", "verify", ZERO, key, "/dev/null")
         refused(22, "Write it as 64 hex digits", "verify", key, A, "/dev/null")
     refused(22, "The key has 63 hex digits", "get", s, A[:-1])
-    # 12 comes first in 01's order, whatever the store is.
+    # 12 comes first in the rules' order, whatever the store is.
     refused(22, "refused with 12", "get", write("bad", b"x"), A[:-2])
 
 
@@ -1400,23 +1400,28 @@ def the_signing_recipes():
     answered(0, "prove", "market", "chords sonata", "--out", "proof")
     with open(os.path.join(TOP, "docs/SIGNING.md")) as f:
         blocks = [block.split("```")[0] for block in f.read().split("```sh\n")[1:]]
-    path = os.path.dirname(TOOL) + ":" + os.environ["PATH"]
+    env = dict(os.environ, PATH=os.path.dirname(TOOL) + ":" + os.environ["PATH"])
+
+    def tried(script):
+        """What the editor would see, in a folder of its own."""
+        shutil.rmtree("desk", ignore_errors=True)
+        os.mkdir("desk")
+        for name in ("market", "market.book", "proof"):
+            shutil.copy(name, "desk")
+        return subprocess.run(["bash", "-euc", script], capture_output=True, text=True, env=env, timeout=60, cwd="desk")
+
     ran = 0
     for program in ("ssh-keygen", "openssl", "minisign"):
-        mine = [block for block in blocks if program in block]
-        assert len(mine) >= 1, program
+        (block,) = [block for block in blocks if program + " " in block]
         if not shutil.which(program):
             print("  %s is not here: its recipe is not tried" % program)
             continue
-        for block in mine:
-            done = subprocess.run(["bash", "-euc", block], capture_output=True, text=True, env=dict(os.environ, PATH=path), timeout=60)
-            assert done.returncode == 0 and "present" in done.stdout, (block, done)
-            # Another statement under the same signature.
-            changed = block.replace("# the editor\n", "# the editor\nsed -i s/^version.*/version\\ 9/ root.txt\n")
-            assert changed != block
-            done = subprocess.run(["bash", "-euc", changed], capture_output=True, text=True, env=dict(os.environ, PATH=path), timeout=60)
-            assert done.returncode != 0 and "present" not in done.stdout, (changed, done)
-            ran += 1
+        done = tried(block)
+        assert done.returncode == 0 and "present " in done.stdout, (block, done)
+        # Another statement under the same signature.
+        changed = block.replace("# the editor\n", "sed -i 's/^version.*/version 9/' root.txt\n")
+        assert changed != block and "present " not in tried(changed).stdout, changed
+        ran += 1
     assert ran >= 2
 
 
@@ -1427,8 +1432,6 @@ def installed_for_others():
     out = subprocess.run(make + ["install"], capture_output=True, text=True, timeout=600)
     assert out.returncode == 0 and out.stdout.startswith("installed below %s for %s: grants " % (prefix, os.uname().machine)), out
     assert ("its proofs checked" in out.stdout) != ("without its proofs" in out.stdout), out
-    if not shutil.which("pkg-config"):
-        subprocess.run(["apt-get", "install", "-y", "pkg-config"], capture_output=True)
     env = dict(os.environ, PKG_CONFIG_PATH=prefix + "/lib/pkgconfig", LD_LIBRARY_PATH=prefix + "/lib")
     held = read(os.path.join(TOP, "examples/editor.out"))
     for how, name in (("-lgrants", "shared"), ("-l:libgrants.a", "static")):
@@ -1455,36 +1458,54 @@ def installed_for_others():
     assert left == [], left
 
 
+@test
+def built_without_proofs():
+    """A checkout in which nothing is proved yet: the library and the tool are there at once, and say what they are worth."""
+    for name in ("crates", "crates.txt", "rust", "tests", "include", "Makefile"):
+        at = os.path.join(TOP, name)
+        shutil.copytree(at, name) if os.path.isdir(at) else shutil.copy(at, name)
+    env = {name: value for name, value in os.environ.items() if name != "GRANTS_LIB_DIR"}
+
+    def made(what):
+        done = subprocess.run(["make", "--no-print-directory", what], capture_output=True, text=True, env=env, timeout=900)
+        assert done.returncode == 0, done
+        assert "Compiled without proofs" in done.stderr and done.stderr.count("\n") == 1, done
+        return done.stdout.splitlines()
+
+    machine = os.uname().machine
+    last = "target/native/libgrants.a: for %s, compiled without its proofs (`make test` checks them)" % machine
+    told = made("lib")
+    assert told[-1] == last and len(told) == (1 if machine == "x86_64" else 2), told
+    assert all(os.path.exists(line.split(":")[0]) for line in told)
+    assert read("target/native/libgrants.proofs").splitlines()[-1] == b"not proved"
+    subprocess.run(["cc", "-Iinclude", TOP + "/examples/editor.c", "target/native/libgrants.a", "-o", "editor"], check=True)
+    assert subprocess.run(["./editor"], capture_output=True).stdout == read(TOP + "/examples/editor.out")
+    if shutil.which("cargo"):
+        assert made("tool")[-1].startswith("target/bin/grants: grants ")
+        version = subprocess.run(["target/bin/grants", "--version"], capture_output=True, text=True).stdout
+        assert "(library: compiled without its proofs (`make test` checks them))" in version, version
+
+
 # The README's tour.
 
 
-def steps(lines):
-    """The console blocks of the README: each command with the lines it goes on with, and where the output below it begins and ends."""
-    found, inside = [], False
-    for i, line in enumerate(lines):
-        if line.startswith("```"):
-            inside = line.strip() == "```console"
-        elif inside and line.startswith("$ "):
-            found.append([line[2:], i + 1, i + 1])
-        elif inside and line.startswith("> "):
-            found[-1] = [found[-1][0] + line[2:], i + 1, i + 1]
-        elif inside:
-            found[-1][2] = i + 1
-    return found
-
-
 def toured(text):
-    """The README with what its commands print now, all of them in one shell."""
-    lines = text.splitlines(True)
-    found = steps(lines)
-    script = "".join("%s\nprintf '\\0'\n" % command for command, _, _ in found)
+    """The README with what the blocks of its tour print now, all of them pasted into one shell."""
+    head, tour = text.split("## A tour", 1)
+    tour, rest = tour.split("\n## ", 1)
+    parts = tour.split("```")
+    blocks = [i for i, part in enumerate(parts) if part.startswith("sh\n") and "/path/to" not in part]
+    script = "".join("%s\nprintf '\\0'\n" % parts[i][3:] for i in blocks)
     path = os.path.dirname(TOOL) + ":" + os.environ["PATH"]
     run = subprocess.run(["bash"], input=script, text=True, stdout=subprocess.PIPE, stderr=subprocess.STDOUT, env=dict(os.environ, PATH=path))
     came = run.stdout.split("\0")
-    assert len(came) == len(found) + 1 and len(found) > 5, "%d commands of %d were run" % (len(came) - 1, len(found))
-    for (_, start, end), out in reversed(list(zip(found, came))):
-        lines[start:end] = [out]
-    return "".join(lines)
+    assert len(came) == len(blocks) + 1 and len(blocks) > 5, "%d blocks of %d were run" % (len(came) - 1, len(blocks))
+    for i, out in zip(blocks, came):
+        if parts[i + 2 : i + 3] and parts[i + 2].startswith("text\n") and parts[i + 1].strip() == "":
+            parts[i + 2] = "text\n" + out
+        else:
+            assert out == "", "this prints something:\n%s\n%s" % (parts[i], out)
+    return head + "## A tour" + "```".join(parts) + "\n## " + rest
 
 
 @test
