@@ -21,6 +21,9 @@ fn main() {
         .next()
         .unwrap_or("nothing is said about its proofs");
     println!("cargo:rustc-env=GRANTS_PROOFS={said}");
+    if env::var_os("GRANTS_LIB_DIR").is_none() && said.contains("without") {
+        println!("cargo:warning=libgrants.a: {said}");
+    }
     println!("cargo:rerun-if-changed={}", archive.display());
     println!("cargo:rerun-if-changed={}", proofs.display());
     println!("cargo:rustc-link-search=native={}", folder.display());

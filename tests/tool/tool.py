@@ -886,11 +886,17 @@ def only_regular_files_are_written():
     untouched(s, 3, "it is a symbolic link; remove it", "apply", s, "/dev/null")
     assert not os.path.exists("elsewhere"), "the link was followed"
     os.remove(".desk.grants.grants-new")
-    # Nor is one at the book, or at an output file.
+    # Nor is one at the book, and none of these is waited for.
     os.remove(s + ".book")
-    os.symlink("elsewhere", s + ".book")
-    ran = grants("apply", s, "/dev/null")
-    assert ran.status == 3 and "the store is changed all the same" in ran.err and not os.path.exists("elsewhere"), ran
+    for make in (lambda name: os.symlink("elsewhere", name), os.mkfifo, os.mkdir):
+        make(s + ".book")
+        untouched(s, 3, "cannot read %s.book: it is a" % s, "apply", s, "/dev/null")
+        refused(3, "cannot read %s.book: it is a" % s, "log", s)
+        os.rmdir(s + ".book") if os.path.isdir(s + ".book") else os.remove(s + ".book")
+    os.symlink("elsewhere", "book")
+    untouched(s, 3, "cannot write book: it is a symbolic link", "apply", s, "/dev/null", "--book", "book")
+    assert not os.path.exists("elsewhere")
+    # Nor at an output file.
     os.symlink("elsewhere", "out")
     refused(3, "is there already", "prove", s, A, "--out", "out")
     answered(0, "prove", s, A, "--out", "out", "--force")
@@ -1004,7 +1010,7 @@ def output_files_are_whole_and_not_lost():
 def names_of_stores():
     longest = "n" * 255
     answered(0, "format", longest, 5)
-    answered(0, "apply", longest, "/dev/null", "--no-book")
+    answered(0, "apply", longest, "/dev/null")
     assert sorted(os.listdir(".")) == [longest]
     refused(3, "the name is longer", "format", "n" * 256, 5)
     for words in (("format", "new/", 5), ("apply", longest + "/", "/dev/null"), ("format", longest + "/", 5, "--force")):

@@ -8,6 +8,7 @@ use crate::files;
 use crate::plain::{quoted, shown, words, Word};
 use grants::{Key, Root};
 use std::collections::HashMap;
+use std::ffi::OsStr;
 use std::path::{Path, PathBuf};
 
 const LIMIT: u64 = 64 << 20;
@@ -35,6 +36,8 @@ pub enum Said<'a> {
 
 #[derive(Default)]
 pub struct Book {
+    /// Its name as a person would say it, and the file that this leads to.
+    given: PathBuf,
     place: Option<PathBuf>,
     text: String,
     entries: HashMap<u32, Vec<Entry>>,
@@ -47,35 +50,52 @@ pub struct Book {
 impl Book {
     /// The book of a store, or the one that `--book` names. None is as good as an empty one.
     pub fn of(args: &Args, store: Option<&Path>) -> Result<Book, Fail> {
-        if args.has("--no-book") {
-            return Ok(Book::default());
+        let mut book = Book::default();
+        match (args.value("--book"), store) {
+            _ if args.has("--no-book") => return Ok(book),
+            (Some(named), _) => {
+                book.given = PathBuf::from(named);
+                book.place = Some(book.given.clone());
+            }
+            (None, Some(store)) if store.as_os_str() != "-" => {
+                book.given =
+                    PathBuf::from([store.as_os_str(), OsStr::new(ENDING)].join(OsStr::new("")));
+                book.place = files::beside_store(store, ENDING);
+                // Reading what is no file might wait for ever, and it stands there by no one's word.
+                if let Some(place) = &book.place {
+                    files::regular_or_nothing("read", &book.given, place)?;
+                }
+            }
+            _ => return Ok(book),
         }
-        let place = match (args.value("--book"), store) {
-            (Some(named), _) => Some(PathBuf::from(named)),
-            (None, Some(store)) if store.as_os_str() != "-" => files::beside_store(store, ENDING),
-            (None, _) => None,
-        };
-        let mut book = Book {
-            place,
-            ..Book::default()
-        };
-        if let Some(place) = book.place.clone().filter(|p| p.exists()) {
-            let bytes = files::read(&place, LIMIT + 1)?;
+        if let Some(place) = book.place.clone().filter(|place| place.exists()) {
+            let bytes = files::read(&place, LIMIT + 1).map_err(|fail| match fail {
+                Fail::File(why) => Fail::File(format!("{why} (the book; --no-book does without)")),
+                fail => fail,
+            })?;
             if bytes.len() as u64 > LIMIT {
                 return Err(Fail::File(format!(
                     "cannot read {}: a book has at most {LIMIT} bytes",
-                    shown(&place)
+                    book.shown()
                 )));
             }
             book.text = String::from_utf8(bytes).map_err(|_| {
                 Fail::File(format!(
                     "{} is no text in UTF-8: move it away, or mend it",
-                    shown(&place)
+                    shown(&book.given)
                 ))
             })?;
             book.read();
         }
         Ok(book)
+    }
+
+    /// Whether it could be written, asked before the store is.
+    pub fn may_be_written(&self) -> Result<(), Fail> {
+        match &self.place {
+            Some(place) => files::regular_or_nothing("write", &self.given, place),
+            None => Ok(()),
+        }
     }
 
     fn read(&mut self) {
@@ -132,7 +152,10 @@ impl Book {
     }
 
     pub fn shown(&self) -> String {
-        self.place.as_deref().map_or("the book".to_string(), shown)
+        match self.place {
+            Some(_) => shown(&self.given),
+            None => "the book".to_string(),
+        }
     }
 
     /// The name of a key or a value.
@@ -230,7 +253,7 @@ impl Book {
     /// Replaces the file as a whole. The store's lock is held.
     pub fn write(&self) -> Result<(), Fail> {
         match &self.place {
-            Some(place) => files::replace(place, self.text.as_bytes()),
+            Some(place) => files::replace(&self.given, place, self.text.as_bytes()),
             None => Ok(()),
         }
     }

@@ -53,9 +53,9 @@ fn kind(kind: FileType) -> &'static str {
     }
 }
 
-fn no_file(path: &Path, about: &Metadata, more: &str) -> Fail {
+fn no_file(verb: &str, path: &Path, about: &Metadata, more: &str) -> Fail {
     let kind = kind(about.file_type());
-    Fail::File(format!("cannot write {}: it is {kind}{more}", shown(path)))
+    Fail::File(format!("cannot {verb} {}: it is {kind}{more}", shown(path)))
 }
 
 fn same(a: &Metadata, b: &Metadata) -> bool {
@@ -171,7 +171,7 @@ fn open_to_write(given: &Path, store: &Path) -> Result<File, Fail> {
     };
     let about = fs::symlink_metadata(store).map_err(|e| file("read", given, &e))?;
     if !about.is_file() {
-        return Err(no_file(given, &about, "; it is as it was"));
+        return Err(no_file("write", given, &about, "; it is as it was"));
     }
     if about.permissions().readonly() {
         return Err(stays("it is read-only (chmod u+w allows it)"));
@@ -323,7 +323,7 @@ fn left_behind(path: &Path, place: &Path) -> Result<(), Fail> {
         return Ok(());
     };
     if !about.is_file() {
-        return Err(no_file(path, &about, "; remove it"));
+        return Err(no_file("write", path, &about, "; remove it"));
     }
     // A second name of the file itself: it got its own, and the first was to go.
     if fs::symlink_metadata(place).is_ok_and(|there| same(&there, &about)) {
@@ -402,20 +402,25 @@ fn synced(given: &Path, place: &Path) -> Result<(), Fail> {
     })
 }
 
+/// Refuses what can't be replaced: a link, a directory, a fifo, a device.
+pub fn regular_or_nothing(verb: &str, given: &Path, place: &Path) -> Result<(), Fail> {
+    match fs::symlink_metadata(place) {
+        Ok(about) if !about.is_file() => Err(no_file(verb, given, &about, "; nothing was changed")),
+        _ => Ok(()),
+    }
+}
+
 /// Replaces a file beside the store, whose lock keeps other writers away, or makes it.
-pub fn replace(path: &Path, bytes: &[u8]) -> Result<(), Fail> {
-    let failed = |e: io::Error| file("write", path, &e);
-    let old = match fs::symlink_metadata(path) {
-        Ok(about) if about.is_file() => Some(about),
-        Ok(about) => return Err(no_file(path, &about, "")),
-        Err(_) => None,
-    };
+pub fn replace(given: &Path, place: &Path, bytes: &[u8]) -> Result<(), Fail> {
+    let failed = |e: io::Error| file("write", given, &e);
+    regular_or_nothing("write", given, place)?;
+    let old = fs::symlink_metadata(place).ok();
     let mode = if old.is_some() { 0o600 } else { 0o666 };
-    let mut beside = Beside::make(path, path, mode)?;
+    let mut beside = Beside::make(given, place, mode)?;
     beside.fill(bytes, old.as_ref()).map_err(failed)?;
-    fs::rename(&beside.path, path).map_err(failed)?;
+    fs::rename(&beside.path, place).map_err(failed)?;
     beside.done();
-    synced(path, path)
+    synced(given, place)
 }
 
 /// Writes an output file, whole or not at all: over nothing that is there but with `--force`, and never over a file that the command reads.
@@ -436,9 +441,12 @@ pub fn write(args: &Args, path: &Path, bytes: &[u8], inputs: &[&Path]) -> Result
     let name = path.file_name().unwrap_or(OsStr::new(""));
     let at = folder.unwrap_or(Path::new(".")).join(name);
     match fs::symlink_metadata(path) {
-        Ok(about) if !about.is_file() && !about.is_symlink() => {
-            Err(no_file(path, &about, "; - writes to standard output"))
-        }
+        Ok(about) if !about.is_file() && !about.is_symlink() => Err(no_file(
+            "write",
+            path,
+            &about,
+            "; - writes to standard output",
+        )),
         Ok(_) if !args.has("--force") => Err(Fail::File(format!(
             "{} is there already and was left alone; --force replaces it",
             shown(path)
@@ -446,6 +454,7 @@ pub fn write(args: &Args, path: &Path, bytes: &[u8], inputs: &[&Path]) -> Result
         Ok(about) => {
             let failed = |e: io::Error| file("write", path, &e);
             let mut beside = Beside::make(path, &at, 0o666)?;
+            // A link itself is replaced, not what it leads to.
             let old = Some(&about).filter(|about| about.is_file());
             beside.fill(bytes, old).map_err(failed)?;
             fs::rename(&beside.path, &at).map_err(failed)?;
@@ -459,10 +468,10 @@ pub fn write(args: &Args, path: &Path, bytes: &[u8], inputs: &[&Path]) -> Result
     }
 }
 
-/// The book's place: beside the file that the store's path leads to.
+/// The book's place: beside the file that the store's path leads to. A name that would be too long is none.
 pub fn beside_store(store: &Path, ending: &str) -> Option<PathBuf> {
     let place = resolved(store).ok()?;
     let mut name = place.file_name()?.to_os_string();
     name.push(ending);
-    Some(place.with_file_name(name))
+    (name.len() <= 255).then(|| place.with_file_name(name))
 }

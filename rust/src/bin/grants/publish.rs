@@ -138,6 +138,7 @@ fn keep(
             message: message.clone(),
         });
     }
+    book.may_be_written()?;
     locked.replace(store.as_bytes())?;
     out.changed = true;
     write_book(&book)?;
