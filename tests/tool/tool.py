@@ -1092,9 +1092,12 @@ def names_stand_for_their_hash():
     assert answered(1, "get", m, "lyrics sonata") == "absent\n"
     assert answered(0, "get", m, "lyrics sonata", 1) == digest("read") + "\n"
     # A slip is no name, but in quotes anything is.
-    refused(2, 'no book names it "chords sonatas"', "get", m, "chords sonatas")
+    refused(2, 'market.book has no name "chords sonatas"', "get", m, "chords sonatas")
     assert answered(1, "get", m, '"chords sonatas"') == "absent\n"
-    refused(22, "refused with 12", "get", m, "cafe")
+    refused(22, "The key has 5 hex digits", "get", m, "cafe0")
+    refused(22, "The key has 1 hex digit.", "verify", ZERO, "a", "none")
+    answered(0, "apply", m, "-", input='+ "cafe" "read"\n')
+    assert answered(0, "get", m, "cafe") == digest("read") + "\n"
     for wrong in ('"', '"a', '"a" b', '""x'):
         refused(2, "two double quotes", "get", m, wrong)
     answered(0, "prove", m, "chords sonata", "--out", "p")
@@ -1143,7 +1146,7 @@ def the_book_is_text_that_only_grows():
     os.rename(m + ".book", "away")
     assert json.loads(answered(0, "log", m, "--json"))[1]["book"] is None
     assert "published" in answered(0, "log", m)
-    refused(2, "no book names it", "get", m, "chords sonata")
+    refused(2, "has no name", "get", m, "chords sonata")
     assert answered(0, "get", m, "chords sonata", "--book", "away") == digest("write") + "\n"
     write(m + ".book", "<<<<<<< ours\n" + after)
     assert "1 line can't be read, the first is line 1" in answered(0, "log", m)

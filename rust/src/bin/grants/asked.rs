@@ -4,8 +4,8 @@ use crate::args::{number, Args};
 use crate::book::{self, Book, Said};
 use crate::fail::Fail;
 use crate::files::{self, STORE_LIMIT};
-use crate::plain::{quoted, shown, words, Word};
-use grants::{from_hex, Error, HexError, Store};
+use crate::plain::{counted, quoted, shown, words, Word};
+use grants::{from_hex, Error, HexError, Key, Store};
 use std::collections::BTreeMap;
 use std::path::Path;
 
@@ -53,12 +53,15 @@ pub fn hex(what: &str, text: &str) -> Result<Vec<u8>, Fail> {
         HexError::Digit(_) => Fail::Usage(format!("the {what} is wrong: {e}")),
         HexError::Count { digits, .. } => Fail::Refused(
             Error::NotThirtyTwoBytes,
-            format!("The {what} has {digits} hex digits. {LENGTH_ADVICE}"),
+            format!(
+                "The {what} has {}. {LENGTH_ADVICE}",
+                counted(digits, "hex digit")
+            ),
         ),
     })
 }
 
-/// A key: hex digits, a name that the book has, or a name in double quotes, which need not be in the book. So a slip in a digit is never
+/// A key: 64 hex digits, a name that the book has, or a name in double quotes, which need not be in the book. So a slip in a digit is never
 /// taken for a name.
 pub fn key(args: &Args, i: usize, store: Option<&Path>) -> Result<Vec<u8>, Fail> {
     let text = args.text(i);
@@ -70,19 +73,21 @@ pub fn key(args: &Args, i: usize, store: Option<&Path>) -> Result<Vec<u8>, Fail>
             )),
         };
     }
-    match hex("key", &text) {
-        Err(Fail::Usage(wrong)) => {
-            let book = Book::of(args, store)?;
-            if book.knows(&text) {
-                return Ok(book.meaning(&text)?.to_vec());
-            }
-            Err(Fail::Usage(format!(
-                "{wrong}, and no book names it {}",
-                quoted(&text)
-            )))
-        }
-        digits => digits,
+    if let Ok(key) = text.parse::<Key>() {
+        return Ok(key.as_bytes().to_vec());
     }
+    let book = Book::of(args, store)?;
+    if book.knows(&text) {
+        return Ok(book.meaning(&text)?.to_vec());
+    }
+    hex("key", &text).map_err(|fail| match fail {
+        Fail::Usage(wrong) => Fail::Usage(format!(
+            "{wrong}, and {} has no name {}; a name between double quotes stands for its SHA-256",
+            book.shown(),
+            quoted(&text)
+        )),
+        fail => fail,
+    })
 }
 
 /// The version that is asked for, else the latest; 0 where the header is wrong, which the call that follows will say.

@@ -48,8 +48,8 @@ pub fn format(args: &Args, out: &mut Out) -> Result<u8, Fail> {
             format!("{capacity} slots were asked for: a store has 1 to 16,384."),
         )
     })?;
-    let mut book = Book::of(args, Some(path))?;
-    let _lock = if files::already_there(path) {
+    Book::of(args, Some(path))?.may_be_written()?;
+    let locked = if files::already_there(path) {
         if !args.has("--force") {
             return Err(Fail::File(format!(
                 "{} is there already and was left alone; --force makes a fresh store of it, and what it holds is lost",
@@ -58,13 +58,15 @@ pub fn format(args: &Args, out: &mut Out) -> Result<u8, Fail> {
         }
         let mut locked = Locked::take(args, path)?;
         locked.replace(store.as_bytes())?;
-        Some(locked)
+        locked
     } else {
         files::create(path, store.as_bytes())?;
-        None
+        Locked::take(args, path)?
     };
     out.changed = true;
-    if book.latest().is_some() {
+    // A book that lies there speaks of another history, unless someone has published already.
+    let mut book = Book::of(args, Some(path))?;
+    if book.latest().is_some() && locked.still_holds(store.as_bytes()) {
         book.add_fresh(dates::now());
         write_book(&book)?;
     }

@@ -126,6 +126,11 @@ impl Locked {
         Ok(bytes)
     }
 
+    /// Whether the file under the store's name has these bytes.
+    pub fn still_holds(&self, bytes: &[u8]) -> bool {
+        fs::read(&self.store).is_ok_and(|there| there == bytes)
+    }
+
     /// Puts these bytes in the store's place: all of them, or none. The lock goes on to the new file.
     pub fn replace(&mut self, bytes: &[u8]) -> Result<(), Fail> {
         let failed = |e: io::Error| {
@@ -169,7 +174,13 @@ fn open_to_write(given: &Path, store: &Path) -> Result<File, Fail> {
             shown(given)
         ))
     };
-    let about = fs::symlink_metadata(store).map_err(|e| file("read", given, &e))?;
+    let about = fs::symlink_metadata(store).map_err(|e| match e.kind() {
+        io::ErrorKind::NotFound => Fail::File(format!(
+            "cannot read {}: there is no such file; `grants format` makes a store",
+            shown(given)
+        )),
+        _ => file("read", given, &e),
+    })?;
     if !about.is_file() {
         return Err(no_file("write", given, &about, "; it is as it was"));
     }

@@ -280,7 +280,11 @@ pub fn list(args: &Args, out: &mut Out) -> Result<u8, Fail> {
     } else {
         let full = args.has("--full");
         let published = match said {
-            Said::This(_) => format!(" ({}, {})", when(said), remark(said)),
+            Said::This(_) => {
+                let parts = [when(said), remark(said)];
+                let parts: Vec<String> = parts.into_iter().filter(|p| !p.is_empty()).collect();
+                format!(" ({})", parts.join(", "))
+            }
             Said::Disagrees => " (the book disagrees)".to_string(),
             Said::Nothing => String::new(),
         };
