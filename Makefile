@@ -1,5 +1,5 @@
 # The commands of the README. A fresh machine has the Rattle kit, make and cargo.
-.PHONY: demo test lib tool install uninstall bench soak fmt
+.PHONY: demo test lib tool bench soak fmt
 
 demo:
 	@tests/demo
@@ -18,6 +18,7 @@ tool:
 	@rust/tool
 
 # Tool, manual page, completions, header, libraries and pkg-config file below PREFIX.
+.PHONY: install uninstall
 PREFIX ?= /usr/local
 install:
 	@rust/install '$(PREFIX)'

@@ -929,6 +929,8 @@ def two_users_write_one_store():
     os.chmod(".", 0o777)
     os.chmod("..", 0o755)
     shutil.copy(TOOL, "../tool")
+    shutil.copy(FAULT, "../fault.so")
+    os.chmod("../fault.so", 0o755)
     desk("s", 200)
     os.chmod("s", 0o666)
     os.path.exists("s.book") and os.chmod("s.book", 0o666)
@@ -939,7 +941,7 @@ def two_users_write_one_store():
 
     # One user's writer is killed at each call in turn: the other's next one is not hindered.
     for at in range(1, 90):
-        killed = run(1001, "apply", "s", "/dev/null", env={"LD_PRELOAD": FAULT, "FAULT": "kill", "FAULT_AT": str(at)})
+        killed = run(1001, "apply", "s", "/dev/null", env={"LD_PRELOAD": "../fault.so", "FAULT": "kill", "FAULT_AT": str(at)})
         if killed.returncode == 0:
             break
         done = run(1002, "apply", "s", "/dev/null")
@@ -971,13 +973,34 @@ def a_writer_waits_and_says_so():
     told = "process %d of user" % os.getpid()
     untouched(s, 3, told, "prune", s, 1, "--wait", 0)
     waiting = subprocess.Popen([TOOL, "apply", s, "/dev/null"], stdout=subprocess.PIPE, stderr=subprocess.PIPE, text=True)
-    time.sleep(2.5)
-    assert waiting.poll() is None, "it did not wait"
+    said = waiting.stderr.readline()
+    assert said.startswith("grants: waiting for process %d of user" % os.getpid()) and waiting.poll() is None, said
     holder.close()
     out, err = waiting.communicate(timeout=60)
-    assert waiting.returncode == 0 and out.startswith("version 3"), (out, err)
-    assert err.startswith("grants: waiting for process %d of user" % os.getpid()) and err.count("\n") == 1, err
+    assert waiting.returncode == 0 and out.startswith("version 3") and err == "", (out, err)
     refused(2, "SECONDS is a number", "apply", s, "/dev/null", "--wait", "soon")
+
+
+@test
+def forty_at_once():
+    """Of many that make a store one does; of many that write it none is lost, nor what they say."""
+
+    def together(commands):
+        runs = [subprocess.Popen([TOOL] + words, stdout=subprocess.PIPE, stderr=subprocess.PIPE, text=True) for words in commands]
+        return [(*run.communicate(timeout=120), run.returncode) for run in runs]
+
+    for _ in range(3):
+        ended = together([["format", "s", str(300 + i)] for i in range(12)])
+        assert sorted(status for _, _, status in ended) == [0] + [3] * 11, ended
+        assert all("is there already" in err for _, err, status in ended if status), ended
+        assert os.listdir(".") == ["s"]
+        os.remove("s")
+    answered(0, "format", "s", 300)
+    ended = together([["apply", "s", "/dev/null", "--message", str(i)] for i in range(40)])
+    assert all(status == 0 for _, _, status in ended), ended
+    told = json.loads(answered(0, "log", "s", "--json"))
+    assert sorted(v["message"] for v in told[1:]) == sorted(str(i) for i in range(40))
+    assert sorted(os.listdir(".")) == ["s", "s.book"]
 
 
 @test

@@ -75,11 +75,14 @@ pub fn man() -> String {
     text += ".SH COMMANDS\n";
     for command in COMMANDS {
         text += &format!(".SS grants {} {}\n", command.name, command.usage);
-        text += &format!(
-            "{}.PP\n.nf\n{}.fi\n",
-            plain(command.what),
-            plain(command.help)
-        );
+        text += &plain(command.what);
+        for paragraph in command.help.split("\n\n") {
+            // What is indented stands as it is, the rest is filled.
+            text += &match paragraph.starts_with(' ') {
+                true => format!(".PP\n.nf\n{}.fi\n", plain(paragraph)),
+                false => format!(".PP\n{}", plain(paragraph)),
+            };
+        }
         for (call, help) in options(command) {
             text += &format!(".TP\n.B {}{}", plain(&call), plain(help));
         }

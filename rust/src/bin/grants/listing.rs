@@ -319,10 +319,11 @@ fn named(book: &Book, key: &Key, value: &Value) -> String {
 }
 
 fn csv(text: &str) -> String {
-    if text.contains([',', '"', '\n', '\r']) {
+    let text = escaped(text);
+    if text.contains([',', '"']) {
         return format!("\"{}\"", text.replace('"', "\"\""));
     }
-    text.to_string()
+    text
 }
 
 /// A batch as text, which publishes these grants elsewhere: names in quotes where they give the same bytes there, without this book.
