@@ -1,15 +1,15 @@
 //! The commands that make one call of the library and say what came.
 
 use crate::args::{number, Args};
-use crate::asked::{hex, key, read_store, refused, version, LENGTH_ADVICE};
-use crate::book::{self, Book, Said};
+use crate::asked::{key, read_store, refused, version, LENGTH_ADVICE};
+use crate::book::Book;
 use crate::dates;
 use crate::fail::Fail;
 use crate::files::{self, Locked, PROOF_LIMIT};
 use crate::json::Json;
 use crate::out::Out;
-
 use crate::plain::{counted, shown};
+use crate::statement::known_root;
 use grants::{from_hex, to_hex, Error, Store};
 use std::path::Path;
 
@@ -133,109 +133,7 @@ pub fn prune(args: &Args, out: &mut Out) -> Result<u8, Fail> {
     )
 }
 
-pub fn root(args: &Args, out: &mut Out) -> Result<u8, Fail> {
-    let path = args.path(0);
-    let store = read_store(path)?;
-    let version = version(args, 1, &store, path)?;
-    let root = store.root(version).map_err(refused(&store, path))?;
-    let until = args.said("--not-after")?;
-    let until = until
-        .map(|text| book::date("--not-after", &text))
-        .transpose()?;
-    let Some(to) = args.value("--out").map(Path::new) else {
-        if until.is_some() {
-            return Err(Fail::Usage("--not-after goes with --out FILE".to_string()));
-        }
-        return out.answer(
-            0,
-            object(vec![
-                ("version", version.into()),
-                ("root", root.to_string().into()),
-            ]),
-            root,
-        );
-    };
-    let published = match Book::of(args, Some(path))?.said(version, root) {
-        Said::This(entry) => Some(entry.time),
-        _ => None,
-    };
-    let statement = Statement {
-        version,
-        root: root.to_string(),
-        published,
-        made: book::time(args)?,
-        not_after: until.map(|(_, last)| last),
-    };
-    let text = statement.text();
-    if to.as_os_str() == "-" {
-        if out.json {
-            return Err(both_to_output());
-        }
-        let mut answer = out.decided(0);
-        answer.raw(text.as_bytes())?;
-        return answer.end();
-    }
-    files::write(args, to, text.as_bytes(), &[path])?;
-    out.answer(
-        0,
-        object(vec![
-            ("version", version.into()),
-            ("root", root.to_string().into()),
-            ("not_after", statement.not_after.map(dates::text).into()),
-        ]),
-        format_args!("{}: the root of version {version}, to be signed", shown(to)),
-    )
-}
-
-/// A root with its version and dates, as it is signed (docs/SIGNING.md).
-struct Statement {
-    version: u32,
-    root: String,
-    published: Option<i64>,
-    made: i64,
-    not_after: Option<i64>,
-}
-
-const STATEMENT: &str = "the root of a grant store";
-
-impl Statement {
-    fn text(&self) -> String {
-        let mut text = format!(
-            "{STATEMENT}\nversion {}\nroot {}\n",
-            self.version, self.root
-        );
-        if let Some(time) = self.published {
-            text += &format!("published {}\n", dates::text(time));
-        }
-        text += &format!("made {}\n", dates::text(self.made));
-        if let Some(time) = self.not_after {
-            text += &format!("not-after {}\n", dates::text(time));
-        }
-        text
-    }
-
-    /// The very lines that `text` writes, and no others.
-    fn read(text: &str) -> Option<Statement> {
-        let mut lines = text.lines().peekable();
-        let mut field = |name: &str| {
-            let line = lines.next_if(|line| line.split(' ').next() == Some(name));
-            line.and_then(|line| line.split_once(' '))
-                .map(|(_, rest)| rest.to_string())
-        };
-        let time = |text: String| dates::parse(&text).map(|(time, _)| time);
-        field("the").filter(|rest| STATEMENT.strip_prefix("the ") == Some(rest))?;
-        let statement = Statement {
-            version: field("version")?.parse().ok()?,
-            root: field("root")?,
-            published: field("published").and_then(time),
-            made: field("made").and_then(time)?,
-            not_after: field("not-after").and_then(time),
-        };
-        (statement.text() == text).then_some(statement)
-    }
-}
-
-fn both_to_output() -> Fail {
+pub fn both_to_output() -> Fail {
     Fail::Usage("--out - and --json would both write standard output".to_string())
 }
 
@@ -316,32 +214,8 @@ fn proof_bytes(bytes: Vec<u8>) -> Result<Vec<u8>, Fail> {
     from_hex(&digits).map_err(|e| Fail::Refused(Error::ProofForm, format!("It has {e}.")))
 }
 
-/// A root: hex digits, or a file that `root --out` wrote, whose date has not passed.
-fn known_root(text: &str, path: &Path) -> Result<Vec<u8>, Fail> {
-    match hex("root", text) {
-        Err(Fail::Usage(_)) if path.is_file() => {}
-        digits => return digits,
-    }
-    let bytes = files::read(path, PROOF_LIMIT)?;
-    let statement = std::str::from_utf8(&bytes).ok().and_then(Statement::read);
-    let statement = statement.ok_or_else(|| {
-        Fail::Usage(format!(
-            "the root is wrong: {} is neither 64 hex digits nor a file that `grants root --out` wrote",
-            shown(path)
-        ))
-    })?;
-    match statement.not_after {
-        Some(last) if dates::now() > last => Err(Fail::Book(format!(
-            "the root in {} is past its date, {}: get one that was signed since",
-            shown(path),
-            dates::text(last)
-        ))),
-        _ => hex("root", &statement.root),
-    }
-}
-
 pub fn verify(args: &Args, out: &mut Out) -> Result<u8, Fail> {
-    let root = known_root(&args.text(0), args.path(0))?;
+    let root = known_root(args)?;
     let key = key(args, 1, None)?;
     let path = args.path(2);
     let proof = proof_bytes(files::read(path, PROOF_LIMIT)?)?;
@@ -420,58 +294,4 @@ pub fn stat(args: &Args, out: &mut Out) -> Result<u8, Fail> {
         );
     }
     out.answer(0, Json::Null, lines)
-}
-
-/// The names of a book, or one more.
-pub fn name(args: &Args, out: &mut Out) -> Result<u8, Fail> {
-    let path = args.path(0);
-    let Some(name) = args.word(1) else {
-        let book = Book::of(args, Some(path))?;
-        let names = book.names();
-        if out.json {
-            let list = names.iter().map(|(word, name)| {
-                object(vec![
-                    ("name", (*name).into()),
-                    ("bytes", to_hex(word).into()),
-                ])
-            });
-            return out.answer(0, Json::List(list.collect()), "");
-        }
-        let mut answer = out.decided(0);
-        for (word, name) in names {
-            answer.line(format_args!(
-                "{} {}",
-                to_hex(&word),
-                crate::plain::quoted(name)
-            ))?;
-        }
-        return answer.end();
-    };
-    let name = name
-        .to_str()
-        .ok_or_else(|| Fail::Usage("a name is text in UTF-8".to_string()))?;
-    let path = writable(args)?;
-    let _locked = Locked::take(args, path)?;
-    let mut book = Book::of(args, Some(path))?;
-    let word = match args.word(2) {
-        Some(digits) => hex("key", &digits.to_string_lossy())?,
-        None => grants::sha256(name.as_bytes()).to_vec(),
-    };
-    let word: [u8; 32] = word
-        .try_into()
-        .map_err(|_| Fail::Refused(Error::NotThirtyTwoBytes, LENGTH_ADVICE.to_string()))?;
-    if book.knows(name) && book.meaning(name)? != word {
-        return Err(Fail::Book(format!(
-            "{} names {} so already, and lines are only ever added: choose another name",
-            book.shown(),
-            to_hex(&book.meaning(name)?)
-        )));
-    }
-    book.add_name(word, name);
-    book.write()?;
-    out.answer(
-        0,
-        object(vec![("name", name.into()), ("bytes", to_hex(&word).into())]),
-        format_args!("{} {}", to_hex(&word), crate::plain::quoted(name)),
-    )
 }

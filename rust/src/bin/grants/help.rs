@@ -127,7 +127,7 @@ pub fn zsh() -> String {
         text += &format!("  {}) _arguments", command.name);
         for choice in command.choices {
             let value = match choice.value {
-                Some(value) if value == "FILE" => ":FILE:_files".to_string(),
+                Some("FILE") => ":FILE:_files".to_string(),
                 Some(value) => format!(":{value}:"),
                 None => String::new(),
             };

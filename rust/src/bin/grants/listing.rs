@@ -10,7 +10,7 @@ use crate::held;
 use crate::json::Json;
 use crate::out::Out;
 use crate::plain::{counted, escaped, quoted, shown};
-use grants::{to_hex, Error, Key, Root, Value};
+use grants::{to_hex, Error, Header, Key, Record, Root, Value};
 use std::collections::{BTreeMap, BTreeSet};
 use std::fmt::Write as _;
 
@@ -106,25 +106,9 @@ fn tally(
     Ok(tally)
 }
 
-pub fn log(args: &Args, out: &mut Out) -> Result<u8, Fail> {
-    let path = args.path(0);
-    let store = read_store(path)?;
-    let refused = refused(&store, path);
-    let slots = store.slots().map_err(&refused)?;
-    let header = store.header().map_err(&refused)?;
-    let book = Book::of(args, Some(path))?;
-    let full = args.has("--full");
-    let first = match args.value("--last") {
-        Some(word) => {
-            let last = number("N", word)?;
-            if last == 0 {
-                return Err(Fail::Usage("--last wants 1 or more".to_string()));
-            }
-            header.oldest.max(header.latest.saturating_sub(last - 1))
-        }
-        None => header.oldest,
-    };
-    // What comes and goes with each version: a version may be one of thousands of millions, a record is one of some thousand.
+/// What comes and goes with each version from the first one asked for: a version may be one of thousands of millions, a record is one of some
+/// thousand.
+fn counts(slots: &[Option<Record>], first: u32) -> BTreeMap<u32, Counts> {
     let mut counts: BTreeMap<u32, Counts> = BTreeMap::new();
     for record in slots.iter().flatten() {
         let leaf = i64::from(record.grant().is_some());
@@ -140,24 +124,109 @@ pub fn log(args: &Args, out: &mut Out) -> Result<u8, Fail> {
             ended.records -= 1;
         }
     }
-    let touched = held::touched(&slots);
-    let json = out.json;
-    let mut answer = out.decided(0);
-    let root_head = if full {
-        format!("{:<64}", "root")
-    } else {
-        format!("{:<14}", "root")
+    counts
+}
+
+/// One line of the log. What the oldest kept version changed isn't known any more.
+struct Row<'a> {
+    version: u32,
+    counts: Counts,
+    changed: Option<[usize; 3]>,
+    root: Root,
+    said: Said<'a>,
+}
+
+impl Row<'_> {
+    fn json(&self) -> Json {
+        let changed = |i: usize| self.changed.map(|c| c[i]).into();
+        let mut fields: Vec<(&'static str, Json)> = vec![
+            ("version", self.version.into()),
+            ("grants", (self.counts.grants as usize).into()),
+            ("added", changed(0)),
+            ("removed", changed(1)),
+            ("changed", changed(2)),
+            ("records", (self.counts.records as usize).into()),
+            ("new", (self.counts.new as usize).into()),
+            ("root", self.root.to_string().into()),
+        ];
+        fields.extend(said_fields(self.said));
+        object(fields)
+    }
+
+    fn line(&self, full: bool) -> String {
+        let changed = |i: usize| self.changed.map_or("-".to_string(), |c| c[i].to_string());
+        let columns = [
+            self.version.to_string(),
+            when(self.said),
+            self.counts.grants.to_string(),
+            changed(0),
+            changed(1),
+            changed(2),
+            self.counts.records.to_string(),
+            self.counts.new.to_string(),
+            ends(self.root.as_ref(), full),
+            remark(self.said),
+        ];
+        in_columns(columns.each_ref().map(String::as_str), full)
+    }
+}
+
+/// A line of the log, with nothing after its last word.
+fn in_columns(words: [&str; 10], full: bool) -> String {
+    let [version, when, grants, added, removed, changed, records, new, root, remark] = words;
+    let width = if full { 64 } else { 14 };
+    let line = format!(
+        "{version:>10}  {when:<16}  {grants:>6}  {added:>5}  {removed:>7}  {changed:>7}  {records:>7}  {new:>5}  {root:<width$}  {remark}"
+    );
+    line.trim_end().to_string()
+}
+
+const HEADS: [&str; 10] = [
+    "version",
+    "published",
+    "grants",
+    "added",
+    "removed",
+    "changed",
+    "records",
+    "new",
+    "root",
+    "by whom, and why",
+];
+
+/// The first version that is asked for.
+fn first(args: &Args, header: Header) -> Result<u32, Fail> {
+    let Some(word) = args.value("--last") else {
+        return Ok(header.oldest);
     };
+    match number("N", word)? {
+        0 => Err(Fail::Usage("--last wants 1 or more".to_string())),
+        last => Ok(header.oldest.max(header.latest.saturating_sub(last - 1))),
+    }
+}
+
+pub fn log(args: &Args, out: &mut Out) -> Result<u8, Fail> {
+    let path = args.path(0);
+    let store = read_store(path)?;
+    let refused = refused(&store, path);
+    let slots = store.slots().map_err(&refused)?;
+    let header = store.header().map_err(&refused)?;
+    let book = Book::of(args, Some(path))?;
+    let first = first(args, header)?;
+    let (counts, touched) = (counts(&slots, first), held::touched(&slots));
+    let (json, full) = (out.json, args.has("--full"));
+    let mut answer = out.decided(0);
     if json {
         answer.line("[")?;
     } else {
         for odd in oddities(&book, header.latest) {
             answer.line(format_args!("({odd})"))?;
         }
-        answer.line(format_args!(
-            "   version  published         grants  added  removed  changed  records    new  {root_head}{}",
-            if book.is_there() { "  by whom, and why" } else { "" }
-        ).to_string().trim_end())?;
+        let mut heads = HEADS;
+        if !book.is_there() {
+            heads[9] = "";
+        }
+        answer.line(in_columns(heads, full))?;
     }
     let mut now = Counts::default();
     for version in first..=header.latest {
@@ -166,43 +235,22 @@ pub fn log(args: &Args, out: &mut Out) -> Result<u8, Fail> {
         now.records += change.records;
         now.new = change.new;
         let root = store.root(version).map_err(&refused)?;
-        let said = book.said(version, root);
-        // Of the oldest kept version it isn't known what it changed, unless it is the first of all.
         let changed = match version {
             0 => Some([0; 3]),
             v if v > header.oldest => Some(tally(&store, &touched, v).map_err(&refused)?),
             _ => None,
         };
-        let column = |i: usize| changed.map(|c| c[i]);
-        if json {
-            let mut fields: Vec<(&'static str, Json)> = vec![
-                ("version", version.into()),
-                ("grants", (now.grants as usize).into()),
-                ("added", column(0).into()),
-                ("removed", column(1).into()),
-                ("changed", column(2).into()),
-                ("records", (now.records as usize).into()),
-                ("new", (now.new as usize).into()),
-                ("root", root.to_string().into()),
-            ];
-            fields.extend(said_fields(said));
-            let comma = if version == header.latest { "" } else { "," };
-            answer.line(format_args!("{}{comma}", object(fields)))?;
-        } else {
-            let shown = |i: usize| column(i).map_or("-".to_string(), |n| n.to_string());
-            let line = format!(
-                "{version:>10}  {:<16}  {:>6}  {:>5}  {:>7}  {:>7}  {:>7}  {:>5}  {}  {}",
-                when(said),
-                now.grants,
-                shown(0),
-                shown(1),
-                shown(2),
-                now.records,
-                now.new,
-                ends(root.as_ref(), full),
-                remark(said)
-            );
-            answer.line(line.trim_end())?;
+        let row = Row {
+            version,
+            counts: now,
+            changed,
+            root,
+            said: book.said(version, root),
+        };
+        match json {
+            true if version == header.latest => answer.line(row.json())?,
+            true => answer.line(format_args!("{},", row.json()))?,
+            false => answer.line(row.line(full))?,
         }
     }
     if json {

@@ -14,11 +14,13 @@ mod help;
 mod json;
 mod lines;
 mod listing;
+mod names;
 mod out;
 mod plain;
 mod publish;
 mod show;
 mod signals;
+mod statement;
 mod table;
 
 use fail::Fail;

@@ -3,7 +3,7 @@
 use crate::args::{Args, Choice};
 use crate::fail::Fail;
 use crate::out::Out;
-use crate::{commands, grow, listing, publish, show};
+use crate::{commands, grow, listing, names, publish, show, statement};
 
 pub struct Command {
     pub name: &'static str,
@@ -174,7 +174,7 @@ version and dates, to be signed (docs/SIGNING.md); `grants verify` takes that fi
             FORCE,
             BOOK,
         ],
-        run: commands::root,
+        run: statement::root,
     },
     Command {
         name: "get",
@@ -209,7 +209,15 @@ Prints 'present' and the value, or 'absent' with exit status 1. ROOT is 64 hex d
 wrote and whose signature you have checked; one that is past its date is refused. PROOF is a file with the proof's bytes, or
 with their hex digits; it may be -. No store is needed.",
         words: (3, 3),
-        choices: &[JSON, BOOK],
+        choices: &[
+            JSON,
+            valued(
+                "--least",
+                "VERSION",
+                "refuse a ROOT file of an older version than this, the highest that was seen",
+            ),
+            BOOK,
+        ],
         run: commands::verify,
     },
     Command {
@@ -271,7 +279,7 @@ bytes. Without VERSION, the latest. The store is checked first. STORE may be -."
 NAME stands for KEY, else for its SHA-256. A name that is there already keeps what it stands for: lines are only ever added.",
         words: (1, 3),
         choices: &[JSON, WAIT, BOOK],
-        run: commands::name,
+        run: names::name,
     },
     Command {
         name: "show",
