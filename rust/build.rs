@@ -32,6 +32,9 @@ fn main() {
 
 fn native() -> PathBuf {
     let checkout = Path::new(&env::var_os("CARGO_MANIFEST_DIR").unwrap()).join("..");
+    for source in ["crates", "crates.txt"] {
+        println!("cargo:rerun-if-changed={}", checkout.join(source).display());
+    }
     let made = Command::new(checkout.join("rust/library"))
         .stdout(Stdio::null())
         .status();

@@ -1479,7 +1479,7 @@ def installed_for_others():
     page = read(prefix + "/share/man/man1/grants.1").decode()
     for name in ("format", "verify", "history"):
         assert ".SS grants %s " % name in page
-    if shutil.which("man"):
+    if shutil.which("man") and shutil.which("groff"):
         shown = subprocess.run(["man", "--warnings", "-l", prefix + "/share/man/man1/grants.1"], capture_output=True, text=True, env=dict(env, MANWIDTH="120", LC_ALL="C.UTF-8"))
         assert shown.returncode == 0 and shown.stderr == "" and "the value of a key in a version" in shown.stdout, shown
     completion = prefix + "/share/bash-completion/completions/grants"
