@@ -599,36 +599,49 @@ def any_bytes_and_words():
         return bytes(changed)
 
     seen = set()
-    for _ in range(250):
+    book = read("desk.grants.book") + ('name %s "chords"\n' % A).encode()
+    for _ in range(350):
         before = noisy(good)
         write("s", before)
+        write("s.book", noisy(book))
         write("p", noisy(proof))
-        write("b", noisy(batch) if rng.random() < 0.6 else noisy(FOUR.encode()))
+        write("b", noisy(batch) if rng.random() < 0.6 else noisy((FOUR + '- "a" # b\n').encode()))
         version = rng.choice(("0", "1", "2", "3", "4294967295", "x"))
-        key = rng.choice((A, B, C, "ff" * 32, A[:-1], "zz"))
+        key = rng.choice((A, B, C, "ff" * 32, A[:-1], "zz", "chords", '"any"', '"', ""))
         words = rng.choice(
             (
                 ["check", "s"],
                 ["apply", "s", "b"],
                 ["apply", "s", "b", "--split"],
+                ["apply", "s", "b", "--dry-run"],
+                ["import", "s", "b"],
                 ["prune", "s", version],
+                ["grow", "s", "30"],
                 ["root", "s", version],
                 ["get", "s", key, version],
+                ["get", "s", key, "--at", "2026-05-03"],
                 ["prove", "s", key],
                 ["verify", root, key, "p"],
+                ["verify", "p", key, "p"],
                 ["log", "s"],
+                ["list", "s", "--csv"],
+                ["list", "s", version, "--json"],
+                ["export", "s"],
+                ["history", "s", key],
+                ["name", "s"],
+                ["name", "s", key],
                 ["show", "s", "--dot"],
                 ["show", "s", version],
                 ["stat", "s", "--json"],
             )
         )
         done = subprocess.run([TOOL] + words, capture_output=True, timeout=60)
-        assert done.returncode in (0, 1, 2, *range(11, 23)), (words, done)
+        assert done.returncode in (0, 1, 2, 3, 4, *range(11, 23)), (words, done)
         assert b"panicked" not in done.stderr and (done.returncode in (0, 1)) == (done.stderr == b""), (words, done)
-        if done.returncode != 0 or words[0] not in ("apply", "prune"):
+        if done.returncode != 0 or words[0] not in ("apply", "import", "prune", "grow"):
             assert read("s") == before, words
         seen.add(done.returncode)
-    assert {0, 1, 2, 11, 12, 13, 14, 18, 20, 21, 22} <= seen, seen
+    assert {0, 1, 2, 3, 11, 12, 13, 14, 18, 20, 21, 22} <= seen, seen
 
 
 # A file that can't be written, a process that is killed.
@@ -1211,6 +1224,12 @@ def the_book_is_not_trusted():
     assert [v["book"] for v in json.loads(answered(0, "log", m, "--json"))] == [None, "agrees"]
     assert read(m + ".book").decode().startswith(book) and "older than its book" not in answered(0, "log", m)
     assert answered(1, "get", m, "chords sonata") == "absent\n"
+    # And so does one that is made where another was taken away.
+    os.remove(m)
+    answered(0, "format", m, 20)
+    answered(0, "apply", m, "-", input=WITHDRAW)
+    assert [v["book"] for v in json.loads(answered(0, "log", m, "--json"))] == [None, "agrees"]
+    assert read(m + ".book").decode().count("\nfresh 2") == 2
 
 
 @test
