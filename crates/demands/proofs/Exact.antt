@@ -28,7 +28,7 @@ use Rattle.reads.specs.Reads.{rootAnswer, keyAnswer}
 use Rattle.proving.specs.Proving.{proveAnswer}
 use Rattle.verify.specs.Verify.{judged, verified}
 use Rattle.refusals.specs.Exactly.{Table, Exactly}
-use Rattle.refusals.specs.Rows.{NotSound, NotKept, LostToGet, LostToProve, TooLong, ProofOffForm, DoesNotHold, Not32}
+use Rattle.refusals.specs.Rows.{NotSound, NotKept, LostToGet, LostToProve, TooLong, ProofOffForm, DoesNotHold, Not32, EmptyVersion}
 use Rattle.refusals.specs.Tables.{headerRows, formatRows, checkRows, applyRows, pruneRows, rootRows, getRows, proveRows, verifyRows, sha256Rows}
 use Rattle.refusals.proofs.Exactly.{First, past, within, exactly}
 use Rattle.refusals.proofs.Headers.{length-wrong, length-right, after-header, header-row, records-formed}
@@ -118,12 +118,12 @@ get-exactly {s} {v} {k} {r = r} h w =
     (key-first k (byHeader (headerOf s) (readKey (storeOf s) v k)) (headerRows s ++ more)
     (read-first s (readKey (storeOf s) v k) more (λ c o l e. get-first s (records-formed s h e) v k))))
 
--- Proving: 12, 1, 2, 8, 3, 9.
+-- Proving: 12, 1, 2, 8, 14, 3, 9.
 pub prove-exactly : {s : Bytes} {v : ℕ} {k room f : Bytes} {r : ℕ} {t g : Bytes} → All Byte s → Proves s v k room f r t g →
     Exactly (proveRows s v k room) r
 unfolding proveAnswer
 prove-exactly {s} {v} {k} {room} {r = r} h w =
-    let more : Table = (8, NotKept s v) ∷ (3, LostToProve s v k) ∷ (9, TooLong s v k room) ∷ [] in
+    let more : Table = (8, NotKept s v) ∷ (14, EmptyVersion s v) ∷ (3, LostToProve s v k) ∷ (9, TooLong s v k room) ∷ [] in
     exactly (proveRows s v k room) r refl
     (subst (First (proveRows s v k room)) (sym (w .answer))
     (key-first k (byHeader (headerOf s) (prove (storeOf s) v k (length room))) (headerRows s ++ more)

@@ -387,7 +387,7 @@ module _ (x : Bytes) (h : All Byte x) (e : isAbsence x ≡ true) where
       )
 
   -- so it has the head and a presence proof without steps at least
-  pub absence-at-least : 112 ≤ length x
+  absence-at-least : 112 ≤ length x
   absence-at-least = go (its-parts .0) (its-parts .1) (its-parts .2)
     where
       go : (l r : Option Presence) → Parts x l r → 112 ≤ length x
@@ -417,6 +417,17 @@ module _ (x : Bytes) (h : All Byte x) (e : isAbsence x ≡ true) where
         ← append-nil (slice 40 (length x - 40) x),
       )
       (flat-cuts (4 ∷ 2 ∷ 2 ∷ 32 ∷ (length x - 40) ∷ []) 0 x (omega (arith, absence-long)))
+
+-- bytes that are read as an absence proof are at least as long as one with a neighbour without steps
+pub absence-has-112 : (x : Bytes) (a : Absence) → All Byte x → proofIn x ≡ some (absence a) → 112 ≤ length x
+unfolding proofIn
+absence-has-112 x a h = go (isPresence x) (isAbsence x) refl
+  where
+    go : (b c : Bool) → isAbsence x ≡ c →
+        cond b (some (presence (presenceIn x))) (cond c (some (absence (absenceIn x))) none) ≡ some (absence a) → 112 ≤ length x
+    go true c d k = let z : _≡_ {A = ℕ} 0 1 = cc in absurd (omega arith)
+    go false true d k = absence-at-least x h d
+    go false false d k = let z : _≡_ {A = ℕ} 0 1 = cc in absurd (omega arith)
 
 -- bytes that are read as a proof are its bytes, and it is in form
 pub proof-bytes : (x : Bytes) (p : Proof) → All Byte x → proofIn x ≡ some p → (ProofForm p) × (proofBytes p ≡ x)

@@ -10,12 +10,11 @@ use mathlib.Core.Option.{Option, none, some}
 use Rattle.terms.specs.Bits.{Bytes, Side, left, right, Place, longer, All, bit, begins, sameBytes}
 use Rattle.terms.specs.Records.{Child, Body, leafBody, innerBody, Record, Store, presence}
 use Rattle.terms.proofs.Tests.{is-false, same-bytes, bytes-same}
-use Rattle.meaning.specs.Store.{find, rootOf, childOn}
-use Rattle.meaning.specs.Sound.{Found}
+use Rattle.meaning.specs.Store.{rootOf, childOn}
 use Rattle.meaning.specs.Calls.{refused, accepted}
 use Rattle.meaning.specs.Reading.{Seen, seen, seenBody, seenRoot, seenAt, broken, walk}
 use Rattle.meaning.specs.Proving.{stepUp, presenceOf, Sought, lostWay, nobody, somebody, beyond, neighbour, fromTrail, absenceFrom, absenceAt, proveEnd}
-use Rattle.ways.specs.Ways.{byKey, Inner, inner, Stop, lost, leaf, missing, Way, no-child, not-found, misplaced, at-leaf, onward, Walk, no-root, root-leaf, from-root, DescentLost, EndIsBeyond, EndIsKey, KeyLost, ProofLost, walk-lost, descent-lost}
+use Rattle.ways.specs.Ways.{byKey, RootFound, Inner, inner, Stop, lost, leaf, missing, Way, no-child, not-found, misplaced, at-leaf, onward, Walk, no-root, root-leaf, from-root, DescentLost, EndIsBeyond, EndIsKey, KeyLost, ProofLost, walk-lost, descent-lost}
 use Rattle.ways.proofs.Walking.{Formed, inner-short, way-ends, passOf, endOf, walk-is}
 use Rattle.ways.proofs.Descending.{Short, search-said, said-search}
 
@@ -59,21 +58,19 @@ module _ (st : Store) (formed : Formed st) (v : ℕ) (k : Bytes) where
   walk-short passed end (no-root e) = tt
   walk-short passed end (root-leaf l x f) = tt
   walk-short passed end (from-root l r f w) =
-      way-short (inner [] l r ∷ []) (bit 0 k ∷ []) (childOn (bit 0 k) l r) passed end w (inner-short st formed v [] l r f, tt)
+      way-short (inner [] l r ∷ []) (bit 0 k ∷ []) (childOn (bit 0 k) l r) passed end w (omega arith, tt)
 
   -- every walk ends
   walks : (passed : List Inner) × (end : Stop) × Walk st v k passed end
-  unfolding Found
-  walks = go (find v [] (st .slots)) refl
+  walks = go (rootOf st v) refl
     where
-      found : (r : Record) (b : Body) → r .body ≡ b → find v [] (st .slots) ≡ some r →
-          (passed : List Inner) × (end : Stop) × Walk st v k passed end
+      found : (r : Record) (b : Body) → r .body ≡ b → rootOf st v ≡ some r → (passed : List Inner) × (end : Stop) × Walk st v k passed end
       found r (leafBody l x) f e = ([], leaf l x, root-leaf l x (r, e, f))
       found r (innerBody l c) f e =
           let w = way-ends st formed 255 (byKey k) (inner [] l c ∷ []) (bit 0 k ∷ []) (childOn (bit 0 k) l c) refl in
           (w .0, w .1, from-root l c (r, e, f) (w .2))
 
-      go : (o : Option Record) → find v [] (st .slots) ≡ o → (passed : List Inner) × (end : Stop) × Walk st v k passed end
+      go : (o : Option Record) → rootOf st v ≡ o → (passed : List Inner) × (end : Stop) × Walk st v k passed end
       go none e = ([], missing, no-root e)
       go (some r) e = found r (r .body) refl e
 
@@ -81,12 +78,12 @@ module _ (st : Store) (formed : Formed st) (v : ℕ) (k : Bytes) where
   kids : Side → Child → Seen
   kids b d = seenAt 255 (st .slots) (b ∷ []) d
 
-  root-body : (b : Body) → Found st v [] b → seen st v ≡ seenBody [] b kids
-  unfolding seen rootOf Found kids
+  root-body : (b : Body) → RootFound st v b → seen st v ≡ seenBody [] b kids
+  unfolding seen kids
   root-body b f = ap (λ o. seenRoot o kids) (f .1) ∙ ap (λ c. seenBody [] c kids) (f .2)
 
   walk-seen : (passed : List Inner) (end : Stop) → Walk st v k passed end → walk k 0 [] (seen st v) ≡ endOf st formed k passed end
-  unfolding seen rootOf longer kids begins
+  unfolding seen longer kids begins
   walk-seen passed end (no-root e) = ap (λ o. walk k 0 [] (seenRoot o kids)) e
   walk-seen passed end (root-leaf l x f) = ap (walk k 0 []) (root-body (leafBody l x) f)
   walk-seen passed end (from-root l r f w) =

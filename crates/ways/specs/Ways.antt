@@ -5,12 +5,12 @@ use Prim.Native.Nat.{ℕ}
 use mathlib.Core.Path.{_≡_}
 use mathlib.Core.Bool.{true, false, cond, not}
 use mathlib.Core.List.{List, [], _∷_, _++_}
-use mathlib.Core.Option.{none}
+use mathlib.Core.Option.{none, some}
 use lib.ListN.{length}
 use lib.Dec.{eqb}
 use Rattle.terms.specs.Bits.{Bytes, Side, Place, longer, All, bit, begins}
-use Rattle.terms.specs.Records.{Child, leafBody, innerBody, Store}
-use Rattle.meaning.specs.Store.{find, childOn}
+use Rattle.terms.specs.Records.{Child, Body, leafBody, innerBody, Record, Store}
+use Rattle.meaning.specs.Store.{find, rootOf, childOn}
 use Rattle.meaning.specs.Sound.{Found}
 use Rattle.meaning.specs.Proving.{beyond}
 
@@ -60,11 +60,15 @@ pub data Way (st : Store) (rule : Rule) : List Inner → Place → Child → Lis
   onward : {before : List Inner} {p : Place} {c : Child} (l r : Child) {passed : List Inner} {end : Stop} → Present c → Found st (c .version) p (innerBody l r) →
       Way st rule (inner p l r ∷ before) (longer (rule p l r) p) (childOn (rule p l r) l r) passed end → Way st rule before p c passed end
 
+-- The root of version v is found, with this body.
+abbrev pub RootFound : Store → ℕ → Body → Type 0
+RootFound st v b = (r : Record) × (rootOf st v ≡ some r) × (r .body ≡ b)
+
 -- The walk by key k from the root of version v. No root found means an empty version.
 pub data Walk (st : Store) (v : ℕ) (k : Bytes) : List Inner → Stop → Type 0 where
-  no-root : find v [] (st .slots) ≡ none → Walk st v k [] missing
-  root-leaf : (l x : Bytes) → Found st v [] (leafBody l x) → Walk st v k [] (leaf l x)
-  from-root : (l r : Child) {passed : List Inner} {end : Stop} → Found st v [] (innerBody l r) →
+  no-root : rootOf st v ≡ none → Walk st v k [] missing
+  root-leaf : (l x : Bytes) → RootFound st v (leafBody l x) → Walk st v k [] (leaf l x)
+  from-root : (l r : Child) {passed : List Inner} {end : Stop} → RootFound st v (innerBody l r) →
       Way st (byKey k) (inner [] l r ∷ []) (bit 0 k ∷ []) (childOn (bit 0 k) l r) passed end → Walk st v k passed end
 
 -- Where the walk turned away from side b (or wanted to), and a child is present there.
