@@ -13,7 +13,7 @@ use borrow.Author.Tests.{eq-eqb, ne-eqb}
 use Rattle.terms.specs.Bits.{Bytes, Byte, All, Whole32}
 use Rattle.terms.specs.Fields.{num}
 use Rattle.terms.specs.Records.{Grant, Ask, Store, zeros}
-use Rattle.meaning.specs.Tree.{treeOf, hash}
+use Rattle.meaning.specs.Tree.{grantsAt, treeOf, hash}
 use Rattle.meaning.specs.Store.{formatted}
 use Rattle.meaning.specs.Sound.{Kept}
 use Rattle.meaning.specs.Calls.{refused, accepted, Outcome}
@@ -144,8 +144,8 @@ module _ {t : Bytes} (w : SoundBytes t) {es : List Entry} (h : Holds leafHash in
   held-shown : {k room f u g f₁ root f₂ found : Bytes} {r r₁ r₂ : ℕ} → (gs ≡ [] → ⊥) → Whole32 k → 17080 ≤ length room → Proves t v k room f r u g →
       ReadsRoot t v f₁ r₁ root → Verifies root k (take (num g) u) f₂ r₂ found →
       (r ≡ 0) × (r₁ ≡ 0) × (r₂ ≡ 0) × (found ≡ foundBytes (answerOf k gs))
-  held-shown {k} {room} {f} {u} {g} some whole long x y z =
-      let s = sound-is-shown w v kept k whole (λ e. some (sym its-grants ∙ e)) in
+  held-shown {k} {room} {f} {u} {g} granted whole long x y z =
+      let s = sound-is-shown w v kept k whole (λ e. granted (sym its-grants ∙ e)) in
       let e = s .room x long in
       let c = s .checked (subst (λ n. Proves t v k room f n u g) e x) y z in
       (e, c .0, c .1, c .2 ∙ ap (λ y. foundBytes (answerOf k y)) its-grants)
@@ -153,6 +153,11 @@ module _ {t : Bytes} (w : SoundBytes t) {es : List Entry} (h : Holds leafHash in
   held-empty : {k room f u g : Bytes} {r : ℕ} → Whole32 k → Proves t v k room f r u g → (r ≡ 14) ↔ (gs ≡ [])
   held-empty {k} whole x =
       let e = fourteen-exactly-if-empty w v kept k whole x in (λ n. sym its-grants ∙ e .0 n, λ n. e .1 (its-grants ∙ n))
+
+-- the root of no grants
+no-grants-zeros : hash leafHash innerHash (treeOf []) ≡ zeros
+unfolding treeOf grantsAt
+no-grants-zeros = refl
 
 -- Demand 3. After any sequence of public calls a store that only they wrote is sound and holds what its history gives it.
 pub store-after-history : {history : List (Call × Bool)} {t : Bytes} → Life history t → AfterHistory history t
@@ -175,10 +180,6 @@ store-after-history {t = t} life =
       proofs = λ w. told-short w;
     }
   where
-    no-grants-zeros : hash leafHash innerHash (treeOf []) ≡ zeros
-    unfolding treeOf
-    no-grants-zeros = refl
-
     right : (b : Bool) → _≡_ {A = ℕ} 0 (cond b 0 1) → b ≡ true
     right true e = refl
     right false e = absurd (omega arith)

@@ -111,9 +111,11 @@ module _ {s : Bytes} (w : SoundBytes s) (v : ℕ) (kept : Kept (storeOf s) v) (k
   pub sound-has-nothing-to-show : grantsOfVersion s v ≡ [] → NothingToShow s v k
   sound-has-nothing-to-show e = record {
     reads-root = λ x.
-        let a = root-of-tree w kept x in
-        (a .0, a .1 ∙ accepted-same _ _ (sym (root-read-is-hash leafHash innerHash (storeOf s) (w .sound) v kept)
-        ∙ empty-root-is-zeros leafHash innerHash (storeOf s) (w .sound) v kept k whole e));
+        let a = root-of-tree w kept x in (
+          a .0,
+          a .1 ∙ accepted-same _ _ (sym (root-read-is-hash leafHash innerHash (storeOf s) (w .sound) v kept)
+              ∙ empty-root-is-zeros leafHash innerHash (storeOf s) (w .sound) v kept k whole e),
+        );
     reads-key = λ x. let a = key-of-grants w kept whole x in (a .0, a .1 ∙ ap (λ gs. foundBytes (answerOf k gs)) e);
     refused = λ x.
         let n = empty-refused e x in let u = refused-prove-writes-nothing x (λ z. omega arith) in (n, u .0, u .1);
