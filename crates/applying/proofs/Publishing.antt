@@ -6,9 +6,7 @@ use mathlib.Core.Bool.{Bool, true, false}
 use mathlib.Core.List.{[]}
 use lib.ListN.{length}
 use Rattle.terms.specs.Bits.{Bytes, Byte, All}
-use Rattle.terms.specs.Fields.{le}
 use Rattle.terms.specs.Form.{top32}
-use Rattle.fields.specs.Written.{written}
 use Rattle.meaning.specs.Tree.{VTree}
 use Rattle.meaning.specs.Store.{freeSlots, rootOf}
 use Rattle.meaning.specs.Calls.{refused, accepted}
@@ -16,7 +14,7 @@ use Rattle.hash.specs.Hash.{hashBytes}
 use Rattle.nodehash.specs.Node.{leafHash, innerHash}
 use Rattle.place.specs.declared.Place as place
 use Rattle.place.specs.Place as places
-use Rattle.layout.specs.Stores.{storeOf}
+use Rattle.layout.specs.Stores.{storeOf, withLatest}
 use Rattle.slots.specs.declared.Child as child
 use Rattle.slots.specs.Answer.{childSays}
 use Rattle.batch.specs.Batch.{asks}
@@ -77,10 +75,10 @@ module _ {s batch : Bytes} (w : Ready s batch) (bytes : All Byte s) (batchBytes 
         fits = omega (arith, free-is, steps-are counted .count, f .small)
 
         pub published : {s₂ u : Bytes} {r₂ : declared.Outcome} (c : child.Child) → Did (latest + 1) true s₁ s₂ (steps (latest + 1) s₁ p v batch) r₂ →
-            u ≡ written 16 (le 4 (latest + 1)) s₂ → childSays c ≡ nodeChild (r₂ .node) →
+            u ≡ withLatest (latest + 1) s₂ → childSays c ≡ nodeChild (r₂ .node) →
             Applies batch s (accepted (record { version = latest + 1; root = hashBytes (c .hash); count = r₂ .count })) u
         published {s₂} {u} {r₂} c d e g =
             let wrote = steps-are (subst (λ z. Did (latest + 1) true z s₂ (steps (latest + 1) z p v batch) r₂) unwritten d) in
             subst (λ n. Applies batch s (accepted (record { version = n; root = hashBytes (c .hash); count = r₂ .count })) u) (sym next-is)
-            (made w bytes batchBytes some-version fits c wrote (e ∙ ap (λ n. written 16 (le 4 n) s₂) next-is) g
+            (made w bytes batchBytes some-version fits c wrote (e ∙ ap (λ n. withLatest n s₂) next-is) g
             (let k = fits in let z = f .small in omega (arith, wrote .count, free-is)))

@@ -13,6 +13,7 @@ use lookup::Found;
 use lookup::find_root;
 use place::Place;
 use soundness::check;
+use store::slot_count;
 use store::slot_of;
 use store::version_at;
 ghost use mathlib.Core.Path.{_≡_};
@@ -53,7 +54,7 @@ fn count_free(store: &[u8]) -> usize
     requires { ⌜ Stored (now store) ⌝ }
     ensures { λ r. ⌜ FreeCount (now (store .entry)) r ⌝ }
 {
-    let n = (store.len() - sizes::HEADER_SIZE) / sizes::SLOT_SIZE;
+    let n = slot_count(store);
     let mut free = 0;
     let mut i = 0;
     while i < n {

@@ -23,18 +23,19 @@ use Rattle.batch.specs.Batch.{batchOf}
 use Rattle.format.specs.Format.{formatAnswer}
 use Rattle.soundness.specs.Check as check
 use Rattle.promises.specs.Calls.{Does, wrong-header, not-sound, refuses, accepts, Exports, exports-refusal, exports-answer}
-use Rattle.read_step.specs.Walk.{byHeader}
+use Rattle.read_step.specs.Headed.{byHeader}
 use Rattle.reads.specs.Reads.{rootAnswer, keyAnswer}
 use Rattle.proving.specs.Proving.{proveAnswer}
 use Rattle.verify.specs.Verify.{judged, verified}
 use Rattle.refusals.specs.Exactly.{Table, Exactly}
-use Rattle.refusals.specs.Rows.{NotSound, NotKept, LostToGet, LostToProve, TooLong, ProofOffForm, DoesNotHold, Not32, EmptyVersion}
-use Rattle.refusals.specs.Tables.{headerRows, formatRows, checkRows, applyRows, pruneRows, rootRows, getRows, proveRows, verifyRows, sha256Rows}
+use Rattle.refusals.specs.Rows.{NotSound, Not32}
+use Rattle.refusals.specs.Orders.{headerRows, batchRows, versionRows, keyRows, proofRows, holdingRows}
 use Rattle.refusals.proofs.Exactly.{First, past, within, exactly}
 use Rattle.refusals.proofs.Headers.{length-wrong, length-right, after-header, header-row, records-formed}
-use Rattle.refusals.proofs.Batches.{batchRows, batch-first}
+use Rattle.refusals.proofs.Batches.{batch-first}
 use Rattle.refusals.proofs.Walks.{prune-first, root-first, get-first, prove-first}
 use Rattle.refusals.proofs.Proofs.{off-form, form-first}
+use Rattle.demands.specs.Tables.{formatRows, checkRows, applyRows, pruneRows, rootRows, getRows, proveRows, verifyRows, sha256Rows}
 use Rattle.grants.specs.Contracts.{Formats, Checks, Applies, Prunes, ReadsRoot, ReadsKey, Proves, Verifies, Hashes}
 
 -- Format: 1.
@@ -76,11 +77,11 @@ export-first call s more f (exports-answer {a} d) = does-first call s more (acce
 pub apply-exactly : (batch : Bytes) {s f t g : Bytes} {r : ℕ} → All Byte batch → Applies batch s f r t g → Exactly (applyRows batch s) r
 apply-exactly batch {s} {r = r} h w =
     exactly (applyRows batch s) r refl
-    (export-first (apply leafHash innerHash (batchOf batch)) s (batchRows batch h s) (batch-first batch h s) w)
+    (export-first (apply leafHash innerHash (batchOf batch)) s (batchRows batch s) (batch-first batch h s) w)
 
 -- Prune: 1, 2, 3, 8.
 pub prune-exactly : (n : ℕ) {s f t g : Bytes} {r : ℕ} → Prunes n s f r t g → Exactly (pruneRows n s) r
-prune-exactly n {s} {r = r} w = exactly (pruneRows n s) r refl (export-first (prune n) s ((8, NotKept s n) ∷ []) (prune-first n s) w)
+prune-exactly n {s} {r = r} w = exactly (pruneRows n s) r refl (export-first (prune n) s (versionRows s n) (prune-first n s) w)
 
 -- A read: 1, 2; then its own.
 read-first : {A : Type 0} (s : Bytes) (a : Answer A) (more : Table) →
@@ -106,28 +107,26 @@ unfolding rootAnswer
 root-exactly {s} {v} {r = r} w =
     exactly (rootRows s v) r refl
     (subst (First (rootRows s v)) (sym (w .answer))
-    (read-first s (readRoot leafHash innerHash (storeOf s) v) ((8, NotKept s v) ∷ []) (λ c o l e. root-first leafHash innerHash s v)))
+    (read-first s (readRoot leafHash innerHash (storeOf s) v) (versionRows s v) (λ c o l e. root-first leafHash innerHash s v)))
 
 -- A key read: 12, 1, 2, 8, 3.
 pub get-exactly : {s : Bytes} {v : ℕ} {k f : Bytes} {r : ℕ} {g : Bytes} → All Byte s → ReadsKey s v k f r g → Exactly (getRows s v k) r
 unfolding keyAnswer
 get-exactly {s} {v} {k} {r = r} h w =
-    let more : Table = (8, NotKept s v) ∷ (3, LostToGet s v k) ∷ [] in
     exactly (getRows s v k) r refl
     (subst (First (getRows s v k)) (sym (w .answer))
-    (key-first k (byHeader (headerOf s) (readKey (storeOf s) v k)) (headerRows s ++ more)
-    (read-first s (readKey (storeOf s) v k) more (λ c o l e. get-first s (records-formed s h e) v k))))
+    (key-first k (byHeader (headerOf s) (readKey (storeOf s) v k)) (headerRows s ++ keyRows s v k)
+    (read-first s (readKey (storeOf s) v k) (keyRows s v k) (λ c o l e. get-first s (records-formed s h e) v k))))
 
 -- Proving: 12, 1, 2, 8, 14, 3, 9.
 pub prove-exactly : {s : Bytes} {v : ℕ} {k room f : Bytes} {r : ℕ} {t g : Bytes} → All Byte s → Proves s v k room f r t g →
     Exactly (proveRows s v k room) r
 unfolding proveAnswer
 prove-exactly {s} {v} {k} {room} {r = r} h w =
-    let more : Table = (8, NotKept s v) ∷ (14, EmptyVersion s v) ∷ (3, LostToProve s v k) ∷ (9, TooLong s v k room) ∷ [] in
     exactly (proveRows s v k room) r refl
     (subst (First (proveRows s v k room)) (sym (w .answer))
-    (key-first k (byHeader (headerOf s) (prove (storeOf s) v k (length room))) (headerRows s ++ more)
-    (read-first s (prove (storeOf s) v k (length room)) more (λ c o l e. prove-first s (records-formed s h e) v k room))))
+    (key-first k (byHeader (headerOf s) (prove (storeOf s) v k (length room))) (headerRows s ++ proofRows s v k room)
+    (read-first s (prove (storeOf s) v k (length room)) (proofRows s v k room) (λ c o l e. prove-first s (records-formed s h e) v k room))))
 
 -- The proof check: 12, 10, 11.
 pub verify-exactly : {root k x f : Bytes} {r : ℕ} {g : Bytes} → All Byte x → Verifies root k x f r g → Exactly (verifyRows root k x) r
@@ -136,7 +135,7 @@ verify-exactly {root} {k} {x} {r = r} h w =
     exactly (verifyRows root k x) r refl
     (subst (First (verifyRows root k x)) (sym (w .answer)) (sizes (eqb (length root) 32) (eqb (length k) 32) refl refl))
   where
-    form : (o : Option Proof) → proofIn x ≡ o → First ((10, ProofOffForm x) ∷ (11, DoesNotHold root k x) ∷ []) (numberOf (judged root k o))
+    form : (o : Option Proof) → proofIn x ≡ o → First (holdingRows root k x) (numberOf (judged root k o))
     form none e = inl (off-form x h e, refl)
     form (some p) e = form-first x h root k p e
 

@@ -1,17 +1,16 @@
--- What is seen at the root and at a child, by the slot that is found there: a record in form is what its 120 bytes say, and an inner one
+-- What is seen at the root and at a child, by the slot that is found there: a record in form is what its bytes say, and an inner one
 -- has a place shorter than a key. Assumes nothing.
-use Prim.Native.Nat.{ℕ, suc, _+_, _*_, _-_, _<_, _≤_}
+use Prim.Native.Nat.{ℕ, suc, _-_, _<_, _≤_}
 use native.Mathlib.Omega.{arith}
 use mathlib.Core.Path.{_≡_, refl, ap, sym, _∙_, subst}
 use mathlib.Core.Bool.{Bool, true, false, cond}
 use mathlib.Core.List.{[]}
 use mathlib.Core.Option.{Option, none, some}
-use lib.ListN.{length, drop}
+use lib.ListN.{length}
 use Rattle.terms.specs.Bits.{Bytes, Byte, All, Side, Place, longer, begins}
-use Rattle.terms.specs.Fields.{slice, allZero}
+use Rattle.terms.specs.Fields.{allZero}
 use Rattle.terms.specs.Records.{Child, leafBody, innerBody, Record, free, used, spoiled, zeros}
 use Rattle.terms.specs.Form.{RecordForm, placeLimit}
-use Rattle.terms.proofs.Fields.{length-slice, all-slice}
 use Rattle.terms.proofs.Places.{length-longer}
 use Rattle.meaning.specs.Store.{find, rootOf, childOn}
 use Rattle.meaning.specs.Reading.{lost, gap, leafSeen, fork, seenAt, seen, bodyHash, rootHash}
@@ -23,11 +22,10 @@ use Rattle.place.specs.Place.{placeOf, Proper, Grown}
 use Rattle.place.proofs.Places.{proper-count}
 use Rattle.layout.specs.Sizes.{roomOf}
 use Rattle.layout.specs.Headers.{sizeRight}
-use Rattle.layout.specs.Slots.{isLeaf, isInner, leafIn, innerIn, childIn, recordIn, slotOf, SlotForm}
-use Rattle.layout.specs.Stores.{slotIn, storeOf}
-use Rattle.layout.proofs.Headers.{size-says}
-use Rattle.layout.proofs.Slots.{slot-form}
-use Rattle.layout.proofs.Stores.{slot-at, length-slots}
+use Rattle.layout.specs.Slots.{keyIn, valueIn, leftIn, rightIn, kidOn, isLeaf, isInner, leafIn, innerIn, recordIn, slotOf, SlotForm}
+use Rattle.layout.specs.Stores.{slotIn, storeOf, Has}
+use Rattle.layout.proofs.Stores.{slot-at}
+use Rattle.store.proofs.Slots.{slots-many, slot-formed}
 use Rattle.lookup.specs.Lookup.{Located}
 use Rattle.lookup.specs.declared.Found as declared-found
 use Rattle.lookup.specs.declared.Found.the-variants.{At, Nothing}
@@ -35,14 +33,10 @@ use Rattle.read_step.specs.Walk.{bodyIn, kidIn, seenBelow, bodySeen, lea
 use Rattle.read_step.specs.declared.Seen as declared
 use Rattle.read_step.specs.declared.Seen.the-variants.{Lost, Leaf, Inner}
 
--- a slot of a store of the right size
-module _ (s : Bytes) (size : sizeRight (length s) ≡ true) (i : ℕ) (inside : i < roomOf (length s)) where
-  pub slot-fits : 24 + 120 * i + 120 ≤ length s
-  slot-fits = let t = size-says (length s) size in omega arith
-
-  slot-long : length (slotIn i s) ≡ 120
-  unfolding slotIn
-  slot-long = length-slice (24 + 120 * i) 120 s slot-fits
+-- the child on a side of an inner record
+pub kid-is : (b : Side) (x : Bytes) → kidOn b x ≡ childOn b (leftIn x) (rightIn x)
+kid-is false x = refl
+kid-is true x = refl
 
 -- a record in form holds what its bytes say
 body-is : (x : Bytes) (r : Record) → slotOf x ≡ used r → r .body ≡ bodyIn x
@@ -56,11 +50,11 @@ body-is x r = go (allZero x) (isLeaf x) (isInner x)
     go false false true e = ap (λ (q : Record). q .body) (sym (used-eq _ r e))
     go false false false e = let z : _≡_ {A = ℕ} 0 1 = cc in absurd (omega arith)
 
-pub leaf-body : (x : Bytes) → isLeaf x ≡ true → bodyIn x ≡ leafBody (slice 48 32 x) (slice 80 32 x)
+pub leaf-body : (x : Bytes) → isLeaf x ≡ true → bodyIn x ≡ leafBody (keyIn x) (valueIn x)
 unfolding bodyIn leafIn
 leaf-body x e = rw e
 
-pub inner-body : (x : Bytes) → isLeaf x ≡ false → bodyIn x ≡ innerBody (childIn 48 x) (childIn 84 x)
+pub inner-body : (x : Bytes) → isLeaf x ≡ false → bodyIn x ≡ innerBody (leftIn x) (rightIn x)
 unfolding bodyIn innerIn
 inner-body x e = rw e
 
@@ -103,8 +97,7 @@ module _ (s : Bytes) (o : Option Record) {r : declared-found.Found} (located : L
     found = subst (Located (storeOf s .slots) o) at-i located
 
     pub inside : i < roomOf (length s)
-    unfolding storeOf
-    inside = rw (length-slots (roomOf (length s)) (drop 24 s)) at (found .0)
+    inside = rw (slots-many s) at (found .0)
 
     slot-is : slotOf (slotIn i s) ≡ used (found .1 .0)
     slot-is = sym (slot-at s i inside) ∙ found .1 .1
@@ -126,11 +119,11 @@ module _ (s : Bytes) (size : sizeRight (length s) ≡ true) (bytes : All Byte s)
   is-found : o ≡ some it
   is-found = found s o located at-i .1 .2
 
+  has : Has s i
+  has = record { size = size; inside = inside s o located at-i }
+
   form : RecordForm it
-  unfolding slotIn
-  form =
-      subst SlotForm (slot-is s o located at-i)
-      (slot-form (slotIn i s) (slot-long s size i (inside s o located at-i)) (all-slice (24 + 120 * i) 120 s bytes))
+  form = subst SlotForm (slot-is s o located at-i) (slot-formed has bytes)
 
   holds : it .body ≡ bodyIn (slotIn i s)
   holds = body s o located at-i
@@ -145,7 +138,7 @@ module _ (s : Bytes) (size : sizeRight (length s) ≡ true) (bytes : All Byte s)
 
   pub holds-found : Holds s i p
   holds-found = record {
-    slotted = record { size = size; inside = inside s o located at-i; proper = proper };
+    slotted = record { size = size; inside = has .inside; proper = proper };
     short = λ e. omega (arith, short e, proper-count p proper);
   }
 
@@ -157,8 +150,8 @@ module _ (s : Bytes) (size : sizeRight (length s) ≡ true) (bytes : All Byte s)
     root-leaf-is : isLeaf (slotIn i s) ≡ true → seen (storeOf s) v ≡ bodySeen s (placeOf p) (bodyIn (slotIn i s))
     unfolding begins
     root-leaf-is e =
-        let k = slice 48 32 (slotIn i s) in
-        let y = slice 80 32 (slotIn i s) in
+        let k = keyIn (slotIn i s) in
+        let y = valueIn (slotIn i s) in
         let b = leaf-body (slotIn i s) e in
         root-leaf (storeOf s) v it k y root-is (holds ∙ b)
         ∙ ap (λ q. cond (begins q k) (leafSeen k y) lost) (sym top)
@@ -167,8 +160,8 @@ module _ (s : Bytes) (size : sizeRight (length s) ≡ true) (bytes : All Byte s)
     root-fork-is : isLeaf (slotIn i s) ≡ false → seen (storeOf s) v ≡ bodySeen s (placeOf p) (bodyIn (slotIn i s))
     root-fork-is e =
         let n = 255 - length (placeOf p) in
-        let l = childIn 48 (slotIn i s) in
-        let m = childIn 84 (slotIn i s) in
+        let l = leftIn (slotIn i s) in
+        let m = rightIn (slotIn i s) in
         let b = inner-body (slotIn i s) e in
         let w : 255 - length (placeOf p) ≡ 255 = omega (arith, ap length top) in
         root-fork (storeOf s) v n it l m w root-is (holds ∙ b)
@@ -230,12 +223,12 @@ module _ {s : Bytes} {i : ℕ} {p : declared-place.Place} (h : Holds s i p) wher
         ap (bodySeen s (placeOf p)) (inner-body (slotIn i s) f),
       )
 
-  module _ {x k : Bytes} {b : Bool} (q : x ≡ slotIn i s) (d : b ≡ isLeaf x) (e : b ≡ true) (key : k ≡ slice 48 32 x) where
-    its-body : bodyIn (slotIn i s) ≡ leafBody (slice 48 32 (slotIn i s)) (slice 80 32 (slotIn i s))
+  module _ {x k : Bytes} {b : Bool} (q : x ≡ slotIn i s) (d : b ≡ isLeaf x) (e : b ≡ true) (key : k ≡ keyIn x) where
+    its-body : bodyIn (slotIn i s) ≡ leafBody (keyIn (slotIn i s)) (valueIn (slotIn i s))
     its-body = leaf-body (slotIn i s) (ap isLeaf (sym q) ∙ sym d ∙ e)
 
-    its-key : {a : Bool} → a ≡ begins (placeOf p) k → begins (placeOf p) (slice 48 32 (slotIn i s)) ≡ a
-    its-key f = ap (λ y. begins (placeOf p) (slice 48 32 y)) (sym q) ∙ ap (begins (placeOf p)) (sym key) ∙ sym f
+    its-key : {a : Bool} → a ≡ begins (placeOf p) k → begins (placeOf p) (keyIn (slotIn i s)) ≡ a
+    its-key f = ap (λ y. begins (placeOf p) (keyIn y)) (sym q) ∙ ap (begins (placeOf p)) (sym key) ∙ sym f
 
     pub leaf-lost : {a : Bool} → a ≡ begins (placeOf p) k → a ≡ false → Here Lost
     leaf-lost f g = rw (its-body, its-key f, g)

@@ -6,6 +6,7 @@ use hash::no_hash;
 use lookup::Found;
 use lookup::find_root;
 use place::Place;
+use place::child_place;
 use place::key_bit;
 use place::same;
 use read_step::NOT_SOUND;
@@ -13,7 +14,6 @@ use read_step::Opened;
 use read_step::Seen;
 use read_step::WRONG_KEY;
 use read_step::child;
-use read_step::child_place;
 use read_step::open;
 use read_step::record_hash;
 use slots::key_of;
@@ -30,7 +30,8 @@ ghost use Rattle.nodehash.specs.Node.{leafHash, innerHash};
 ghost use Rattle.layout.specs.Sizes.{roomOf};
 ghost use Rattle.layout.specs.Headers.{sizeRight};
 ghost use Rattle.layout.specs.Stores.{storeOf};
-ghost use Rattle.reads.specs.Reads.{rootAnswer, keyAnswer, rootSays, readSays, leafRead, walkRead};
+ghost use Rattle.reads.specs.Reads.{rootAnswer, keyAnswer};
+ghost use Rattle.reads.specs.Parts.{rootSays, readSays, leafRead, walkRead};
 
 // What a root read answers.
 pub enum RootRead {

@@ -20,7 +20,7 @@ use Rattle.layout.specs.Stores.{storeOf}
 use Rattle.layout.proofs.Headers.{room-of, size-right-of, size-says, size-least, accepted}
 use Rattle.layout.proofs.Stores.{store-form}
 use Rattle.refusals.specs.Rows.{WrongLength, RightHeader, WrongHeader}
-use Rattle.refusals.specs.Tables.{headerRows}
+use Rattle.refusals.specs.Orders.{headerRows}
 use Rattle.refusals.proofs.Exactly.{First, NoneOf}
 
 -- row 1 by the test of the length

@@ -17,6 +17,7 @@ use Rattle.nodehash.specs.Node.{leafHash, innerHash}
 use Rattle.proofrecords.specs.ProofBytes.{proofIn}
 use Rattle.proofrecords.proofs.Proofs.{proof-back, proof-bytes}
 use Rattle.refusals.specs.Rows.{ProofIs, ProofOffForm, DoesNotHold}
+use Rattle.refusals.specs.Orders.{holdingRows}
 use Rattle.refusals.proofs.Exactly.{First}
 
 same-proof : {p q : Proof} → some p ≡ some q → p ≡ q
@@ -42,7 +43,7 @@ module _ (x : Bytes) (bytes : All Byte x) where
 
   module _ (root k : Bytes) where
     pub form-first : (p : Proof) → proofIn x ≡ some p →
-        First ((10, ProofOffForm x) ∷ (11, DoesNotHold root k x) ∷ []) (numberOf (checked leafHash innerHash root k p))
+        First (holdingRows root k x) (numberOf (checked leafHash innerHash root k p))
     form-first p e = inr (λ f. f p (proof-is p e), go (checked leafHash innerHash root k p) refl)
       where
         go : (a : Answer Verdict) → checked leafHash innerHash root k p ≡ a → First ((11, DoesNotHold root k x) ∷ []) (numberOf a)

@@ -26,6 +26,7 @@ use Rattle.ways.proofs.Theorems.{key-lost-exactly, proof-lost-exactly}
 use Rattle.layout.specs.Stores.{storeOf}
 use Rattle.refusals.specs.Exactly.{Table}
 use Rattle.refusals.specs.Rows.{LostToGet, LostToProve, NotKept, TooLong, EmptyVersion}
+use Rattle.refusals.specs.Orders.{versionRows, keyRows, proofRows}
 use Rattle.refusals.proofs.Exactly.{First}
 
 clash : {A : Type 0} → _≡_ {A = ℕ} 0 1 → A
@@ -52,18 +53,18 @@ by-kept s v a more f = go (isKept (storeOf s) v) refl
     go true e = inr (λ n. n (kept-said (storeOf s) v e), f)
     go false e = inl (λ h. true≢false (sym (said-kept (storeOf s) v h) ∙ e), refl)
 
-pub prune-first : (n : ℕ) (s : Bytes) → First ((8, NotKept s n) ∷ []) (numberOf (prune n (storeOf s) .answer))
+pub prune-first : (n : ℕ) (s : Bytes) → First (versionRows s n) (numberOf (prune n (storeOf s) .answer))
 unfolding refuse
 prune-first n s =
-    prune-cases (λ o. First ((8, NotKept s n) ∷ []) (numberOf (o .answer))) n (storeOf s) (λ h. inl (h, refl)) (λ h. inr (λ f. f h, refl))
+    prune-cases (λ o. First (versionRows s n) (numberOf (o .answer))) n (storeOf s) (λ h. inl (h, refl)) (λ h. inr (λ f. f h, refl))
 
 module _ (leafHash innerHash : Bytes → Bytes → Bytes) where
-  pub root-first : (s : Bytes) (v : ℕ) → First ((8, NotKept s v) ∷ []) (numberOf (readRoot leafHash innerHash (storeOf s) v))
+  pub root-first : (s : Bytes) (v : ℕ) → First (versionRows s v) (numberOf (readRoot leafHash innerHash (storeOf s) v))
   unfolding readRoot
   root-first s v = by-kept s v (accepted (rootHash leafHash innerHash (rootOf (storeOf s) v))) [] refl
 
 module _ (s : Bytes) (formed : Formed (storeOf s)) (v : ℕ) (k : Bytes) where
-  pub get-first : First ((8, NotKept s v) ∷ (3, LostToGet s v k) ∷ []) (numberOf (readKey (storeOf s) v k))
+  pub get-first : First (keyRows s v k) (numberOf (readKey (storeOf s) v k))
   unfolding readKey
   get-first =
       by-kept s v (readEnd k (walk k 0 [] (seen (storeOf s) v))) ((3, LostToGet s v k) ∷ [])
@@ -141,13 +142,12 @@ module _ (s : Bytes) (formed : Formed (storeOf s)) (v : ℕ) (k : Bytes) where
       inr (root, kept-first room (proof (storeOf s) v k) h root refl)
 
   pub prove-first : (room : Bytes) →
-      First ((8, NotKept s v) ∷ (14, EmptyVersion s v) ∷ (3, LostToProve s v k) ∷ (9, TooLong s v k room) ∷ [])
-      (numberOf (prove (storeOf s) v k (length room)))
+      First (proofRows s v k room) (numberOf (prove (storeOf s) v k (length room)))
   unfolding prove
   prove-first room = go (isKept (storeOf s) v) refl
     where
       go : (b : Bool) → isKept (storeOf s) v ≡ b →
-          First ((8, NotKept s v) ∷ (14, EmptyVersion s v) ∷ (3, LostToProve s v k) ∷ (9, TooLong s v k room) ∷ [])
+          First (proofRows s v k room)
           (numberOf (fitted (length room) (proof (storeOf s) v k)))
       go true e = inr (λ n. n (kept-said (storeOf s) v e), rooted-first room e (rootOf (storeOf s) v) refl)
       go false e =

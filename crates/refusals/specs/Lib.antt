@@ -1,3 +1,3 @@
 pub mod Exactly
 pub mod Rows
-pub mod Tables
+pub mod Orders

@@ -22,7 +22,7 @@ use Rattle.proofrecords.specs.ProofBytes.{proofBytes, ProofForm}
 use Rattle.layout.specs.Sizes.{headerSize, headerKind, mostSlots, kindAt, capacityAt, oldestAt, latestAt, slotSize}
 use Rattle.layout.specs.Stores.{storeOf}
 use Rattle.batch.specs.Sizes.{mostRecords}
-use Rattle.batch.specs.Batch.{asksBytes}
+use Rattle.batch.specs.Batch.{asks, asksBytes}
 
 -- 1: the store's length isn't 24 + 120n, n in 1 to 16,384.
 abbrev pub WrongLength : Bytes → Type 0
@@ -52,18 +52,18 @@ abbrev pub LostToProve : Bytes → ℕ → Bytes → Type 0
 LostToProve s v k = ProofLost (storeOf s) v k
 
 -- The bytes of a batch are whole records in form, at most 1,024, and ask for this.
-pub record AskedBy (batch : Bytes) (asks : List Ask) : Type 0 where
-  pub bytes : batch ≡ asksBytes asks
-  pub form : All AskForm asks
-  pub few : length asks ≤ mostRecords
+pub record AskedBy (batch : Bytes) (as′ : List Ask) : Type 0 where
+  pub bytes : batch ≡ asksBytes as′
+  pub form : All AskForm as′
+  pub few : length as′ ≤ mostRecords
 
 -- 4: the batch isn't whole records in form, or has over 1,024.
 abbrev pub BatchOffForm : Bytes → Type 0
-BatchOffForm batch = (asks : List Ask) → AskedBy batch asks → ⊥
+BatchOffForm batch = (as′ : List Ask) → AskedBy batch as′ → ⊥
 
--- 5: keys not strictly ascending.
+-- 5: keys not strictly ascending, those of the whole records, in form or not.
 abbrev pub NotAscending : Bytes → Type 0
-NotAscending batch = (asks : List Ask) × AskedBy batch asks × (ascending asks ≡ false)
+NotAscending batch = ascending (asks batch) ≡ false
 
 -- 6: latest is 4,294,967,295.
 abbrev pub NoVersionLeft : Bytes → Type 0
@@ -71,13 +71,13 @@ NoVersionLeft s = storeOf s .latest ≡ top32
 
 -- How many new records a batch makes of the latest tree.
 unfoldable pub newCount : Bytes → List Ask → ℕ
-newCount s asks =
+newCount s as′ =
     let st = storeOf s in
-    let new = st .latest + 1 in length (newRecords leafHash innerHash new (nextTree new (treeAtVersion st (st .latest)) asks))
+    let new = st .latest + 1 in length (newRecords leafHash innerHash new (nextTree new (treeAtVersion st (st .latest)) as′))
 
 -- 7: fewer free slots than new records.
 abbrev pub TooFewFree : Bytes → Bytes → Type 0
-TooFewFree batch s = (asks : List Ask) × AskedBy batch asks × (freeSlots (storeOf s .slots) < newCount s asks)
+TooFewFree batch s = (as′ : List Ask) × AskedBy batch as′ × (freeSlots (storeOf s .slots) < newCount s as′)
 
 -- 8: the version isn't in oldest to latest.
 abbrev pub NotKept : Bytes → ℕ → Type 0

@@ -4,11 +4,12 @@ ghost use mathlib.Core.Bool.{true, cond};
 ghost use lib.ListN.{length};
 ghost use Rattle.meaning.specs.Calls.{refused};
 ghost use Rattle.meaning.specs.Reading.{present};
-ghost use Rattle.meaning.specs.Answers.{numberOf, foundBytes, foundAfter};
+ghost use Rattle.meaning.specs.Answers.{foundBytes};
 ghost use Rattle.hash.specs.Hash.{hashBytes};
 ghost use Rattle.proofrecords.specs.ProofBytes.{isPresence, isAbsence};
 ghost use Rattle.verify.specs.Holding.{presenceHolds, absenceProofHolds};
-ghost use Rattle.verify.specs.Verify.{verified, says};
+ghost use Rattle.verify.specs.Verify.{verified, Verifies};
+ghost use Rattle.verify.specs.Says.{says};
 use fields::clear;
 use hash::Hash;
 use hash::hash_at;
@@ -103,8 +104,7 @@ fn put_present(found: &mut [u8], hash: Hash)
 // number of refusal, with `found` as it was.
 #[no_mangle]
 pub extern "C" fn grants_verify(root: &[u8], key: &[u8], proof: &[u8], found: &mut [u8; 33]) -> u32
-    ensures { λ r. ⌜ r ≡ numberOf (verified (now (root .entry)) (now (key .entry)) (now (proof .entry))) ⌝ }
-    ensures { λ _. ⌜ now (found .exit) ≡ foundAfter (verified (now (root .entry)) (now (key .entry)) (now (proof .entry))) (now (found .entry)) ⌝ }
+    ensures { λ r. ⌜ Verifies (now (root .entry)) (now (key .entry)) (now (proof .entry)) (now (found .entry)) r (now (found .exit)) ⌝ }
 {
     let answer = verify(root, key, proof);
     match answer {

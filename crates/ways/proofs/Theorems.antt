@@ -14,7 +14,7 @@ use Rattle.meaning.specs.Store.{rootOf, childOn}
 use Rattle.meaning.specs.Calls.{refused, accepted}
 use Rattle.meaning.specs.Reading.{Seen, seen, seenBody, seenRoot, seenAt, broken, walk}
 use Rattle.meaning.specs.Proving.{stepUp, presenceOf, Sought, lostWay, nobody, somebody, beyond, neighbour, fromTrail, absenceFrom, absenceAt, proveEnd}
-use Rattle.ways.specs.Ways.{byKey, RootFound, Inner, inner, Stop, lost, leaf, missing, Way, no-child, not-found, misplaced, at-leaf, onward, Walk, no-root, root-leaf, from-root, DescentLost, EndIsBeyond, EndIsKey, KeyLost, ProofLost, walk-lost, descent-lost}
+use Rattle.ways.specs.Ways.{byKey, Inner, inner, Stop, lost, leaf, missing, Way, no-child, not-found, misplaced, at-leaf, onward, Root, Walk, no-root, root-leaf, from-root, DescentLost, EndIsBeyond, EndIsKey, KeyLost, ProofLost, walk-lost, descent-lost}
 use Rattle.ways.proofs.Walking.{Formed, inner-short, way-ends, passOf, endOf, walk-is}
 use Rattle.ways.proofs.Descending.{Short, search-said, said-search}
 
@@ -64,7 +64,8 @@ module _ (st : Store) (formed : Formed st) (v : ℕ) (k : Bytes) where
   walks : (passed : List Inner) × (end : Stop) × Walk st v k passed end
   walks = go (rootOf st v) refl
     where
-      found : (r : Record) (b : Body) → r .body ≡ b → rootOf st v ≡ some r → (passed : List Inner) × (end : Stop) × Walk st v k passed end
+      found : (r : Record) (b : Body) → r .body ≡ b → rootOf st v ≡ some r →
+          (passed : List Inner) × (end : Stop) × Walk st v k passed end
       found r (leafBody l x) f e = ([], leaf l x, root-leaf l x (r, e, f))
       found r (innerBody l c) f e =
           let w = way-ends st formed 255 (byKey k) (inner [] l c ∷ []) (bit 0 k ∷ []) (childOn (bit 0 k) l c) refl in
@@ -78,7 +79,7 @@ module _ (st : Store) (formed : Formed st) (v : ℕ) (k : Bytes) where
   kids : Side → Child → Seen
   kids b d = seenAt 255 (st .slots) (b ∷ []) d
 
-  root-body : (b : Body) → RootFound st v b → seen st v ≡ seenBody [] b kids
+  root-body : (b : Body) → Root st v b → seen st v ≡ seenBody [] b kids
   unfolding seen kids
   root-body b f = ap (λ o. seenRoot o kids) (f .1) ∙ ap (λ c. seenBody [] c kids) (f .2)
 

@@ -61,14 +61,14 @@ pub data Way (st : Store) (rule : Rule) : List Inner → Place → Child → Lis
       Way st rule (inner p l r ∷ before) (longer (rule p l r) p) (childOn (rule p l r) l r) passed end → Way st rule before p c passed end
 
 -- The root of version v is found, with this body.
-abbrev pub RootFound : Store → ℕ → Body → Type 0
-RootFound st v b = (r : Record) × (rootOf st v ≡ some r) × (r .body ≡ b)
+abbrev pub Root : Store → ℕ → Body → Type 0
+Root st v b = (r : Record) × (rootOf st v ≡ some r) × (r .body ≡ b)
 
 -- The walk by key k from the root of version v. No root found means an empty version.
 pub data Walk (st : Store) (v : ℕ) (k : Bytes) : List Inner → Stop → Type 0 where
   no-root : rootOf st v ≡ none → Walk st v k [] missing
-  root-leaf : (l x : Bytes) → RootFound st v (leafBody l x) → Walk st v k [] (leaf l x)
-  from-root : (l r : Child) {passed : List Inner} {end : Stop} → RootFound st v (innerBody l r) →
+  root-leaf : (l x : Bytes) → Root st v (leafBody l x) → Walk st v k [] (leaf l x)
+  from-root : (l r : Child) {passed : List Inner} {end : Stop} → Root st v (innerBody l r) →
       Way st (byKey k) (inner [] l r ∷ []) (bit 0 k ∷ []) (childOn (bit 0 k) l r) passed end → Walk st v k passed end
 
 -- Where the walk turned away from side b (or wanted to), and a child is present there.

@@ -5,7 +5,8 @@ use Rattle.meaning.specs.Store.{rootOf}
 use Rattle.layout.specs.Stores.{storeOf}
 use Rattle.nodehash.specs.Node.{leafHash, innerHash}
 use Rattle.read_step.specs.Walk.{bodyIn}
-use Rattle.read_step.proofs.Seeing.{slot-fits, inside, root-hash, no-root-hash}
+use Rattle.store.proofs.Slots.{slot-fits}
+use Rattle.read_step.proofs.Seeing.{inside, root-hash, no-root-hash}
 use borrow.Author.Needs.{needs}
 use Rattle.reads.proofs.root_hash.Statement.{statement}
 use Rattle.reads.proofs.root_hash.Tie as tie
