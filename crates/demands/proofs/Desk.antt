@@ -30,7 +30,7 @@ use Rattle.promises.specs.Calls.{refuses, accepts, Exports, exports-refusal, ex
 use Rattle.promises.proofs.Calls.{one-export}
 use Rattle.applying_c.specs.Export.{told}
 use Rattle.grants.specs.Contracts.{Applies}
-use Rattle.demands.specs.Desk.{toldOf, RowOverBytes}
+use Rattle.demands.specs.Desk.{toldOf, RowOverBytes, DeskOverBytes}
 use Rattle.demands.proofs.Hashes.{leaf-hash-whole, inner-hash-whole}
 use Rattle.demands.proofs.Stored.{stored-is, stored-sound}
 
@@ -145,7 +145,7 @@ m1 : Sound leafHash innerHash (s₁ leafHash innerHash)
 m1 = sound-after (rowAt 0) (desk leafHash innerHash .0) (s20, refl, refl)
 
 -- Each row of the desk's table is what the contracts say of the bytes.
-pub desk-over-bytes : All RowOverBytes (table leafHash innerHash)
+pub desk-over-bytes : DeskOverBytes
 desk-over-bytes =
     let h = desk leafHash innerHash in
     let fresh = formatted-is-sound leafHash innerHash in

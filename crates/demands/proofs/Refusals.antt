@@ -29,12 +29,16 @@ use Rattle.promises.proofs.Calls.{refused-writes-nothing}
 use Rattle.meaning.specs.Answers.{numberOf, foundAfter}
 use Rattle.read_step.specs.Headed.{byHeader}
 use Rattle.reads.specs.Reads.{rootAnswer, keyAnswer}
-use Rattle.reads.proofs.Theorems.{OneOf}
 use Rattle.reads_c.specs.Export.{rootBytes}
 use Rattle.proving.specs.Proving.{proveAnswer, roomAfter}
 use Rattle.proving_c.specs.Export.{provedInto, lengthBytes}
 use Rattle.verify.specs.Verify.{verified}
 use Rattle.grants.specs.Contracts.{Formats, Applies, Prunes, ReadsRoot, ReadsKey, Proves, Verifies}
+
+-- One of the numbers in a list.
+abbrev pub OneOf : List ℕ → ℕ → Type 0
+OneOf [] n = ⊥
+OneOf (m ∷ ms) n = (n ≡ m) ⊎ OneOf ms n
 
 pub clash : {A : Type 0} → _≡_ {A = ℕ} 0 1 → A
 clash e = absurd (omega arith)

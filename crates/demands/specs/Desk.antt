@@ -2,11 +2,12 @@
 use Prim.Native.Nat.{ℕ}
 use mathlib.Core.Path.{_≡_}
 use mathlib.Core.Logic.{_↔_}
-use Rattle.terms.specs.Bits.{Bytes}
+use Rattle.terms.specs.Bits.{Bytes, All}
 use Rattle.terms.specs.Fields.{le}
 use Rattle.meaning.specs.Calls.{Answer, refused, accepted}
 use Rattle.meaning.specs.Answers.{numberOf}
-use Rattle.meaning.specs.Desk.{Row, applies, prunes}
+use Rattle.meaning.specs.Desk.{Row, applies, prunes, table}
+use Rattle.nodehash.specs.Node.{leafHash, innerHash}
 use Rattle.layout.specs.Stores.{storeBytes}
 use Rattle.batch.specs.Batch.{asksBytes}
 use Rattle.applying_c.specs.Export.{told}
@@ -24,3 +25,7 @@ RowOverBytes (applies st batch answer end) = (f : Bytes) (r : ℕ) (t g : Bytes)
     Applies (asksBytes batch) (storeBytes st) f r t g ↔ ((r ≡ numberOf answer) × (t ≡ storeBytes end) × (g ≡ toldOf told answer f))
 RowOverBytes (prunes st n answer end) = (f : Bytes) (r : ℕ) (t g : Bytes) →
     Prunes n (storeBytes st) f r t g ↔ ((r ≡ numberOf answer) × (t ≡ storeBytes end) × (g ≡ toldOf (le 4) answer f))
+
+-- The table over the bytes, its hashes those of nodes.
+abbrev pub DeskOverBytes : Type 0
+DeskOverBytes = All RowOverBytes (table leafHash innerHash)

@@ -11,27 +11,35 @@ use Rattle.refusals.specs.Orders.{headerRows, batchRows, versionRows, keyRows, 
 abbrev pub soundRows : Bytes → Table
 soundRows s = headerRows s ++ (3, NotSound s) ∷ []
 
+-- Format: 1.
 abbrev pub formatRows : Bytes → Table
 formatRows s = (1, WrongLength s) ∷ []
 
+-- Check: 1, 2, 3.
 abbrev pub checkRows : Bytes → Table
 checkRows s = soundRows s
 
+-- Apply: 1, 2, 3; then 4, 5, 6, 7.
 abbrev pub applyRows : Bytes → Bytes → Table
 applyRows batch s = soundRows s ++ batchRows batch s
 
+-- Prune: 1, 2, 3; then 8.
 abbrev pub pruneRows : ℕ → Bytes → Table
 pruneRows n s = soundRows s ++ versionRows s n
 
+-- A root read: 1, 2, 8.
 abbrev pub rootRows : Bytes → ℕ → Table
 rootRows s v = headerRows s ++ versionRows s v
 
+-- A key read: 12; then 1, 2; then 8, 3.
 abbrev pub getRows : Bytes → ℕ → Bytes → Table
 getRows s v k = (12, Not32 (k ∷ [])) ∷ headerRows s ++ keyRows s v k
 
+-- Proving: 12; then 1, 2; then 8, 3, 9.
 abbrev pub proveRows : Bytes → ℕ → Bytes → Bytes → Table
 proveRows s v k room = (12, Not32 (k ∷ [])) ∷ headerRows s ++ proofRows s v k room
 
+-- The proof check: 12; then 10, 11.
 abbrev pub verifyRows : Bytes → Bytes → Bytes → Table
 verifyRows root k x = (12, Not32 (root ∷ k ∷ [])) ∷ holdingRows root k x
 

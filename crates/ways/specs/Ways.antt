@@ -51,13 +51,17 @@ pub data Way (st : Store) (rule : Rule) : List Inner → Place → Child → Lis
   -- a missing child
   no-child : {before : List Inner} {p : Place} {c : Child} → c .version ≡ 0 → Way st rule before p c before missing
   -- a present child not found
-  not-found : {before : List Inner} {p : Place} {c : Child} → Present c → find (c .version) p (st .slots) ≡ none → Way st rule before p c before lost
+  not-found : {before : List Inner} {p : Place} {c : Child} → Present c →
+      find (c .version) p (st .slots) ≡ none → Way st rule before p c before lost
   -- a found leaf whose key doesn't begin with its place
-  misplaced : {before : List Inner} {p : Place} {c : Child} (k x : Bytes) → Present c → Found st (c .version) p (leafBody k x) → begins p k ≡ false → Way st rule before p c before lost
+  misplaced : {before : List Inner} {p : Place} {c : Child} (k x : Bytes) → Present c → Found st (c .version) p (leafBody k x) →
+      begins p k ≡ false → Way st rule before p c before lost
   -- a found leaf whose key does
-  at-leaf : {before : List Inner} {p : Place} {c : Child} (k x : Bytes) → Present c → Found st (c .version) p (leafBody k x) → begins p k ≡ true → Way st rule before p c before (leaf k x)
+  at-leaf : {before : List Inner} {p : Place} {c : Child} (k x : Bytes) → Present c → Found st (c .version) p (leafBody k x) →
+      begins p k ≡ true → Way st rule before p c before (leaf k x)
   -- a found inner record, and on from there
-  onward : {before : List Inner} {p : Place} {c : Child} (l r : Child) {passed : List Inner} {end : Stop} → Present c → Found st (c .version) p (innerBody l r) →
+  onward : {before : List Inner} {p : Place} {c : Child} (l r : Child) {passed : List Inner} {end : Stop} → Present c →
+      Found st (c .version) p (innerBody l r) →
       Way st rule (inner p l r ∷ before) (longer (rule p l r) p) (childOn (rule p l r) l r) passed end → Way st rule before p c passed end
 
 -- The root of version v is found, with this body.
@@ -78,12 +82,14 @@ Fork b k i = (bit (length (i .place)) k ≡ not b) × Present (childOn b (i .lef
 -- The descent to the neighbour on side b gives 3: from the deepest such record, into that child, then to the other side where there is a
 -- child.
 pub record DescentLost (st : Store) (k : Bytes) (passed : List Inner) (b : Side) : Type 0 where
+  -- such a record, and none deeper
   pub deeper : List Inner
   pub at : Inner
   pub above : List Inner
   pub passed-are : passed ≡ deeper ++ at ∷ above
   pub fork : Fork b k at
   pub deepest : All (λ i. Fork b k i → ⊥) deeper
+  -- the way from its child on side b
   pub descended : List Inner
   pub gives-3 : Way st (to (not b)) [] (longer b (at .place)) (childOn b (at .left) (at .right)) descended lost
 
