@@ -64,10 +64,11 @@ pub fn ch(x: u32, y: u32, z: u32) -> u32
     (x & y) ^ (!x & z)
 }
 
+// By differences: of three words in a row, the first two's difference is the next round's second.
 pub fn maj(x: u32, y: u32, z: u32) -> u32
     ensures { λ r. ⌜ r ≡ Maj x y z ⌝ }
 {
-    (x & y) ^ (x & z) ^ (y & z)
+    y ^ ((x ^ y) & (y ^ z))
 }
 
 pub fn big_sigma0(x: u32) -> u32
