@@ -5,11 +5,11 @@ use mathlib.Core.Path.{refl, ap, ap₂, _∙_}
 use native.Mathlib.Omega.{arith}
 use Rattle.sha256.specs.Sha256.{_⊞_, K, σ₀, σ₁, scheduled}
 use Rattle.sha256.proofs.Rolling.{sixteen-words, sixteen-rounds}
-use Rattle.second_block.specs.Second.{secondBlock}
-use Rattle.second_block.proofs.Laws.{word-in-constant, two-and-seven, with-fifteen, with-all, only-sixteen}
+use Rattle.second_start.specs.Second.{secondBlock}
+use Rattle.second_start.proofs.Laws.{word-in-constant, two-and-seven, with-fifteen, with-all, only-sixteen}
 use borrow.Author.Needs.{needs}
-use Rattle.second_block.proofs.second1.Statement.{statement}
-use Rattle.second_block.proofs.second1.Tie as tie
+use Rattle.second_start.proofs.second1.Statement.{statement}
+use Rattle.second_start.proofs.second1.Tie as tie
 
 step-requires : tie.Need-step-requires
 step-requires c κs = search needs

@@ -1,11 +1,11 @@
 -- Three of the four terms are zero.
 -- Assumes nothing.
-use Rattle.second_block.proofs.Laws.{only-two}
+use Rattle.second_start.proofs.Laws.{only-two}
 use mathlib.Core.Path.{_∙_}
 use native.Mathlib.Omega.{arith}
 use borrow.Author.Needs.{needs}
-use Rattle.second_block.proofs.after.Statement.{statement}
-use Rattle.second_block.proofs.after.Tie as tie
+use Rattle.second_start.proofs.after.Statement.{statement}
+use Rattle.second_start.proofs.after.Tie as tie
 
 sigma1-requires : tie.Need-sigma1-requires
 sigma1-requires c κs = search needs

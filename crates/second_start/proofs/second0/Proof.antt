@@ -3,11 +3,11 @@
 use mathlib.Core.Path.{_∙_}
 use Rattle.sha256.specs.Sha256.{K}
 use Rattle.sha256.proofs.Rolling.{sixteen-rounds}
-use Rattle.second_block.specs.Second.{secondBlock}
-use Rattle.second_block.proofs.Laws.{word-in-constant}
+use Rattle.second_start.specs.Second.{secondBlock}
+use Rattle.second_start.proofs.Laws.{word-in-constant}
 use borrow.Author.Needs.{needs}
-use Rattle.second_block.proofs.second0.Statement.{statement}
-use Rattle.second_block.proofs.second0.Tie as tie
+use Rattle.second_start.proofs.second0.Statement.{statement}
+use Rattle.second_start.proofs.second0.Tie as tie
 
 step-requires : tie.Need-step-requires
 step-requires c κs = search needs

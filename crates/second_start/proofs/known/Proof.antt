@@ -1,9 +1,9 @@
 -- T1 without its word: a zero adds nothing.
 -- Assumes nothing.
-use Rattle.second_block.proofs.Laws.{no-word}
+use Rattle.second_start.proofs.Laws.{no-word}
 use borrow.Author.Needs.{needs}
-use Rattle.second_block.proofs.known.Statement.{statement}
-use Rattle.second_block.proofs.known.Tie as tie
+use Rattle.second_start.proofs.known.Statement.{statement}
+use Rattle.second_start.proofs.known.Tie as tie
 
 big-sigma1-requires : tie.Need-big-sigma1-requires
 big-sigma1-requires c κs = search needs

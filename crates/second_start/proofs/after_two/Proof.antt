@@ -3,10 +3,10 @@
 use Prim.Native.Nat.{ℕ}
 use mathlib.Core.Path.{ap, _∙_}
 use Rattle.sha256.specs.Sha256.{_⊞_}
-use Rattle.second_block.proofs.Laws.{two-and-seven}
+use Rattle.second_start.proofs.Laws.{two-and-seven}
 use borrow.Author.Needs.{needs}
-use Rattle.second_block.proofs.after_two.Statement.{statement}
-use Rattle.second_block.proofs.after_two.Tie as tie
+use Rattle.second_start.proofs.after_two.Statement.{statement}
+use Rattle.second_start.proofs.after_two.Tie as tie
 
 sigma1-requires : tie.Need-sigma1-requires
 sigma1-requires c κs = search needs
