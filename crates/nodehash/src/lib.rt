@@ -27,7 +27,7 @@ fn middle(x: u64) -> u32
     (x / 256 % 0x1_0000_0000) as u32
 }
 
-fn first_words(t: u64, l: Hash, r: Hash) -> Words
+pub fn first_words(t: u64, l: Hash, r: Hash) -> Words
     requires { ⌜ t < 256 ⌝ }
     ensures { λ v. ⌜ v ≡ blockAt (padded (message t l r)) 0 ⌝ }
 {
@@ -52,7 +52,7 @@ fn first_words(t: u64, l: Hash, r: Hash) -> Words
 }
 
 // The first word of the second block: the message's last byte, and the byte 128.
-fn last_word(x: u64) -> u32
+pub fn last_word(x: u64) -> u32
     ensures { λ v. ⌜ v ≡ x % 256 * 16777216 + 8388608 ⌝ }
 {
     (x % 256 * 0x100_0000 + 0x80_0000) as u32
