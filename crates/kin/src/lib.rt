@@ -41,7 +41,7 @@ pub struct Kept {
 }
 
 // The larger of two versions.
-fn later(a: u32, b: u32) -> u32
+pub fn later(a: u32, b: u32) -> u32
     ensures { λ r. ⌜ r ≡ max a b ⌝ }
 {
     if a < b {
@@ -123,7 +123,7 @@ pub fn child_found(store: &[u8], version: u32, place: Place) -> bool
 }
 
 // The place one bit longer, on a side.
-fn longer(place: Place, right: bool) -> Place
+pub fn longer(place: Place, right: bool) -> Place
     requires { ⌜ Proper place × (place .count < 256) ⌝ }
     ensures { λ r. ⌜ Grown right place r ⌝ }
 {
