@@ -8,17 +8,15 @@ use lib.ListN.{length}
 use lib.Dec.{leb}
 use borrow.Author.Tests.{leb-true}
 use Rattle.terms.specs.Bits.{Bytes, Byte, All, Place}
-use Rattle.terms.specs.Fields.{field}
 use Rattle.terms.specs.Records.{Record}
 use Rattle.meaning.specs.Sound.{At}
 use Rattle.meaning.specs.Local.{endsBefore}
 use Rattle.local.specs.Test.{keptLife}
-use Rattle.layout.specs.Sizes.{versionAt, retiredAt}
-use Rattle.layout.specs.Slots.{countIn}
-use Rattle.layout.specs.Stores.{slotIn, storeOf}
+use Rattle.layout.specs.Slots.{countIn, versionIn, sinceIn}
+use Rattle.layout.specs.Stores.{slotIn, storeOf, Has}
 use Rattle.lookup.proofs.Matching.{count-is}
 use Rattle.kin.specs.declared.Kept as declared-kept
-use Rattle.kin.specs.Kin.{Has, Keeps, endsAt}
+use Rattle.kin.specs.Kin.{Keeps, endsAt}
 use Rattle.check_pass.specs.Passes.{Passed}
 use Rattle.check_pass.proofs.Records.{version-of, retired-of, read-long, read-bytes, read-as}
 use Rattle.check_cover.specs.Cover.{CoveredBy}
@@ -34,7 +32,7 @@ module _ (s : Bytes) (i : ℕ) (h : Has s i) where
       let count = count-is (slotIn i s) (read-long h refl) (read-bytes h refl bytes) r (read-as h refl r a) in
       absurd (n (no-bits (r .place) (sym count ∙ sym e ∙ z)))
 
-  module _ {k : declared-kept.Kept} (keeps : Keeps s k) {v n e m : ℕ} (version : v ≡ field versionAt 4 (slotIn i s)) (retired : n ≡ field retiredAt 4 (slotIn i s))
+  module _ {k : declared-kept.Kept} (keeps : Keeps s k) {v n e m : ℕ} (version : v ≡ versionIn (slotIn i s)) (retired : n ≡ sinceIn (slotIn i s))
       (ends : e ≡ endsAt (k .latest) n) (life : m ≡ e - max (k .oldest) v) where
     life-is : (r : Record) → At (storeOf s) i r → keptLife (storeOf s) r ≡ m
     unfolding keptLife endsBefore

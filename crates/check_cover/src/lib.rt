@@ -2,12 +2,12 @@
 use kin::Kept;
 use kin::ends_before;
 use kin::kept_life;
-use layout::sizes::HEADER_SIZE;
-use layout::sizes::SLOT_SIZE;
 use store::count_at;
 use store::retired_at;
+use store::slot_count;
 use store::version_at;
-ghost use Rattle.kin.specs.Kin.{Has, Keeps};
+ghost use Rattle.layout.specs.Stores.{Has};
+ghost use Rattle.kin.specs.Kin.{Keeps};
 ghost use Rattle.check_pass.specs.Passes.{Passed, Each};
 ghost use Rattle.check_cover.specs.Cover.{CoveredBy, CoveredAt};
 
@@ -28,7 +28,7 @@ pub fn covered(store: &[u8], kept: Kept, sums: &[u32; 16384]) -> usize
     requires { ⌜ Keeps (now store) kept ⌝ }
     ensures { λ r. ⌜ Each (CoveredAt (now (store .entry)) (now (sums .entry))) r ⌝ }
 {
-    let n = (store.len() - HEADER_SIZE) / SLOT_SIZE;
+    let n = slot_count(store);
     let mut i = 0;
     while i < n {
         if !slot_covered(store, kept, i, sums[i]) {

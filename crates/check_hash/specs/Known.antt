@@ -12,9 +12,8 @@ use Rattle.meaning.specs.Reading.{bodyHash}
 use Rattle.hash.specs.declared.Hash.{Hash}
 use Rattle.hash.specs.Hash.{hashBytes}
 use Rattle.nodehash.specs.Node.{leafHash, innerHash}
-use Rattle.layout.specs.Slots.{childIn}
-use Rattle.layout.specs.Stores.{slotIn, storeOf}
-use Rattle.kin.specs.Kin.{Has, childAt}
+use Rattle.layout.specs.Slots.{kidOn}
+use Rattle.layout.specs.Stores.{slotIn, storeOf, Has}
 
 -- The slot and the side of a link.
 abbrev pub linkSlot : ℕ → ℕ
@@ -25,7 +24,7 @@ linkSide w = eqb ((w - 1) % 2) 1
 
 -- The hash that it stores.
 abbrev pub storedAt : Bytes → ℕ → Bytes
-storedAt s w = childIn (childAt (linkSide w)) (slotIn (linkSlot w) s) .hash
+storedAt s w = kidOn (linkSide w) (slotIn (linkSlot w) s) .hash
 
 -- The hash of the record in slot c is these bytes.
 abbrev pub HashIs : Bytes → ℕ → Bytes → Type 0

@@ -1,21 +1,19 @@
 // Whether a stored hash is that of a record, each record hashed once: the link whose stored hash was found to be right is kept for the
 // record's slot, and later links are compared with it. A link is one side of a slot, numbered from 1.
-use fields::get_u16;
 use hash::Hash;
 use hash::hash_at;
 use hash::same_hash;
-use layout::sizes::KIND_AT;
 use layout::sizes::LEAF_KIND;
-use layout::sizes::LEFT_AT;
-use layout::sizes::RIGHT_AT;
 use nodehash::inner_hash;
 use nodehash::leaf_hash;
+use slots::child_hash;
 use slots::grant_of;
+use store::kind_at;
 use store::slot_of;
 ghost use mathlib.Core.Path.{_≡_};
 ghost use Prim.Native.Nat.{_≤_, _<_};
 ghost use Rattle.hash.specs.Hash.{hashBytes};
-ghost use Rattle.kin.specs.Kin.{Has};
+ghost use Rattle.layout.specs.Stores.{Has};
 ghost use Rattle.check_pass.specs.Passes.{Passed};
 ghost use Rattle.check_hash.specs.Known.{HashIs, Stored, Known, linkSlot, storedAt};
 
@@ -32,10 +30,7 @@ fn stored(store: &[u8], link: u16) -> Hash
 {
     let k = wide(link) - 1;
     let s = slot_of(store, k / 2);
-    if k % 2 == 1 {
-        return hash_at(s, RIGHT_AT + 4);
-    }
-    hash_at(s, LEFT_AT + 4)
+    hash_at(child_hash(s, k % 2 == 1), 0)
 }
 
 // The hash of the record in slot c.
@@ -44,11 +39,11 @@ fn record_hash(store: &[u8], c: usize) -> Hash
     ensures { λ r. ⌜ HashIs (now (store .entry)) c (hashBytes r) ⌝ }
 {
     let s = slot_of(store, c);
-    if get_u16(s, KIND_AT) == LEAF_KIND {
+    if kind_at(store, c) == LEAF_KIND {
         return leaf_hash(grant_of(s));
     }
-    let left = hash_at(s, LEFT_AT + 4);
-    let right = hash_at(s, RIGHT_AT + 4);
+    let left = hash_at(child_hash(s, false), 0);
+    let right = hash_at(child_hash(s, true), 0);
     inner_hash(left, right)
 }
 

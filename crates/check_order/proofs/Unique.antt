@@ -12,10 +12,9 @@ use Rattle.terms.proofs.Order.{before-trans, before-irrefl}
 use Rattle.meaning.specs.Sound.{At}
 use Rattle.layout.specs.Slots.{countIn}
 use Rattle.layout.specs.Headers.{sizeRight}
-use Rattle.layout.specs.Stores.{slotIn, storeOf}
+use Rattle.layout.specs.Stores.{slotIn, storeOf, Has}
 use Rattle.lookup.proofs.Matching.{count-is, bits-are}
-use Rattle.kin.specs.Kin.{Has}
-use Rattle.kin.proofs.Holding.{slots-many}
+use Rattle.store.proofs.Slots.{slots-many}
 use Rattle.check_pass.proofs.Records.{version-of, read-long, read-bytes, read-as}
 use Rattle.check_order.specs.Order.{nodeKey, Holding, ByNode, keyNo, Ascending, Named}
 

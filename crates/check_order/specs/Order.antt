@@ -6,17 +6,16 @@ use mathlib.Core.Bool.{true}
 use mathlib.Core.List.{List, [], _∷_, _++_}
 use lib.ListN.{length, getD}
 use Rattle.terms.specs.Bits.{Bytes, Byte, All, before}
-use Rattle.terms.specs.Fields.{field, slice}
 use Rattle.terms.specs.Records.{Record, used}
 use Rattle.meaning.specs.Sound.{At}
-use Rattle.layout.specs.Sizes.{slotSize, bitsAt, versionAt}
-use Rattle.layout.specs.Slots.{countIn, slotOf}
+use Rattle.layout.specs.Sizes.{slotSize}
+use Rattle.layout.specs.Slots.{countIn, bitsIn, versionIn, slotOf}
 use Rattle.layout.specs.Stores.{slotIn, storeOf}
 
 -- The key of the check: the bit count of the place, its bytes, the version. So the records of one level stand together, and the children
 -- on one side stand in the order of their parents.
 unfoldable pub nodeKey : Bytes → Bytes
-nodeKey x = countIn x ∷ (slice bitsAt 32 x ++ (field versionAt 4 x ∷ []))
+nodeKey x = countIn x ∷ (bitsIn x ++ (versionIn x ∷ []))
 
 -- Bytes that hold a record.
 pub record Holding (x : Bytes) (r : Record) : Type 0 where

@@ -1,22 +1,20 @@
--- What the own fields of a record's 120 bytes must say. Assumes nothing.
+-- What the own fields of a record's bytes must say. Assumes nothing.
 use Prim.Native.Nat.{suc, _≤_}
 use mathlib.Core.Path.{_≡_}
 use mathlib.Core.Bool.{true}
 use Rattle.terms.specs.Bits.{Bytes, begins}
-use Rattle.terms.specs.Fields.{field, slice}
-use Rattle.layout.specs.Sizes.{versionAt, retiredAt, keyAt}
-use Rattle.layout.specs.Slots.{countIn, placeIn}
+use Rattle.layout.specs.Slots.{countIn, placeIn, versionIn, sinceIn, keyIn}
 use Rattle.kin.specs.declared.Kept as declared-kept
 use Rattle.kin.specs.Kin.{endsAt}
 use Rattle.check_slot.specs.Parts.{lifeRight}
 
 -- Version and life are right, and a root lives at its own version alone.
 pub record HeadOwn (k : declared-kept.Kept) (x : Bytes) : Type 0 where
-  pub latest : field versionAt 4 x ≤ k .latest
-  pub life : lifeRight k (field versionAt 4 x) (field retiredAt 4 x) ≡ true
-  pub root : countIn x ≡ 0 → endsAt (k .latest) (field retiredAt 4 x) ≡ suc (field versionAt 4 x)
+  pub latest : versionIn x ≤ k .latest
+  pub life : lifeRight k (versionIn x) (sinceIn x) ≡ true
+  pub root : countIn x ≡ 0 → endsAt (k .latest) (sinceIn x) ≡ suc (versionIn x)
 
 -- A leaf's key begins with its place too.
 pub record LeafOwn (k : declared-kept.Kept) (x : Bytes) : Type 0 where
   pub head : HeadOwn k x
-  pub key : begins (placeIn x) (slice keyAt 32 x) ≡ true
+  pub key : begins (placeIn x) (keyIn x) ≡ true

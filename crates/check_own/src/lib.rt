@@ -2,63 +2,59 @@
 use check_slot::life_right;
 use check_slot::root_right;
 use fields::all_zero;
-use fields::get_u16;
-use fields::get_u32;
 use kin::Kept;
 use kin::ends_before;
-use layout::sizes::BITS_AT;
-use layout::sizes::COUNT_AT;
-use layout::sizes::HEADER_SIZE;
-use layout::sizes::RETIRED_AT;
-use layout::sizes::SLOT_SIZE;
-use layout::sizes::VERSION_AT;
 use place::begins;
 use place::place_at;
+use slots::bits_of;
 use slots::is_inner;
 use slots::is_leaf;
 use slots::key_of;
+use store::count_at;
+use store::retired_at;
+use store::slot_count;
 use store::slot_of;
+use store::version_at;
 ghost use mathlib.Core.Path.{_≡_};
 ghost use mathlib.Core.Bool.{true};
-ghost use lib.ListN.{length};
-ghost use Rattle.layout.specs.Sizes.{slotSize};
 ghost use Rattle.layout.specs.Slots.{isLeaf};
-ghost use Rattle.layout.specs.Stores.{storeOf};
-ghost use Rattle.kin.specs.Kin.{Has, Keeps};
+ghost use Rattle.layout.specs.Stores.{slotIn, storeOf, Has};
+ghost use Rattle.kin.specs.Kin.{Keeps};
 ghost use Rattle.check_pass.specs.Passes.{Passed, Each};
 ghost use Rattle.check_seen.specs.Seen.{OwnAt};
 ghost use Rattle.check_own.specs.Own.{HeadOwn, LeafOwn};
 
-// Whether version and life are right, and a root lives at its own version alone.
-fn head_right(kept: Kept, s: &[u8]) -> bool
-    requires { ⌜ length (now s) ≡ slotSize ⌝ }
-    ensures { λ r. ⌜ Passed r (HeadOwn kept (now (s .entry))) ⌝ }
+// Whether version and life of slot i's record are right, and a root lives at its own version alone.
+fn head_right(store: &[u8], kept: Kept, i: usize) -> bool
+    requires { ⌜ Has (now store) i ⌝ }
+    ensures { λ r. ⌜ Passed r (HeadOwn kept (slotIn i (now (store .entry)))) ⌝ }
 {
-    let version = get_u32(s, VERSION_AT);
-    let retired = get_u32(s, RETIRED_AT);
+    let version = version_at(store, i);
+    let retired = retired_at(store, i);
     if kept.latest < version {
         return false;
     }
     if !life_right(kept, version, retired) {
         return false;
     }
-    if get_u16(s, COUNT_AT) != 0 {
+    if count_at(store, i) != 0 {
         return true;
     }
     root_right(version, ends_before(kept.latest, retired))
 }
 
 // The same of a leaf, and whether its key begins with its place.
-fn leaf_right(kept: Kept, s: &[u8]) -> bool
-    requires { ⌜ (length (now s) ≡ slotSize) × (isLeaf (now s) ≡ true) ⌝ }
-    ensures { λ r. ⌜ Passed r (LeafOwn kept (now (s .entry))) ⌝ }
+fn leaf_right(store: &[u8], kept: Kept, i: usize) -> bool
+    requires { ⌜ Has (now store) i × (isLeaf (slotIn i (now store)) ≡ true) ⌝ }
+    ensures { λ r. ⌜ Passed r (LeafOwn kept (slotIn i (now (store .entry)))) ⌝ }
 {
-    let count = get_u16(s, COUNT_AT);
-    let place = place_at(&s[BITS_AT..VERSION_AT], count as usize);
+    let s = slot_of(store, i);
+    let count = count_at(store, i);
+    let place = place_at(bits_of(s), count as usize);
     if !begins(key_of(s), place) {
         return false;
     }
-    head_right(kept, s)
+    head_right(store, kept, i)
 }
 
 // Whether slot i is free, or holds a record whose own fields are right.
@@ -71,10 +67,10 @@ fn slot_right(store: &[u8], kept: Kept, i: usize) -> bool
         return true;
     }
     if is_leaf(s) {
-        return leaf_right(kept, s);
+        return leaf_right(store, kept, i);
     }
     if is_inner(s) {
-        return head_right(kept, s);
+        return head_right(store, kept, i);
     }
     false
 }
@@ -84,7 +80,7 @@ pub fn own_right(store: &[u8], kept: Kept) -> usize
     requires { ⌜ Keeps (now store) kept ⌝ }
     ensures { λ r. ⌜ Each (OwnAt (storeOf (now (store .entry)))) r ⌝ }
 {
-    let n = (store.len() - HEADER_SIZE) / SLOT_SIZE;
+    let n = slot_count(store);
     let mut i = 0;
     while i < n {
         if !slot_right(store, kept, i) {

@@ -1,10 +1,11 @@
 -- What the bytes of a slot say of the record in it. Assumes nothing.
-use Prim.Native.Nat.{ℕ, _-_, _/_, _<_}
+use Prim.Native.Nat.{ℕ, _<_}
 use native.Mathlib.Omega.{arith}
 use mathlib.Core.Path.{_≡_, refl, ap, sym, _∙_, subst}
 use mathlib.Core.Logic.{_⊎_, inl, inr, ⊎-elim}
 use mathlib.Core.Bool.{Bool, true, false, cond}
-use lib.ListN.{length}
+use lib.ListN.{length, take}
+use lib.Seq.{take-all}
 use borrow.Author.Tests.{eqb-true}
 use Rattle.terms.specs.Bits.{Bytes, Byte, All}
 use Rattle.terms.specs.Fields.{field, slice, allZero, zeroBytes}
@@ -12,21 +13,27 @@ use Rattle.terms.specs.Records.{Record, free, used, spoiled}
 use Rattle.terms.proofs.Fields.{all-of-tests}
 use Rattle.meaning.specs.Sound.{At}
 use Rattle.meaning.proofs.Finding.{used-eq}
-use Rattle.layout.specs.Sizes.{headerSize, slotSize, mostSlots, leafKind, innerKind, kindAt, versionAt, retiredAt, roomOf}
-use Rattle.layout.specs.Headers.{sizeRight}
-use Rattle.layout.specs.Slots.{leafIn, innerIn, recordIn, headRight, isLeaf, isInner, slotOf, slotBytes}
-use Rattle.layout.specs.Stores.{slotIn, storeOf}
+use Rattle.layout.specs.Sizes.{slotSize, mostSlots, leafKind, innerKind, kindAt}
+use Rattle.layout.specs.Slots.{leafIn, innerIn, recordIn, headRight, isLeaf, isInner, versionIn, sinceIn, slotOf, slotBytes}
+use Rattle.layout.specs.Stores.{slotIn, storeOf, Has, SlotWithin}
 use Rattle.layout.proofs.Headers.{size-says}
 use Rattle.layout.proofs.Slots.{slot-back}
-use Rattle.kin.specs.Kin.{Has}
-use Rattle.kin.proofs.Holding.{slot-is, slot-long, slot-bytes, slots-many}
+use Rattle.store.proofs.Slots.{slots-many, slot-long, slot-bytes, slot-within, slot-is}
+use Rattle.check_pass.specs.Passes.{Room}
 
-pub has-slot : {s : Bytes} {i : ℕ} → sizeRight (length s) ≡ true → i < (length s - headerSize) / slotSize → Has s i
-unfolding roomOf
-has-slot e h = record { size = e; inside = h }
+-- a slot by its number
+pub room-has : {s : Bytes} {n i : ℕ} → Room s n → i < n → Has s i
+room-has r h = record { size = r .size; inside = omega (arith, r .many) }
+
+pub room-within : (s : Bytes) {n i : ℕ} → Room s n → i < n → SlotWithin i s
+room-within s r h = slot-within (room-has r h)
 
 pub slot-small : {s : Bytes} {i : ℕ} → Has s i → i < mostSlots
 slot-small {s} h = omega (arith, h .inside, size-says (length s) (h .size))
+
+-- 32 bytes read as a hash are those bytes
+pub read-whole : {a y z : Bytes} → a ≡ take 32 y → length y ≡ 32 → y ≡ z → a ≡ z
+read-whole {a} {y} e l f = e ∙ take-all 32 y (omega (arith, l)) ∙ f
 
 pub free-used : (r : Record) → free ≡ used r → ⊥
 free-used r e = let z : _≡_ {A = ℕ} 0 1 = cc in omega arith
@@ -64,26 +71,26 @@ record-cases x r = go (allZero x) (isLeaf x) (isInner x) refl refl refl
     go false false false z l i e = absurd (used-spoiled r x (sym e))
 
 module _ (x : Bytes) (r : Record) (e : slotOf x ≡ used r) where
-  pub version-of : r .version ≡ field versionAt 4 x
+  pub version-of : r .version ≡ versionIn x
   unfolding recordIn
   version-of = ⊎-elim (λ w. ap (λ q. q .version) (w .1)) (λ w. ap (λ q. q .version) (w .1)) (record-cases x r e)
 
-  pub retired-of : r .retired ≡ field retiredAt 4 x
+  pub retired-of : r .retired ≡ sinceIn x
   unfolding recordIn
   retired-of = ⊎-elim (λ w. ap (λ q. q .retired) (w .1)) (λ w. ap (λ q. q .retired) (w .1)) (record-cases x r e)
 
 -- a free slot's fields are 0
-pub free-zero : (x : Bytes) → length x ≡ slotSize → All Byte x → slotOf x ≡ free → (field versionAt 4 x ≡ 0) × (field kindAt 2 x ≡ 0)
+pub free-zero : (x : Bytes) → length x ≡ slotSize → All Byte x → slotOf x ≡ free → (versionIn x ≡ 0) × (field kindAt 2 x ≡ 0)
 unfolding slotBytes zeroBytes field slice
-free-zero x l b e = let z = sym (ap slotBytes e) ∙ slot-back x l b in (ap (field versionAt 4) (sym z), ap (field kindAt 2) (sym z))
+free-zero x l b e = let z = sym (ap slotBytes e) ∙ slot-back x l b in (ap (versionIn) (sym z), ap (field kindAt 2) (sym z))
 
 -- the bytes of slot i, as they were read
 module _ {s : Bytes} {i : ℕ} (h : Has s i) {x : Bytes} (here : x ≡ slotIn i s) where
   pub read-long : length x ≡ slotSize
-  read-long = ap length here ∙ slot-long h
+  read-long = ap length here ∙ slot-long i s (slot-within h)
 
   pub read-bytes : All Byte s → All Byte x
-  read-bytes b = subst (All Byte) (sym here) (slot-bytes s i b)
+  read-bytes b = subst (All Byte) (sym here) (slot-bytes i s b)
 
   pub read-as : (r : Record) → At (storeOf s) i r → slotOf x ≡ used r
   unfolding At

@@ -1,5 +1,5 @@
 -- The passes together: where none finds anything wrong, each slot passes. Assumes nothing.
-use Prim.Native.Nat.{ℕ, zero, suc, _-_, _/_, _<_, _≤_}
+use Prim.Native.Nat.{ℕ, zero, suc, _<_, _≤_}
 use native.Mathlib.Omega.{arith}
 use mathlib.Core.Path.{_≡_, refl, subst}
 use mathlib.Core.Bool.{true}
@@ -10,16 +10,16 @@ use Rattle.terms.specs.Records.{Record}
 use Rattle.meaning.specs.Sound.{At}
 use Rattle.local.specs.Test.{slotsTest}
 use Rattle.nodehash.specs.Node.{leafHash, innerHash}
-use Rattle.layout.specs.Sizes.{headerSize, slotSize, mostSlots, roomOf}
+use Rattle.layout.specs.Sizes.{mostSlots, roomOf}
 use Rattle.layout.specs.Headers.{sizeRight}
 use Rattle.layout.proofs.Headers.{size-says}
 use Rattle.layout.specs.Stores.{storeOf}
-use Rattle.kin.proofs.Holding.{slots-many}
+use Rattle.store.proofs.Slots.{slots-many}
 use Rattle.check_order.specs.Order.{nodeKey, Ascending, NamedAt}
 use Rattle.check_order.proofs.Unique.{node-key-by-node, ascending-unique}
 use Rattle.check_cover.specs.Cover.{CoveredAt}
 use Rattle.check_tie.specs.Side.{AllTied}
-use Rattle.check_pass.specs.Passes.{Each}
+use Rattle.check_pass.specs.Passes.{Room, Each}
 use Rattle.check_seen.specs.Seen.{OwnAt}
 use Rattle.check_seen.proofs.Seen.{seen-passes}
 use Rattle.check_sums.proofs.Sums.{under-start, under-end}
@@ -39,10 +39,9 @@ zeros zero i = refl
 zeros (suc n) zero = refl
 zeros (suc n) (suc i) = zeros n i
 
--- a store of the right size has at most 16,384 slots
-pub room-fits : (s : Bytes) → sizeRight (length s) ≡ true → (length s - headerSize) / slotSize ≤ mostSlots
-unfolding roomOf
-room-fits s e = size-says (length s) e .2
+-- a store has at most 16,384 slots
+pub room-fits : (s : Bytes) {n : ℕ} → Room s n → n ≤ mostSlots
+room-fits s r = omega (arith, r .many, size-says (length s) (r .size))
 
 module _ (s : Bytes) where
   -- a record's slot is one of the store's

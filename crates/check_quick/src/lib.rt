@@ -10,8 +10,7 @@ use check_sort::rank;
 use check_sort::sort;
 use check_tie::tie_all;
 use kin::Kept;
-use layout::sizes::HEADER_SIZE;
-use layout::sizes::SLOT_SIZE;
+use store::slot_count;
 ghost use mathlib.Core.Path.{_≡_};
 ghost use mathlib.Core.Bool.{true};
 ghost use Prim.Native.Nat.{_≤_, _<_};
@@ -20,8 +19,8 @@ ghost use Rattle.local.specs.Test.{slotsTest};
 ghost use Rattle.nodehash.specs.Node.{leafHash, innerHash};
 ghost use Rattle.layout.specs.Sizes.{roomOf};
 ghost use Rattle.layout.specs.Headers.{sizeRight};
-ghost use Rattle.layout.specs.Stores.{storeOf};
-ghost use Rattle.kin.specs.Kin.{Has, Keeps};
+ghost use Rattle.layout.specs.Stores.{storeOf, Has};
+ghost use Rattle.kin.specs.Kin.{Keeps};
 ghost use Rattle.check_pass.specs.Passes.{Each};
 ghost use Rattle.check_seen.specs.Seen.{OwnAt};
 ghost use Rattle.check_tie.specs.Side.{Ready};
@@ -43,7 +42,7 @@ fn in_order(store: &[u8], many: usize, table: &[u16; 16384], ranks: &[u16; 16384
     requires { ⌜ (sizeRight (length (now store)) ≡ true) × (many ≤ 16384) × Each (OwnAt (storeOf (now store))) (roomOf (length (now store))) ⌝ }
     ensures { λ r. ⌜ Sure r (Alone (storeOf (now (store .entry)))) ⌝ }
 {
-    let n = (store.len() - HEADER_SIZE) / SLOT_SIZE;
+    let n = slot_count(store);
     let up = ascending(store, table, many);
     if up < many {
         return Look::Suspect(wide(table[up]));
@@ -60,12 +59,12 @@ fn alone(store: &[u8], guess: &mut [u16; 32768]) -> Look
     requires { ⌜ (sizeRight (length (now store)) ≡ true) × Each (OwnAt (storeOf (now store))) (roomOf (length (now store))) ⌝ }
     ensures { λ r. ⌜ Sure r (Alone (storeOf (now (store .entry)))) ⌝ }
 {
-    let n = (store.len() - HEADER_SIZE) / SLOT_SIZE;
+    let n = slot_count(store);
     let mut table = [0u16; 16384];
     let mut ranks = [0u16; 16384];
-    let many = sort(store, n as u16, &mut table, &mut ranks);
+    let many = sort(store, n, &mut table, &mut ranks);
     rank(&table, many, &mut ranks);
-    guessed(store, &table, many, guess);
+    guessed(store, n, &table, many, guess);
     in_order(store, many, &table, &ranks)
 }
 
@@ -73,7 +72,7 @@ fn alone(store: &[u8], guess: &mut [u16; 32768]) -> Look
 fn suspect(store: &[u8], kept: Kept, j: usize, a: usize, b: usize) -> usize
     requires { ⌜ Has (now store) j × Keeps (now store) kept ⌝ }
 {
-    let n = (store.len() - HEADER_SIZE) / SLOT_SIZE;
+    let n = slot_count(store);
     if !slot_passes(store, j, kept) {
         return j;
     }
@@ -90,7 +89,7 @@ fn linked(store: &[u8], kept: Kept, guess: &[u16; 32768]) -> Look
     requires { ⌜ Ready (now store) kept ⌝ }
     ensures { λ r. ⌜ Sure r (Linked leafHash innerHash (storeOf (now (store .entry)))) ⌝ }
 {
-    let n = (store.len() - HEADER_SIZE) / SLOT_SIZE;
+    let n = slot_count(store);
     let mut known = [0u16; 16384];
     let mut sums = [0u32; 16384];
     let j = tie_all(store, kept, guess, &mut known, &mut sums);
@@ -111,7 +110,7 @@ pub fn quick(store: &[u8], kept: Kept) -> Look
     requires { ⌜ Keeps (now store) kept ⌝ }
     ensures { λ r. ⌜ Sure r (slotsTest leafHash innerHash (storeOf (now (store .entry))) ≡ true) ⌝ }
 {
-    let n = (store.len() - HEADER_SIZE) / SLOT_SIZE;
+    let n = slot_count(store);
     let i = own_right(store, kept);
     if i < n {
         return Look::Suspect(i);

@@ -20,9 +20,9 @@ use Rattle.nodehash.specs.Node.{leafHash, innerHash}
 use Rattle.place.specs.declared.Place as declared-place
 use Rattle.place.specs.Place.{placeOf, Stands}
 use Rattle.place.proofs.Places.{proper-whole, proper-count}
-use Rattle.layout.specs.Stores.{storeOf}
+use Rattle.layout.specs.Stores.{storeOf, slotNo}
 use Rattle.kin.specs.declared.Kept as declared-kept
-use Rattle.kin.specs.Kin.{slotNo, endsAt, Is, ParentsSay}
+use Rattle.kin.specs.Kin.{endsAt, Is, ParentsSay}
 use Rattle.kin.proofs.Naming.{none-said}
 use Rattle.check_slot.specs.declared.Head as declared
 use Rattle.check_slot.specs.Parts.{recordOn, Headed, AboveSays}

@@ -3,17 +3,17 @@ use Prim.Native.Nat.{ℕ, _+_, _<_, _≤_}
 use native.Mathlib.Omega.{arith}
 use mathlib.Core.Path.{_≡_, refl, ap, sym, _∙_, subst}
 use mathlib.Core.Bool.{Bool, true, false}
+use mathlib.Core.List.{List, _∷_}
 use lib.ListN.{length, drop}
 use Rattle.terms.specs.Bits.{Bytes, Byte, All}
-use Rattle.terms.specs.Records.{innerBody, Slot, free}
+use Rattle.terms.specs.Records.{innerBody, Slot}
 use Rattle.local.specs.Test.{every, recordTest, slotTest, slotsTest}
 use Rattle.nodehash.specs.Node.{leafHash, innerHash}
 use Rattle.place.proofs.Places.{proper-count}
 use Rattle.layout.specs.Sizes.{roomOf}
 use Rattle.layout.specs.Headers.{sizeRight}
 use Rattle.layout.specs.Slots.{leafIn, slotOf, SlotForm}
-use Rattle.layout.specs.Stores.{slotIn, storeOf}
-use Rattle.layout.proofs.Headers.{size-says}
+use Rattle.layout.specs.Stores.{slotIn, storeOf, slotNo, Has}
 use Rattle.layout.proofs.Slots.{slot-form}
 use Rattle.slots.specs.declared.Child as declared-child
 use Rattle.slots.specs.declared.Kind as declared-kind
@@ -21,9 +21,9 @@ use Rattle.slots.specs.declared.Kind.the-variants.{Free, Leaf, Inner, Spoiled}
 use Rattle.slots.specs.declared.Slot as declared-slot
 use Rattle.slots.specs.Answer.{childSays, recordSays, kindSays, slotSays, Read}
 use Rattle.kin.specs.declared.Kept as declared-kept
-use Rattle.kin.specs.Kin.{Has, Keeps, slotNo}
-use Rattle.kin.proofs.Scans.{every-next, every-off, every-end}
-use Rattle.kin.proofs.Holding.{slot-is, slot-long, slot-bytes, slots-many}
+use Rattle.kin.specs.Kin.{Keeps}
+use Rattle.store.proofs.Slots.{slot-long, slot-bytes, slot-within, slot-is}
+use Rattle.store.proofs.Scans.{Scan, scan-start, scan-here, scan-next, scan-end}
 use Rattle.check_slot.specs.declared.Head as declared
 use Rattle.check_slot.specs.Parts.{recordOn, Headed}
 
@@ -58,7 +58,7 @@ module _ {s : Bytes} {i : ℕ} (h : Has s i) {x : Bytes} (here : x ≡ slotIn i 
   -- a record that was read is in form
   module _ (bytes : All Byte s) {k : declared-kept.Kept} (keeps : Keeps s k) where
     form : {m : declared-kind.Kind} → t .kind ≡ m → SlotForm (kindSays m t x)
-    form e = subst SlotForm (sym (slot-is h) ∙ its-slot e) (slot-form (slotIn i s) (slot-long h) (slot-bytes s i bytes))
+    form e = subst SlotForm (sym (slot-is h) ∙ its-slot e) (slot-form (slotIn i s) (slot-long i s (slot-within h)) (slot-bytes i s bytes))
 
     pub leaf-head : t .kind ≡ Leaf → Headed s k (headOf t)
     unfolding kindSays recordSays
@@ -72,40 +72,30 @@ module _ {s : Bytes} {i : ℕ} (h : Has s i) {x : Bytes} (here : x ≡ slotIn i 
     unfolding kindSays recordSays
     inner-short a b e = omega (arith, form e .short, proper-count (t .place) (read .proper))
 
--- the slots before i pass
-pub record Passed (s : Bytes) (n i : ℕ) : Type 0 where
-  pub size : sizeRight (length s) ≡ true
-  pub room : n ≡ roomOf (length s)
-  pub small : n ≤ 16384
-  pub within : i ≤ n
-  pub rest : slotsTest leafHash innerHash (storeOf s) ≡ every (slotTest leafHash innerHash (storeOf s)) (drop i (storeOf s .slots))
+-- the slots before i pass, so those to come decide
+abbrev Rest : Bytes → List Slot → List Slot → Type 0
+Rest s xs ys = slotsTest leafHash innerHash (storeOf s) ≡ every (slotTest leafHash innerHash (storeOf s)) ys
 
-pub pass-start : (s : Bytes) → sizeRight (length s) ≡ true → Passed s (roomOf (length s)) 0
+abbrev pub Passed : Bytes → ℕ → ℕ → Type 0
+Passed s n i = Scan s (Rest s) n i
+
+pub pass-start : (s : Bytes) → sizeRight (length s) ≡ true → {n : ℕ} → n ≡ roomOf (length s) → Passed s n 0
 unfolding slotsTest
-pass-start s e = record { size = e; room = refl; small = size-says (length s) e .2; within = omega arith; rest = refl }
+pass-start s e m = scan-start s (Rest s) e m refl
 
-module _ {s : Bytes} {n i : ℕ} (w : Passed s n i) where
-  pub pass-slot : i < n → Has s i
-  pass-slot h = record { size = w .size; inside = omega (arith, w .room) }
+module _ {s : Bytes} {n i : ℕ} (w : Passed s n i) (h : i < n) {t : Bool} (e : t ≡ slotTest leafHash innerHash (storeOf s) (slotNo i s)) where
+  pub pass-next : t ≡ true → Passed s n (i + 1)
+  pass-next f =
+      let here : slotTest leafHash innerHash (storeOf s) (slotNo i s) ≡ true = sym e ∙ f in
+      let on : every (slotTest leafHash innerHash (storeOf s)) (slotNo i s ∷ drop (i + 1) (storeOf s .slots))
+      ≡ every (slotTest leafHash innerHash (storeOf s)) (drop (i + 1) (storeOf s .slots)) = rw here in
+      scan-next w h (Rest s) (scan-here w h ∙ on)
 
-  pub pass-next : i < n → {t : Bool} → t ≡ slotTest leafHash innerHash (storeOf s) (slotNo i s) → t ≡ true → Passed s n (i + 1)
-  pass-next h e f =
-      let l : i < length (storeOf s .slots) = omega (arith, slots-many s, w .room) in
-      record {
-        size = w .size;
-        room = w .room;
-        small = w .small;
-        within = omega arith;
-        rest = w .rest ∙ every-next (storeOf s .slots) free i (slotTest leafHash innerHash (storeOf s)) l (sym e ∙ f);
-      }
+  pub pass-off : t ≡ false → false ≡ slotsTest leafHash innerHash (storeOf s)
+  pass-off f =
+      let here : slotTest leafHash innerHash (storeOf s) (slotNo i s) ≡ false = sym e ∙ f in
+      let off : every (slotTest leafHash innerHash (storeOf s)) (slotNo i s ∷ drop (i + 1) (storeOf s .slots)) ≡ false = rw here in
+      sym (scan-here w h ∙ off)
 
-  pub pass-off : i < n → {t : Bool} → t ≡ slotTest leafHash innerHash (storeOf s) (slotNo i s) → t ≡ false →
-      false ≡ slotsTest leafHash innerHash (storeOf s)
-  pass-off h e f =
-      let l : i < length (storeOf s .slots) = omega (arith, slots-many s, w .room) in
-      sym (w .rest ∙ every-off (storeOf s .slots) free i (slotTest leafHash innerHash (storeOf s)) l (sym e ∙ f))
-
-  pub pass-end : n ≤ i → true ≡ slotsTest leafHash innerHash (storeOf s)
-  pass-end h =
-      let l : length (storeOf s .slots) ≤ i = omega (arith, slots-many s, w .room) in
-      sym (w .rest ∙ every-end (storeOf s .slots) free i (slotTest leafHash innerHash (storeOf s)) l)
+pub pass-end : {s : Bytes} {n i : ℕ} → Passed s n i → n ≤ i → true ≡ slotsTest leafHash innerHash (storeOf s)
+pass-end w h = sym (scan-end w h)

@@ -9,8 +9,6 @@ use kin::front;
 use kin::holders;
 use kin::kept_life;
 use kin::parents_right;
-use layout::sizes::HEADER_SIZE;
-use layout::sizes::SLOT_SIZE;
 use nodehash::inner_hash;
 use nodehash::leaf_hash;
 use place::Place;
@@ -21,6 +19,7 @@ use slots::Kind;
 use slots::grant_of;
 use slots::key_of;
 use slots::read_slot;
+use store::slot_count;
 use store::slot_of;
 ghost use mathlib.Core.Path.{_≡_};
 ghost use mathlib.Core.Bool.{true, _&&_};
@@ -35,9 +34,9 @@ ghost use Rattle.place.specs.Place.{Proper};
 ghost use Rattle.layout.specs.Sizes.{slotSize};
 ghost use Rattle.layout.specs.Headers.{sizeRight};
 ghost use Rattle.layout.specs.Slots.{leafIn};
-ghost use Rattle.layout.specs.Stores.{storeOf};
+ghost use Rattle.layout.specs.Stores.{storeOf, slotNo, Has};
 ghost use Rattle.slots.specs.Answer.{childSays};
-ghost use Rattle.kin.specs.Kin.{Has, Keeps, slotNo};
+ghost use Rattle.kin.specs.Kin.{Keeps};
 ghost use Rattle.check_slot.specs.Parts.{recordOn, Headed, lifeRight, foundOn, AloneSays, AboveSays};
 
 // A record but for its body.
@@ -181,7 +180,7 @@ pub fn each_passes(store: &[u8], kept: Kept) -> bool
     requires { ⌜ Keeps (now store) kept ⌝ }
     ensures { λ r. ⌜ r ≡ slotsTest leafHash innerHash (storeOf (now (store .entry))) ⌝ }
 {
-    let n = (store.len() - HEADER_SIZE) / SLOT_SIZE;
+    let n = slot_count(store);
     let mut i = 0;
     while i < n {
         if !slot_passes(store, i, kept) {

@@ -6,7 +6,6 @@ use mathlib.Core.List.{List}
 use lib.ListN.{length}
 use lib.Dec.{eqb}
 use Rattle.terms.specs.Bits.{Bytes, Side, Place}
-use Rattle.terms.specs.Fields.{field}
 use Rattle.terms.specs.Records.{Child, innerBody, Record, Store}
 use Rattle.meaning.specs.Store.{childOn}
 use Rattle.meaning.specs.Sound.{At}
@@ -15,8 +14,8 @@ use Rattle.local.specs.Test.{firstKept, keptLife}
 use Rattle.hash.specs.Hash.{hashBytes}
 use Rattle.nodehash.specs.Node.{leafHash, innerHash}
 use Rattle.place.specs.Place.{placeOf, Proper}
-use Rattle.layout.specs.Sizes.{versionAt, retiredAt, roomOf}
-use Rattle.layout.specs.Slots.{placeIn}
+use Rattle.layout.specs.Sizes.{roomOf}
+use Rattle.layout.specs.Slots.{placeIn, versionIn, sinceIn}
 use Rattle.layout.specs.Stores.{storeOf}
 use Rattle.kin.specs.declared.Kept as declared-kept
 use Rattle.kin.specs.Kin.{Keeps, endsAt, isLeafBody}
@@ -41,9 +40,9 @@ pub record Fit (p : declared.Parent) : Type 0 where
 pub record ParentIn (k : declared-kept.Kept) (x : Bytes) (p : declared.Parent) : Type 0 where
   pub fit : Fit p
   pub place : placeOf (p .up) ≡ placeIn x
-  pub first : p .first ≡ max (k .oldest) (field versionAt 4 x)
-  pub ends : p .ends ≡ endsAt (k .latest) (field retiredAt 4 x)
-  pub life : p .life ≡ p .ends - max (k .oldest) (field versionAt 4 x)
+  pub first : p .first ≡ max (k .oldest) (versionIn x)
+  pub ends : p .ends ≡ endsAt (k .latest) (sinceIn x)
+  pub life : p .life ≡ p .ends - max (k .oldest) (versionIn x)
 
 -- A record as a parent: its place, its first kept version, the end of its life, and how many kept versions it lives at.
 pub record IsParent (st : Store) (p : declared.Parent) (q : Record) : Type 0 where

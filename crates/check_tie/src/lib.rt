@@ -2,8 +2,6 @@
 // right. Slots are read by single fields, since the own fields of all were looked at before.
 use check_hash::hash_right;
 use check_sums::add;
-use fields::get_u16;
-use fields::get_u32;
 use hash::Hash;
 use hash::hash_at;
 use hash::same_hash;
@@ -12,29 +10,25 @@ use kin::ends_before;
 use kin::kept_life;
 use kin::later;
 use kin::longer;
-use layout::sizes::BITS_AT;
-use layout::sizes::COUNT_AT;
-use layout::sizes::HEADER_SIZE;
 use layout::sizes::INNER_KIND;
-use layout::sizes::KIND_AT;
 use layout::sizes::LEAF_KIND;
-use layout::sizes::LEFT_AT;
-use layout::sizes::RETIRED_AT;
-use layout::sizes::RIGHT_AT;
-use layout::sizes::SLOT_SIZE;
-use layout::sizes::VERSION_AT;
 use place::Place;
 use place::place_at;
+use slots::bits_of;
+use slots::child_hash;
+use store::child_version_at;
+use store::count_at;
+use store::kind_at;
+use store::retired_at;
+use store::slot_count;
 use store::slot_of;
+use store::version_at;
 ghost use mathlib.Core.Path.{_≡_};
 ghost use mathlib.Core.Bool.{true};
 ghost use Prim.Native.Nat.{_≤_};
-ghost use lib.ListN.{length};
 ghost use Rattle.place.specs.Place.{placeOf, Proper};
-ghost use Rattle.layout.specs.Sizes.{slotSize};
 ghost use Rattle.layout.specs.Slots.{isInner};
-ghost use Rattle.layout.specs.Stores.{storeOf};
-ghost use Rattle.kin.specs.Kin.{Has};
+ghost use Rattle.layout.specs.Stores.{slotIn, storeOf, Has};
 ghost use Rattle.check_pass.specs.Passes.{Passed};
 ghost use Rattle.check_seen.specs.Seen.{OwnAt};
 ghost use Rattle.check_hash.specs.Known.{Stored, Known};
@@ -67,15 +61,14 @@ fn is_node(store: &[u8], c: usize, version: u32, place: Place) -> bool
     requires { ⌜ Has (now store) c × OwnAt (storeOf (now store)) c × (1 ≤ version) × Proper place ⌝ }
     ensures { λ r. ⌜ Passed r (Node (now (store .entry)) c version (placeOf place)) ⌝ }
 {
-    let s = slot_of(store, c);
-    if get_u32(s, VERSION_AT) != version {
+    if version_at(store, c) != version {
         return false;
     }
-    if get_u16(s, COUNT_AT) as usize != place.count {
+    if count_at(store, c) as usize != place.count {
         return false;
     }
     let bits = place.bits;
-    same_hash(hash_at(s, BITS_AT), hash_at(&bits, 0))
+    same_hash(hash_at(bits_of(slot_of(store, c)), 0), hash_at(&bits, 0))
 }
 
 // Whether the record in slot c lives to an end at least, and is no lone leaf beside a child of version `other`.
@@ -83,17 +76,13 @@ fn outlives(store: &[u8], c: usize, latest: u32, ends: u64, other: u32) -> bool
     requires { ⌜ Has (now store) c × (storeOf (now store) .latest ≡ latest) ⌝ }
     ensures { λ r. ⌜ Passed r (Outlives (now (store .entry)) c ends other) ⌝ }
 {
-    let s = slot_of(store, c);
-    if ends_before(latest, get_u32(s, RETIRED_AT)) < ends {
+    if ends_before(latest, retired_at(store, c)) < ends {
         return false;
     }
     if other != 0 {
         return true;
     }
-    if get_u16(s, KIND_AT) == LEAF_KIND {
-        return false;
-    }
-    true
+    kind_at(store, c) != LEAF_KIND
 }
 
 // Whether the child of a link is missing, or stands in slot c and all that is said of it is right; then its parent's life is added there. The
@@ -115,7 +104,7 @@ fn tie_link(
     if version == 0 {
         return true;
     }
-    let n = (store.len() - HEADER_SIZE) / SLOT_SIZE;
+    let n = slot_count(store);
     if n <= c {
         return false;
     }
@@ -136,15 +125,14 @@ fn tie_link(
     true
 }
 
-// The parent that the bytes of an inner record are.
-fn parent_in(s: &[u8], kept: Kept) -> Parent
-    requires { ⌜ (length (now s) ≡ slotSize) × (isInner (now s) ≡ true) ⌝ }
-    ensures { λ r. ⌜ ParentIn kept (now (s .entry)) r ⌝ }
+// The parent that the inner record in slot j is.
+fn parent_in(store: &[u8], kept: Kept, j: usize) -> Parent
+    requires { ⌜ Has (now store) j × (isInner (slotIn j (now store)) ≡ true) ⌝ }
+    ensures { λ r. ⌜ ParentIn kept (slotIn j (now (store .entry))) r ⌝ }
 {
-    let count = get_u16(s, COUNT_AT);
-    let up = place_at(&s[BITS_AT..VERSION_AT], count as usize);
-    let version = get_u32(s, VERSION_AT);
-    let ends = ends_before(kept.latest, get_u32(s, RETIRED_AT));
+    let up = place_at(bits_of(slot_of(store, j)), count_at(store, j) as usize);
+    let version = version_at(store, j);
+    let ends = ends_before(kept.latest, retired_at(store, j));
     let first = later(kept.oldest, version);
     let life = kept_life(kept.oldest, version, ends);
     Parent {
@@ -169,19 +157,19 @@ fn tie_slot(
     ensures { λ _. ⌜ Known (now (store .entry)) (now (known .exit)) ⌝ }
     ensures { λ r. ⌜ Passed r (SlotTied (now (store .entry)) j (now (sums .entry)) (now (sums .exit))) ⌝ }
 {
-    let s = slot_of(store, j);
-    if get_u16(s, KIND_AT) != INNER_KIND {
+    if kind_at(store, j) != INNER_KIND {
         return true;
     }
-    let parent = parent_in(s, kept);
-    let left = get_u32(s, LEFT_AT);
-    let right = get_u32(s, RIGHT_AT);
+    let s = slot_of(store, j);
+    let parent = parent_in(store, kept, j);
+    let left = child_version_at(store, j, false);
+    let right = child_version_at(store, j, true);
     let number = 2 * (j as u16) + 1;
     let to_left = Link {
         right: false,
         number,
         version: left,
-        hash: hash_at(s, LEFT_AT + 4),
+        hash: hash_at(child_hash(s, false), 0),
         other: right,
     };
     if !tie_link(store, kept, a, parent, to_left, known, sums) {
@@ -191,7 +179,7 @@ fn tie_slot(
         right: true,
         number: number + 1,
         version: right,
-        hash: hash_at(s, RIGHT_AT + 4),
+        hash: hash_at(child_hash(s, true), 0),
         other: left,
     };
     tie_link(store, kept, b, parent, to_right, known, sums)
@@ -208,7 +196,7 @@ pub fn tie_all(
     requires { ⌜ Ready (now store) kept × Known (now store) (now known) ⌝ }
     ensures { λ r. ⌜ TiedTo (now (store .entry)) r (now (sums .entry)) (now (sums .exit)) ⌝ }
 {
-    let n = (store.len() - HEADER_SIZE) / SLOT_SIZE;
+    let n = slot_count(store);
     let mut j = 0;
     while j < n {
         let a = wide(guess[2 * j]);

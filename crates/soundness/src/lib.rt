@@ -7,8 +7,7 @@ use check_slot::slot_passes;
 use kin::Kept;
 use layout::Header;
 use layout::read_header;
-use layout::sizes::HEADER_SIZE;
-use layout::sizes::SLOT_SIZE;
+use store::slot_count;
 ghost use mathlib.Core.Path.{_≡_};
 ghost use Rattle.local.specs.Test.{slotsTest};
 ghost use Rattle.nodehash.specs.Node.{leafHash, innerHash};
@@ -24,7 +23,7 @@ fn suspect_passes(store: &[u8], kept: Kept, i: usize) -> bool
     requires { ⌜ Keeps (now store) kept ⌝ }
     ensures { λ r. ⌜ r ≡ slotsTest leafHash innerHash (storeOf (now (store .entry))) ⌝ }
 {
-    let n = (store.len() - HEADER_SIZE) / SLOT_SIZE;
+    let n = slot_count(store);
     if n <= i {
         return each_passes(store, kept);
     }

@@ -6,19 +6,22 @@ use Rattle.check_guess.proofs.galloped.Statement.{statement}
 use Rattle.check_guess.proofs.galloped.Tie as tie
 
 abbrev Inv-loop : tie.InvT-loop
-Inv-loop store table from many node low₀ high₀ step₀ low high step = (low ≤ high) × (low ≤ many) × (1 ≤ step) × (step ≤ high + 1)
+Inv-loop store n table from many node low₀ high₀ step₀ low high step = (low ≤ high) × (low ≤ many) × (1 ≤ step) × (step ≤ high + 1)
 
 abbrev μ-loop : tie.MeasureT-loop
-μ-loop store table from many node low₀ high₀ step₀ low high step = many - high
+μ-loop store n table from many node low₀ high₀ step₀ low high step = many - high
 
 loop-holds : tie.Need-loop-holds Inv-loop μ-loop
 loop-holds c = search needs
 
-mul-stands-before : tie.Need-mul-stands-before Inv-loop μ-loop
-mul-stands-before c = omega arith
+mul-wide : tie.Need-mul-wide Inv-loop μ-loop
+mul-wide c = omega arith
 
-element-copy-out-stands-before : tie.Need-element-copy-out-stands-before Inv-loop μ-loop
-element-copy-out-stands-before c = omega arith
+element-copy-out-wide : tie.Need-element-copy-out-wide Inv-loop μ-loop
+element-copy-out-wide c = omega arith
+
+wide-requires : tie.Need-wide-requires Inv-loop μ-loop
+wide-requires c κs = search needs
 
 stands-before-requires : tie.Need-stands-before-requires Inv-loop μ-loop
 stands-before-requires c κs = search needs
@@ -57,8 +60,9 @@ galloped-spec =
     Inv-loop
     μ-loop
     loop-holds
-    mul-stands-before
-    element-copy-out-stands-before
+    mul-wide
+    element-copy-out-wide
+    wide-requires
     stands-before-requires
     halved-requires
     returns

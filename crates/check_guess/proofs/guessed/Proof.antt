@@ -6,19 +6,22 @@ use Rattle.check_guess.proofs.guessed.Statement.{statement}
 use Rattle.check_guess.proofs.guessed.Tie as tie
 
 abbrev Inv-loop : tie.InvT-loop
-Inv-loop store table many guess₀ left₀ right₀ k₀ guess left right k = (left ≤ many) × (right ≤ many)
+Inv-loop store n table many guess₀ left₀ right₀ k₀ guess left right k = (left ≤ many) × (right ≤ many)
 
 abbrev μ-loop : tie.MeasureT-loop
-μ-loop store table many guess₀ left₀ right₀ k₀ guess left right k = many - k
+μ-loop store n table many guess₀ left₀ right₀ k₀ guess left right k = many - k
 
 loop-holds : tie.Need-loop-holds Inv-loop μ-loop
 loop-holds c = search needs
 
-mul-j : tie.Need-mul-j Inv-loop μ-loop
-mul-j c = omega arith
+mul-wide : tie.Need-mul-wide Inv-loop μ-loop
+mul-wide c = omega arith
 
-element-copy-out-j : tie.Need-element-copy-out-j Inv-loop μ-loop
-element-copy-out-j c = omega arith
+element-copy-out-wide : tie.Need-element-copy-out-wide Inv-loop μ-loop
+element-copy-out-wide c = omega arith
+
+wide-requires : tie.Need-wide-requires Inv-loop μ-loop
+wide-requires c κs = search needs
 
 guess-side-requires : tie.Need-guess-side-requires Inv-loop μ-loop
 guess-side-requires c κs = search needs
@@ -45,8 +48,9 @@ guessed-spec =
     Inv-loop
     μ-loop
     loop-holds
-    mul-j
-    element-copy-out-j
+    mul-wide
+    element-copy-out-wide
+    wide-requires
     guess-side-requires
     guess-side-requires-2
     add-k

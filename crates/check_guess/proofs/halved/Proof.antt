@@ -6,10 +6,10 @@ use Rattle.check_guess.proofs.halved.Statement.{statement}
 use Rattle.check_guess.proofs.halved.Tie as tie
 
 abbrev Inv-loop : tie.InvT-loop
-Inv-loop store table from end node low₀ high₀ low high = (low ≤ high) × (high ≤ end)
+Inv-loop store n table from end node low₀ high₀ low high = (low ≤ high) × (high ≤ end)
 
 abbrev μ-loop : tie.MeasureT-loop
-μ-loop store table from end node low₀ high₀ low high = high - low
+μ-loop store n table from end node low₀ high₀ low high = high - low
 
 loop-holds : tie.Need-loop-holds Inv-loop μ-loop
 loop-holds c = search needs
@@ -20,11 +20,14 @@ sub-middle c = omega arith
 add-middle : tie.Need-add-middle Inv-loop μ-loop
 add-middle c = omega arith
 
-mul-stands-before : tie.Need-mul-stands-before Inv-loop μ-loop
-mul-stands-before c = omega arith
+mul-wide : tie.Need-mul-wide Inv-loop μ-loop
+mul-wide c = omega arith
 
-element-copy-out-stands-before : tie.Need-element-copy-out-stands-before Inv-loop μ-loop
-element-copy-out-stands-before c = omega arith
+element-copy-out-wide : tie.Need-element-copy-out-wide Inv-loop μ-loop
+element-copy-out-wide c = omega arith
+
+wide-requires : tie.Need-wide-requires Inv-loop μ-loop
+wide-requires c κs = search needs
 
 stands-before-requires : tie.Need-stands-before-requires Inv-loop μ-loop
 stands-before-requires c κs = search needs
@@ -56,8 +59,9 @@ halved-spec =
     loop-holds
     sub-middle
     add-middle
-    mul-stands-before
-    element-copy-out-stands-before
+    mul-wide
+    element-copy-out-wide
+    wide-requires
     stands-before-requires
     add-low
     loop-less

@@ -1,19 +1,22 @@
 -- `check_order::ascending` meets its contract: the entries before k ascend. Assumes nothing.
 use native.Mathlib.Omega.{arith}
-use borrow.Author.Needs.{needs}
 use Prim.Native.Nat.{_-_, _≤_}
 use borrow.Author.Tests.{not-false}
 use Rattle.check_pass.proofs.Passes.{passed-is}
 use Rattle.check_order.specs.Order.{nodeKey, Ascending}
 use Rattle.check_order.proofs.Keys.{next-up}
+use borrow.Author.Needs.{needs}
 use Rattle.check_order.proofs.ascending.Statement.{statement}
 use Rattle.check_order.proofs.ascending.Tie as tie
 
 abbrev Inv-loop : tie.InvT-loop
-Inv-loop store table many k₀ k = (1 ≤ k) × Ascending nodeKey store table k
+Inv-loop store table many n k₀ k = (1 ≤ k) × Ascending nodeKey store table k
 
 abbrev μ-loop : tie.MeasureT-loop
-μ-loop store table many k₀ k = many - k
+μ-loop store table many n k₀ k = many - k
+
+slot-count-requires : tie.Need-slot-count-requires Inv-loop μ-loop
+slot-count-requires c κs = c .before .pre .0
 
 loop-holds : tie.Need-loop-holds Inv-loop μ-loop
 loop-holds c = (omega arith, λ k h. absurd (omega arith))
@@ -40,10 +43,15 @@ wide-requires-2 : tie.Need-wide-requires-2 Inv-loop μ-loop
 wide-requires-2 c κs = search needs
 
 in-order-requires : tie.Need-in-order-requires Inv-loop μ-loop
-in-order-requires c κs = search needs
+in-order-requires c κs =
+    let c6 = c .before .before .before .before .before .before in
+    let c8 = c6 .before .before in
+    record { size = c8 .pre .0; many = c6 .slot-count .ensures }
 
 returns : tie.Need-returns Inv-loop μ-loop
-returns c = let c5 = c .before .before .before .before .before in c5 .before .before .loop .inv .1
+returns c =
+    let c7 = c .before .before .before .before .before .before .before in
+    c7 .loop .inv .1
 
 add-k : tie.Need-add-k Inv-loop μ-loop
 add-k c = omega arith
@@ -52,7 +60,16 @@ loop-less : tie.Need-loop-less Inv-loop μ-loop
 loop-less c = omega arith
 
 loop-again : tie.Need-loop-again Inv-loop μ-loop
-loop-again c = let c5 = c .before .before .before .before .before in let i = c5 .before .before .loop .inv in (omega (arith, i .0), next-up nodeKey (c5 .before .before .before .before .args .store .now) (c5 .before .before .before .before .args .table .now) _ (i .0) (i .1) (c .before .before .before .before .wide .ensures) (c .before .before .wide2 .ensures) (passed-is (not-false (c .before .in-order .result) (c .if1 .left)) (c .before .in-order .ensures)))
+loop-again c =
+    let c2 = c .before .before in
+    let c4 = c2 .before .before in
+    let c7 = c4 .before .before .before in
+    let c10 = c7 .before .before .before in
+    let i = c7 .loop .inv in (
+      omega (arith, i .0),
+      next-up nodeKey (c10 .args .store .now) (c10 .args .table .now) _ (i .0) (i .1) (c4 .wide .ensures)
+          (c2 .wide2 .ensures) (passed-is (not-false (c .before .in-order .result) (c .if1 .left)) (c .before .in-order .ensures)),
+    )
 
 returns-2 : tie.Need-returns-2 Inv-loop μ-loop
 returns-2 c = c .before .loop .inv .1
@@ -63,6 +80,7 @@ ascending-spec =
     (tie.spec
     Inv-loop
     μ-loop
+    slot-count-requires
     loop-holds
     sub-wide
     mul-wide

@@ -22,9 +22,18 @@ wide-requires-2 : tie.Need-wide-requires-2
 wide-requires-2 c κs = search needs
 
 returns-2 : tie.Need-returns-2
-returns-2 c = pass-named _ (c .before .before .before .before .args .table .now) (c .before .before .before .before .args .i) _ (omega (arith, c .before .before .if1 .left)) (c .wide2 .ensures) refl
+returns-2 c =
+    let c2 = c .before .before in
+    let c4 = c2 .before .before in
+    pass-named _ (c4 .args .table .now) (c4 .args .i) _ (omega (arith, c2 .if1 .left)) (c .wide2 .ensures) refl
 
 pub is-named-spec : {M : Type 1} → statement M
 is-named-spec =
     tie.close
-    (tie.spec wide-requires returns mul-wide element-copy-out-wide wide-requires-2 returns-2)
+    (tie.spec
+    wide-requires
+    returns
+    mul-wide
+    element-copy-out-wide
+    wide-requires-2
+    returns-2)

@@ -2,11 +2,9 @@
 use native.Mathlib.Omega.{arith}
 use Prim.Native.Nat.{_-_}
 use borrow.Author.Tests.{not-false}
-use Rattle.layout.specs.Sizes.{roomOf}
-use Rattle.layout.proofs.Headers.{size-least}
 use Rattle.check_pass.proofs.Passes.{passed-is}
-use Rattle.check_order.specs.Order.{NamedAt}
 use Rattle.check_pass.proofs.Walks.{Walk, walk-start, walk-slot, walk-next}
+use Rattle.check_order.specs.Order.{NamedAt}
 use Rattle.check_order.proofs.named.Statement.{statement}
 use Rattle.check_order.proofs.named.Tie as tie
 
@@ -16,33 +14,45 @@ Inv-loop store table many ranks n i₀ i = Walk store (NamedAt store table many)
 abbrev μ-loop : tie.MeasureT-loop
 μ-loop store table many ranks n i₀ i = n - i
 
-sub-n : tie.Need-sub-n Inv-loop μ-loop
-sub-n c = omega (arith, size-least _ (c .before .pre .0))
+slot-count-requires : tie.Need-slot-count-requires Inv-loop μ-loop
+slot-count-requires c κs = c .before .pre .0
 
 loop-holds : tie.Need-loop-holds Inv-loop μ-loop
-unfolding roomOf
-loop-holds c = let a = c .before .args in walk-start (a .store .now) (NamedAt (a .store .now) (a .table .now) (a .many)) (c .before .pre .0)
+loop-holds c =
+    let c2 = c .before .before in
+    walk-start (c2 .args .store .now) (NamedAt (c2 .args .store .now) (c2 .args .table .now) (c2 .args .many)) (c2 .pre .0)
+    (c .slot-count .ensures)
 
 mul-slot-named : tie.Need-mul-slot-named Inv-loop μ-loop
-mul-slot-named c = omega (arith, c .before .loop .inv .small)
+mul-slot-named c = omega (arith, c .before .loop .inv .scan .small)
 
 element-copy-out-slot-named : tie.Need-element-copy-out-slot-named Inv-loop μ-loop
-element-copy-out-slot-named c = omega (arith, c .before .loop .inv .small)
+element-copy-out-slot-named c = omega (arith, c .before .loop .inv .scan .small)
 
 slot-named-requires : tie.Need-slot-named-requires Inv-loop μ-loop
-slot-named-requires c κs = (walk-slot (c .before .before .loop .inv) (c .before .loop-test .taken), c .before .before .before .before .pre .1)
+slot-named-requires c κs =
+    let c2 = c .before .before in
+    let c5 = c2 .before .before .before in
+    (walk-slot (c2 .loop .inv) (c .before .loop-test .taken), c5 .pre .1)
 
 returns : tie.Need-returns Inv-loop μ-loop
-returns c = c .before .before .before .before .loop .inv .each
+returns c =
+    let c4 = c .before .before .before .before in
+    c4 .loop .inv .each
 
 add-i : tie.Need-add-i Inv-loop μ-loop
-add-i c = omega (arith, c .before .before .before .before .loop .inv .small)
+add-i c =
+    let c4 = c .before .before .before .before in
+    omega (arith, c4 .loop .inv .scan .small)
 
 loop-less : tie.Need-loop-less Inv-loop μ-loop
 loop-less c = omega arith
 
 loop-again : tie.Need-loop-again Inv-loop μ-loop
-loop-again c = walk-next (c .before .before .before .before .loop .inv) (c .before .before .before .loop-test .taken) (passed-is (not-false (c .before .slot-named .result) (c .if1 .left)) (c .before .slot-named .ensures))
+loop-again c =
+    let c3 = c .before .before .before in
+    walk-next (c3 .before .loop .inv) (c3 .loop-test .taken)
+    (passed-is (not-false (c .before .slot-named .result) (c .if1 .left)) (c .before .slot-named .ensures))
 
 returns-2 : tie.Need-returns-2 Inv-loop μ-loop
 returns-2 c = c .before .loop .inv .each
@@ -53,7 +63,7 @@ named-spec =
     (tie.spec
     Inv-loop
     μ-loop
-    sub-n
+    slot-count-requires
     loop-holds
     mul-slot-named
     element-copy-out-slot-named

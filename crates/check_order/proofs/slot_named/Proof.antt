@@ -1,5 +1,5 @@
 -- `check_order::slot_named` meets its contract: a slot of version 0 holds no record. Assumes nothing.
-use Rattle.kin.proofs.Holding.{slot-fits}
+use Rattle.store.proofs.Slots.{slot-within}
 use Rattle.check_pass.proofs.Passes.{pass-map}
 use Rattle.check_order.proofs.Keys.{no-version, record-named}
 use borrow.Author.Needs.{needs}
@@ -7,16 +7,22 @@ use Rattle.check_order.proofs.slot_named.Statement.{statement}
 use Rattle.check_order.proofs.slot_named.Tie as tie
 
 version-at-requires : tie.Need-version-at-requires
-version-at-requires c κs = slot-fits (c .before .pre .0)
+version-at-requires c κs = slot-within (c .before .pre .0)
 
 returns : tie.Need-returns
-returns c = let a = c .before .before .before .args in no-version (a .store .now) (a .i) (a .table .now) (a .many) (c .before .before .before .pre .0) (c .before .version-at .ensures) (c .if1 .taken)
+returns c =
+    let c3 = c .before .before .before in
+    no-version (c3 .args .store .now) (c3 .args .i) (c3 .args .table .now) (c3 .args .many) (c3 .pre .0)
+    (c .before .version-at .ensures) (c .if1 .taken)
 
 is-named-requires : tie.Need-is-named-requires
 is-named-requires c κs = search needs
 
 returns-2 : tie.Need-returns-2
-returns-2 c = let a = c .before .before .before .before .args in pass-map (c .is-named .result) (record-named (a .store .now) (a .table .now) (a .many) (a .i)) (c .is-named .ensures)
+returns-2 c =
+    let c4 = c .before .before .before .before in
+    pass-map (c .is-named .result) (record-named (c4 .args .store .now) (c4 .args .table .now) (c4 .args .many) (c4 .args .i))
+    (c .is-named .ensures)
 
 pub slot-named-spec : {M : Type 1} → statement M
 slot-named-spec = tie.close (tie.spec version-at-requires returns is-named-requires returns-2)

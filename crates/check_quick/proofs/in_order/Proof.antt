@@ -2,15 +2,13 @@
 use native.Mathlib.Omega.{arith}
 use Rattle.terms.specs.Bits.{Byte}
 use Rattle.terms.proofs.Lists.{all-of}
-use Rattle.layout.specs.Sizes.{roomOf}
-use Rattle.layout.proofs.Headers.{size-least}
 use Rattle.check_quick.proofs.Fine.{all-alone}
 use borrow.Author.Needs.{needs}
 use Rattle.check_quick.proofs.in_order.Statement.{statement}
 use Rattle.check_quick.proofs.in_order.Tie as tie
 
-sub-n : tie.Need-sub-n
-sub-n c = omega (arith, size-least _ (c .before .pre .0))
+slot-count-requires : tie.Need-slot-count-requires
+slot-count-requires c κs = c .before .pre .0
 
 ascending-requires : tie.Need-ascending-requires
 ascending-requires c κs = search needs
@@ -34,14 +32,22 @@ returns-2 : tie.Need-returns-2
 returns-2 c = tt
 
 returns-3 : tie.Need-returns-3
-unfolding roomOf
-returns-3 c = let a = c .before .before .before .before .before .args in all-alone (a .store .now) (c .before .before .before .before .before .pre .0) (all-of Byte (c .before .before .before .before .before .args .store .now) 0 (λ i _. omega (arith, c .before .before .before .before .shared-slice-known .given i))) (c .before .before .before .before .before .pre .2) (a .table .now) (a .many) (c .before .before .before .ascending .result) (c .before .named .result) (c .before .before .if1 .left) (c .before .before .before .ascending .ensures) (c .if2 .left) (c .before .named .ensures)
+returns-3 c =
+    let c2 = c .before .before in
+    let c3 = c2 .before in
+    let c4 = c3 .before in
+    let c5 = c4 .before in
+    let c6 = c5 .before in
+    all-alone (c6 .args .store .now) (c6 .pre .0)
+    (all-of Byte (c6 .args .store .now) 0 (λ i _. omega (arith, c5 .shared-slice-known .given i))) (c6 .pre .2)
+    (c6 .args .table .now) (c6 .args .many) (c3 .ascending .result) (c .before .named .result) (c2 .if1 .left)
+    (c3 .ascending .ensures) (omega (arith, c .if2 .left, c4 .slot-count .ensures)) (c .before .named .ensures)
 
 pub in-order-spec : {M : Type 1} → statement M
 in-order-spec =
     tie.close
     (tie.spec
-    sub-n
+    slot-count-requires
     ascending-requires
     mul-wide
     element-copy-out-wide

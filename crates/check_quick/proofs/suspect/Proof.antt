@@ -1,13 +1,11 @@
 -- `check_quick::suspect` is safe and ends. Assumes nothing.
-use native.Mathlib.Omega.{arith}
-use Rattle.layout.proofs.Headers.{size-least}
-use Rattle.check_pass.proofs.Records.{has-slot}
+use Rattle.check_pass.proofs.Records.{room-has}
 use borrow.Author.Needs.{needs}
 use Rattle.check_quick.proofs.suspect.Statement.{statement}
 use Rattle.check_quick.proofs.suspect.Tie as tie
 
-sub-n : tie.Need-sub-n
-sub-n c = omega (arith, size-least _ (c .before .pre .0 .size))
+slot-count-requires : tie.Need-slot-count-requires
+slot-count-requires c κs = c .before .pre .0 .size
 
 slot-passes-requires : tie.Need-slot-passes-requires
 slot-passes-requires c κs = search needs
@@ -16,7 +14,10 @@ returns : tie.Need-returns
 returns c = search needs
 
 slot-passes-requires-2 : tie.Need-slot-passes-requires-2
-slot-passes-requires-2 c κs = (has-slot (c .before .before .before .before .pre .0 .size) (omega (arith, c .if2 .taken)), c .before .before .before .before .pre .1)
+slot-passes-requires-2 c κs =
+    let c3 = c .before .before .before in
+    let c5 = c3 .before .before in
+    (room-has (record { size = c5 .pre .0 .size; many = c3 .slot-count .ensures }) (c .if2 .taken), c5 .pre .1)
 
 returns-2 : tie.Need-returns-2
 returns-2 c = search needs
@@ -31,7 +32,7 @@ pub suspect-spec : {M : Type 1} → statement M
 suspect-spec =
     tie.close
     (tie.spec
-    sub-n
+    slot-count-requires
     slot-passes-requires
     returns
     slot-passes-requires-2

@@ -14,8 +14,10 @@ root-right-requires c κs = search needs
 
 returns : tie.Need-returns
 returns c =
-    let a = c .before .before .before .before .before in
-    root-says (a .pre) (c .before .if1 .taken) (a .args .leaf) (a .args .hash) (c .before .before .ends-before .ensures .0) (c .root-right .ensures)
+    let c2 = c .before .before in
+    let c5 = c2 .before .before .before in
+    root-says (c5 .pre) (c .before .if1 .taken) (c5 .args .leaf) (c5 .args .hash) (c2 .ends-before .ensures .0)
+    (c .root-right .ensures)
 
 slice-aggregate-front : tie.Need-slice-aggregate-front
 slice-aggregate-front c = search needs
@@ -34,8 +36,9 @@ sub-key-bit c = search needs
 
 key-bit-requires : tie.Need-key-bit-requires
 key-bit-requires c κs =
-    let a = c .before .before .before .before .before .before .before .before in
-    omega (arith, proper-whole (a .args .head .place) (a .pre .proper), a .pre .proper .short, c .before .before .before .before .if1 .left)
+    let c4 = c .before .before .before .before in
+    let c8 = c4 .before .before .before .before in
+    omega (arith, proper-whole (c8 .args .head .place) (c8 .pre .proper), c8 .pre .proper .short, c4 .if1 .left)
 
 kept-life-requires : tie.Need-kept-life-requires
 kept-life-requires c κs = search needs
@@ -45,11 +48,13 @@ parents-right-requires c κs = search needs
 
 returns-2 : tie.Need-returns-2
 returns-2 c =
-    let a = c .before .before .before .before .before .before .before .before .before .before .before in
-    below-says (a .pre) (c .before .before .before .before .before .before .before .if1 .left) (c .before .before .before .before .front .result)
-    (c .before .before .key-bit .result) (c .before .before .before .before .front .ensures) (c .before .before .key-bit .ensures)
-    (a .args .leaf) (a .args .hash) (c .before .before .before .before .before .before .before .before .ends-before .result)
-    (c .before .before .before .before .before .before .before .before .ends-before .ensures .0) (c .before .kept-life .result)
+    let c2 = c .before .before in
+    let c4 = c2 .before .before in
+    let c7 = c4 .before .before .before in
+    let c8 = c7 .before in
+    let c11 = c8 .before .before .before in
+    below-says (c11 .pre) (c7 .if1 .left) (c4 .front .result) (c2 .key-bit .result) (c4 .front .ensures) (c2 .key-bit .ensures)
+    (c11 .args .leaf) (c11 .args .hash) (c8 .ends-before .result) (c8 .ends-before .ensures .0) (c .before .kept-life .result)
     (c .before .kept-life .ensures) (c .parents-right .result) (c .parents-right .ensures)
 
 pub above-right-spec : {M : Type 1} → statement M

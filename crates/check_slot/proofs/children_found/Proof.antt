@@ -15,9 +15,10 @@ child-found-requires c κs = search needs
 
 returns : tie.Need-returns
 returns c =
-    let a = c .before .before .before .before in
-    sym
-    (rw (found-as (a .args .store .now) (a .args .place) (c .before .before .left .result) false (a .args .a) (c .before .before .left .ensures) (c .before .child-found .ensures) ∙ not-true _ (c .if1 .taken)))
+    let c2 = c .before .before in
+    let c4 = c2 .before .before in
+    sym (rw (found-as (c4 .args .store .now) (c4 .args .place) (c2 .left .result) false (c4 .args .a) (c2 .left .ensures)
+    (c .before .child-found .ensures) ∙ not-true _ (c .if1 .taken)))
 
 right-requires : tie.Need-right-requires
 right-requires c κs = search needs
@@ -27,10 +28,14 @@ child-found-requires-2 c κs = search needs
 
 returns-2 : tie.Need-returns-2
 returns-2 c =
-    let a = c .before .before .before .before .before .before in
-    sym
-    (rw (found-as (a .args .store .now) (a .args .place) (c .before .before .before .before .left .result) false (a .args .a) (c .before .before .before .before .left .ensures) (c .before .before .before .child-found .ensures) ∙ not-false _ (c .before .before .if1 .left))
-    (found-as (a .args .store .now) (a .args .place) (c .before .right .result) true (a .args .b) (c .before .right .ensures) (c .child-found2 .ensures)))
+    let c2 = c .before .before in
+    let c3 = c2 .before in
+    let c4 = c3 .before in
+    let c6 = c4 .before .before in
+    sym (rw (found-as (c6 .args .store .now) (c6 .args .place) (c4 .left .result) false (c6 .args .a) (c4 .left .ensures)
+    (c3 .child-found .ensures) ∙ not-false _ (c2 .if1 .left))
+    (found-as (c6 .args .store .now) (c6 .args .place) (c .before .right .result) true (c6 .args .b) (c .before .right .ensures)
+    (c .child-found2 .ensures)))
 
 pub children-found-spec : {M : Type 1} → statement M
 children-found-spec =

@@ -2,9 +2,8 @@
 use Prim.Native.Nat.{_-_}
 use native.Mathlib.Omega.{arith}
 use borrow.Author.Tests.{not-true, not-false}
-use Rattle.layout.specs.Sizes.{roomOf}
-use Rattle.layout.proofs.Headers.{size-least}
-use Rattle.check_slot.proofs.Passing.{Passed, pass-start, pass-slot, pass-next, pass-off, pass-end}
+use Rattle.store.proofs.Scans.{scan-slot}
+use Rattle.check_slot.proofs.Passing.{Passed, pass-start, pass-next, pass-off, pass-end}
 use Rattle.check_slot.proofs.each_passes.Statement.{statement}
 use Rattle.check_slot.proofs.each_passes.Tie as tie
 
@@ -14,31 +13,36 @@ Inv-loop store kept n i₀ i = Passed store n i
 abbrev μ-loop : tie.MeasureT-loop
 μ-loop store kept n i₀ i = n - i
 
-sub-n : tie.Need-sub-n Inv-loop μ-loop
-sub-n c = omega (arith, size-least _ (c .before .pre .size))
+slot-count-requires : tie.Need-slot-count-requires Inv-loop μ-loop
+slot-count-requires c κs = c .before .pre .size
 
 loop-holds : tie.Need-loop-holds Inv-loop μ-loop
-unfolding roomOf
-loop-holds c = pass-start (c .before .args .store .now) (c .before .pre .size)
+loop-holds c =
+    let c2 = c .before .before in
+    pass-start (c2 .args .store .now) (c2 .pre .size) (c .slot-count .ensures)
 
 slot-passes-requires : tie.Need-slot-passes-requires Inv-loop μ-loop
-slot-passes-requires c κs = (pass-slot (c .before .loop .inv) (c .loop-test .taken), c .before .before .before .pre)
+slot-passes-requires c κs =
+    let c4 = c .before .before .before .before in
+    (scan-slot (c .before .loop .inv) (c .loop-test .taken), c4 .pre)
 
 returns : tie.Need-returns Inv-loop μ-loop
 returns c =
-    pass-off (c .before .before .before .loop .inv) (c .before .before .loop-test .taken) (c .before .slot-passes .ensures)
-    (not-true _ (c .if1 .taken))
+    let c2 = c .before .before in
+    pass-off (c2 .before .loop .inv) (c2 .loop-test .taken) (c .before .slot-passes .ensures) (not-true _ (c .if1 .taken))
 
 add-i : tie.Need-add-i Inv-loop μ-loop
-add-i c = omega (arith, c .before .before .before .loop .inv .small)
+add-i c =
+    let c3 = c .before .before .before in
+    omega (arith, c3 .loop .inv .small)
 
 loop-less : tie.Need-loop-less Inv-loop μ-loop
 loop-less c = omega arith
 
 loop-again : tie.Need-loop-again Inv-loop μ-loop
 loop-again c =
-    pass-next (c .before .before .before .loop .inv) (c .before .before .loop-test .taken) (c .before .slot-passes .ensures)
-    (not-false _ (c .if1 .left))
+    let c2 = c .before .before in
+    pass-next (c2 .before .loop .inv) (c2 .loop-test .taken) (c .before .slot-passes .ensures) (not-false _ (c .if1 .left))
 
 returns-2 : tie.Need-returns-2 Inv-loop μ-loop
 returns-2 c = pass-end (c .before .loop .inv) (c .loop-test .left)
@@ -49,7 +53,7 @@ each-passes-spec =
     (tie.spec
     Inv-loop
     μ-loop
-    sub-n
+    slot-count-requires
     loop-holds
     slot-passes-requires
     returns

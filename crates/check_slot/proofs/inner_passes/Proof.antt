@@ -13,8 +13,8 @@ alone-right-requires c κs = search needs
 
 returns : tie.Need-returns
 returns c =
-    let a = c .before .before .before in
-    fails-alone (a .args .store .now) (a .args .head) (innerBody (childSays (a .args .left)) (childSays (a .args .right)))
+    let c3 = c .before .before .before in
+    fails-alone (c3 .args .store .now) (c3 .args .head) (innerBody (childSays (c3 .args .left)) (childSays (c3 .args .right)))
     (c .before .alone-right .ensures) (not-true _ (c .if1 .taken))
 
 children-found-requires : tie.Need-children-found-requires
@@ -22,10 +22,13 @@ children-found-requires c κs = search needs
 
 returns-2 : tie.Need-returns-2
 returns-2 c =
-    let a = c .before .before .before .before .before .before in
-    fails-body (a .args .store .now) (a .args .head) (innerBody (childSays (a .args .left)) (childSays (a .args .right)))
-    (c .before .before .before .before .alone-right .ensures) (not-false _ (c .before .before .before .if1 .left))
-    (inner-body (a .args .left) (a .args .right) (a .args .store .now) (a .args .head .place) ∙ sym (c .before .children-found .ensures) ∙ not-true _ (c .if2 .taken))
+    let c3 = c .before .before .before in
+    let c4 = c3 .before in
+    let c6 = c4 .before .before in
+    fails-body (c6 .args .store .now) (c6 .args .head) (innerBody (childSays (c6 .args .left)) (childSays (c6 .args .right)))
+    (c4 .alone-right .ensures) (not-false _ (c3 .if1 .left))
+    (inner-body (c6 .args .left) (c6 .args .right) (c6 .args .store .now) (c6 .args .head .place) ∙ sym
+    (c .before .children-found .ensures) ∙ not-true _ (c .if2 .taken))
 
 inner-hash-requires : tie.Need-inner-hash-requires
 inner-hash-requires c κs = search needs
@@ -35,12 +38,17 @@ above-right-requires c κs = search needs
 
 returns-3 : tie.Need-returns-3
 returns-3 c =
-    let a = c .before .before .before .before .before .before .before .before .before .before in
-    passes-body (a .args .store .now) (a .args .head) (innerBody (childSays (a .args .left)) (childSays (a .args .right)))
-    (c .before .before .before .before .before .before .before .before .alone-right .ensures)
-    (not-false _ (c .before .before .before .before .before .before .before .if1 .left))
-    (inner-body (a .args .left) (a .args .right) (a .args .store .now) (a .args .head .place) ∙ sym (c .before .before .before .before .before .children-found .ensures) ∙ not-false _ (c .before .before .before .before .if2 .left))
-    (c .above-right .ensures (innerBody (childSays (a .args .left)) (childSays (a .args .right))) refl (inner-hashed (a .args .left) (a .args .right) (c .before .inner-hash .result) (c .before .inner-hash .ensures)))
+    let c4 = c .before .before .before .before in
+    let c5 = c4 .before in
+    let c7 = c5 .before .before in
+    let c8 = c7 .before in
+    let c10 = c8 .before .before in
+    passes-body (c10 .args .store .now) (c10 .args .head) (innerBody (childSays (c10 .args .left)) (childSays (c10 .args .right)))
+    (c8 .alone-right .ensures) (not-false _ (c7 .if1 .left))
+    (inner-body (c10 .args .left) (c10 .args .right) (c10 .args .store .now) (c10 .args .head .place) ∙ sym
+    (c5 .children-found .ensures) ∙ not-false _ (c4 .if2 .left))
+    (c .above-right .ensures (innerBody (childSays (c10 .args .left)) (childSays (c10 .args .right))) refl
+    (inner-hashed (c10 .args .left) (c10 .args .right) (c .before .inner-hash .result) (c .before .inner-hash .ensures)))
 
 pub inner-passes-spec : {M : Type 1} → statement M
 inner-passes-spec =

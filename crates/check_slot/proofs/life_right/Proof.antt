@@ -13,24 +13,29 @@ returns c = rw (eq-eqb (c .before .args .retired) 0 (c .if1 .taken))
 returns-2 : tie.Need-returns-2
 unfolding lifeRight
 returns-2 c =
-    let a = c .before .before .args in
+    let c2 = c .before .before in
+    let a = c2 .args in
     sym (rw (ne-eqb (a .retired) 0 (c .before .if1 .left)) (test-failed _ (le-ltb (a .version) (a .retired) (c .if2 .taken))))
 
 returns-3 : tie.Need-returns-3
 unfolding lifeRight
 returns-3 c =
-    let a = c .before .before .before .before .args in
-    sym
-    (rw (ne-eqb (a .retired) 0 (c .before .before .before .if1 .left))
-    (test-passed _ (lt-ltb (a .version) (a .retired) (c .before .before .if2 .left)) ∙ test-failed _ (le-ltb (a .kept .oldest) (a .retired) (c .if3 .taken))))
+    let c2 = c .before .before in
+    let c3 = c2 .before in
+    let a = c3 .before .args in
+    sym (rw (ne-eqb (a .retired) 0 (c3 .if1 .left))
+    (test-passed _ (lt-ltb (a .version) (a .retired) (c2 .if2 .left)) ∙ test-failed _
+    (le-ltb (a .kept .oldest) (a .retired) (c .if3 .taken))))
 
 returns-4 : tie.Need-returns-4
 unfolding lifeRight
 returns-4 c =
-    let a = c .before .before .before .before .before .args in
-    sym
-    (rw (ne-eqb (a .retired) 0 (c .before .before .before .before .if1 .left))
-    (test-passed _ (lt-ltb (a .version) (a .retired) (c .before .before .before .if2 .left)) ∙ test-passed _ (lt-ltb (a .kept .oldest) (a .retired) (c .before .if3 .left)) ∙ test-last _))
+    let c3 = c .before .before .before in
+    let c4 = c3 .before in
+    let a = c4 .before .args in
+    sym (rw (ne-eqb (a .retired) 0 (c4 .if1 .left))
+    (test-passed _ (lt-ltb (a .version) (a .retired) (c3 .if2 .left)) ∙ test-passed _
+    (lt-ltb (a .kept .oldest) (a .retired) (c .before .if3 .left)) ∙ test-last _))
 
 pub life-right-spec : {M : Type 1} → statement M
 life-right-spec = tie.close (tie.spec returns returns-2 returns-3 returns-4)

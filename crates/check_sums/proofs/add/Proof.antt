@@ -27,7 +27,9 @@ element-write-sums c = search needs
 
 -- src/lib.rt:19:1
 returns : tie.Need-returns
-returns c = set-added (c .before .before .args .sums .now) (c .before .before .args .c) (c .before .before .args .life) _ (c .more .ensures)
+returns c =
+    let c2 = c .before .before in
+    set-added (c2 .args .sums .now) (c2 .args .c) (c2 .args .life) _ (c .more .ensures)
 
 pub add-spec : {M : Type 1} → statement M
 add-spec =

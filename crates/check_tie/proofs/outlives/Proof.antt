@@ -1,15 +1,13 @@
 -- `check_tie::outlives` meets its contract. Assumes nothing.
-use Rattle.kin.proofs.Holding.{slot-fits}
-use Rattle.check_tie.proofs.Children.{some-other, no-leaf}
+use mathlib.Core.Path.{refl}
+use Rattle.store.proofs.Slots.{slot-within}
+use Rattle.check_tie.proofs.Children.{some-other, by-kind}
 use borrow.Author.Needs.{needs}
 use Rattle.check_tie.proofs.outlives.Statement.{statement}
 use Rattle.check_tie.proofs.outlives.Tie as tie
 
-slot-of-requires : tie.Need-slot-of-requires
-slot-of-requires c κs = slot-fits (c .before .pre .0)
-
-get-u32-requires : tie.Need-get-u32-requires
-get-u32-requires c κs = search needs
+retired-at-requires : tie.Need-retired-at-requires
+retired-at-requires c κs = slot-within (c .before .pre .0)
 
 ends-before-requires : tie.Need-ends-before-requires
 ends-before-requires c κs = search needs
@@ -18,26 +16,34 @@ returns : tie.Need-returns
 returns c = tt
 
 returns-2 : tie.Need-returns-2
-returns-2 c = let c5 = c .before .before .before .before .before in some-other (c5 .before .pre .0) (c .before .before .before .before .slot-of .ensures .0) (c5 .before .pre .1) (c .before .before .before .get-u32 .ensures) (c .before .before .ends-before .ensures .0) (c .before .if1 .left) (c5 .before .args .other) (c .if2 .taken)
+returns-2 c =
+    let c2 = c .before .before in
+    let c3 = c2 .before in
+    let c5 = c3 .before .before in
+    some-other (c5 .pre .0) (c5 .pre .1) (c3 .retired-at .ensures) (c2 .ends-before .ensures .0) (c .before .if1 .left)
+    (c5 .args .other) (c .if2 .taken)
 
-get-u16-requires : tie.Need-get-u16-requires
-get-u16-requires c κs = search needs
+kind-at-requires : tie.Need-kind-at-requires
+kind-at-requires c κs =
+    let c5 = c .before .before .before .before .before in
+    slot-within (c5 .pre .0)
 
 returns-3 : tie.Need-returns-3
-returns-3 c = tt
-
-returns-4 : tie.Need-returns-4
-returns-4 c = let c5 = c .before .before .before .before .before in no-leaf (c5 .before .before .before .pre .0) (c5 .before .slot-of .ensures .0) (c5 .before .before .before .pre .1) (c5 .get-u32 .ensures) (c .before .before .before .before .ends-before .ensures .0) (c .before .before .before .if1 .left) (c5 .before .before .before .args .other) (c .before .get-u16 .ensures) (c .if3 .left)
+returns-3 c =
+    let c2 = c .before .before in
+    let c3 = c2 .before in
+    let c4 = c3 .before in
+    let c6 = c4 .before .before in
+    by-kind (c6 .pre .0) (c6 .pre .1) (c4 .retired-at .ensures) (c3 .ends-before .ensures .0) (c2 .if1 .left) (c6 .args .other)
+    (c .kind-at .ensures) _ refl
 
 pub outlives-spec : {M : Type 1} → statement M
 outlives-spec =
     tie.close
     (tie.spec
-    slot-of-requires
-    get-u32-requires
+    retired-at-requires
     ends-before-requires
     returns
     returns-2
-    get-u16-requires
-    returns-3
-    returns-4)
+    kind-at-requires
+    returns-3)

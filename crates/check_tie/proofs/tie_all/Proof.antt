@@ -1,12 +1,11 @@
 -- `check_tie::tie_all` meets its contract slot by slot. Assumes nothing.
 use native.Mathlib.Omega.{arith}
-use borrow.Author.Needs.{needs}
 use Prim.Native.Nat.{_-_}
 use borrow.Author.Tests.{not-false}
-use Rattle.layout.specs.Sizes.{roomOf}
-use Rattle.layout.proofs.Headers.{size-least}
 use Rattle.check_pass.proofs.Passes.{passed-is}
-use Rattle.check_tie.proofs.Loops.{Going, go-start, go-slot, go-next, go-end, go-off}
+use Rattle.check_pass.proofs.Walks.{walk-slot}
+use Rattle.check_tie.proofs.Loops.{Going, go-start, go-next, go-end, go-off}
+use borrow.Author.Needs.{needs}
 use Rattle.check_tie.proofs.tie_all.Statement.{statement}
 use Rattle.check_tie.proofs.tie_all.Tie as tie
 
@@ -16,54 +15,78 @@ Inv-loop store kept guess known₀ sums₀ n j₀ known sums j = Going store n s
 abbrev μ-loop : tie.MeasureT-loop
 μ-loop store kept guess known₀ sums₀ n j₀ known sums j = n - j
 
-sub-n : tie.Need-sub-n Inv-loop μ-loop
-sub-n c = omega (arith, size-least _ (c .before .pre .0 .keeps .size))
+slot-count-requires : tie.Need-slot-count-requires Inv-loop μ-loop
+slot-count-requires c κs = c .before .pre .0 .keeps .size
 
 loop-holds : tie.Need-loop-holds Inv-loop μ-loop
-unfolding roomOf
-loop-holds c = go-start (c .before .args .store .now) (c .before .args .sums .now) (c .before .args .known .now) (c .before .pre .0 .keeps .size) (c .before .pre .1)
+loop-holds c =
+    let c2 = c .before .before in
+    go-start (c2 .args .store .now) (c2 .args .sums .now) (c2 .args .known .now) (c2 .pre .0 .keeps .size) (c .slot-count .ensures)
+    (c2 .pre .1)
 
 mul-wide : tie.Need-mul-wide Inv-loop μ-loop
-mul-wide c = omega (arith, c .before .loop .inv .small)
+mul-wide c = omega (arith, c .before .loop .inv .walk .scan .small)
 
 mul-wide-2 : tie.Need-mul-wide-2 Inv-loop μ-loop
-mul-wide-2 c = omega (arith, c .before .loop .inv .small)
+mul-wide-2 c = omega (arith, c .before .loop .inv .walk .scan .small)
 
 element-copy-out-wide : tie.Need-element-copy-out-wide Inv-loop μ-loop
-element-copy-out-wide c = omega (arith, c .before .loop .inv .small)
+element-copy-out-wide c = omega (arith, c .before .loop .inv .walk .scan .small)
 
 wide-requires : tie.Need-wide-requires Inv-loop μ-loop
 wide-requires c κs = search needs
 
 mul-wide-3 : tie.Need-mul-wide-3 Inv-loop μ-loop
-mul-wide-3 c = omega (arith, c .before .before .before .loop .inv .small)
+mul-wide-3 c =
+    let c3 = c .before .before .before in
+    omega (arith, c3 .loop .inv .walk .scan .small)
 
 add-wide : tie.Need-add-wide Inv-loop μ-loop
-add-wide c = omega (arith, c .before .before .before .loop .inv .small)
+add-wide c =
+    let c3 = c .before .before .before in
+    omega (arith, c3 .loop .inv .walk .scan .small)
 
 mul-wide-4 : tie.Need-mul-wide-4 Inv-loop μ-loop
-mul-wide-4 c = omega (arith, c .before .before .before .loop .inv .small)
+mul-wide-4 c =
+    let c3 = c .before .before .before in
+    omega (arith, c3 .loop .inv .walk .scan .small)
 
 element-copy-out-wide-2 : tie.Need-element-copy-out-wide-2 Inv-loop μ-loop
-element-copy-out-wide-2 c = omega (arith, c .before .before .before .loop .inv .small)
+element-copy-out-wide-2 c =
+    let c3 = c .before .before .before in
+    omega (arith, c3 .loop .inv .walk .scan .small)
 
 wide-requires-2 : tie.Need-wide-requires-2 Inv-loop μ-loop
 wide-requires-2 c κs = search needs
 
 tie-slot-requires : tie.Need-tie-slot-requires Inv-loop μ-loop
-tie-slot-requires c κs = let c5 = c .before .before .before .before .before in (go-slot (c5 .before .before .loop .inv) (c5 .before .loop-test .taken), c5 .before .before .before .before .pre .0, c5 .before .before .loop .inv .known)
+tie-slot-requires c κs =
+    let c6 = c .before .before .before .before .before .before in
+    let c7 = c6 .before in
+    let c10 = c7 .before .before .before in
+    (walk-slot (c7 .loop .inv .walk) (c6 .loop-test .taken), c10 .pre .0, c7 .loop .inv .known)
 
 returns : tie.Need-returns Inv-loop μ-loop
-returns c = let c5 = c .before .before .before .before .before in go-off (c5 .before .before .before .before .loop .inv) (c5 .before .before .before .loop-test .taken) _
+returns c =
+    let c8 = c .before .before .before .before .before .before .before .before in
+    go-off (c8 .before .loop .inv) (c8 .loop-test .taken) _
 
 add-j : tie.Need-add-j Inv-loop μ-loop
-add-j c = let c5 = c .before .before .before .before .before in omega (arith, c5 .before .before .before .before .loop .inv .small)
+add-j c =
+    let c9 = c .before .before .before .before .before .before .before .before .before in
+    omega (arith, c9 .loop .inv .walk .scan .small)
 
 loop-less : tie.Need-loop-less Inv-loop μ-loop
-loop-less c = let c5 = c .before .before .before .before .before in omega (arith, c5 .before .before .before .before .loop .inv .small)
+loop-less c =
+    let c9 = c .before .before .before .before .before .before .before .before .before in
+    omega (arith, c9 .loop .inv .walk .scan .small)
 
 loop-again : tie.Need-loop-again Inv-loop μ-loop
-loop-again c = let c5 = c .before .before .before .before .before in go-next (c5 .before .before .before .before .loop .inv) (c5 .before .before .before .loop-test .taken) (c .before .tie-slot .last .1 .1 .1 .1 .1 .1 .0) (c .before .tie-slot .last .1 .1 .1 .1 .1 .0) (c .before .tie-slot .ensures .0) (passed-is (not-false (c .before .tie-slot .result) (c .if1 .left)) (c .before .tie-slot .ensures .1))
+loop-again c =
+    let c8 = c .before .before .before .before .before .before .before .before in
+    go-next (c8 .before .loop .inv) (c8 .loop-test .taken) (c .before .tie-slot .last .1 .1 .1 .1 .1 .1 .0)
+    (c .before .tie-slot .last .1 .1 .1 .1 .1 .0) (c .before .tie-slot .ensures .0)
+    (passed-is (not-false (c .before .tie-slot .result) (c .if1 .left)) (c .before .tie-slot .ensures .1))
 
 returns-2 : tie.Need-returns-2 Inv-loop μ-loop
 returns-2 c = go-end (c .before .loop .inv) (c .loop-test .left)
@@ -74,7 +97,7 @@ tie-all-spec =
     (tie.spec
     Inv-loop
     μ-loop
-    sub-n
+    slot-count-requires
     loop-holds
     mul-wide
     mul-wide-2

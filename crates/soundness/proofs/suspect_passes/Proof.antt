@@ -1,15 +1,14 @@
 -- `soundness::suspect_passes` meets its contract: a suspect that fails settles it. Assumes nothing.
 use native.Mathlib.Omega.{arith}
 use borrow.Author.Tests.{not-true}
-use Rattle.layout.proofs.Headers.{size-least}
-use Rattle.check_pass.proofs.Records.{has-slot}
+use Rattle.check_pass.proofs.Records.{room-has}
 use Rattle.soundness.proofs.Suspects.{one-fails}
 use borrow.Author.Needs.{needs}
 use Rattle.soundness.proofs.suspect_passes.Statement.{statement}
 use Rattle.soundness.proofs.suspect_passes.Tie as tie
 
-sub-n : tie.Need-sub-n
-sub-n c = omega (arith, size-least _ (c .before .pre .size))
+slot-count-requires : tie.Need-slot-count-requires
+slot-count-requires c κs = c .before .pre .size
 
 each-passes-requires : tie.Need-each-passes-requires
 each-passes-requires c κs = search needs
@@ -18,10 +17,18 @@ returns : tie.Need-returns
 returns c = search needs
 
 slot-passes-requires : tie.Need-slot-passes-requires
-slot-passes-requires c κs = (has-slot (c .before .before .pre .size) (omega (arith, c .if1 .left)), c .before .before .pre)
+slot-passes-requires c κs =
+    let c3 = c .before .before .before in
+    ((room-has (record { size = c3 .pre .size; many = c .before .slot-count .ensures }) (omega (arith, c .if1 .left))), c3 .pre)
 
 returns-2 : tie.Need-returns-2
-returns-2 c = one-fails (c .before .before .before .before .args .store .now) (c .before .before .before .before .args .i) (has-slot (c .before .before .before .before .pre .size) (omega (arith, c .before .before .if1 .left))) (c .before .slot-passes .ensures) (not-true _ (c .if2 .taken))
+returns-2 c =
+    let c2 = c .before .before in
+    let c3 = c2 .before in
+    let c5 = c3 .before .before in
+    one-fails (c5 .args .store .now) (c5 .args .i)
+    (room-has (record { size = c5 .pre .size; many = c3 .slot-count .ensures }) (omega (arith, c2 .if1 .left)))
+    (c .before .slot-passes .ensures) (not-true _ (c .if2 .taken))
 
 each-passes-requires-2 : tie.Need-each-passes-requires-2
 each-passes-requires-2 c κs = search needs
@@ -33,7 +40,7 @@ pub suspect-passes-spec : {M : Type 1} → statement M
 suspect-passes-spec =
     tie.close
     (tie.spec
-    sub-n
+    slot-count-requires
     each-passes-requires
     returns
     slot-passes-requires

@@ -1,0 +1,39 @@
+// Freeing what is retired, document 01, 'Pruning': every record retired since a version or earlier, slot by slot.
+use store::clear_slot_at;
+use store::retired_at;
+use store::slot_count;
+ghost use mathlib.Core.Path.{_≡_};
+ghost use Rattle.layout.specs.Stores.{SlotWithin};
+ghost use Rattle.freeing.specs.Free.{freedSlot, freedCount, Readable, Frees};
+
+// Frees slot i if its retired-since is the version or earlier; answers how many records it freed.
+fn free_slot(store: &mut [u8], i: usize, version: u32) -> u32
+    requires { ⌜ SlotWithin i (now store) ⌝ }
+    ensures count { λ r. ⌜ r ≡ freedCount version i (now (store .entry)) ⌝ }
+    ensures bytes { λ _. ⌜ now (store .exit) ≡ freedSlot version i (now (store .entry)) ⌝ }
+{
+    let since = retired_at(store, i);
+    if since == 0 {
+        return 0;
+    }
+    if version < since {
+        return 0;
+    }
+    clear_slot_at(store, i);
+    1
+}
+
+// Frees every record retired since the version or earlier; answers how many.
+pub fn free_retired(store: &mut [u8], version: u32) -> u32
+    requires { ⌜ Readable (now store) ⌝ }
+    ensures { λ r. ⌜ Frees version (now (store .entry)) r (now (store .exit)) ⌝ }
+{
+    let slots = slot_count(store);
+    let mut freed = 0;
+    let mut i = 0;
+    while i < slots {
+        freed += free_slot(store, i, version);
+        i += 1;
+    }
+    freed
+}
