@@ -19,7 +19,8 @@ use Rattle.place.specs.Place.{placeOf}
 use Rattle.layout.specs.Headers.{sizeRight, headerOf}
 use Rattle.layout.specs.Slots.{keyIn, valueIn}
 use Rattle.layout.specs.Stores.{slotIn, storeOf}
-use Rattle.read_step.specs.Walk.{opened, openedSays, byHeader, leafAt}
+use Rattle.read_step.specs.Walk.{opened, openedSays, leafAt}
+use Rattle.read_step.specs.Headed.{byHeader}
 use Rattle.read_step.specs.declared.Opened as declared-opened
 use Rattle.read_step.specs.declared.Opened.the-variants as first
 use Rattle.read_step.specs.declared.Seen as declared-seen
@@ -30,7 +31,8 @@ use Rattle.paths.specs.Paths.{presenceAt, pathSteps}
 use Rattle.trails.specs.Trails.{shownAt, shownBy, stepsBy, forkSays, forkOn, Walks}
 use Rattle.trails.specs.Searches.{pathOf, endSays, neighbourSays}
 use Rattle.trails.specs.declared.Walked as declared-walked
-use Rattle.proving.specs.Proving.{Gives, presentAt, absentFrom, provedAt, proveAnswer, lengthOf, roomAfter, provedSays}
+use Rattle.proving.specs.Proving.{proveAnswer, roomAfter}
+use Rattle.proving.specs.Parts.{Gives, presentAt, absentFrom, provedAt, lengthOf, provedSays}
 use Rattle.proving.specs.declared.Proved as declared
 use Rattle.proving.specs.declared.Proved.the-variants.{Refused}
 use Rattle.proving.proofs.Giving.{gives-refusal}

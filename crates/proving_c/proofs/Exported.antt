@@ -12,7 +12,8 @@ use Rattle.fields.specs.Written.{written}
 use Rattle.fields.proofs.Written.{fields-fill}
 use Rattle.meaning.specs.Calls.{Answer, refused, accepted}
 use Rattle.meaning.specs.Proving.{proofLength}
-use Rattle.proving.specs.Proving.{lengthOf, roomAfter, provedSays}
+use Rattle.proving.specs.Proving.{roomAfter}
+use Rattle.proving.specs.Parts.{lengthOf, provedSays}
 use Rattle.proving.specs.declared.Proved as declared
 use Rattle.proving.specs.declared.Proved.the-variants.{Refused, Length}
 use Rattle.meaning.specs.Answers.{numberOf}

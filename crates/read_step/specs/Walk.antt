@@ -10,20 +10,16 @@ use Rattle.meaning.specs.Store.{childOn}
 use Rattle.meaning.specs.Calls.{Answer, refused, accepted, isKept}
 use Rattle.meaning.specs.Reading.{Seen, lost, gap, leafSeen, fork, seenBody, seenAt}
 use Rattle.layout.specs.Sizes.{roomOf}
-use Rattle.layout.specs.Headers.{Headed, refusal, header, sizeRight, headerOf}
+use Rattle.layout.specs.Headers.{sizeRight, headerOf}
 use Rattle.layout.specs.Slots.{keyIn, valueIn, leftIn, rightIn, isLeaf, leafIn, innerIn}
 use Rattle.layout.specs.Stores.{slotIn, storeOf}
 use Rattle.place.specs.declared.Place as declared-place
 use Rattle.place.specs.Place.{Proper}
+use Rattle.read_step.specs.Headed.{byHeader}
 use Rattle.read_step.specs.declared.Opened as declared-opened
 use Rattle.read_step.specs.declared.Opened.the-variants.{Refused, Kept}
 use Rattle.read_step.specs.declared.Seen as declared
 use Rattle.read_step.specs.declared.Seen.the-variants.{Gap, Lost, Leaf, Inner}
-
--- A read tests the header: 1 or 2, else what it answers of the store.
-abbrev pub byHeader : {A : Type 0} → Headed → Answer A → Answer A
-byHeader (refusal n) a = refused n
-byHeader (header n oldest latest) a = a
 
 -- What a read tests before it looks at a slot: 1, 2, and 8 where the version isn't kept.
 unfoldable pub opened : Bytes → ℕ → Answer (Unit {0})

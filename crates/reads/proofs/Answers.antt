@@ -21,7 +21,8 @@ use Rattle.read_step.specs.Walk.{opened, openedSays, leafAt}
 use Rattle.read_step.specs.declared.Opened as declared-opened
 use Rattle.read_step.specs.declared.Opened.the-variants.{Refused, Kept}
 use Rattle.read_step.proofs.Opening as opening
-use Rattle.reads.specs.Reads.{rootAnswer, keyAnswer, rootSays, readSays, leafRead, walkRead}
+use Rattle.reads.specs.Reads.{rootAnswer, keyAnswer}
+use Rattle.reads.specs.Parts.{rootSays, readSays, leafRead, walkRead}
 use Rattle.reads.specs.declared.KeyRead as declared
 use Rattle.reads.specs.declared.KeyRead.the-variants as read
 use Rattle.reads.specs.declared.RootRead.the-variants as root

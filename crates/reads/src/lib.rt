@@ -30,7 +30,8 @@ ghost use Rattle.nodehash.specs.Node.{leafHash, innerHash};
 ghost use Rattle.layout.specs.Sizes.{roomOf};
 ghost use Rattle.layout.specs.Headers.{sizeRight};
 ghost use Rattle.layout.specs.Stores.{storeOf};
-ghost use Rattle.reads.specs.Reads.{rootAnswer, keyAnswer, rootSays, readSays, leafRead, walkRead};
+ghost use Rattle.reads.specs.Reads.{rootAnswer, keyAnswer};
+ghost use Rattle.reads.specs.Parts.{rootSays, readSays, leafRead, walkRead};
 
 // What a root read answers.
 pub enum RootRead {

@@ -11,7 +11,8 @@ use Rattle.meaning.specs.Reading.{present, absent}
 use Rattle.hash.specs.declared.Hash.{Hash}
 use Rattle.hash.specs.Hash.{hashBytes}
 use Rattle.hash.proofs.Laws.{put-over}
-use Rattle.reads.specs.Reads.{rootSays, readSays, rootAnswer, keyAnswer}
+use Rattle.reads.specs.Reads.{rootAnswer, keyAnswer}
+use Rattle.reads.specs.Parts.{rootSays, readSays}
 use Rattle.reads.specs.declared.RootRead as declared-root
 use Rattle.reads.specs.declared.RootRead.the-variants as root
 use Rattle.reads.specs.declared.KeyRead as declared-read

@@ -1,2 +1,3 @@
 pub mod Holding
 pub mod Verify
+pub mod Says

@@ -3,7 +3,7 @@
 use mathlib.Core.Path.{ap, sym, _∙_}
 use Rattle.meaning.specs.Calls.{Answer}
 use Rattle.meaning.specs.Reading.{Verdict}
-use Rattle.verify.specs.Verify.{says}
+use Rattle.verify.specs.Says.{says}
 use Rattle.meaning.specs.Answers.{numberOf, foundAfter}
 use Rattle.verify.proofs.Boundary.{zeros-found}
 use borrow.Author.Needs.{needs}
