@@ -22,6 +22,7 @@
  *  10  the proof isn't one whole record in form, no byte over
  *  11  the proof is in form, but doesn't hold
  *  12  a key or root handed in isn't 32 bytes
+ *  14  the version is empty, so there is no proof
  *
  * 'Refused' below names a call's numbers in the order in which it tests for them: where several are deserved, the first is given.
  */
@@ -63,13 +64,15 @@ uint32_t grants_root(const uint8_t *store, size_t store_len, uint32_t version, u
 uint32_t grants_get(const uint8_t *store, size_t store_len, uint32_t version, const uint8_t *key, size_t key_len, uint8_t found[33]);
 
 /* Writes the proof that a key is in a version, or that it isn't, to the front of room; the rest of room stays. length: of the proof, 4 bytes.
-   No proof is longer than 17,080 bytes. It tests the header and what it meets on its way, not soundness: what comes from a store that isn't
-   sound, grants_verify may refuse. Refused: 12, 1, 2, 8, 3, 9. */
+   No proof is longer than 17,080 bytes; the shortest has 72, of absence 112. A version without a grant has no proof (14): its root of 32 zero
+   bytes, signed, is itself the proof that nothing is granted. It tests the header and what it meets on its way, not soundness: what comes from
+   a store that isn't sound, grants_verify may refuse. Refused: 12, 1, 2, 8, 14, 3, 9. */
 uint32_t grants_prove(const uint8_t *store, size_t store_len, uint32_t version, const uint8_t *key, size_t key_len, uint8_t *room,
                       size_t room_len, uint8_t length[4]);
 
 /* What a proof shows of a key against a root: all that an editor needs. The root must come from who signs it; the proof may come from anybody.
    found: 1 and the value for 'present', 0 and 32 zero bytes for 'absent'. Any number but 0 means that the proof shows nothing.
+   Where the signed root is 32 zero bytes nothing is granted, and no proof is needed: none is accepted against it.
    Refused: 12, 10, 11. */
 uint32_t grants_verify(const uint8_t *root, size_t root_len, const uint8_t *key, size_t key_len, const uint8_t *proof, size_t proof_len,
                        uint8_t found[33]);

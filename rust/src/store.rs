@@ -105,7 +105,8 @@ impl<B: AsRef<[u8]>> Store<B> {
         ffi::get(self.as_bytes(), version, key.as_ref()).map(proof::found)
     }
 
-    /// The proof that a key is in a version, or that it isn't. Refused: 12, 1, 2, 8, 3.
+    /// The proof that a key is in a version, or that it isn't. In a version without a grant there is none (14): its root, [`Root::EMPTY`], is
+    /// itself the proof that nothing is granted. Refused: 12, 1, 2, 8, 14, 3.
     pub fn prove(&self, version: u32, key: impl AsRef<[u8]>) -> Result<Proof, Error> {
         let mut room = vec![0; PROOF_BYTES];
         let length = self.prove_into(version, key, &mut room)?;
@@ -113,16 +114,21 @@ impl<B: AsRef<[u8]>> Store<B> {
         Ok(Proof::from_bytes(room))
     }
 
-    /// The same, written to the front of `room`; the answer is the proof's length, and the rest of `room` stays. Refused: 12, 1, 2, 8, 3, 9.
+    /// The same, written to the front of `room`; the answer is the proof's length, and the rest of `room` stays. Refused: 12, 1, 2, 8, 14, 3, 9.
     ///
     /// ```
-    /// use grants::{Error, Store};
+    /// use grants::{Batch, Error, Store};
     ///
-    /// let store = Store::with_capacity(1)?;
-    /// let mut room = [9; 41];
-    /// assert_eq!(store.prove_into(0, [1; 32], &mut room)?, 40);
-    /// assert_eq!(room[40], 9);
-    /// assert_eq!(store.prove_into(0, [1; 32], &mut room[..39]), Err(Error::ProofTooLong));
+    /// let mut store = Store::with_capacity(1)?;
+    /// let mut room = [9; 113];
+    /// assert_eq!(store.prove_into(0, [1; 32], &mut room), Err(Error::EmptyVersion));
+    ///
+    /// let mut batch = Batch::new();
+    /// batch.insert([2; 32], [7; 32]).unwrap();
+    /// store.apply(&batch)?;
+    /// assert_eq!(store.prove_into(1, [1; 32], &mut room)?, 112);
+    /// assert_eq!(room[112], 9);
+    /// assert_eq!(store.prove_into(1, [1; 32], &mut room[..111]), Err(Error::ProofTooLong));
     /// # Ok::<(), Error>(())
     /// ```
     pub fn prove_into(

@@ -3,16 +3,16 @@ use native.Mathlib.Omega.{arith}
 use Prim.Native.Nat.{ℕ}
 use mathlib.Core.Path.{_≡_, refl, sym, subst}
 use mathlib.Core.Logic.{_↔_}
-use mathlib.Core.Bool.{Bool, true, false, cond, _&&_}
+use mathlib.Core.Bool.{Bool, true, false, cond, _&&_, false≢true}
 use mathlib.Core.Option.{Option, none, some}
 use Rattle.terms.specs.Bits.{Bytes, left, right, sameBytes}
-use Rattle.terms.specs.Records.{Presence, Proof, presence, absence, zeros}
+use Rattle.terms.specs.Records.{Presence, Proof, presence, absence}
 use Rattle.terms.proofs.Tests.{and-left, and-right, same-bytes, bytes-same}
 use Rattle.meaning.specs.Calls.{refused, accepted}
 use Rattle.meaning.specs.Reading.{Verdict, present, absent}
 use Rattle.meaning.specs.Proving.{absenceOf, beyond}
 use Rattle.meaning.specs.Checking.{outermost, pathsPart, leadsTo, neighbourHolds, absenceHolds, checked}
-use Rattle.checker.specs.Holding.{Leads, Holds, shown, neither, only-left, only-right, both}
+use Rattle.checker.specs.Holding.{Leads, Holds, shown, only-left, only-right, both}
 use Rattle.checker.proofs.Paths.{both-true, outermost-said, said-outermost, parted-exactly}
 
 passed : (t : Bool) (a b : Verdict) → cond t (accepted a) (refused 11) ≡ accepted b → (t ≡ true) × (a ≡ b)
@@ -46,7 +46,7 @@ module _ (leafHash innerHash : Bytes → Bytes → Bytes) (root k : Bytes) where
 
   absence-said : (j : Bytes) (l r : Option Presence) → k ≡ j → absenceHolds leafHash innerHash root k l r ≡ true →
       Holds leafHash innerHash root k (absenceOf j l r) absent
-  absence-said j none none e h = neither (sym e) (same-bytes root zeros h)
+  absence-said j none none e h = absurd (false≢true h)
   absence-said j (some l) none e h =
       let n = neighbourHolds leafHash innerHash left root k l in
       let o = outermost right (l .steps) in
@@ -82,7 +82,6 @@ module _ (leafHash innerHash : Bytes → Bytes → Bytes) (root k : Bytes) where
 
   said-holds : (p : Proof) (v : Verdict) → Holds leafHash innerHash root k p v → checked leafHash innerHash root k p ≡ accepted v
   said-holds _ _ (shown {p} e h) = answered (p .key) (leadsTo leafHash innerHash root p) (present (p .value)) e (said-leads p h)
-  said-holds _ _ (neither {j} e h) = answered j (sameBytes root zeros) absent e (rw h (bytes-same zeros))
   said-holds _ _ (only-left {j} {l} e h o) =
       answered j (neighbourHolds leafHash innerHash left root k l && outermost right (l .steps)) absent e
       (both-true _ _ (said-near left l (h .0) (h .1)) (said-outermost right (l .steps) o))

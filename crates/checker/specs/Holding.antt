@@ -1,4 +1,5 @@
--- Document 01, 'Checking', in its words: when a proof holds, whoever wrote it. No test of a program stands here. Assumes nothing.
+-- Document 01, 'Checking', in its words: when a proof holds, whoever wrote it; and 2026-03: without a neighbour none does. No test of a program
+-- stands here. Assumes nothing.
 use mathlib.Core.Path.{_≡_}
 use mathlib.Core.Logic.{_⊎_}
 use mathlib.Core.Bool.{true}
@@ -51,7 +52,6 @@ module _ (leafHash innerHash : Bytes → Bytes → Bytes) (root k : Bytes) where
   -- A proof holds for the key k against the root, and this is the answer: present with the value, or absent by its neighbours.
   pub data Holds : Proof → Verdict → Type 0 where
     shown : {p : Presence} → p .key ≡ k → Leads p → Holds (presence p) (present (p .value))
-    neither : {j : Bytes} → j ≡ k → root ≡ zeros → Holds (absenceOf j none none) absent
     only-left : {j : Bytes} {l : Presence} → j ≡ k → LeftOf l → Rightmost (l .steps) → Holds (absenceOf j (some l) none) absent
     only-right : {j : Bytes} {r : Presence} → j ≡ k → RightOf r → Leftmost (r .steps) → Holds (absenceOf j none (some r)) absent
     both : {j : Bytes} {l r : Presence} → j ≡ k → LeftOf l → RightOf r → Parted (l .steps) (r .steps) →

@@ -60,14 +60,20 @@ module _ {root k x f : Bytes} {r : ℕ} {g : Bytes} (bytes : All Byte x) (w : Ve
       sizes true false m n c d = absurd (omega (arith, z .0))
       sizes true true m n c d = form (proofIn x) refl (eqb-true (length root) 32 m) (eqb-true (length k) 32 n) c d
 
-  back : Accepts root k x answer → (r ≡ 0) × (g ≡ foundBytes answer)
+  accepted-so : Accepts root k x answer → verified root k x ≡ accepted answer
   unfolding verified
-  back a =
-      let e : verified root k x ≡ accepted answer =
+  accepted-so a =
       rw (eq-eqb (length root) 32 (a .root32), eq-eqb (length k) 32 (a .key32), read-as x bytes (a .proof) (a .is-proof))
-      (accepted-exactly-if-holds leafHash innerHash root k (a .proof) answer .1 (a .holds)) in
-      (w .answer ∙ ap (λ b. numberOf b) e, w .found ∙ ap (λ b. foundAfter b f) e)
+      (accepted-exactly-if-holds leafHash innerHash root k (a .proof) answer .1 (a .holds))
+
+  back : Accepts root k x answer → (r ≡ 0) × (g ≡ foundBytes answer)
+  back a =
+      let e = accepted-so a in (w .answer ∙ ap (λ b. numberOf b) e, w .found ∙ ap (λ b. foundAfter b f) e)
 
   -- The proof check answers 0, and finds this answer, exactly if the bytes are a proof that holds with it.
   pub accepted-exactly-if-it-holds : ((r ≡ 0) × (g ≡ foundBytes answer)) ↔ Accepts root k x answer
   accepted-exactly-if-it-holds = (there, back)
+
+  -- So what was found is what the definition answers.
+  pub verified-so : r ≡ 0 → g ≡ foundBytes answer → verified root k x ≡ accepted answer
+  verified-so e d = accepted-so (there (e, d))

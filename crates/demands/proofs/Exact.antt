@@ -118,7 +118,7 @@ get-exactly {s} {v} {k} {r = r} h w =
     (key-first k (byHeader (headerOf s) (readKey (storeOf s) v k)) (headerRows s ++ keyRows s v k)
     (read-first s (readKey (storeOf s) v k) (keyRows s v k) (λ c o l e. get-first s (records-formed s h e) v k))))
 
--- Proving: 12, 1, 2, 8, 3, 9.
+-- Proving: 12, 1, 2, 8, 14, 3, 9.
 pub prove-exactly : {s : Bytes} {v : ℕ} {k room f : Bytes} {r : ℕ} {t g : Bytes} → All Byte s → Proves s v k room f r t g →
     Exactly (proveRows s v k room) r
 unfolding proveAnswer

@@ -98,7 +98,7 @@ kind-is (absence a) rest =
 
 module _ {s : Bytes} {v : ℕ} {k room f t g : Bytes} (w : Proves s v k room f 0 t g) where
   there-is : (p : Proof) × (provedInto s v k room ≡ accepted p)
-  there-is = accepted-of (provedInto s v k room) (λ n e. never-0 (12 ∷ 1 ∷ 2 ∷ 8 ∷ 3 ∷ 9 ∷ []) refl (prove-refusals s v k (length room) n e)) (w .answer)
+  there-is = accepted-of (provedInto s v k room) (λ n e. never-0 (12 ∷ 1 ∷ 2 ∷ 8 ∷ 14 ∷ 3 ∷ 9 ∷ []) refl (prove-refusals s v k (length room) n e)) (w .answer)
 
   pub its-proof : Proof
   its-proof = there-is .0

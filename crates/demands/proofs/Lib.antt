@@ -7,6 +7,7 @@ pub mod Accepting
 pub mod Forms
 pub mod Given
 pub mod Showing
+pub mod Shortest
 pub mod Versions
 pub mod Cut
 pub mod Histories

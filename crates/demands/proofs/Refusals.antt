@@ -16,6 +16,7 @@ use Rattle.terms.proofs.Tests.{and-right}
 use Rattle.meaning.specs.Calls.{Answer, refused, accepted, Outcome, isKept, apply, prune}
 use Rattle.meaning.specs.Reading.{Verdict, End, broken, atLeaf, atGap, walk, seen}
 use Rattle.meaning.specs.Proving.{Sought, lostWay, nobody, somebody, neighbour, absenceFrom, absenceAt, proveEnd, proveSeen, proof, proofLength, fitted, prove}
+use Rattle.meaning.proofs.Empty.{proof-by-searches}
 use Rattle.histories.specs.Claims.{ApplyRefuses, not-in-form, not-ascending, no-version-left, no-room}
 use Rattle.histories.proofs.Theorems.{apply-refuses-exactly, prune-refuses-exactly}
 use Rattle.nodehash.specs.Node.{leafHash, innerHash}
@@ -145,24 +146,25 @@ module _ {s : Bytes} {v : ℕ} {k f : Bytes} {r : ℕ} {g : Bytes} (w : ReadsKey
   pub refused-get-writes-nothing : (r ≡ 0 → ⊥) → g ≡ f
   refused-get-writes-nothing = found-kept (keyAnswer s v k) (w .answer) (w .found)
 
--- Proving: 12; then 1, 2; then 8, 3, 9.
-absence-refusals : (k : Bytes) (x y : Sought) {n : ℕ} → absenceFrom k x y ≡ refused n → n ≡ 3
-absence-refusals k lostWay y e = with-number e
-absence-refusals k nobody lostWay e = with-number e
-absence-refusals k nobody nobody e = no-refusal e
+-- Proving: 12; then 1, 2; then 8, 14, 3, 9.
+absence-refusals : (k : Bytes) (x y : Sought) {n : ℕ} → absenceFrom k x y ≡ refused n → OneOf (14 ∷ 3 ∷ []) n
+absence-refusals k lostWay y e = inr (inl (with-number e))
+absence-refusals k nobody lostWay e = inr (inl (with-number e))
+absence-refusals k nobody nobody e = inl (with-number e)
 absence-refusals k nobody (somebody q) e = no-refusal e
-absence-refusals k (somebody p) lostWay e = with-number e
+absence-refusals k (somebody p) lostWay e = inr (inl (with-number e))
 absence-refusals k (somebody p) nobody e = no-refusal e
 absence-refusals k (somebody p) (somebody q) e = no-refusal e
 
-end-refusals : (k : Bytes) (e : End) {n : ℕ} → proveEnd k e ≡ refused n → n ≡ 3
+end-refusals : (k : Bytes) (e : End) {n : ℕ} → proveEnd k e ≡ refused n → OneOf (14 ∷ 3 ∷ []) n
 unfolding absenceAt
-end-refusals k broken h = with-number h
+end-refusals k broken h = inr (inl (with-number h))
 end-refusals k (atGap trail) h = absence-refusals k (neighbour left k (atGap trail)) (neighbour right k (atGap trail)) h
 end-refusals k (atLeaf l x trail) {n} h = go (sameBytes k l) _ h
   where
     go : (b : Bool) (p : Proof) →
-        cond b (accepted p) (absenceFrom k (neighbour left k (atLeaf l x trail)) (neighbour right k (atLeaf l x trail))) ≡ refused n → n ≡ 3
+        cond b (accepted p) (absenceFrom k (neighbour left k (atLeaf l x trail)) (neighbour right k (atLeaf l x trail))) ≡ refused n →
+        OneOf (14 ∷ 3 ∷ []) n
     go true p f = no-refusal f
     go false p f = absence-refusals k (neighbour left k (atLeaf l x trail)) (neighbour right k (atLeaf l x trail)) f
 
@@ -175,36 +177,37 @@ fitted-refusals room ns (accepted p) {n} f e = go (ltb room (proofLength p)) e
     go true h = inl (with-number h)
     go false h = no-refusal h
 
-proof-refusals : (st : Store) (v : ℕ) (k : Bytes) (n : ℕ) → proof st v k ≡ refused n → OneOf (8 ∷ 3 ∷ []) n
-unfolding proof proveSeen
-proof-refusals st v k n e = go (isKept st v) e
+proof-refusals : (st : Store) (v : ℕ) (k : Bytes) (n : ℕ) → proof st v k ≡ refused n → OneOf (8 ∷ 14 ∷ 3 ∷ []) n
+unfolding proveSeen
+proof-refusals st v k n e = go (isKept st v) (sym (proof-by-searches st v k) ∙ e)
   where
-    go : (b : Bool) → cond b (proveEnd k (walk k 0 [] (seen st v))) (refused 8) ≡ refused n → OneOf (8 ∷ 3 ∷ []) n
-    go true h = inr (inl (end-refusals k (walk k 0 [] (seen st v)) h))
+    go : (b : Bool) → cond b (proveEnd k (walk k 0 [] (seen st v))) (refused 8) ≡ refused n → OneOf (8 ∷ 14 ∷ 3 ∷ []) n
+    go true h = inr (end-refusals k (walk k 0 [] (seen st v)) h)
     go false h = inl (with-number h)
 
 pub prove-refusals : (s : Bytes) (v : ℕ) (k : Bytes) (room n : ℕ) → proveAnswer s v k room ≡ refused n →
-    OneOf (12 ∷ 1 ∷ 2 ∷ 8 ∷ 3 ∷ 9 ∷ []) n
+    OneOf (12 ∷ 1 ∷ 2 ∷ 8 ∷ 14 ∷ 3 ∷ 9 ∷ []) n
 unfolding proveAnswer prove
 prove-refusals s v k room n = go (eqb (length k) 32) (headerOf s) (λ m. header-numbers s)
   where
-    last : (n ≡ 9) ⊎ OneOf (8 ∷ 3 ∷ []) n → OneOf (8 ∷ 3 ∷ 9 ∷ []) n
-    last (inl z) = inr (inr (inl z))
+    last : (n ≡ 9) ⊎ OneOf (8 ∷ 14 ∷ 3 ∷ []) n → OneOf (8 ∷ 14 ∷ 3 ∷ 9 ∷ []) n
+    last (inl z) = inr (inr (inr (inl z)))
     last (inr (inl z)) = inl z
     last (inr (inr (inl z))) = inr (inl z)
-    last (inr (inr (inr z))) = absurd z
+    last (inr (inr (inr (inl z)))) = inr (inr (inl z))
+    last (inr (inr (inr (inr z)))) = absurd z
 
-    first : OneOf (1 ∷ 2 ∷ []) n → OneOf (12 ∷ 1 ∷ 2 ∷ 8 ∷ 3 ∷ 9 ∷ []) n
+    first : OneOf (1 ∷ 2 ∷ []) n → OneOf (12 ∷ 1 ∷ 2 ∷ 8 ∷ 14 ∷ 3 ∷ 9 ∷ []) n
     first (inl z) = inr (inl z)
     first (inr (inl z)) = inr (inr (inl z))
     first (inr (inr z)) = absurd z
 
     go : (b : Bool) (h : Headed) → ((m : ℕ) → h ≡ refusal m → OneOf (1 ∷ 2 ∷ []) m) →
-        cond b (byHeader h (fitted room (proof (storeOf s) v k))) (refused 12) ≡ refused n → OneOf (12 ∷ 1 ∷ 2 ∷ 8 ∷ 3 ∷ 9 ∷ []) n
+        cond b (byHeader h (fitted room (proof (storeOf s) v k))) (refused 12) ≡ refused n → OneOf (12 ∷ 1 ∷ 2 ∷ 8 ∷ 14 ∷ 3 ∷ 9 ∷ []) n
     go false h f e = inl (with-number e)
     go true (refusal m) f e = first (subst (OneOf (1 ∷ 2 ∷ [])) (sym (with-number e)) (f m refl))
     go true (header c o l) f e =
-        inr (inr (inr (last (fitted-refusals room (8 ∷ 3 ∷ []) (proof (storeOf s) v k) (proof-refusals (storeOf s) v k) e))))
+        inr (inr (inr (last (fitted-refusals room (8 ∷ 14 ∷ 3 ∷ []) (proof (storeOf s) v k) (proof-refusals (storeOf s) v k) e))))
 
 module _ {s : Bytes} {v : ℕ} {k room f : Bytes} {r : ℕ} {t g : Bytes} (w : Proves s v k room f r t g) where
   pub refused-prove-writes-nothing : (r ≡ 0 → ⊥) → (t ≡ room) × (g ≡ f)

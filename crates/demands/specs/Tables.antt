@@ -1,5 +1,5 @@
 -- Document 01, 'Numbers of refusal': the table of each public call. 'Order: 12; then 1, 2; apply 3, 4, 5, 6, 7; prune 3, 8; reads 8, 3, 9;
--- the proof check 10, 11. Format gives only 1.' Assumes nothing.
+-- the proof check 10, 11. Format gives only 1.' By 2026-03 proving tests for 14 after 8. Assumes nothing.
 use Prim.Native.Nat.{ℕ}
 use mathlib.Core.List.{[], _∷_, _++_}
 use Rattle.terms.specs.Bits.{Bytes}

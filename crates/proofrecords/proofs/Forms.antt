@@ -8,8 +8,7 @@ use mathlib.Core.Bool.{Bool, true, false, _&&_, true≢false}
 use mathlib.Core.List.{List, [], _∷_}
 use lib.ListN.{length, getD, take, drop, length-drop}
 use lib.Seq.{take-all}
-use lib.Dec.{eqb}
-use borrow.Author.Tests.{eqb-true, eq-eqb, ne-eqb, leb-true, le-leb, lt-leb}
+use borrow.Author.Tests.{eqb-true, eq-eqb, leb-true, le-leb, lt-leb}
 use Rattle.terms.specs.Bits.{Bytes}
 use Rattle.terms.specs.Fields.{slice, field, allOf}
 use Rattle.terms.proofs.Tests.{and-left, and-right, and-true}
@@ -49,10 +48,18 @@ presence-on x a b c d e =
     )
     (and-true (sidesRight (stepCount x) (drop 72 x)))
 
-pub absence-on : (x : Bytes) → 40 ≤ length x → field 0 4 x ≡ length x → field 4 2 x ≡ 17 → flags x ≤ 3 → isAbsence x ≡ neighboursFit x
+pub absence-on : (x : Bytes) → 40 ≤ length x → field 0 4 x ≡ length x → field 4 2 x ≡ 17 → 1 ≤ flags x → flags x ≤ 3 →
+    isAbsence x ≡ neighboursFit x
 unfolding isAbsence allOf
-absence-on x a b c d =
-    rw (le-leb 40 (length x) a, eq-eqb (field 0 4 x) (length x) b, eq-eqb (field 4 2 x) 17 c, le-leb (flags x) 3 d) (and-true (neighboursFit x))
+absence-on x a b c one d =
+    rw (
+      le-leb 40 (length x) a,
+      eq-eqb (field 0 4 x) (length x) b,
+      eq-eqb (field 4 2 x) 17 c,
+      le-leb 1 (flags x) one,
+      le-leb (flags x) 3 d,
+    )
+    (and-true (neighboursFit x))
 
 -- what the form says of the lengths
 pub presence-whole : (x : Bytes) → isPresence x ≡ true → length x ≡ 72 + 33 * stepCount x
@@ -64,33 +71,34 @@ unfolding isAbsence
 absence-head x e = leb-true 40 (length x) (all-of-tests (absenceTests x) e .0)
 
 -- the neighbours, by the flags
-pub fit-none : (x : Bytes) → flags x ≡ 0 → neighboursFit x ≡ eqb (length x) 40
+pub fit-one : (x : Bytes) → flags x ≤ 2 → neighboursFit x ≡ isPresence (drop 40 x)
 unfolding neighboursFit
-fit-none x f = rw f
-
-pub fit-one : (x : Bytes) → (flags x ≡ 0 → ⊥) → flags x ≤ 2 → neighboursFit x ≡ isPresence (drop 40 x)
-unfolding neighboursFit
-fit-one x f g = rw (ne-eqb (flags x) 0 f, le-leb (flags x) 2 g)
+fit-one x g = rw (le-leb (flags x) 2 g)
 
 pub fit-two : (x : Bytes) → 2 < flags x → neighboursFit x ≡ isPresence (leftPart x) && isPresence (rightPart x)
 unfolding neighboursFit
-fit-two x f = rw (ne-eqb (flags x) 0 (λ e. omega arith), lt-leb (flags x) 2 f)
+fit-two x f = rw (lt-leb (flags x) 2 f)
 
 -- the neighbours of an absence proof in form
-absence-fits : (x : Bytes) → isAbsence x ≡ true → (flags x ≤ 3) × (neighboursFit x ≡ true)
+absence-fits : (x : Bytes) → isAbsence x ≡ true → (1 ≤ flags x) × (flags x ≤ 3) × (neighboursFit x ≡ true)
 unfolding isAbsence
-absence-fits x e = let ts = all-of-tests (absenceTests x) e in (leb-true (flags x) 3 (ts .1 .1 .1 .0), ts .1 .1 .1 .1 .0)
+absence-fits x e =
+    let ts = all-of-tests (absenceTests x) e in
+    (leb-true 1 (flags x) (ts .1 .1 .1 .0), leb-true (flags x) 3 (ts .1 .1 .1 .1 .0), ts .1 .1 .1 .1 .1 .0)
 
-pub one-there : (x : Bytes) → isAbsence x ≡ true → (flags x ≡ 0 → ⊥) → flags x ≤ 2 → isPresence (drop 40 x) ≡ true
-one-there x e f g = sym (fit-one x f g) ∙ absence-fits x e .1
+pub one-there : (x : Bytes) → isAbsence x ≡ true → flags x ≤ 2 → isPresence (drop 40 x) ≡ true
+one-there x e g = sym (fit-one x g) ∙ absence-fits x e .2
 
--- two neighbours, where the flags are neither 0, 1 nor 2
+-- two neighbours, where the flags are neither 1 nor 2
+pub above-two : (x : Bytes) → isAbsence x ≡ true → (flags x ≡ 1 → ⊥) → (flags x ≡ 2 → ⊥) → 2 < flags x
+above-two x e p q = let one = absence-fits x e .0 in omega arith
+
 module _ (x : Bytes) (e : isAbsence x ≡ true) (f : 2 < flags x) where
   pub flags-both : flags x ≡ 3
-  flags-both = let t = absence-fits x e .0 in omega arith
+  flags-both = let t = absence-fits x e .1 in omega arith
 
   both-fit : isPresence (leftPart x) && isPresence (rightPart x) ≡ true
-  both-fit = sym (fit-two x f) ∙ absence-fits x e .1
+  both-fit = sym (fit-two x f) ∙ absence-fits x e .2
 
   pub left-there : isPresence (leftPart x) ≡ true
   left-there = and-left (isPresence (leftPart x)) (isPresence (rightPart x)) both-fit
@@ -101,9 +109,6 @@ module _ (x : Bytes) (e : isAbsence x ≡ true) (f : 2 < flags x) where
   pub both-room : 112 + leftLength x ≤ length x
   unfolding rightPart
   both-room = omega (arith, presence-whole (rightPart x) right-there, length-drop (40 + leftLength x) x)
-
-pub above-two : (n : ℕ) → (n ≡ 0 → ⊥) → (n ≡ 1 → ⊥) → (n ≡ 2 → ⊥) → 2 < n
-above-two n p q r = omega arith
 
 -- too short for a second neighbour
 right-short : (x : Bytes) → length x < 112 + leftLength x → length (rightPart x) < 72

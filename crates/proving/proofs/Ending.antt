@@ -14,7 +14,8 @@ use Rattle.terms.specs.Bits.{Bytes, Side, left, right, sameBytes}
 use Rattle.terms.specs.Records.{Proof, presence}
 use Rattle.meaning.specs.Calls.{Answer, refused, accepted, isKept}
 use Rattle.meaning.specs.Reading.{seen, atLeaf, atGap, walk}
-use Rattle.meaning.specs.Proving.{presenceOf, stepUp, neighbour, beyond, somebody, fromTrail, absenceFrom, absenceAt, proveEnd, proveSeen, proof, prove, fitted}
+use Rattle.meaning.specs.Proving.{presenceOf, stepUp, neighbour, beyond, somebody, fromTrail, absenceFrom, absenceAt, proveEnd, proveSeen, prove, fitted}
+use Rattle.meaning.proofs.Empty.{proof-by-searches}
 use Rattle.place.specs.Place.{placeOf}
 use Rattle.layout.specs.Headers.{sizeRight, headerOf}
 use Rattle.layout.specs.Slots.{keyIn, valueIn}
@@ -126,9 +127,10 @@ wrong-key s v k room f =
 module _ (s : Bytes) (v : ℕ) (k room : Bytes) (whole : length k ≡ 32) where
   opened-first : proveAnswer s v k (length room)
       ≡ byHeader (headerOf s) (cond (isKept (storeOf s) v) (fitted (length room) (proveSeen k (seen (storeOf s) v))) (refused 8))
-  unfolding proveAnswer prove proof
+  unfolding proveAnswer prove
   opened-first =
       ap (λ b. cond b (byHeader (headerOf s) (prove (storeOf s) v k (length room))) (refused 12)) (eq-eqb (length k) 32 whole)
+      ∙ ap (λ a. byHeader (headerOf s) (fitted (length room) a)) (proof-by-searches (storeOf s) v k)
       ∙ ap (byHeader (headerOf s)) (fitted-kept (length room) (isKept (storeOf s) v) (proveSeen k (seen (storeOf s) v)))
 
   -- 1, 2, 8

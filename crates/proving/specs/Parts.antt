@@ -54,3 +54,9 @@ abbrev pub wayLost : declared-way.Way → Bool
 wayLost Lost = true
 wayLost Nobody = false
 wayLost Somebody = false
+
+-- A search that found nobody.
+abbrev pub wayAlone : declared-way.Way → Bool
+wayAlone Lost = false
+wayAlone Nobody = true
+wayAlone Somebody = false

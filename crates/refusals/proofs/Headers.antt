@@ -4,16 +4,14 @@ use native.Mathlib.Omega.{arith}
 use mathlib.Core.Path.{_≡_, refl, ap, sym, _∙_, subst}
 use mathlib.Core.Logic.{inl, inr}
 use mathlib.Core.Bool.{Bool, true, false, cond, true≢false}
-use mathlib.Core.Option.{some}
-use lib.ListN.{length, getD}
+use lib.ListN.{length}
 use borrow.Author.Tests.{eqb-true, eq-eqb, leb-true, le-leb}
 use Rattle.terms.specs.Bits.{Bytes, Byte, All}
 use Rattle.terms.specs.Fields.{field, slice, zeroBytes, allZero}
 use Rattle.terms.specs.Records.{free}
-use Rattle.terms.specs.Form.{RecordForm}
 use Rattle.terms.proofs.Lists.{all-at}
 use Rattle.terms.proofs.Fields.{length-slice, zero-bytes, all-zero, all-of-tests, tests-all}
-use Rattle.meaning.proofs.Finding.{isNode-eq, Hit, hit, hits}
+use Rattle.meaning.specs.Sound.{At}
 use Rattle.ways.proofs.Walking.{Formed}
 use Rattle.layout.specs.Sizes.{roomOf}
 use Rattle.layout.specs.Headers.{Headed, refusal, header, sizeRight, headerRight, headerTests, headerOf}
@@ -104,10 +102,6 @@ header-row s {m} e = go (subst (Header s) e (header-is s))
 
 -- the records that bytes with a right header hold are in form
 pub records-formed : (s : Bytes) {c o l : ℕ} → All Byte s → headerOf s ≡ header c o l → Formed (storeOf s)
-records-formed s {c} {o} {l} h e v p r f = go (subst (Hit (storeOf s .slots) v p) f (hits (storeOf s .slots) v p))
-  where
-    form : (i : ℕ) → i < length (storeOf s .slots) → SlotForm (getD (storeOf s .slots) i free)
-    form i k = all-at SlotForm (storeOf s .slots) free i (store-form s c o l h (accepted s c o l e) .each) k
-
-    go : Hit (storeOf s .slots) v p (some r) → RecordForm r × (r .place ≡ p)
-    go (hit i q k d n) = (subst SlotForm d (form i k), isNode-eq v p q n .1)
+unfolding At
+records-formed s {c} {o} {l} h e i r (k, d) =
+    subst SlotForm d (all-at SlotForm (storeOf s .slots) free i (store-form s c o l h (accepted s c o l e) .each) k)

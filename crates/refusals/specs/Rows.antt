@@ -1,15 +1,16 @@
--- Document 01, 'Numbers of refusal': its rows, each a proposition in its words. Assumes nothing.
+-- Document 01, 'Numbers of refusal', and 14 of 2026-03: the rows, each a proposition in its words. Assumes nothing.
 use Prim.Native.Nat.{ℕ, _+_, _*_, _≤_, _<_}
 use mathlib.Core.Path.{_≡_}
 use mathlib.Core.Bool.{false}
 use mathlib.Core.List.{List}
+use mathlib.Core.Option.{none}
 use lib.ListN.{length}
 use Rattle.terms.specs.Bits.{Bytes, All}
 use Rattle.terms.specs.Fields.{field, slice, zeroBytes}
 use Rattle.terms.specs.Records.{Ask, Proof}
 use Rattle.terms.specs.Form.{AskForm, top32}
 use Rattle.meaning.specs.Tree.{nextTree}
-use Rattle.meaning.specs.Store.{treeAtVersion, freeSlots, newRecords}
+use Rattle.meaning.specs.Store.{rootOf, treeAtVersion, freeSlots, newRecords}
 use Rattle.meaning.specs.Sound.{Kept, Sound}
 use Rattle.meaning.specs.Calls.{accepted, ascending}
 use Rattle.meaning.specs.Reading.{Verdict}
@@ -102,3 +103,7 @@ DoesNotHold root k x = (p : Proof) × ProofIs x p × ((answer : Verdict) → Hol
 -- 12: a key or root handed in isn't 32 bytes.
 abbrev pub Not32 : List Bytes → Type 0
 Not32 handed = All (λ x. length x ≡ 32) handed → ⊥
+
+-- 14: proving in an empty version, one whose root is not found (2026-03).
+abbrev pub EmptyVersion : Bytes → ℕ → Type 0
+EmptyVersion s v = rootOf (storeOf s) v ≡ none

@@ -67,11 +67,7 @@ fn neighbours_fit(p: &[u8]) -> bool
     ensures { λ r. ⌜ r ≡ neighboursFit (now (p .entry)) ⌝ }
 {
     let n = p.len();
-    let flags = get_u16(p, FLAGS_AT);
-    if flags == 0 {
-        return n == ABSENCE_HEAD;
-    }
-    if flags <= 2 {
+    if get_u16(p, FLAGS_AT) <= 2 {
         return is_presence(&p[ABSENCE_HEAD..n]);
     }
     if n < LEFT_LENGTH_END {
@@ -101,7 +97,11 @@ pub fn is_absence(p: &[u8]) -> bool
     if get_u16(p, KIND_AT) != ABSENCE_KIND {
         return false;
     }
-    if 3 < get_u16(p, FLAGS_AT) {
+    let flags = get_u16(p, FLAGS_AT);
+    if flags == 0 {
+        return false;
+    }
+    if 3 < flags {
         return false;
     }
     neighbours_fit(p)

@@ -5,7 +5,6 @@ use mathlib.Core.Path.{_≡_}
 use lib.ListN.{drop}
 use Rattle.terms.specs.Bits.{Bytes, left, right, sameBytes}
 use Rattle.terms.specs.Fields.{field}
-use Rattle.terms.specs.Records.{zeros}
 use Rattle.meaning.specs.Checking.{leadsTo}
 use Rattle.proofrecords.specs.ProofBytes.{firstSteps, stepCount, presenceIn, leftPart, rightPart, flags, absenceIn}
 use Rattle.verify_path.specs.Paths.{topAfter}
@@ -24,10 +23,6 @@ top-leads n h root x e d = rw (d, all-steps n x e)
 
 module _ (root k x : Bytes) where
   -- the neighbours by the flags
-  pub neither-shown : flags x ≡ 0 → neighbours root k x ≡ sameBytes root zeros
-  unfolding absenceIn
-  neither-shown f = rw f
-
   pub left-shown : flags x ≡ 1 → neighbours root k x ≡ loneNeighbour left root k (drop 40 x)
   unfolding absenceIn
   left-shown f = rw f

@@ -8,7 +8,6 @@ ghost use Rattle.verify_neighbours.specs.Neighbours.{leads, neighbour, l
 use fields::get_u16;
 use fields::get_u32;
 use hash::Hash;
-use hash::is_zero;
 use hash::same_hash;
 use place::before;
 use proofrecords::ABSENCE_HEAD;
@@ -86,9 +85,6 @@ pub fn neighbours_hold(root: Hash, key: &[u8], proof: &[u8]) -> bool
 {
     let n = proof.len();
     let flags = get_u16(proof, FLAGS_AT);
-    if flags == 0 {
-        return is_zero(root);
-    }
     if flags == 1 {
         return lone_holds(false, root, key, &proof[ABSENCE_HEAD..n]);
     }

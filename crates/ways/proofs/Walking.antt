@@ -14,26 +14,31 @@ use Rattle.terms.specs.Records.{Child, Body, leafBody, innerBody, Record, Store
 use Rattle.terms.specs.Form.{RecordForm}
 use Rattle.terms.proofs.Places.{length-longer}
 use Rattle.meaning.specs.Store.{find, childOn}
-use Rattle.meaning.specs.Sound.{Found}
+use Rattle.meaning.specs.Sound.{At, Found}
 use Rattle.meaning.specs.Reading.{gap, leafSeen, fork, seenAt, seen, Pass, End, broken, atLeaf, atGap, walk}
 use Rattle.meaning.specs.Reading as reading
+use Rattle.meaning.proofs.Finding.{found-at}
 use Rattle.ways.specs.Ways.{Present, Rule, byKey, Inner, inner, Stop, lost, leaf, missing, Way, no-child, not-found, misplaced, at-leaf, onward}
 
--- what is found is in form, as the records of every store read from bytes are
+-- records are in form, as those of every store read from bytes are
 abbrev pub Formed : Store → Type 0
-Formed st = (v : ℕ) (p : Place) (r : Record) → find v p (st .slots) ≡ some r → RecordForm r × (r .place ≡ p)
+Formed st = (i : ℕ) (r : Record) → At st i r → RecordForm r
 
 module _ (st : Store) (formed : Formed st) where
+  -- so is what is found
+  found-form : (v : ℕ) (p : Place) (r : Record) → find v p (st .slots) ≡ some r → RecordForm r × (r .place ≡ p)
+  found-form v p r e = let (i, a, w, q) = found-at st v p r e in (formed i r a, q)
+
   -- an inner record's place is shorter than a key, and it has a child
   pub inner-short : (v : ℕ) (p : Place) (l r : Child) → Found st v p (innerBody l r) → length p < 256
   unfolding Found
   inner-short v p l r f =
-      let w = formed v p (f .0) (f .1) in
+      let w = found-form v p (f .0) (f .1) in
       let h : length (f .0 .place) ≤ 255 = rw (f .2) at (w .0 .short) in omega (arith, ap length (w .1))
 
   pub inner-child : (v : ℕ) (p : Place) (l r : Child) → Found st v p (innerBody l r) → l .version ≡ 0 → r .version ≡ 0 → ⊥
   unfolding Found
-  inner-child v p l r f = let h = formed v p (f .0) (f .1) .0 .body in (rw (f .2) at h) .2
+  inner-child v p l r f = let h = found-form v p (f .0) (f .1) .0 .body in (rw (f .2) at h) .2
 
   -- what stands at a child
   pub data View (p : Place) (c : Child) : Type 0 where

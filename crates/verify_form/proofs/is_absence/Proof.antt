@@ -1,5 +1,6 @@
 -- `verify_form::is_absence` meets its contract: each test is one of the definition's, and the last call is its last.
 -- Assumes nothing.
+use native.Mathlib.Omega.{arith}
 use mathlib.Core.Path.{sym, _∙_}
 use borrow.Author.Tests.{ne-eqb, lt-leb}
 use Rattle.terms.specs.Fields.{field}
@@ -36,19 +37,27 @@ returns-4 : tie.Need-returns-4
 unfolding flags
 returns-4 c =
     let x = c .before .before .before .before .before .before .before .before .args .p .now in
-    sym (absence-off x 3 (lt-leb (field 6 2 x) 3 (rw (← c .before .get-u162 .ensures) (c .if4 .taken))))
-
-neighbours-fit-requires : tie.Need-neighbours-fit-requires
-neighbours-fit-requires c κs = search needs
+    sym (absence-off x 3 (lt-leb 1 (field 6 2 x) (omega (arith, c .before .get-u162 .ensures, c .if4 .taken))))
 
 returns-5 : tie.Need-returns-5
 unfolding flags
 returns-5 c =
     let x = c .before .before .before .before .before .before .before .before .before .args .p .now in
-    let f = sym (c .before .before .before .before .before .before .get-u32 .ensures) ∙ c .before .before .before .before .before .if2 .left in
-    let g = sym (c .before .before .before .before .get-u16 .ensures) ∙ c .before .before .before .if3 .left in
+    sym (absence-off x 4 (lt-leb (field 6 2 x) 3 (rw (← c .before .before .get-u162 .ensures) (c .if5 .taken))))
+
+neighbours-fit-requires : tie.Need-neighbours-fit-requires
+neighbours-fit-requires c κs = search needs
+
+returns-6 : tie.Need-returns-6
+unfolding flags
+returns-6 c =
+    let d = c .before .before in
+    let x = d .before .before .before .before .before .before .before .before .args .p .now in
+    let e = d .before .get-u162 .ensures in
+    let f = sym (d .before .before .before .before .before .get-u32 .ensures) ∙ d .before .before .before .before .if2 .left in
+    let g = sym (d .before .before .before .get-u16 .ensures) ∙ d .before .before .if3 .left in
     c .neighbours-fit .ensures
-    ∙ sym (absence-on x (c .before .before .before .before .before .before .before .if1 .left) f g (rw (← c .before .before .get-u162 .ensures) (c .before .if4 .left)))
+    ∙ sym (absence-on x (d .before .before .before .before .before .before .if1 .left) f g (omega (arith, e, d .if4 .left)) (rw (← e) (c .before .if5 .left)))
 
 pub is-absence-spec : {M : Type 1} → statement M
 is-absence-spec =
@@ -62,5 +71,6 @@ is-absence-spec =
     returns-3
     get-u16-requires-2
     returns-4
+    returns-5
     neighbours-fit-requires
-    returns-5)
+    returns-6)

@@ -11,6 +11,9 @@ use std::path::Path;
 
 pub type Bytes = Store<Vec<u8>>;
 
+/// What an editor does without a proof.
+const EMPTY_ADVICE: &str = "The version's root is 32 zero bytes: signed, it is itself the proof that nothing is granted.";
+
 pub const LENGTH_ADVICE: &str = "Write it as 64 hex digits.";
 
 pub fn read_store(path: &Path) -> Result<Bytes, Fail> {
@@ -34,6 +37,7 @@ pub fn refused(store: &Bytes, path: &Path) -> impl Fn(Error) -> Fail {
                 None => String::new(),
             },
             Error::NotThirtyTwoBytes => LENGTH_ADVICE.to_string(),
+            Error::EmptyVersion => EMPTY_ADVICE.to_string(),
             _ => String::new(),
         };
         Fail::Refused(error, advice)

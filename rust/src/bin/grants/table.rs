@@ -189,7 +189,9 @@ version and dates, to be signed (docs/SIGNING.md); `grants verify` takes that fi
         name: "prove",
         usage: "STORE KEY [VERSION]",
         what: "the proof that a key is in a version, or that it isn't",
-        help: "Prints the proof in hex, or writes its bytes to a file with --out. Without VERSION, the latest. STORE may be -.",
+        help: "\
+Prints the proof in hex, or writes its bytes to a file with --out. Without VERSION, the latest. STORE may be -. In a version
+without a grant there is no proof (refused with 14): its root, 32 zero bytes, itself shows that nothing is granted.",
         words: (2, 3),
         choices: &[
             JSON,
