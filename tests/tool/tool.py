@@ -196,6 +196,28 @@ def proofs_are_made_and_checked():
 
 
 @test
+def empty_versions():
+    """2026-03: a version without a grant has no proof; its root of zeros is what an editor goes by."""
+    sentence = "refused with 14: the version is empty, so there is no proof. The version's root is 32 zero bytes: signed, it is itself the proof"
+    s = desk()
+    answered(0, "apply", s, "-", input="".join("- %s\n" % key for key in sorted((A, B, C, D))))
+    for version in ([0], [3], []):
+        assert answered(0, "root", s, *version).strip() == "00" * 32
+        assert answered(1, "get", s, B, *version) == "absent\n"
+        for key in (A, "ab" * 32):
+            refused(24, sentence, "prove", s, key, *version)
+            refused(24, sentence, "prove", s, key, *version, "--out", "none")
+            assert not os.path.exists("none")
+    refused(18, "refused with 8", "prove", s, B, 4)
+    # What stood for it before is off form, whatever the root; a proof of another version fails under the zero root.
+    answered(0, "prove", s, B, 2, "--out", "absent")
+    refused(21, "refused with 11", "verify", "00" * 32, B, "absent")
+    for root in ("00" * 32, answered(0, "root", s, 2).strip()):
+        for key in (B, "ab" * 32):
+            refused(20, "refused with 10", "verify", root, key, write("bad", number(40, 4) + number(17, 2) + number(0, 2) + bytes.fromhex(B)))
+
+
+@test
 def proofs_off_form():
     s = desk()
     root = answered(0, "root", s).strip()
