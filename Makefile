@@ -6,7 +6,7 @@ demo:
 
 # Every crate from nothing with the edits that must fail, then each other test over what was built.
 test:
-	@tests/gate 'rt ci' tests/format tests/sha256/run tests/second/run tests/compare/run tests/rust/run \
+	@tests/gate 'rt ci' tests/format tests/sha256/run tests/second/run tests/passes/run tests/compare/run tests/rust/run \
 		tests/tool/run tests/examples/run
 
 lib:
