@@ -1,0 +1,5 @@
+pub mod Parts
+pub mod Lists
+pub mod Visits
+pub mod Walk
+pub mod Ends

@@ -1,0 +1,4 @@
+pub mod Changes
+pub mod Visits
+pub mod Compare
+pub mod Walk
