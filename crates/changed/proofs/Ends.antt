@@ -6,12 +6,14 @@ use mathlib.Core.Path.{_≡_, refl, ap, ap₂, sym, _∙_, subst}
 use mathlib.Core.Bool.{Bool, true, false, cond}
 use mathlib.Core.List.{List, [], _∷_, _++_, append-nil, append-assoc}
 use lib.ListN.{length, length-append}
-use Rattle.terms.specs.Bits.{left, right, before, sameBytes}
-use Rattle.terms.specs.Records.{Grant}
+use Rattle.terms.specs.Bits.{All, left, right, before, sameBytes}
+use Rattle.terms.specs.Records.{Grant, grant}
+use Rattle.terms.specs.Fields.{le, zeroBytes}
+use Rattle.terms.proofs.Fields.{length-le, length-zero-bytes, length-flat}
 use Rattle.terms.proofs.Tests.{same-bytes, bytes-same, is-false}
 use Rattle.terms.proofs.Order.{before-irrefl, before-asym, before-total}
 use Rattle.meaning.specs.Tree.{smaller, greater, VTree, vnone, vleaf, vinner, kid}
-use Rattle.changed.specs.Changes.{Change, added, removed, another, changed, itemsOf, items}
+use Rattle.changed.specs.Changes.{Change, added, removed, another, changed, Item, inserts, deletes, itemsOf, items, itemSize, itemAs, itemBytes, listBytes}
 use Rattle.changed.specs.Visits.{noDeeper}
 use Rattle.changed.specs.Walk.{visitsAt, under, held, listed}
 use Rattle.changed.proofs.Parts.{before-other, after-other}
@@ -64,6 +66,52 @@ ends-few (vleaf v g) (vinner w m s) = rw (only-removed g) (omega arith)
 ends-few (vinner v l r) vnone = omega arith
 ends-few (vinner v l r) (vleaf w h) = omega arith
 ends-few (vinner v l r) (vinner w m s) = omega arith
+
+-- each record has 72 bytes, if keys and values have 32
+abbrev pub Long32 : Grant → Type 0
+Long32 g = (length (g .key) ≡ 32) × (length (g .value) ≡ 32)
+
+pub item-long : (kind : ℕ) (g : Grant) → Long32 g → length (itemAs kind g) ≡ itemSize
+unfolding itemAs
+item-long kind g h =
+    length-flat (4 ∷ 2 ∷ 2 ∷ 32 ∷ 32 ∷ []) (le 4 itemSize ∷ le 2 kind ∷ zeroBytes 2 ∷ g .key ∷ g .value ∷ [])
+    (length-le 4 itemSize, (length-le 2 kind, (length-zero-bytes 2, (h .0, (h .1, tt)))))
+
+abbrev LongList : List Item → Type 0
+LongList xs = length (listBytes xs) ≡ itemSize * length xs
+
+one-long : (x : Item) → length (itemBytes x) ≡ itemSize → LongList (x ∷ [])
+one-long x e = omega (arith, length-append (itemBytes x) [])
+
+pair-long : (x y : Item) → length (itemBytes x) ≡ itemSize → length (itemBytes y) ≡ itemSize → LongList (x ∷ y ∷ [])
+pair-long x y e f = omega (arith, length-append (itemBytes x) (itemBytes y ++ []), length-append (itemBytes y) [])
+
+two-long : (g h : Grant) → Long32 g → Long32 h → LongList (items (changed (g ∷ []) (h ∷ [])))
+two-long g h a b = go (before (g .key) (h .key)) (before (h .key) (g .key)) refl refl
+  where
+    same : (c : Bool) → LongList (items (cond c [] (another (g .key) (g .value) (h .value) ∷ [])))
+    same true = omega arith
+    same false =
+        pair-long (deletes (grant (g .key) (g .value))) (inserts (grant (g .key) (h .value))) (item-long 2 (grant (g .key) (g .value)) a)
+        (item-long 1 (grant (g .key) (h .value)) (a .0, b .1))
+
+    go : (x y : Bool) → before (g .key) (h .key) ≡ x → before (h .key) (g .key) ≡ y → LongList (items (changed (g ∷ []) (h ∷ [])))
+    go true y e f = rw (removed-first g h e) (pair-long (deletes g) (inserts h) (item-long 2 g a) (item-long 1 h b))
+    go false true e f = rw (added-first g h f) (pair-long (inserts h) (deletes g) (item-long 1 h b) (item-long 2 g a))
+    go false false e f =
+        rw (one-key g h (ap (sameBytes (g .key)) (sym (before-total (g .key) (h .key) e f)) ∙ bytes-same (g .key)))
+        (same (sameBytes (g .value) (h .value)))
+
+pub ends-long : (t u : VTree) → All Long32 (held t) → All Long32 (held u) → length (listBytes (items (changed (held t) (held u)))) ≡ itemSize * length (items (changed (held t) (held u)))
+ends-long vnone vnone a b = omega arith
+ends-long vnone (vleaf w h) a b = one-long (inserts h) (item-long 1 h (b .0))
+ends-long vnone (vinner w m s) a b = omega arith
+ends-long (vleaf v g) vnone a b = rw (only-removed g) (one-long (deletes g) (item-long 2 g (a .0)))
+ends-long (vleaf v g) (vleaf w h) a b = two-long g h (a .0) (b .0)
+ends-long (vleaf v g) (vinner w m s) a b = rw (only-removed g) (one-long (deletes g) (item-long 2 g (a .0)))
+ends-long (vinner v l r) vnone a b = omega arith
+ends-long (vinner v l r) (vleaf w h) a b = one-long (inserts h) (item-long 1 h (b .0))
+ends-long (vinner v l r) (vinner w m s) a b = omega arith
 
 -- the records of two lists, one after the other
 pub items-append : (xs ys : List Change) → items (xs ++ ys) ≡ items xs ++ items ys
