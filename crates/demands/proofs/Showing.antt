@@ -1,12 +1,14 @@
 -- Demand 2, the prover and the checker: on a sound store the proof that is given is in form, so the checker reads back what the prover wrote,
 -- and its answer is what the version's grants say of the key. Assumes nothing.
-use Prim.Native.Nat.{ℕ, _≤_}
+use Prim.Native.Nat.{ℕ, _≤_, _<_}
 use native.Mathlib.Omega.{arith}
-use mathlib.Core.Path.{_≡_, ap, sym, _∙_, subst}
+use mathlib.Core.Path.{_≡_, refl, ap, sym, _∙_, subst}
 use mathlib.Core.Logic.{_↔_}
+use mathlib.Core.Bool.{Bool, true, false}
 use mathlib.Core.List.{_∷_}
 use lib.ListN.{length, take}
-use borrow.Author.Tests.{eq-eqb}
+use lib.Dec.{ltb}
+use borrow.Author.Tests.{eq-eqb, ltb-true, ltb-false}
 use Rattle.terms.specs.Bits.{Bytes, Whole32}
 use Rattle.terms.specs.Fields.{num, field}
 use Rattle.terms.specs.Records.{Proof, presence, absence}
@@ -18,7 +20,7 @@ use Rattle.meaning.specs.Proving.{proof, proofLength, prove}
 use Rattle.meaning.specs.Checking.{checked}
 use Rattle.shown.proofs.Walks.{present-absent}
 use Rattle.shown.proofs.Verdicts.{accepted-same, Agrees}
-use Rattle.shown.proofs.Theorems.{proof-agrees-with-read, proofs-have-17080-bytes, given-with-room, root-read-is-hash, key-read-is-answer, shown}
+use Rattle.shown.proofs.Theorems.{proof-agrees-with-read, proofs-have-17080-bytes, given-with-room, nine-without-room, root-read-is-hash, key-read-is-answer, shown}
 use Rattle.nodehash.specs.Node.{leafHash, innerHash}
 use Rattle.proofrecords.specs.ProofBytes.{presenceKind, absenceKind, proofBytes, ProofForm}
 use Rattle.proofrecords.proofs.Proofs.{proof-back}
@@ -97,6 +99,19 @@ module _ {s : Bytes} (w : SoundBytes s) (v : ℕ) (kept : Kept (storeOf s) v) (k
     λ h. with-room x h,
   )
 
+  without-room : {room f t g : Bytes} {r : ℕ} → Proves s v k room f r t g → length room < proofLength (its .0) → r ≡ 9
+  unfolding proveAnswer
+  without-room {room} x h =
+      let into : provedInto s v k room ≡ prove (storeOf s) v k (length room) = rw (eq-eqb (length k) 32 (whole .0), w .headed) in
+      x .answer ∙ ap (λ a. numberOf a) (into ∙ nine-without-room (storeOf s) v k (its .0) (length room) (its .1) h)
+
+  short : {room f t g : Bytes} {r : ℕ} → Proves s v k room f r t g → (r ≡ 9) ↔ (length room < proofLength (its .0))
+  short {room} {r = r} x = (λ e. go (ltb (length room) (proofLength (its .0))) refl e, λ h. without-room x h)
+    where
+      go : (b : Bool) → ltb (length room) (proofLength (its .0)) ≡ b → r ≡ 9 → length room < proofLength (its .0)
+      go true f e = ltb-true (length room) (proofLength (its .0)) f
+      go false f e = absurd (omega (arith, with-room x (ltb-false (length room) (proofLength (its .0)) f)))
+
   module _ {room f t g : Bytes} (x : Proves s v k room f 0 t g) where
     form : ProofForm (its-proof x)
     form = proof-form (storeOf s) v k (its-proof x) (sound-form (storeOf s) (w .sound) .each) whole (its-tests x .proved)
@@ -131,6 +146,7 @@ module _ {s : Bytes} (w : SoundBytes s) (v : ℕ) (kept : Kept (storeOf s) v) (k
     proved = its .0;
     is-proved = its .1;
     given = λ x. given x;
+    short = λ x. short x;
     room = λ x h. with-room x (omega (arith, proofs-have-17080-bytes (storeOf s) v k (its .0) (its .1)));
     presence = λ x. kinds x .0;
     absence = λ x. kinds x .1;

@@ -22,7 +22,8 @@ use Rattle.paths.specs.declared.Way as declared-way
 use Rattle.paths.specs.declared.Way.the-variants.{Lost, Nobody, Somebody}
 use Rattle.paths.specs.declared.Sought as declared-sought
 use Rattle.paths.proofs.Records.{part-room, steps-count}
-use Rattle.proving.specs.Proving.{lengthOf, roomAfter, provedSays, Gives, wayLost}
+use Rattle.proving.specs.Proving.{roomAfter}
+use Rattle.proving.specs.Parts.{lengthOf, provedSays, Gives, wayLost}
 use Rattle.proving.specs.declared.Proved as declared
 use Rattle.proving.specs.declared.Proved.the-variants.{Refused, Length}
 

@@ -19,9 +19,10 @@ use Rattle.shown.proofs.Theorems.{given-with-room, proofs-have-17080-bytes, sho
 use Rattle.nodehash.specs.Node.{leafHash, innerHash}
 use Rattle.layout.specs.Headers.{header, headerOf}
 use Rattle.layout.specs.Stores.{storeOf}
-use Rattle.read_step.specs.Walk.{byHeader}
+use Rattle.read_step.specs.Headed.{byHeader}
 use Rattle.reads.specs.Reads.{rootAnswer}
-use Rattle.proving.specs.Proving.{proveAnswer, lengthOf, roomAfter, provedSays}
+use Rattle.proving.specs.Proving.{proveAnswer, roomAfter}
+use Rattle.proving.specs.Parts.{lengthOf, provedSays}
 use Rattle.proving.specs.declared.Proved as declared
 use Rattle.proving.specs.declared.Proved.the-variants.{Refused, Length}
 

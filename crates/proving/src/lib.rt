@@ -6,8 +6,8 @@ use paths::STEP_SIZE;
 use paths::Sought;
 use paths::Way;
 use paths::neighbour_length;
-use paths::put_absence;
 use paths::put_presence;
+use paths_absence::put_absence;
 use place::same;
 use read_step::NOT_SOUND;
 use read_step::Opened;
@@ -32,7 +32,8 @@ ghost use Rattle.read_step.specs.declared.Seen.the-variants.{Leaf};
 ghost use Rattle.paths.specs.Paths.{presenceAt, PathIn};
 ghost use Rattle.paths.specs.Neighbours.{neighbourAt, NeighbourIn};
 ghost use Rattle.trails.specs.Searches.{WalkedIn};
-ghost use Rattle.proving.specs.Proving.{Offers, absentFrom, provedAt, wayLost, proveAnswer, provedSays, lengthOf, roomAfter};
+ghost use Rattle.proving.specs.Proving.{proveAnswer, roomAfter};
+ghost use Rattle.proving.specs.Parts.{Offers, absentFrom, provedAt, wayLost, provedSays, lengthOf};
 
 // 9: the proof is longer than the buffer.
 const NO_ROOM: u32 = 9;
