@@ -10,12 +10,22 @@ test:
 	@RT_JOBS=$${RT_JOBS:-4} tests/gate 'rt ci' tests/format tests/rooms tests/belief tests/sealed tests/sha256/run tests/second/run tests/compare/run tests/rust/run \
 		tests/tool/run tests/examples/run
 
+# The static library, proved where `make test` has made the proofs, else the same sources compiled without them; the last line says which.
 lib:
-	@rt staticlib grants
+	@rust/lib
 
-# The command line tool: target/bin/grants.
+# The command line tool over that library: target/bin/grants.
 tool:
 	@rust/tool
+
+# Tool, manual page, completions, header, libraries and pkg-config file below PREFIX.
+.PHONY: install uninstall
+PREFIX ?= /usr/local
+install:
+	@rust/install '$(PREFIX)'
+
+uninstall:
+	@rust/install '$(PREFIX)' remove
 
 bench:
 	@bench/run

@@ -1,9 +1,9 @@
 /* A marketplace publishes grants, and an editor checks one: format, apply, prove, verify, and what refusals look like.
  *
  *   make lib
- *   cc -Iinclude examples/editor.c target/staticlib/libgrants.a -o editor
+ *   cc -Iinclude examples/editor.c target/native/libgrants.a -o editor
  *
- * (That library is for x86-64; elsewhere `tests/archive grants` makes target/native/libgrants.a for the machine at hand.)
+ * (That library is for the machine at hand; after `make install`, `cc examples/editor.c $(pkg-config --cflags --libs grants) -o editor`.)
  * An editor needs `granted` alone: a root whose signature it has checked, a key, and a proof from anybody. */
 #include "grants.h"
 

@@ -6,7 +6,9 @@
  * Each call returns 0 where it is accepted, else a number of refusal; a refused call writes nothing, its answer included. Buffers lent to one
  * call do not overlap. A pointer is never null, also where its length is 0. The calls keep no state, take no lock and allocate nothing; a
  * store may be used from any thread that owns it. All numbers in buffers are little-endian. Every call takes any bytes: bad input is refused.
- * The stack that each call takes is in docs/FIGURES.md; every byte of a store, a batch and a proof is in docs/FORMAT.md.
+ * The stack that each call takes is in docs/FIGURES.md; every byte of a store, a batch and a proof is in docs/FORMAT.md, and
+ * what the library does, complete and in words, in docs/RULES.md. The archive to link is target/native/libgrants.a of the checkout, or what
+ * `pkg-config --libs grants` names after `make install`.
  *
  *   1  the store's length isn't 24 + 120n, n in 1 to 16,384
  *   2  a header field isn't right, its capacity isn't n, or oldest is above latest

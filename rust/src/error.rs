@@ -1,6 +1,6 @@
 use std::fmt;
 
-/// A number of refusal of document 01. A refused call wrote nothing.
+/// A number of refusal (docs/RULES.md). A refused call wrote nothing.
 ///
 /// ```
 /// use grants::{Error, Store};
@@ -39,7 +39,7 @@ pub enum Error {
     NotThirtyTwoBytes,
 }
 
-/// 01's table, number 1 first, in the words of include/grants.h.
+/// The table of the rules, number 1 first, in the words of include/grants.h.
 const TABLE: [(Error, &str); 12] = [
     (
         Error::Size,
@@ -80,7 +80,7 @@ const TABLE: [(Error, &str); 12] = [
 ];
 
 impl Error {
-    /// The number that 01's table gives it, 1 to 12.
+    /// The number that the table gives it, 1 to 12.
     pub fn number(self) -> u32 {
         self as u32 + 1
     }

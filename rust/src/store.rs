@@ -15,7 +15,7 @@ pub const fn store_bytes(capacity: u32) -> usize {
 
 /// A store over bytes, borrowed or owned: `&[u8]`, `&mut [u8]`, `Vec<u8>`, an array, a mapped file.
 ///
-/// Nothing is judged when a `Store` is made. Each call takes any bytes, tests what document 01 wants tested, and answers or refuses; a refused
+/// Nothing is judged when a `Store` is made. Each call takes any bytes, tests what docs/RULES.md wants tested, and answers or refuses; a refused
 /// call changes no byte.
 ///
 /// ```
@@ -203,7 +203,7 @@ impl<B: AsRef<[u8]> + AsMut<[u8]>> Store<B> {
         self.apply_bytes(&batch.to_bytes())
     }
 
-    /// The same, of document 01's batch records of 72 bytes, from anybody. Refused: 1, 2, 3, 4, 5, 6, 7.
+    /// The same, of batch records of 72 bytes (docs/FORMAT.md), from anybody. Refused: 1, 2, 3, 4, 5, 6, 7.
     pub fn apply_bytes(&mut self, batch: &[u8]) -> Result<Applied, Error> {
         let answer = ffi::apply(self.bytes.as_mut(), batch)?;
         let mut root = [0; 32];
