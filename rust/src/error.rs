@@ -17,7 +17,7 @@ pub enum Error {
     Size,
     /// 2: a header field isn't right, its capacity isn't n, or oldest is above latest.
     Header,
-    /// 3: the store isn't sound (check, apply, prune), or the walk says so (reads).
+    /// 3: the store isn't sound (check, apply, prune, changes), or the walk says so (reads).
     Unsound,
     /// 4: the batch isn't whole records in form, or has over 1,024.
     BatchForm,
@@ -29,7 +29,7 @@ pub enum Error {
     NoRoom,
     /// 8: the version isn't in oldest to latest.
     VersionNotKept,
-    /// 9: the proof is longer than the room.
+    /// 9: the proof or the list is longer than the room.
     ProofTooLong,
     /// 10: the proof isn't one whole record in form, no byte over.
     ProofForm,
@@ -37,10 +37,12 @@ pub enum Error {
     ProofFails,
     /// 12: a key or root handed in isn't 32 bytes.
     NotThirtyTwoBytes,
+    /// 13: a comparison has more visits than the limit.
+    TooManyVisits,
 }
 
 /// The table of the rules, number 1 first, in the words of include/grants.h.
-const TABLE: [(Error, &str); 12] = [
+const TABLE: [(Error, &str); 13] = [
     (
         Error::Size,
         "the store's length isn't 24 + 120n, n in 1 to 16,384",
@@ -51,7 +53,7 @@ const TABLE: [(Error, &str); 12] = [
     ),
     (
         Error::Unsound,
-        "the store isn't sound (check, apply, prune), or the walk says so (reads)",
+        "the store isn't sound (check, apply, prune, changes), or the walk says so (reads)",
     ),
     (
         Error::BatchForm,
@@ -67,7 +69,7 @@ const TABLE: [(Error, &str); 12] = [
         Error::VersionNotKept,
         "the version isn't in oldest to latest",
     ),
-    (Error::ProofTooLong, "the proof is longer than the room"),
+    (Error::ProofTooLong, "the proof or the list is longer than the room"),
     (
         Error::ProofForm,
         "the proof isn't one whole record in form, no byte over",
@@ -77,10 +79,14 @@ const TABLE: [(Error, &str); 12] = [
         Error::NotThirtyTwoBytes,
         "a key or root handed in isn't 32 bytes",
     ),
+    (
+        Error::TooManyVisits,
+        "a comparison has more visits than the limit",
+    ),
 ];
 
 impl Error {
-    /// The number that the table gives it, 1 to 12.
+    /// The number that the table gives it, 1 to 13.
     pub fn number(self) -> u32 {
         self as u32 + 1
     }
@@ -113,13 +119,13 @@ mod tests {
 
     #[test]
     fn numbers_are_the_rows_of_the_table() {
-        for number in 1..=12 {
+        for number in 1..=13 {
             let error = Error::from_number(number).unwrap();
             assert_eq!(error.number(), number);
             assert_eq!(TABLE[number as usize - 1].0, error);
         }
         assert_eq!(Error::from_number(0), None);
-        assert_eq!(Error::from_number(13), None);
+        assert_eq!(Error::from_number(14), None);
         assert_eq!(Error::from_number(u32::MAX), None);
     }
 }

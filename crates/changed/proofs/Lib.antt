@@ -3,3 +3,4 @@ pub mod Lists
 pub mod Visits
 pub mod Walk
 pub mod Ends
+pub mod Theorems

@@ -26,7 +26,8 @@ use Rattle.fields.specs.Written.{written}
 use Rattle.layout.specs.Headers.{sizeRight, headerOf, header}
 use Rattle.layout.specs.Stores.{storeOf, storeBytes}
 use Rattle.layout.proofs.Headers.{accepted as header-accepted, size-right-of}
-use Rattle.read_step.specs.Walk.{opened, openedSays, byHeader}
+use Rattle.read_step.specs.Headed.{byHeader}
+use Rattle.read_step.specs.Walk.{opened, openedSays}
 use Rattle.read_step.specs.declared.Opened as opened-type
 use Rattle.read_step.specs.declared.Opened.the-variants as O
 use Rattle.read_step.proofs.Opened as opened-tags
@@ -35,9 +36,10 @@ use Rattle.promises.proofs.Calls.{sound-back}
 use Rattle.changed.specs.Changes.{Item, items, itemSize, listBytes}
 use Rattle.changed.specs.Compare.{changesOf, visitsOf, compare}
 use Rattle.changed.specs.Walk.{visitsAt, listed}
-use Rattle.changed.proofs.Visits.{visits-count, visits-by-slots}
+use Rattle.changed.proofs.Visits.{visits-count}
 use Rattle.changed.proofs.Walk.{stands-sits, listed-changed}
 use Rattle.changed.proofs.Ends.{listed-few}
+use Rattle.changed.proofs.Theorems.{visits-at-most-32769}
 use Rattle.changes_top.specs.declared.Top as top
 use Rattle.changes_top.specs.Tops.{topTree, TopSays}
 use Rattle.changes_put.specs.Puts.{putInto}
@@ -160,13 +162,7 @@ module _ {s : Bytes} (w : SoundBytes s) where
           (stands-sits leafHash innerHash st (whole .formed) [] (treeAtVersion st second) (whole .stands second (kept-says st second b))))
 
       few-visits : visitsOf st first second ≤ 32769
-      unfolding visitsOf
-      few-visits =
-          atMost (visits-by-slots leafHash innerHash st (treeAtVersion st first) (treeAtVersion st second) (whole .stands first (kept-says st first a)) (whole .stands second (kept-says st second b)))
-          (whole .size .1)
-        where
-          atMost : {n k : ℕ} → n ≤ 1 + 2 * k → k ≤ 16384 → n ≤ 32769
-          atMost h l = omega arith
+      few-visits = visits-at-most-32769 leafHash innerHash st (w .sound) first second (kept-says st first a) (kept-says st second b)
 
       few-items : length (itemsHere s p x y) ≤ 2 * visitsHere s p x y
       unfolding itemsHere visitsHere

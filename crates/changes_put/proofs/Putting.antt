@@ -5,26 +5,29 @@ use mathlib.Core.Path.{_≡_, refl, ap, ap₂, sym, _∙_, subst}
 use mathlib.Core.Logic.{⊎-elim}
 use mathlib.Core.Bool.{Bool, true, false, cond, true≢false}
 use mathlib.Core.List.{List, [], _∷_, _++_, append-nil}
-use lib.ListN.{length, take, drop, length-append}
+use lib.ListN.{length, take, drop, length-append, take-append-drop}
 use types.Run.{OneOf}
 use denote.Enum.Declared.{tagOf}
 use Rattle.terms.specs.Bits.{Bytes, before, sameBytes}
-use Rattle.terms.specs.Fields.{le, slice, zeroBytes, flat}
+use Rattle.terms.specs.Fields.{le, zeroBytes, flat}
 use Rattle.terms.specs.Records.{Grant, grant}
 use Rattle.terms.proofs.Tests.{same-bytes, bytes-same}
 use Rattle.terms.proofs.Order.{before-total}
-use Rattle.terms.proofs.Fields.{length-le, length-slice, slice-slice, length-zero-bytes, length-flat, flat-cuts}
+use Rattle.terms.proofs.Fields.{length-le}
 use Rattle.fields.specs.Written.{written}
 use Rattle.fields.proofs.Written.{length-written, part-written, fields-written, fields-fill, fieldsWritten}
-use Rattle.layout.specs.Sizes.{slotSize, slotAt, keyAt, valueAt, grantSize}
-use Rattle.layout.specs.Stores.{slotIn}
+use Rattle.layout.specs.Sizes.{grantSize}
+use Rattle.layout.specs.Slots.{keyIn, valueIn, grantIn}
+use Rattle.layout.specs.Stores.{slotIn, SlotWithin}
+use Rattle.slots.proofs.Parts.{grant-key, grant-value, key-long, value-long}
+use Rattle.store.proofs.Slots.{slot-long}
 use Rattle.changed.specs.Changes.{added, removed, another, changed, Item, inserts, deletes, items, itemSize, itemAs, itemBytes, listBytes}
-use Rattle.changed.proofs.Ends.{removed-first, added-first, one-key, only-removed}
+use Rattle.changed.proofs.Ends.{item-long, removed-first, added-first, one-key, only-removed}
 use Rattle.changes_top.specs.declared.Top as top
 use Rattle.changes_top.specs.declared.Top.the-variants.{Nothing, Leaf, Inner}
-use Rattle.changes_top.specs.Tops.{grantIn}
+use Rattle.changes_top.specs.Tops.{grantAt}
 use Rattle.changes_top.proofs.Top as top-type
-use Rattle.changes_put.specs.Puts.{grantOf, leafOf, twoItems, endItems, putInto, SlotIn, Fits, LeafIn, Ends, Puts}
+use Rattle.changes_put.specs.Puts.{grantOf, leafOf, twoItems, endItems, putInto, Fits, LeafIn, Ends, Puts}
 
 -- two writings, one after the other
 written-on : (i : ℕ) (f g s : Bytes) → i + length f + length g ≤ length s → written (i + length f) g (written i f s) ≡ written i (f ++ g) s
@@ -64,38 +67,19 @@ put-on true at m n f g s d e h =
 put-on false at m n f g s d e h = refl
 
 -- the grant in a slot
-module _ (s : Bytes) (i : ℕ) (h : SlotIn s i) where
-  slot-long : length (slotIn i s) ≡ slotSize
-  unfolding slotIn
-  slot-long = length-slice (slotAt i) slotSize s h
+module _ (s : Bytes) (i : ℕ) (h : SlotWithin i s) where
+  pub grant-is : {x g : Bytes} → x ≡ slotIn i s → g ≡ grantIn x → grantOf g ≡ grantAt i s
+  unfolding grantOf grantAt
+  grant-is {x} {g} d e = rw (e ∙ ap grantIn d) (ap₂ grant (grant-key (slotIn i s)) (grant-value (slotIn i s)))
 
-  pub grant-is : {x g : Bytes} → x ≡ slotIn i s → g ≡ slice keyAt grantSize x → grantOf g ≡ grantIn i s
-  unfolding grantOf grantIn
-  grant-is {x} {g} d e =
-      let it = e ∙ ap (slice keyAt grantSize) d in
-      rw it (ap₂ grant (slice-slice keyAt grantSize 0 32 (slotIn i s) (omega arith)) (slice-slice keyAt grantSize 32 32 (slotIn i s) (omega arith)))
-
-  pub item-long : (kind : ℕ) → length (itemAs kind (grantIn i s)) ≡ itemSize * 1
-  unfolding itemAs grantIn
-  item-long kind =
-      length-flat (4 ∷ 2 ∷ 2 ∷ 32 ∷ 32 ∷ [])
-      (le 4 itemSize ∷ le 2 kind ∷ zeroBytes 2 ∷ slice keyAt 32 (slotIn i s) ∷ slice valueAt 32 (slotIn i s) ∷ []) (
-        length-le 4 itemSize,
-        (
-          length-le 2 kind,
-          (
-            length-zero-bytes 2,
-            (
-              length-slice keyAt 32 (slotIn i s) (omega (arith, slot-long)),
-              (length-slice valueAt 32 (slotIn i s) (omega (arith, slot-long)), tt),
-            ),
-          ),
-        ),
-      )
+  pub item-sized : (kind : ℕ) → length (itemAs kind (grantAt i s)) ≡ itemSize * 1
+  unfolding grantAt
+  item-sized kind =
+      item-long kind (grantAt i s) (key-long (slotIn i s) (slot-long i s h), value-long (slotIn i s) (slot-long i s h))
 
 -- the fields of a record fill its 72 bytes
-grant-parts : (g : Bytes) → length g ≡ grantSize → flat (g ∷ []) ≡ flat (slice 0 32 g ∷ slice 32 32 g ∷ [])
-grant-parts g e = append-nil g ∙ sym (flat-cuts (32 ∷ 32 ∷ []) 0 g (omega arith))
+grant-parts : (g : Bytes) → flat (g ∷ []) ≡ flat (take 32 g ∷ drop 32 g ∷ [])
+grant-parts g = append-nil g ∙ sym (ap (take 32 g ++_) (append-nil (drop 32 g)) ∙ take-append-drop 32 g)
 
 two-zeros : le 2 0 ≡ zeroBytes 2
 unfolding le zeroBytes
@@ -111,18 +95,18 @@ item-put {a} {b} {c} {y} kind part g l m ea eb ec ey =
     part-written 8 72 y c (omega (arith, ap length ey))
     ∙ ap₂ (written 8) ey d
     ∙ fields-fill (4 ∷ 2 ∷ 2 ∷ 64 ∷ []) fs part (length-le 4 72, (length-le 2 kind, (length-le 2 0, (m, tt)))) (omega arith)
-    ∙ ap₂ (λ z h. le 4 72 ++ (le 2 kind ++ (z ++ h))) two-zeros (grant-parts g m)
+    ∙ ap₂ (λ z h. le 4 72 ++ (le 2 kind ++ (z ++ h))) two-zeros (grant-parts g)
 
 pub not-put : (w : Bool) (at : ℕ) (f s : Bytes) → w ≡ false → s ≡ putInto w at f s
 not-put w at f s e = rw e
 
-pub record-put : {x g y : Bytes} (s : Bytes) (i : ℕ) → SlotIn s i → (kind : ℕ) (w : Bool) (at : ℕ) (room : Bytes) → w ≡ true → x ≡ slotIn i s →
-    g ≡ slice keyAt grantSize x → y ≡ itemAs kind (grantOf g) →
+pub record-put : {x g y : Bytes} (s : Bytes) (i : ℕ) → SlotWithin i s → (kind : ℕ) (w : Bool) (at : ℕ) (room : Bytes) → w ≡ true → x ≡ slotIn i s →
+    g ≡ grantIn x → y ≡ itemAs kind (grantOf g) →
     take (itemSize * at) room ++ (y ++ drop (itemSize * at + itemSize - itemSize * at) (drop (itemSize * at) room))
-    ≡ putInto w at (itemAs kind (grantIn i s)) room
+    ≡ putInto w at (itemAs kind (grantAt i s)) room
 record-put {x} {g} {y} s i h kind w at room e d f k =
-    let z : y ≡ itemAs kind (grantIn i s) = k ∙ ap (itemAs kind) (grant-is s i h d f) in
-    part-written (itemSize * at) (itemSize * at + itemSize) y room (omega (arith, ap length z ∙ item-long s i h kind))
+    let z : y ≡ itemAs kind (grantAt i s) = k ∙ ap (itemAs kind) (grant-is s i h d f) in
+    part-written (itemSize * at) (itemSize * at + itemSize) y room (omega (arith, ap length z ∙ item-sized s i h kind))
     ∙ rw e (ap (λ v. written (itemSize * at) v room) z)
 
 -- one record, two, none
@@ -157,49 +141,49 @@ puts-as {w} {at} {n} {room} {left} e h = subst (λ y. Puts w at y room n left) (
 
 -- the key and the value in a slot
 module _ (s : Bytes) (i : ℕ) {x f : Bytes} (d : x ≡ slotIn i s) where
-  pub key-is : f ≡ slice keyAt 32 x → f ≡ grantIn i s .key
-  unfolding grantIn
-  key-is e = e ∙ ap (slice keyAt 32) d
+  pub key-is : f ≡ keyIn x → f ≡ grantAt i s .key
+  unfolding grantAt
+  key-is e = e ∙ ap keyIn d
 
-  pub value-is : f ≡ slice valueAt 32 x → f ≡ grantIn i s .value
-  unfolding grantIn
-  value-is e = e ∙ ap (slice valueAt 32) d
+  pub value-is : f ≡ valueIn x → f ≡ grantAt i s .value
+  unfolding grantAt
+  value-is e = e ∙ ap valueIn d
 
 -- which records two leaves make
 module _ (s : Bytes) (i j : ℕ) where
-  pub new-first : {b : Bool} {k m : Bytes} → k ≡ grantIn i s .key → m ≡ grantIn j s .key → b ≡ before m k → b ≡ true →
-      twoItems s i j ≡ inserts (grantIn j s) ∷ deletes (grantIn i s) ∷ []
+  pub new-first : {b : Bool} {k m : Bytes} → k ≡ grantAt i s .key → m ≡ grantAt j s .key → b ≡ before m k → b ≡ true →
+      twoItems s i j ≡ inserts (grantAt j s) ∷ deletes (grantAt i s) ∷ []
   unfolding twoItems
-  new-first d e f t = ap items (added-first (grantIn i s) (grantIn j s) (ap₂ before (sym e) (sym d) ∙ sym f ∙ t))
+  new-first d e f t = ap items (added-first (grantAt i s) (grantAt j s) (ap₂ before (sym e) (sym d) ∙ sym f ∙ t))
 
-  pub old-first : {b : Bool} {k m : Bytes} → k ≡ grantIn i s .key → m ≡ grantIn j s .key → b ≡ before k m → b ≡ true →
-      twoItems s i j ≡ deletes (grantIn i s) ∷ inserts (grantIn j s) ∷ []
+  pub old-first : {b : Bool} {k m : Bytes} → k ≡ grantAt i s .key → m ≡ grantAt j s .key → b ≡ before k m → b ≡ true →
+      twoItems s i j ≡ deletes (grantAt i s) ∷ inserts (grantAt j s) ∷ []
   unfolding twoItems
-  old-first d e f t = ap items (removed-first (grantIn i s) (grantIn j s) (ap₂ before (sym d) (sym e) ∙ sym f ∙ t))
+  old-first d e f t = ap items (removed-first (grantAt i s) (grantAt j s) (ap₂ before (sym d) (sym e) ∙ sym f ∙ t))
 
-  module _ {a b c : Bool} {k m k₂ m₂ x y : Bytes} (d : k ≡ grantIn i s .key) (e : m ≡ grantIn j s .key) (d₂ : k₂ ≡ grantIn i s .key)
-      (e₂ : m₂ ≡ grantIn j s .key) (f : a ≡ before m k) (g : b ≡ before k₂ m₂) (no : a ≡ false) (on : b ≡ false)
-      (old : x ≡ grantIn i s .value) (new : y ≡ grantIn j s .value) (h : c ≡ sameBytes x y) where
-    keys : grantIn i s .key ≡ grantIn j s .key
+  module _ {a b c : Bool} {k m k₂ m₂ x y : Bytes} (d : k ≡ grantAt i s .key) (e : m ≡ grantAt j s .key) (d₂ : k₂ ≡ grantAt i s .key)
+      (e₂ : m₂ ≡ grantAt j s .key) (f : a ≡ before m k) (g : b ≡ before k₂ m₂) (no : a ≡ false) (on : b ≡ false)
+      (old : x ≡ grantAt i s .value) (new : y ≡ grantAt j s .value) (h : c ≡ sameBytes x y) where
+    keys : grantAt i s .key ≡ grantAt j s .key
     keys =
-        before-total (grantIn i s .key) (grantIn j s .key) (ap₂ before (sym d₂) (sym e₂) ∙ sym g ∙ on) (ap₂ before (sym e) (sym d) ∙ sym f ∙ no)
+        before-total (grantAt i s .key) (grantAt j s .key) (ap₂ before (sym d₂) (sym e₂) ∙ sym g ∙ on) (ap₂ before (sym e) (sym d) ∙ sym f ∙ no)
 
-    by-value : twoItems s i j ≡ items (cond c [] (another (grantIn i s .key) (grantIn i s .value) (grantIn j s .value) ∷ []))
+    by-value : twoItems s i j ≡ items (cond c [] (another (grantAt i s .key) (grantAt i s .value) (grantAt j s .value) ∷ []))
     unfolding twoItems
     by-value =
         ap items
-        (one-key (grantIn i s) (grantIn j s) (ap (sameBytes (grantIn i s .key)) (sym keys) ∙ bytes-same (grantIn i s .key))
-        ∙ ap (λ z. cond z [] (another (grantIn i s .key) (grantIn i s .value) (grantIn j s .value) ∷ []))
+        (one-key (grantAt i s) (grantAt j s) (ap (sameBytes (grantAt i s .key)) (sym keys) ∙ bytes-same (grantAt i s .key))
+        ∙ ap (λ z. cond z [] (another (grantAt i s .key) (grantAt i s .value) (grantAt j s .value) ∷ []))
         (ap₂ sameBytes (sym old) (sym new) ∙ sym h))
 
     pub same-value : c ≡ true → twoItems s i j ≡ []
-    same-value t = by-value ∙ ap (λ z. items (cond z [] (another (grantIn i s .key) (grantIn i s .value) (grantIn j s .value) ∷ []))) t
+    same-value t = by-value ∙ ap (λ z. items (cond z [] (another (grantAt i s .key) (grantAt i s .value) (grantAt j s .value) ∷ []))) t
 
-    pub other-value : c ≡ false → twoItems s i j ≡ deletes (grantIn i s) ∷ inserts (grantIn j s) ∷ []
+    pub other-value : c ≡ false → twoItems s i j ≡ deletes (grantAt i s) ∷ inserts (grantAt j s) ∷ []
     other-value t =
         by-value
-        ∙ ap (λ z. items (cond z [] (another (grantIn i s .key) (grantIn i s .value) (grantIn j s .value) ∷ []))) t
-        ∙ ap (λ z. deletes (grantIn i s) ∷ inserts (grant z (grantIn j s .value)) ∷ []) keys
+        ∙ ap (λ z. items (cond z [] (another (grantAt i s .key) (grantAt i s .value) (grantAt j s .value) ∷ []))) t
+        ∙ ap (λ z. deletes (grantAt i s) ∷ inserts (grant z (grantAt j s .value)) ∷ []) keys
 
 -- which records two tops make
 abbrev NoLeaf : top.Top → Type 0
@@ -215,13 +199,13 @@ module _ (s : Bytes) (first second : top.Top) where
   unfolding endItems
   no-leaves a b = ap₂ (λ x y. items (changed x y)) (no-leaf s first a) (no-leaf s second b)
 
-  pub only-new : {j : ℕ} → NoLeaf first → second ≡ Leaf j → endItems s first second ≡ inserts (grantIn j s) ∷ []
+  pub only-new : {j : ℕ} → NoLeaf first → second ≡ Leaf j → endItems s first second ≡ inserts (grantAt j s) ∷ []
   unfolding endItems
   only-new a b = ap₂ (λ x y. items (changed x (leafOf s y))) (no-leaf s first a) b
 
-  pub only-old : {i : ℕ} → first ≡ Leaf i → NoLeaf second → endItems s first second ≡ deletes (grantIn i s) ∷ []
+  pub only-old : {i : ℕ} → first ≡ Leaf i → NoLeaf second → endItems s first second ≡ deletes (grantAt i s) ∷ []
   unfolding endItems
-  only-old {i} a b = ap₂ (λ x y. items (changed (leafOf s x) y)) a (no-leaf s second b) ∙ ap items (only-removed (grantIn i s))
+  only-old {i} a b = ap₂ (λ x y. items (changed (leafOf s x) y)) a (no-leaf s second b) ∙ ap items (only-removed (grantAt i s))
 
   pub two-leaves : {i j : ℕ} → first ≡ Leaf i → second ≡ Leaf j → endItems s first second ≡ twoItems s i j
   unfolding endItems twoItems

@@ -15,9 +15,10 @@ ghost use mathlib.Core.List.{_++_};
 ghost use Prim.Native.Nat.{_+_};
 ghost use lib.ListN.{length};
 ghost use Rattle.layout.specs.Sizes.{grantSize};
+ghost use Rattle.layout.specs.Stores.{SlotWithin};
 ghost use Rattle.changed.specs.Changes.{itemSize, itemAs};
-ghost use Rattle.changes_top.specs.Tops.{grantIn};
-ghost use Rattle.changes_put.specs.Puts.{grantOf, twoItems, endItems, putInto, SlotIn, Fits, Ends, Puts};
+ghost use Rattle.changes_top.specs.Tops.{grantAt};
+ghost use Rattle.changes_put.specs.Puts.{grantOf, twoItems, endItems, putInto, Fits, Ends, Puts};
 
 const ITEM_SIZE: usize = 72;
 
@@ -39,8 +40,8 @@ fn put_item(part: &mut [u8], kind: u16, grant: &[u8])
 
 // The record with the grant of the leaf in slot i, as number `at` of the list.
 fn put_record(store: &[u8], i: usize, kind: u16, writes: bool, room: &mut [u8], at: usize)
-    requires { ⌜ SlotIn (now store) i × Fits writes 1 at (now room) ⌝ }
-    ensures { λ _. ⌜ now (room .exit) ≡ putInto writes at (itemAs kind (grantIn i (now (store .entry)))) (now (room .entry)) ⌝ }
+    requires { ⌜ SlotWithin i (now store) × Fits writes 1 at (now room) ⌝ }
+    ensures { λ _. ⌜ now (room .exit) ≡ putInto writes at (itemAs kind (grantAt i (now (store .entry)))) (now (room .entry)) ⌝ }
 {
     if !writes {
         return;
@@ -61,9 +62,9 @@ fn put_pair(
     room: &mut [u8],
     at: usize,
 ) -> usize
-    requires { ⌜ (SlotIn (now store) i × SlotIn (now store) j) × Fits writes 2 at (now room) ⌝ }
+    requires { ⌜ (SlotWithin i (now store) × SlotWithin j (now store)) × Fits writes 2 at (now room) ⌝ }
     ensures next { λ r. ⌜ r ≡ at + 2 ⌝ }
-    ensures bytes { λ _. ⌜ now (room .exit) ≡ putInto writes at (itemAs kind (grantIn i (now (store .entry))) ++ itemAs other (grantIn j (now (store .entry)))) (now (room .entry)) ⌝ }
+    ensures bytes { λ _. ⌜ now (room .exit) ≡ putInto writes at (itemAs kind (grantAt i (now (store .entry))) ++ itemAs other (grantAt j (now (store .entry)))) (now (room .entry)) ⌝ }
 {
     put_record(store, i, kind, writes, room, at);
     put_record(store, j, other, writes, room, at + 1);
@@ -72,7 +73,7 @@ fn put_pair(
 
 // What changed from the leaf in slot i to the one in slot j; answers the number of the next record.
 fn put_two(store: &[u8], i: usize, j: usize, writes: bool, room: &mut [u8], at: usize) -> usize
-    requires { ⌜ (SlotIn (now store) i × SlotIn (now store) j) × Fits writes (length (twoItems (now store) i j)) at (now room) ⌝ }
+    requires { ⌜ (SlotWithin i (now store) × SlotWithin j (now store)) × Fits writes (length (twoItems (now store) i j)) at (now room) ⌝ }
     ensures { λ r. ⌜ Puts writes at (twoItems (now (store .entry)) i j) (now (room .entry)) r (now (room .exit)) ⌝ }
 {
     let old = slot_of(store, i);

@@ -7,36 +7,36 @@ use mathlib.Core.Logic.{⊎-elim}
 use mathlib.Core.Bool.{Bool, true, false, cond, _||_, Bool·beq}
 use mathlib.Core.List.{List, [], _∷_}
 use mathlib.Core.Option.{none, some}
-use lib.ListN.{length, getD, drop}
+use lib.ListN.{length, getD}
 use lib.Dec.{eqb}
 use borrow.Author.Tests.{ne-eqb}
 use types.Run.{OneOf}
 use denote.Enum.Declared.{tagOf}
 use Rattle.terms.specs.Bits.{Bytes, Byte, All, Side, left, right, Place, longer, bit}
-use Rattle.terms.specs.Fields.{field, slice, allZero}
+use Rattle.terms.specs.Fields.{allZero}
 use Rattle.terms.specs.Records.{Body, leafBody, innerBody, Record, Slot, free, used, spoiled, Store}
 use Rattle.terms.specs.Form.{RecordForm, placeLimit}
-use Rattle.terms.proofs.Fields.{length-slice, all-slice}
 use Rattle.meaning.specs.Tree.{VTree, vnone, vleaf, vinner}
 use Rattle.meaning.specs.Store.{find, rootOf, treeBelow, treeFound, treeFrom, treeAtVersion}
-use Rattle.meaning.proofs.Finding.{isNode-eq, Hit, miss, hit, hits, used-eq}
+use Rattle.meaning.proofs.Finding.{used-eq, found-in}
+use Rattle.meaning.proofs.Roots.{root-at}
 use Rattle.place.specs.declared.Place as place
 use Rattle.place.specs.Place.{placeOf, Proper, Grown}
 use Rattle.place.specs.Place as places
 use Rattle.place.proofs.Places.{proper-count}
-use Rattle.layout.specs.Sizes.{slotSize, slotAt, versionAt, keyAt, leftAt, rightAt, roomOf}
+use Rattle.layout.specs.Sizes.{roomOf}
 use Rattle.layout.specs.Headers.{sizeRight}
-use Rattle.layout.specs.Slots.{isLeaf, isInner, leafIn, innerIn, childIn, recordIn, slotOf, SlotForm}
-use Rattle.layout.specs.Stores.{slotIn, storeOf}
-use Rattle.layout.proofs.Headers.{size-says}
+use Rattle.layout.specs.Slots.{isLeaf, isInner, versionIn, keyIn, leafIn, leftIn, rightIn, innerIn, recordIn, slotOf, SlotForm}
+use Rattle.layout.specs.Stores.{slotIn, storeOf, SlotWithin}
 use Rattle.layout.proofs.Slots.{slot-form}
-use Rattle.layout.proofs.Stores.{slot-at, length-slots}
+use Rattle.layout.proofs.Stores.{slot-at}
+use Rattle.store.proofs.Slots.{slots-many, slot-fits, slot-long, slot-bytes}
 use Rattle.lookup.specs.Lookup.{FoundIn}
 use Rattle.lookup.specs.declared.Found as found
 use Rattle.lookup.specs.declared.Found.the-variants as F
 use Rattle.changed.specs.Visits.{noDeeper}
 use Rattle.changed.specs.Walk.{under}
-use Rattle.changes_top.specs.Tops.{grantIn, topIn, treeHere, topTree, TopRight, TopSays, DeeperSays}
+use Rattle.changes_top.specs.Tops.{grantAt, topIn, treeHere, topTree, TopRight, TopSays, DeeperSays}
 use Rattle.changes_top.specs.declared.Top as declared
 use Rattle.changes_top.specs.declared.Top.the-variants.{Nothing, Leaf, Inner}
 use Rattle.changes_top.proofs.Top as top
@@ -64,27 +64,20 @@ inner-limit x = refl
 abbrev onwards : Bytes → place.Place → Side → ℕ → VTree
 onwards s p b w = treeFrom (255 - p .count) (storeOf s .slots) w (longer b (placeOf p))
 
-pub node-place : {v : ℕ} {q : Place} {xs : List Slot} {r : Record} → Hit xs v q (some r) → r .place ≡ q
-node-place {v} {q} {r = r} (hit i x l e n) = isNode-eq v q r n .1
-
 module _ (s : Bytes) (size : sizeRight (length s) ≡ true) (bytes : All Byte s) where
-  pub slot-fits : (i : ℕ) → i < roomOf (length s) → slotAt i + slotSize ≤ length s
-  slot-fits i l = let t = size-says (length s) size in omega arith
-
-  pub within : (i : ℕ) → i < length (storeOf s .slots) → i < roomOf (length s)
-  unfolding storeOf
-  within i l = rw (length-slots (roomOf (length s)) (drop 24 s)) at l
-
   -- the record in slot i stands at a place
   module _ (i : ℕ) (r : Record) (l : i < length (storeOf s .slots)) (is : getD (storeOf s .slots) i free ≡ used r) where
-    slot-is : slotOf (slotIn i s) ≡ used r
-    slot-is = sym (slot-at s i (within i l)) ∙ is
+    inside : i < roomOf (length s)
+    inside = rw (slots-many s) at l
+
+    pub its-slot : SlotWithin i s
+    its-slot = slot-fits s size i inside
+
+    slot-says : slotOf (slotIn i s) ≡ used r
+    slot-says = sym (slot-at s i inside) ∙ is
 
     form : RecordForm r
-    unfolding slotIn
-    form =
-        subst SlotForm slot-is
-        (slot-form (slotIn i s) (length-slice (slotAt i) slotSize s (slot-fits i (within i l))) (all-slice (slotAt i) slotSize s bytes))
+    form = subst SlotForm slot-says (slot-form (slotIn i s) (slot-long i s its-slot) (slot-bytes i s bytes))
 
     module _ (p : place.Place) (proper : Proper p) (at : r .place ≡ placeOf p) where
       abbrev treeOn : Record → VTree
@@ -93,7 +86,7 @@ module _ (s : Bytes) (size : sizeRight (length s) ≡ true) (bytes : All Byte s)
       short : isLeaf (slotIn i s) ≡ false → p .count < 256
       unfolding recordIn
       short e =
-          let it = ap (λ (q : Record). placeLimit (q .body)) (sym (record-is (slotIn i s) r slot-is)) in
+          let it = ap (λ (q : Record). placeLimit (q .body)) (sym (record-is (slotIn i s) r slot-says)) in
           let limit : placeLimit (r .body) ≡ 255 = it ∙ kind in
           omega (arith, form .short, ap length at, proper-count p proper)
         where
@@ -101,19 +94,19 @@ module _ (s : Bytes) (size : sizeRight (length s) ≡ true) (bytes : All Byte s)
           kind = rw e (inner-limit (slotIn i s))
 
       pub found-top : TopSays s p (treeOn r) (topIn i s)
-      unfolding topIn recordIn leafIn innerIn childIn grantIn
-      found-top = subst (λ q. TopSays s p (treeOn q) (topIn i s)) (record-is (slotIn i s) r slot-is) (go (isLeaf (slotIn i s)) refl)
+      unfolding topIn recordIn leafIn innerIn grantAt
+      found-top = subst (λ q. TopSays s p (treeOn q) (topIn i s)) (record-is (slotIn i s) r slot-says) (go (isLeaf (slotIn i s)) refl)
         where
           go : (b : Bool) → isLeaf (slotIn i s) ≡ b →
               TopSays s p (treeOn (recordIn (slotIn i s) (cond b (leafIn (slotIn i s)) (innerIn (slotIn i s)))))
-              (cond b (Leaf i) (Inner (field versionAt 4 (slotIn i s)) (field leftAt 4 (slotIn i s)) (field rightAt 4 (slotIn i s))))
-          go true e = record { right = within i l; tree = refl }
+              (cond b (Leaf i) (Inner (versionIn (slotIn i s)) (leftIn (slotIn i s) .version) (rightIn (slotIn i s) .version)))
+          go true e = record { right = inside; tree = refl }
           go false e = record { right = short e; tree = refl }
 
     -- as a child
     module _ (p : place.Place) (proper : Proper p) (v : ℕ) (is-found : find v (placeOf p) (storeOf s .slots) ≡ some r) where
       place-is : r .place ≡ placeOf p
-      place-is = node-place (subst (Hit (storeOf s .slots) v (placeOf p)) is-found (hits (storeOf s .slots) v (placeOf p)))
+      place-is = found-in (storeOf s .slots) v (placeOf p) r is-found .3
 
       tree-is : 1 ≤ v → treeHere s p v ≡ treeBelow (r .version) (r .body) (onwards s p)
       unfolding treeHere
@@ -132,7 +125,7 @@ module _ (s : Bytes) (size : sizeRight (length s) ≡ true) (bytes : All Byte s)
       child-top h = subst (λ t. TopSays s p t (topIn i s)) (sym (tree-is h)) (found-top p proper place-is)
 
     -- as a root
-    module _ (p : place.Place) (empty : places.Stands [] 0 p) (v : ℕ) (is-root : rootOf (storeOf s) v ≡ some r) (at : r .place ≡ []) where
+    module _ (p : place.Place) (empty : places.Stands [] 0 p) (v : ℕ) (is-root : rootOf (storeOf s) v ≡ some r) where
       root-tree : treeAtVersion (storeOf s) v ≡ treeBelow (r .version) (r .body) (onwards s p)
       unfolding treeAtVersion longer
       root-tree =
@@ -140,7 +133,7 @@ module _ (s : Bytes) (size : sizeRight (length s) ≡ true) (bytes : All Byte s)
           ∙ ap₂ (λ n q. treeBelow (r .version) (r .body) (λ b w. treeFrom (255 - n) (storeOf s .slots) w (longer b q))) (sym (empty .count)) (sym (empty .place))
 
       pub root-found : TopSays s p (treeAtVersion (storeOf s) v) (topIn i s)
-      root-found = subst (λ t. TopSays s p t (topIn i s)) (sym root-tree) (found-top p (empty .proper) (at ∙ sym (empty .place)))
+      root-found = subst (λ t. TopSays s p t (topIn i s)) (sym root-tree) (found-top p (empty .proper) (root-at (storeOf s) v r is-root .2 ∙ sym (empty .place)))
 
   -- none
   pub child-none : (p : place.Place) (v : ℕ) → v ≡ 0 → TopSays s p (treeHere s p v) Nothing
@@ -172,10 +165,10 @@ pub leaf-top : (s : Bytes) (i : ℕ) {x : Bytes} {b : Bool} → x ≡ slotIn i s
 unfolding topIn
 leaf-top s i q d e = rw (ap isLeaf (sym q) ∙ sym d ∙ e)
 
-pub inner-top : (s : Bytes) (i : ℕ) {x : Bytes} {v l r : ℕ} {b : Bool} → x ≡ slotIn i s → b ≡ isLeaf x → b ≡ false → v ≡ field versionAt 4 x →
-    l ≡ field leftAt 4 x → r ≡ field rightAt 4 x → Inner v l r ≡ topIn i s
+pub inner-top : (s : Bytes) (i : ℕ) {x : Bytes} {v l r : ℕ} {b : Bool} → x ≡ slotIn i s → b ≡ isLeaf x → b ≡ false → v ≡ versionIn (slotIn i s) →
+    l ≡ leftIn (slotIn i s) .version → r ≡ rightIn (slotIn i s) .version → Inner v l r ≡ topIn i s
 unfolding topIn
-inner-top s i q d e f g h = rw (ap isLeaf (sym q) ∙ sym d ∙ e, f, g, h, q)
+inner-top s i q d e f g h = rw (ap isLeaf (sym q) ∙ sym d ∙ e, f, g, h)
 
 bit-comm : (b c : Bool) → Bool·beq b c ≡ Bool·beq c b
 bit-comm true true = refl
@@ -202,13 +195,13 @@ module _ (s : Bytes) (p q : place.Place) (b : Side) (grown : Grown b p q) where
       go false g = ap (λ m. treeFrom (255 - p .count) (storeOf s .slots) m (longer false (placeOf p))) g
 
   -- or the leaf, if its key goes there
-  module _ {t : declared.Top} (i : ℕ) (e : t ≡ Leaf i) {x k : Bytes} {c : Bool} (slot : x ≡ slotIn i s) (key : k ≡ slice keyAt 32 x)
+  module _ {t : declared.Top} (i : ℕ) (e : t ≡ Leaf i) {x k : Bytes} {c : Bool} (slot : x ≡ slotIn i s) (key : k ≡ keyIn x)
       (goes : c ≡ bit (p .count) k) where
     leaf-goes : under (p .count) b (topTree s p t) ≡ cond (Bool·beq b c) (topTree s p (Leaf i)) vnone
-    unfolding grantIn
+    unfolding grantAt
     leaf-goes =
         ap (λ u. under (p .count) b (topTree s p u)) e
-        ∙ ap (λ y. cond (Bool·beq b (bit (p .count) y)) (topTree s p (Leaf i)) vnone) (ap (slice keyAt 32) (sym slot) ∙ sym key)
+        ∙ ap (λ y. cond (Bool·beq b (bit (p .count) y)) (topTree s p (Leaf i)) vnone) (ap keyIn (sym slot) ∙ sym key)
         ∙ ap (λ d. cond (Bool·beq b d) (topTree s p (Leaf i)) vnone) (sym goes)
 
     pub leaf-below : TopRight s p t → Bool·beq c b ≡ true → TopSays s q (under (p .count) b (topTree s p t)) (Leaf i)
@@ -244,7 +237,7 @@ neither-inner Nothing Nothing a b s p = refl
 neither-inner Nothing (Leaf j) a b s p = refl
 neither-inner Nothing (Inner w m q) a b s p = absurd (⊎-elim (λ e. omega arith) (λ e. omega arith) b)
 neither-inner (Leaf i) Nothing a b s p = refl
-neither-inner (Leaf i) (Leaf j) a b s p = or-true (eqb (field versionAt 4 (slotIn i s)) (field versionAt 4 (slotIn j s)))
+neither-inner (Leaf i) (Leaf j) a b s p = or-true (eqb (versionIn (slotIn i s)) (versionIn (slotIn j s)))
 neither-inner (Leaf i) (Inner w m q) a b s p = absurd (⊎-elim (λ e. omega arith) (λ e. omega arith) b)
 neither-inner (Inner v l r) u a b s p = absurd (⊎-elim (λ e. omega arith) (λ e. omega arith) a)
 

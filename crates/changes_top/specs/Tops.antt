@@ -5,28 +5,27 @@ use mathlib.Core.Path.{_≡_}
 use mathlib.Core.Bool.{Bool, cond}
 use lib.ListN.{length}
 use Rattle.terms.specs.Bits.{Bytes, left, right, longer}
-use Rattle.terms.specs.Fields.{field, slice}
 use Rattle.terms.specs.Records.{Grant, grant}
 use Rattle.meaning.specs.Tree.{VTree, vnone, vleaf, vinner}
 use Rattle.meaning.specs.Store.{treeFrom}
 use Rattle.place.specs.declared.Place as place
 use Rattle.place.specs.Place.{placeOf}
-use Rattle.layout.specs.Sizes.{versionAt, keyAt, valueAt, leftAt, rightAt, roomOf}
-use Rattle.layout.specs.Slots.{isLeaf}
+use Rattle.layout.specs.Sizes.{roomOf}
+use Rattle.layout.specs.Slots.{isLeaf, versionIn, keyIn, valueIn, leftIn, rightIn}
 use Rattle.layout.specs.Stores.{slotIn, storeOf}
 use Rattle.changed.specs.Visits.{noDeeper}
 use Rattle.changes_top.specs.declared.Top as declared
 use Rattle.changes_top.specs.declared.Top.the-variants.{Nothing, Leaf, Inner}
 
 -- The grant of the leaf in slot i.
-unfoldable pub grantIn : ℕ → Bytes → Grant
-grantIn i s = grant (slice keyAt 32 (slotIn i s)) (slice valueAt 32 (slotIn i s))
+unfoldable pub grantAt : ℕ → Bytes → Grant
+grantAt i s = grant (keyIn (slotIn i s)) (valueIn (slotIn i s))
 
 -- What the record in slot i is the top of.
 unfoldable pub topIn : ℕ → Bytes → declared.Top
 topIn i s =
     cond (isLeaf (slotIn i s)) (Leaf i)
-    (Inner (field versionAt 4 (slotIn i s)) (field leftAt 4 (slotIn i s)) (field rightAt 4 (slotIn i s)))
+    (Inner (versionIn (slotIn i s)) (leftIn (slotIn i s) .version) (rightIn (slotIn i s) .version))
 
 -- The tree that is read on from a version and place.
 unfoldable pub treeHere : Bytes → place.Place → ℕ → VTree
@@ -35,7 +34,7 @@ treeHere s p v = treeFrom (256 - p .count) (storeOf s .slots) v (placeOf p)
 -- The tree with this top at a place; a leaf's record may stand further up.
 abbrev pub topTree : Bytes → place.Place → declared.Top → VTree
 topTree s p Nothing = vnone
-topTree s p (Leaf i) = vleaf (field versionAt 4 (slotIn i s)) (grantIn i s)
+topTree s p (Leaf i) = vleaf (versionIn (slotIn i s)) (grantAt i s)
 topTree s p (Inner v l r) =
     vinner v (treeFrom (255 - p .count) (storeOf s .slots) l (longer left (placeOf p)))
     (treeFrom (255 - p .count) (storeOf s .slots) r (longer right (placeOf p)))

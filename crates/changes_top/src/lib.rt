@@ -1,24 +1,24 @@
 // What two trees are compared by at a place, read from lent memory, document 02, request 2026-01: the node there, or a leaf from further up
 // whose key goes there.
-use fields::get_u32;
-use layout::sizes;
 use lookup::Found;
 use lookup::find;
+use lookup::find_root;
 use place::Place;
 use place::key_bit;
 use slots::is_leaf;
 use slots::key_of;
+use store::child_version_at;
 use store::slot_of;
+use store::version_at;
 ghost use mathlib.Core.Path.{_≡_};
 ghost use mathlib.Core.Bool.{true};
 ghost use mathlib.Core.List.{[]};
-ghost use Prim.Native.Nat.{_+_, _<_, _≤_};
+ghost use Prim.Native.Nat.{_<_};
 ghost use lib.ListN.{length};
 ghost use Rattle.meaning.specs.Store.{treeAtVersion};
 ghost use Rattle.place.specs.Place.{Proper, Stands, Grown};
-ghost use Rattle.layout.specs.Sizes.{slotSize, slotAt};
 ghost use Rattle.layout.specs.Headers.{sizeRight};
-ghost use Rattle.layout.specs.Stores.{storeOf};
+ghost use Rattle.layout.specs.Stores.{storeOf, SlotWithin};
 ghost use Rattle.changed.specs.Walk.{under};
 ghost use Rattle.changes_top.specs.Tops.{topIn, treeHere, topTree, TopRight, TopSays, DeeperSays};
 
@@ -32,16 +32,16 @@ pub enum Top {
 
 // The node whose record is in slot i.
 fn top_in(store: &[u8], i: usize) -> Top
-    requires { ⌜ slotAt i + slotSize ≤ length (now store) ⌝ }
+    requires { ⌜ SlotWithin i (now store) ⌝ }
     ensures { λ r. ⌜ r ≡ topIn i (now (store .entry)) ⌝ }
 {
     let slot = slot_of(store, i);
     if is_leaf(slot) {
         return Top::Leaf(i);
     }
-    let version = get_u32(slot, sizes::VERSION_AT);
-    let left = get_u32(slot, sizes::LEFT_AT);
-    let right = get_u32(slot, sizes::RIGHT_AT);
+    let version = version_at(store, i);
+    let left = child_version_at(store, i, false);
+    let right = child_version_at(store, i, true);
     Top::Inner {
         version,
         left,
@@ -54,7 +54,7 @@ pub fn root_top(store: &[u8], version: u32, top: Place) -> Top
     requires { ⌜ (sizeRight (length (now store)) ≡ true) × Stands [] 0 top ⌝ }
     ensures { λ r. ⌜ TopSays (now (store .entry)) top (treeAtVersion (storeOf (now (store .entry))) version) r ⌝ }
 {
-    let found = find(store, version, top);
+    let found = find_root(store, version);
     let Found::At(i) = found else {
         return Top::Nothing;
     };

@@ -7,14 +7,14 @@ use mathlib.Core.List.{List, [], _∷_, _++_, map, map-append}
 use lib.ListN.{length, length-append}
 use Rattle.terms.specs.Bits.{Bytes, All, Side, left, right}
 use Rattle.terms.specs.Fields.{flat}
-use Rattle.terms.proofs.Fields.{flat-append, length-slice}
+use Rattle.terms.proofs.Fields.{flat-append}
 use Rattle.meaning.specs.Tree.{VTree, vnone, vleaf, vinner, kid}
 use Rattle.place.specs.declared.Place as place
 use Rattle.place.specs.Place.{placeOf, Proper, Grown}
-use Rattle.layout.specs.Sizes.{slotAt, slotSize, keyAt, valueAt, roomOf}
 use Rattle.layout.specs.Headers.{sizeRight}
 use Rattle.layout.specs.Stores.{slotIn}
-use Rattle.layout.proofs.Headers.{size-says}
+use Rattle.slots.proofs.Parts.{key-long, value-long}
+use Rattle.store.proofs.Slots.{slot-long, slot-fits}
 use Rattle.changed.specs.Changes.{changed, Item, items, itemSize, itemBytes, listBytes}
 use Rattle.changed.specs.Visits.{sameRecord, noDeeper}
 use Rattle.changed.specs.Walk.{visitsAt, under, held, listed}
@@ -22,7 +22,7 @@ use Rattle.changed.proofs.Walk.{visits-carried}
 use Rattle.changed.proofs.Ends.{Long32, ends-few, ends-long, items-append, listed-few}
 use Rattle.changes_top.specs.declared.Top as top
 use Rattle.changes_top.specs.declared.Top.the-variants.{Nothing, Leaf, Inner}
-use Rattle.changes_top.specs.Tops.{grantIn, topTree, TopRight, TopSays}
+use Rattle.changes_top.specs.Tops.{grantAt, topTree, TopRight, TopSays}
 use Rattle.changes_put.specs.Puts.{leafOf, endItems, putInto, LeafIn, Fits, Ends, Puts}
 use Rattle.changes_put.proofs.Putting.{put-on}
 use Rattle.changes_walk.specs.Walk.{visitsHere, itemsHere, Here, Goes, WalkSays}
@@ -37,15 +37,14 @@ held-leaf s p (Inner v l r) = refl
 
 leaf-in : (s : Bytes) (p : place.Place) (t : top.Top) → sizeRight (length s) ≡ true → TopRight s p t → LeafIn s t
 leaf-in s p Nothing z h = tt
-leaf-in s p (Leaf i) z h = let t = size-says (length s) z in omega arith
+leaf-in s p (Leaf i) z h = slot-fits s z i h
 leaf-in s p (Inner v l r) z h = tt
 
 leaf-long : (s : Bytes) (p : place.Place) (t : top.Top) → sizeRight (length s) ≡ true → TopRight s p t → All Long32 (held (topTree s p t))
-unfolding grantIn slotIn
+unfolding grantAt
 leaf-long s p Nothing z h = tt
 leaf-long s p (Leaf i) z h =
-    let l = length-slice (slotAt i) slotSize s (leaf-in s p (Leaf i) z h) in
-    ((length-slice keyAt 32 (slotIn i s) (omega arith), length-slice valueAt 32 (slotIn i s) (omega arith)), tt)
+    let l = slot-long i s (slot-fits s z i h) in ((key-long (slotIn i s) l, value-long (slotIn i s) l), tt)
 leaf-long s p (Inner v l r) z h = tt
 
 -- two lists of records, one after the other

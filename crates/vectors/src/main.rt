@@ -1,8 +1,9 @@
-// The program of vectors: the desk's example of document 01, M1 to M12, and its closing cases, through the public calls. Each row has 01's
+// The program of vectors: the desk's example of document 01, M1 to M12, and its closing cases, and rows of document 02, through the public calls. Each row has 01's
 // words and below them what came. The gate holds all that is written here to the file stdout.
 //
 // A store of n slots has 24 + 120n bytes.
 mod ask;
+mod changed;
 mod held;
 mod run;
 mod say;
@@ -51,6 +52,7 @@ fn desk(store: &mut [u8]) {
     m4(store);
     m5(store);
     m6(store);
+    changed::rows(store);
     m7(store);
     m8(store);
 }

@@ -171,9 +171,12 @@ cast-t21 c =
     let s = a .store .now in
     let x = wk .walk .last .1 .1 .1 .1 .1 .1 .0 in
     let q = subst (λ z. WalkSays s (tp .top .result) (r1 .root-top .result) (r2 .root-top2 .result) (a .limit) false (a .room .now) 0 z x) (nn .n .given .1) (wk .walk .ensures) in
-    omega (arith, list-small w (a .first) (a .second) (a .limit) (a .room .now) (is-kept w (a .first) (o1 .«open» .result) (o1 .«open» .ensures) (t1 .enum-told .given .1)) (is-kept w (a .second) (o2 .open2 .result) (o2 .open2 .ensures) (t2 .enum-told3 .given .1))
-    (tp .top .ensures) (r1 .root-top .ensures) (r2 .root-top2 .ensures)
-    (nn .n .given .0 .0) (nn .n .given .0 .1 .0) x q)
+    omega (
+      arith,
+      list-small w (a .first) (a .second) (a .limit) (a .room .now) (is-kept w (a .first) (o1 .«open» .result) (o1 .«open» .ensures) (t1 .enum-told .given .1)) (is-kept w (a .second) (o2 .open2 .result) (o2 .open2 .ensures) (t2 .enum-told3 .given .1))
+          (tp .top .ensures) (r1 .root-top .ensures) (r2 .root-top2 .ensures)
+          (nn .n .given .0 .0) (nn .n .given .0 .1 .0) x q,
+    )
 
 same-length-3 : tie.Need-same-length-3
 same-length-3 c = search needs

@@ -3,9 +3,9 @@ use Prim.Native.Nat.{_+_}
 use native.Mathlib.Omega.{arith}
 use mathlib.Core.Path.{refl, ap, sym, _∙_, subst}
 use Rattle.changed.specs.Changes.{itemAs}
-use Rattle.changes_top.specs.Tops.{grantIn}
+use Rattle.changes_top.specs.Tops.{grantAt}
 use Rattle.changes_put.specs.Puts.{putInto, Fits}
-use Rattle.changes_put.proofs.Putting.{fits-less, fits-next, put-on, item-long}
+use Rattle.changes_put.proofs.Putting.{fits-less, fits-next, put-on, item-sized}
 use borrow.Author.Needs.{needs}
 use Rattle.changes_put.proofs.put_pair.Statement.{statement}
 use Rattle.changes_put.proofs.put_pair.Tie as tie
@@ -22,10 +22,10 @@ put-record-requires-2 c κs =
     let start = c3 .before .before .before .before in
     let a = start .args in
     let h = start .pre in
-    let f = itemAs (a .kind) (grantIn (a .i) (a .store .now)) in (
+    let f = itemAs (a .kind) (grantAt (a .i) (a .store .now)) in (
       h .0 .1,
       subst (Fits (a .writes) 1 (a .at + 1)) (sym (c3 .put-record .ensures))
-          (fits-next (a .writes) (a .at) 1 1 f (a .room .now) (item-long (a .store .now) (a .i) (h .0 .0) (a .kind)) (h .1)),
+          (fits-next (a .writes) (a .at) 1 1 f (a .room .now) (item-sized (a .store .now) (a .i) (h .0 .0) (a .kind)) (h .1)),
     )
 
 add-result : tie.Need-add-result
@@ -42,12 +42,12 @@ returns c =
     let a = start .args in
     let h = start .pre in
     let s = a .store .now in
-    let f = itemAs (a .kind) (grantIn (a .i) s) in
-    let g = itemAs (a .other) (grantIn (a .j) s) in (
+    let f = itemAs (a .kind) (grantAt (a .i) s) in
+    let g = itemAs (a .other) (grantAt (a .j) s) in (
       refl,
       c2 .put-record2 .ensures
           ∙ ap (putInto (a .writes) (a .at + 1) g) (c6 .put-record .ensures)
-          ∙ put-on (a .writes) (a .at) 1 1 f g (a .room .now) (item-long s (a .i) (h .0 .0) (a .kind)) (item-long s (a .j) (h .0 .1) (a .other)) (h .1),
+          ∙ put-on (a .writes) (a .at) 1 1 f g (a .room .now) (item-sized s (a .i) (h .0 .0) (a .kind)) (item-sized s (a .j) (h .0 .1) (a .other)) (h .1),
     )
 
 pub put-pair-spec : {M : Type 1} → statement M

@@ -1,10 +1,8 @@
 -- `changes_top::below` meets its contract: the child of an inner node, or the leaf if its key goes to that side. Assumes nothing.
-use native.Mathlib.Omega.{arith}
 use mathlib.Core.Path.{subst}
-use Rattle.terms.specs.Bits.{Byte}
-use Rattle.terms.proofs.Lists.{all-of}
 use Rattle.changes_top.specs.Tops.{TopRight}
-use Rattle.changes_top.proofs.Tops.{slot-fits, kid-below, leaf-below, leaf-elsewhere, none-below}
+use Rattle.store.proofs.Slots.{slot-fits}
+use Rattle.changes_top.proofs.Tops.{kid-below, leaf-below, leaf-elsewhere, none-below}
 use borrow.Author.Needs.{needs}
 use Rattle.changes_top.proofs.below.Statement.{statement}
 use Rattle.changes_top.proofs.below.Tie as tie
@@ -21,8 +19,7 @@ slot-of-requires c κs =
     let a = c3 .before .args in
     let h = c3 .before .pre in
     let s = a .store .now in
-    let b = all-of Byte s 0 (λ i _. omega (arith, c3 .shared-slice-known .given i)) in
-    slot-fits s (h .0) b _ (subst (TopRight s (a .place)) (c .before .top .given .1) (h .2))
+    slot-fits s (h .0) _ (subst (TopRight s (a .place)) (c .before .top .given .1) (h .2))
 
 key-of-requires : tie.Need-key-of-requires
 key-of-requires c κs = search needs

@@ -7,7 +7,7 @@ use Rattle.place.specs.Place.{placeOf}
 use Rattle.layout.specs.Stores.{storeOf}
 use Rattle.lookup.specs.Lookup.{FoundIn}
 use Rattle.changes_top.specs.Tops.{treeHere, TopSays}
-use Rattle.changes_top.proofs.Tops.{slot-fits, within, child-top, child-none, child-missing}
+use Rattle.changes_top.proofs.Tops.{its-slot, child-top, child-none, child-missing}
 use borrow.Author.Needs.{needs}
 use Rattle.changes_top.proofs.top_at.Statement.{statement}
 use Rattle.changes_top.proofs.top_at.Tie as tie
@@ -46,7 +46,7 @@ top-in-requires c κs =
     let s = a .store .now in
     let b = all-of Byte s 0 (λ i _. omega (arith, c5 .shared-slice-known .given i)) in
     let f = subst (FoundIn (storeOf s .slots) (a .version) (placeOf (a .place))) (c1 .found .given .1) (c3 .find .ensures) in
-    slot-fits s (c5 .before .pre .0) b _ (within s (c5 .before .pre .0) b _ (f .0))
+    its-slot s (c5 .before .pre .0) b _ (f .1 .0) (f .0) (f .1 .1)
 
 returns-3 : tie.Need-returns-3
 returns-3 c =

@@ -1,5 +1,4 @@
 -- `changes_top::top_in` meets its contract, by what kind of record there is. Assumes nothing.
-use borrow.Author.Tests.{not-true}
 use Rattle.changes_top.proofs.Tops.{leaf-top, inner-top}
 use borrow.Author.Needs.{needs}
 use Rattle.changes_top.proofs.top_in.Statement.{statement}
@@ -16,21 +15,21 @@ returns c =
     let a = c .before .before .before .before .args in
     leaf-top (a .store .now) (a .i) (c .before .before .slot-of .ensures .0) (c .before .is-leaf .ensures) (c .if1 .taken)
 
-get-u32-requires : tie.Need-get-u32-requires
-get-u32-requires c κs = search needs
+version-at-requires : tie.Need-version-at-requires
+version-at-requires c κs = search needs
 
-get-u32-requires-2 : tie.Need-get-u32-requires-2
-get-u32-requires-2 c κs = search needs
+child-version-at-requires : tie.Need-child-version-at-requires
+child-version-at-requires c κs = search needs
 
-get-u32-requires-3 : tie.Need-get-u32-requires-3
-get-u32-requires-3 c κs = search needs
+child-version-at-requires-2 : tie.Need-child-version-at-requires-2
+child-version-at-requires-2 c κs = search needs
 
 returns-2 : tie.Need-returns-2
 returns-2 c =
     let c3 = c .before .before .before in
     let a = c3 .before .before .before .before .args in
     inner-top (a .store .now) (a .i) (c3 .before .before .slot-of .ensures .0) (c3 .before .is-leaf .ensures) (c3 .if1 .left)
-    (c .before .before .get-u32 .ensures) (c .before .get-u322 .ensures) (c .get-u323 .ensures)
+    (c .before .before .version-at .ensures) (c .before .child-version-at .ensures) (c .child-version-at2 .ensures)
 
 pub top-in-spec : {M : Type 1} → statement M
 top-in-spec =
@@ -39,7 +38,7 @@ top-in-spec =
     slot-of-requires
     is-leaf-requires
     returns
-    get-u32-requires
-    get-u32-requires-2
-    get-u32-requires-3
+    version-at-requires
+    child-version-at-requires
+    child-version-at-requires-2
     returns-2)
