@@ -93,7 +93,7 @@ item-put {a} {b} {c} {y} kind part g l m ea eb ec ey =
     ec ∙ ap (written 6 (le 2 0)) (eb ∙ ap (written 4 (le 2 kind)) ea) in
     let fs = le 4 72 ∷ le 2 kind ∷ le 2 0 ∷ g ∷ [] in
     part-written 8 72 y c (omega (arith, ap length ey))
-    ∙ ap₂ (written 8) ey d
+    ∙ ap₂ (λ u v. written 8 u v) ey d
     ∙ fields-fill (4 ∷ 2 ∷ 2 ∷ 64 ∷ []) fs part (length-le 4 72, (length-le 2 kind, (length-le 2 0, (m, tt)))) (omega arith)
     ∙ ap₂ (λ z h. le 4 72 ++ (le 2 kind ++ (z ++ h))) two-zeros (grant-parts g)
 
