@@ -21,7 +21,7 @@ same-length c = search needs
 
 returns : tie.Need-returns
 returns c =
-    let a = c .before .before .before .before .before .before .before .before .before .before .args in
+    let a = c .before .before .before .before .before .before .before .before .before .args in
     let d = c .before .before .before .before .before .changes in
     changes-refused (d .result) (d .ensures) (a .records .now) (c .before .compared .given .1)
 
@@ -30,7 +30,7 @@ same-length-2 c = search needs
 
 returns-2 : tie.Need-returns-2
 returns-2 c =
-    let a = c .before .before .before .before .before .before .before .before .before .before .before .before .args in
+    let a = c .before .before .before .before .before .before .before .before .before .before .before .args in
     let d = c .before .before .before .before .before .before .before .changes in
     changes-listed (d .result) (d .ensures) (a .records .now) (c .before .before .before .compared2 .given .1) (search needs) (c .put-u32 .ensures)
 
