@@ -12,16 +12,17 @@
  *
  *   1  the store's length isn't 24 + 120n, n in 1 to 16,384
  *   2  a header field isn't right, its capacity isn't n, or oldest is above latest
- *   3  the store isn't sound (check, apply, prune), or the walk says so (reads)
+ *   3  the store isn't sound (check, apply, prune, changes), or the walk says so (reads)
  *   4  the batch isn't whole records in form, or has over 1,024
  *   5  the batch's keys aren't strictly ascending
  *   6  latest is 4,294,967,295
  *   7  fewer free slots than new records
  *   8  the version isn't in oldest to latest
- *   9  the proof is longer than the room
+ *   9  the proof or the list is longer than the room
  *  10  the proof isn't one whole record in form, no byte over
  *  11  the proof is in form, but doesn't hold
  *  12  a key or root handed in isn't 32 bytes
+ *  13  a comparison has more visits than the limit
  *  14  the version is empty, so there is no proof
  *
  * 'Refused' below names a call's numbers in the order in which it tests for them: where several are deserved, the first is given.
@@ -69,6 +70,16 @@ uint32_t grants_get(const uint8_t *store, size_t store_len, uint32_t version, co
    a store that isn't sound, grants_verify may refuse. Refused: 12, 1, 2, 8, 14, 3, 9. */
 uint32_t grants_prove(const uint8_t *store, size_t store_len, uint32_t version, const uint8_t *key, size_t key_len, uint8_t *room,
                       size_t room_len, uint8_t length[4]);
+
+/* What changed from one kept version to another: every key added, removed or given another value, in key order, each once. The list goes to the
+   front of room as records of 72 bytes; the rest of room stays. Either version may be the later one; swapped, they list what undoes it.
+     insert: length 72 (4 bytes), kind 1 (2), 2 zero bytes, key 32, the new value 32
+     delete: length 72 (4 bytes), kind 2 (2), 2 zero bytes, key 32, the old value 32
+   A key given another value is a delete and then an insert, so a key may stand twice. The list is no batch: a batch's delete carries no value.
+   limit: how many places of the two trees may be visited, the empty place first, then both longer places wherever one of the trees has an inner
+   node and they don't have the same record; 32,769 is always enough. records: how many the list has, 4 bytes. Refused: 1, 2, 3, 8, 13, 9. */
+uint32_t grants_changes(const uint8_t *store, size_t store_len, uint32_t first, uint32_t second, uint32_t limit, uint8_t *room,
+                        size_t room_len, uint8_t records[4]);
 
 /* What a proof shows of a key against a root: all that an editor needs. The root must come from who signs it; the proof may come from anybody.
    found: 1 and the value for 'present', 0 and 32 zero bytes for 'absent'. Any number but 0 means that the proof shows nothing.

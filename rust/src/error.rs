@@ -17,7 +17,7 @@ pub enum Error {
     Size = 1,
     /// 2: a header field isn't right, its capacity isn't n, or oldest is above latest.
     Header,
-    /// 3: the store isn't sound (check, apply, prune), or the walk says so (reads).
+    /// 3: the store isn't sound (check, apply, prune, changes), or the walk says so (reads).
     Unsound,
     /// 4: the batch isn't whole records in form, or has over 1,024.
     BatchForm,
@@ -29,7 +29,7 @@ pub enum Error {
     NoRoom,
     /// 8: the version isn't in oldest to latest.
     VersionNotKept,
-    /// 9: the proof is longer than the room.
+    /// 9: the proof or the list is longer than the room.
     ProofTooLong,
     /// 10: the proof isn't one whole record in form, no byte over.
     ProofForm,
@@ -37,12 +37,14 @@ pub enum Error {
     ProofFails,
     /// 12: a key or root handed in isn't 32 bytes.
     NotThirtyTwoBytes,
+    /// 13: a comparison has more visits than the limit.
+    TooManyVisits = 13,
     /// 14: the version is empty, so there is no proof; its root of 32 zero bytes itself shows that nothing is granted.
     EmptyVersion = 14,
 }
 
 /// The table of the rules, number 1 first, in the words of include/grants.h.
-const TABLE: [(Error, &str); 13] = [
+const TABLE: [(Error, &str); 14] = [
     (
         Error::Size,
         "the store's length isn't 24 + 120n, n in 1 to 16,384",
@@ -53,7 +55,7 @@ const TABLE: [(Error, &str); 13] = [
     ),
     (
         Error::Unsound,
-        "the store isn't sound (check, apply, prune), or the walk says so (reads)",
+        "the store isn't sound (check, apply, prune, changes), or the walk says so (reads)",
     ),
     (
         Error::BatchForm,
@@ -69,7 +71,7 @@ const TABLE: [(Error, &str); 13] = [
         Error::VersionNotKept,
         "the version isn't in oldest to latest",
     ),
-    (Error::ProofTooLong, "the proof is longer than the room"),
+    (Error::ProofTooLong, "the proof or the list is longer than the room"),
     (
         Error::ProofForm,
         "the proof isn't one whole record in form, no byte over",
@@ -78,6 +80,10 @@ const TABLE: [(Error, &str); 13] = [
     (
         Error::NotThirtyTwoBytes,
         "a key or root handed in isn't 32 bytes",
+    ),
+    (
+        Error::TooManyVisits,
+        "a comparison has more visits than the limit",
     ),
     (
         Error::EmptyVersion,
@@ -123,7 +129,7 @@ mod tests {
     #[test]
     fn numbers_are_the_rows_of_the_table() {
         let numbers: Vec<u32> = TABLE.iter().map(|(error, _)| error.number()).collect();
-        assert_eq!(numbers, [1, 2, 3, 4, 5, 6, 7, 8, 9, 10, 11, 12, 14]);
+        assert_eq!(numbers, [1, 2, 3, 4, 5, 6, 7, 8, 9, 10, 11, 12, 13, 14]);
         for number in 0..=20 {
             let listed = numbers.contains(&number).then_some(number);
             assert_eq!(Error::from_number(number).map(Error::number), listed);

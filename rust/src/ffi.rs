@@ -37,6 +37,16 @@ extern "C" {
         room_len: usize,
         length: *mut [u8; 4],
     ) -> u32;
+    fn grants_changes(
+        store: *const u8,
+        store_len: usize,
+        first: u32,
+        second: u32,
+        limit: u32,
+        room: *mut u8,
+        room_len: usize,
+        records: *mut [u8; 4],
+    ) -> u32;
     fn grants_verify(
         root: *const u8,
         root_len: usize,
@@ -122,6 +132,29 @@ pub fn prove(store: &[u8], version: u32, key: &[u8], room: &mut [u8]) -> Result<
         )
     })?;
     Ok(length)
+}
+
+pub fn changes(
+    store: &[u8],
+    first: u32,
+    second: u32,
+    limit: u32,
+    room: &mut [u8],
+) -> Result<[u8; 4], Error> {
+    let mut records = [0; 4];
+    accepted(unsafe {
+        grants_changes(
+            store.as_ptr(),
+            store.len(),
+            first,
+            second,
+            limit,
+            room.as_mut_ptr(),
+            room.len(),
+            &mut records,
+        )
+    })?;
+    Ok(records)
 }
 
 pub fn verify(root: &[u8], key: &[u8], proof: &[u8]) -> Result<[u8; 33], Error> {

@@ -36,6 +36,7 @@
 #![warn(missing_debug_implementations)]
 
 mod batch;
+mod changes;
 mod error;
 mod ffi;
 mod hex;
@@ -45,6 +46,7 @@ mod store;
 mod words;
 
 pub use batch::{Batch, DoubledKey, BATCH_RECORDS};
+pub use changes::{Change, Changes, MOST_VISITS};
 pub use error::Error;
 pub use hex::{from_hex, to_hex, HexError};
 pub use proof::{verify, Proof, PROOF_BYTES};

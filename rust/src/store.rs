@@ -1,3 +1,4 @@
+use crate::changes::{Changes, LIST_BYTES};
 use crate::records::{self, Record};
 use crate::{ffi, proof, Batch, Error, Proof, Root, Value, PROOF_BYTES};
 
@@ -139,6 +140,16 @@ impl<B: AsRef<[u8]>> Store<B> {
     ) -> Result<usize, Error> {
         let length = ffi::prove(self.as_bytes(), version, key.as_ref(), room)?;
         Ok(u32::from_le_bytes(length) as usize)
+    }
+
+    /// What changed from one kept version to another, in any order of the two, if comparing them takes no more visits than the limit;
+    /// [`MOST_VISITS`](crate::MOST_VISITS) is always enough. Refused: 1, 2, 3, 8, 13.
+    pub fn changes(&self, first: u32, second: u32, limit: u32) -> Result<Changes, Error> {
+        let mut room = vec![0; LIST_BYTES];
+        let records = ffi::changes(self.as_bytes(), first, second, limit, &mut room)?;
+        room.truncate(72 * u32::from_le_bytes(records) as usize);
+        room.shrink_to_fit();
+        Ok(Changes::of(room))
     }
 
     /// Capacity, oldest and latest. Refused: 1, 2.

@@ -660,7 +660,7 @@ def any_bytes_and_words():
             )
         )
         done = subprocess.run([TOOL] + words, capture_output=True, timeout=60)
-        assert done.returncode in (0, 1, 2, 3, 4, *range(11, 23)), (words, done)
+        assert done.returncode in (0, 1, 2, 3, 4, *range(11, 25)), (words, done)
         silent = all(line.startswith(b"grants: by s.book") for line in done.stderr.splitlines())
         assert b"panicked" not in done.stderr and (done.returncode in (0, 1)) == silent, (words, done)
         if done.returncode != 0 or words[0] not in ("apply", "import", "prune", "grow"):
@@ -1377,6 +1377,29 @@ def a_dry_run_changes_nothing():
     made = really["published"][0]
     assert out == "would be version 3, %d new records, root %s\n%d free slots would be left; nothing was changed\n" % (made["new_records"], made["root"], told["free"])
     untouched(s, 17, "refused with 7", "apply", s, write("../c", many(200)), "--dry-run")
+
+
+@test
+def diff_between_two_versions():
+    answered(0, "format", "d", 40)
+    answered(0, "apply", "d", "-", "--no-book", input=FOUR)
+    answered(0, "apply", "d", "-", "--no-book", input=WITHDRAW)
+    lines = ["- %s %s" % (B, value(2)), "~ %s %s -> %s" % (C, value(3), value(5)), "version 1 to 2: 0 added, 1 removed, 1 changed"]
+    assert answered(0, "diff", "d", 1).splitlines() == lines
+    assert answered(0, "diff", "d", 1, 2, "--stat").splitlines() == lines[2:]
+    back = ["+ %s %s" % (B, value(2)), "~ %s %s -> %s" % (C, value(5), value(3)), "version 2 to 1: 1 added, 0 removed, 1 changed"]
+    assert answered(0, "diff", "d", 2, 1).splitlines() == back
+    told = json.loads(answered(0, "diff", "d", 1, 2, "--json"))
+    assert [(c["key"], c["old"], c["new"]) for c in told["changes"]] == [(B, value(2), None), (C, value(3), value(5))]
+    assert answered(0, "diff", "d", 2, 2) == "version 2 to 2: 0 added, 0 removed, 0 changed\n"
+    refused(23, "13", "diff", "d", 1, 2, "--limit", 6)
+    refused(18, "8", "diff", "d", 1, 3)
+    answered(0, "diff", "d", 1, 2, "--limit", 7, "--records", "list")
+    assert [r[4:6] + r[8:9] + r[40:41] for r in (read("list")[i:i + 72] for i in range(0, 216, 72))] == [b"\2\0\x40\2", b"\2\0\x60\3", b"\1\0\x60\5"]
+    # The batch makes the one version's grants of the other's.
+    answered(0, "apply", "d", "-", "--no-book", input=answered(0, "diff", "d", 2, 1, "--batch"))
+    assert answered(0, "root", "d", 3) == answered(0, "root", "d", 1)
+    assert answered(0, "diff", "d", 1, 3).splitlines() == ["version 1 to 3: 0 added, 0 removed, 0 changed"]
 
 
 @test

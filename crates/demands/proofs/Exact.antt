@@ -26,17 +26,19 @@ use Rattle.promises.specs.Calls.{Does, wrong-header, not-sound, refuses, accept
 use Rattle.read_step.specs.Headed.{byHeader}
 use Rattle.reads.specs.Reads.{rootAnswer, keyAnswer}
 use Rattle.proving.specs.Proving.{proveAnswer}
+use Rattle.changed.specs.Compare.{compare}
 use Rattle.verify.specs.Verify.{judged, verified}
 use Rattle.refusals.specs.Exactly.{Table, Exactly}
 use Rattle.refusals.specs.Rows.{NotSound, Not32}
-use Rattle.refusals.specs.Orders.{headerRows, batchRows, versionRows, keyRows, proofRows, holdingRows}
+use Rattle.refusals.specs.Orders.{headerRows, batchRows, versionRows, keyRows, proofRows, comparisonRows, holdingRows}
 use Rattle.refusals.proofs.Exactly.{First, past, within, exactly}
 use Rattle.refusals.proofs.Headers.{length-wrong, length-right, after-header, header-row, records-formed}
 use Rattle.refusals.proofs.Batches.{batch-first}
 use Rattle.refusals.proofs.Walks.{prune-first, root-first, get-first, prove-first}
+use Rattle.refusals.proofs.Changes.{changes-first}
 use Rattle.refusals.proofs.Proofs.{off-form, form-first}
-use Rattle.demands.specs.Tables.{formatRows, checkRows, applyRows, pruneRows, rootRows, getRows, proveRows, verifyRows, sha256Rows}
-use Rattle.grants.specs.Contracts.{Formats, Checks, Applies, Prunes, ReadsRoot, ReadsKey, Proves, Verifies, Hashes}
+use Rattle.demands.specs.Tables.{formatRows, checkRows, applyRows, pruneRows, rootRows, getRows, proveRows, changesRows, verifyRows, sha256Rows}
+use Rattle.grants.specs.Contracts.{Formats, Checks, Applies, Prunes, ReadsRoot, ReadsKey, Proves, Changes, Verifies, Hashes}
 
 -- Format: 1.
 pub format-exactly : {s t : Bytes} {r : ℕ} → Formats s r t → Exactly (formatRows s) r
@@ -127,6 +129,15 @@ prove-exactly {s} {v} {k} {room} {r = r} h w =
     (subst (First (proveRows s v k room)) (sym (w .answer))
     (key-first k (byHeader (headerOf s) (prove (storeOf s) v k (length room))) (headerRows s ++ proofRows s v k room)
     (read-first s (prove (storeOf s) v k (length room)) (proofRows s v k room) (λ c o l e. prove-first s (records-formed s h e) v k room))))
+
+-- A comparison: 1, 2, 3, 8, 13, 9.
+pub changes-exactly : (first second limit : ℕ) {s room f t g : Bytes} {r : ℕ} → Changes first second limit s room f r t g →
+    Exactly (changesRows s first second limit room) r
+changes-exactly first second limit {s} {room} {r = r} w =
+    exactly (changesRows s first second limit room) r refl
+    (subst (First (changesRows s first second limit room)) (sym (w .number))
+    (does-first (compare first second limit (length room)) s (comparisonRows s first second limit room) (w .answer)
+    (changes-first s first second limit room) (w .does)))
 
 -- The proof check: 12, 10, 11.
 pub verify-exactly : {root k x f : Bytes} {r : ℕ} {g : Bytes} → All Byte x → Verifies root k x f r g → Exactly (verifyRows root k x) r

@@ -12,3 +12,4 @@ pub mod Versions
 pub mod Cut
 pub mod Histories
 pub mod Desk
+pub mod Changed

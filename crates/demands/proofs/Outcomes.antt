@@ -1,11 +1,14 @@
 -- Demand 1: two outcomes that the contract of a public call allows are equal, in the answer and in every byte. Most contracts are equations, so
 -- both outcomes are the same term; the others are by cases that exclude each other. Assumes nothing.
 use Prim.Native.Nat.{ℕ}
-use mathlib.Core.Path.{_≡_, sym, _∙_}
+use mathlib.Core.Path.{_≡_, ap, sym, _∙_}
 use Rattle.terms.specs.Bits.{Bytes}
 use Rattle.soundness.proofs.Answers.{one-answer}
-use Rattle.promises.proofs.Calls.{one-export}
-use Rattle.grants.specs.Contracts.{Formats, Checks, Applies, Prunes, ReadsRoot, ReadsKey, Proves, Verifies, Hashes}
+use Rattle.meaning.specs.Answers.{numberOf}
+use Rattle.promises.proofs.Calls.{one-outcome, one-export}
+use Rattle.changes.specs.Changes.{roomAfter}
+use Rattle.changes_c.specs.Export.{countBytes}
+use Rattle.grants.specs.Contracts.{Formats, Checks, Applies, Prunes, ReadsRoot, ReadsKey, Proves, Changes, Verifies, Hashes}
 
 module _ {s : Bytes} {a b : ℕ} where
   pub one-format : {t u : Bytes} → Formats s a t → Formats s b u → (a ≡ b) × (t ≡ u)
@@ -28,6 +31,15 @@ module _ {s : Bytes} {a b : ℕ} where
 
   pub one-prove : {v : ℕ} {k room f t u g h : Bytes} → Proves s v k room f a t g → Proves s v k room f b u h → (a ≡ b) × (t ≡ u) × (g ≡ h)
   one-prove x y = (x .answer ∙ sym (y .answer), x .proof ∙ sym (y .proof), x .told ∙ sym (y .told))
+
+  pub one-changes : {first second limit : ℕ} {room f t u g h : Bytes} → Changes first second limit s room f a t g →
+      Changes first second limit s room f b u h → (a ≡ b) × (t ≡ u) × (g ≡ h)
+  one-changes {room = room} {f = f} x y =
+      let o = one-outcome (x .does) (y .does) .0 in (
+        x .number ∙ ap numberOf o ∙ sym (y .number),
+        x .list ∙ ap (λ z. roomAfter z room) o ∙ sym (y .list),
+        x .told ∙ ap (λ z. countBytes z f) o ∙ sym (y .told),
+      )
 
 module _ {a b : ℕ} where
   pub one-verify : {root k x f g h : Bytes} → Verifies root k x f a g → Verifies root k x f b h → (a ≡ b) × (g ≡ h)

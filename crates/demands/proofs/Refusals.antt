@@ -32,8 +32,10 @@ use Rattle.reads.specs.Reads.{rootAnswer, keyAnswer}
 use Rattle.reads_c.specs.Export.{rootBytes}
 use Rattle.proving.specs.Proving.{proveAnswer, roomAfter}
 use Rattle.proving_c.specs.Export.{provedInto, lengthBytes}
+use Rattle.changes.specs.Changes as compared
+use Rattle.changes_c.specs.Export.{countBytes}
 use Rattle.verify.specs.Verify.{verified}
-use Rattle.grants.specs.Contracts.{Formats, Applies, Prunes, ReadsRoot, ReadsKey, Proves, Verifies}
+use Rattle.grants.specs.Contracts.{Formats, Applies, Prunes, ReadsRoot, ReadsKey, Proves, Changes, Verifies}
 
 -- One of the numbers in a list.
 abbrev pub OneOf : List ℕ → ℕ → Type 0
@@ -84,7 +86,7 @@ module _ {s t : Bytes} {r : ℕ} (w : Formats s r t) where
       go false fresh e h = h
 
 -- 1, 2.
-header-numbers : (s : Bytes) {n : ℕ} → headerOf s ≡ refusal n → OneOf (1 ∷ 2 ∷ []) n
+pub header-numbers : (s : Bytes) {n : ℕ} → headerOf s ≡ refusal n → OneOf (1 ∷ 2 ∷ []) n
 header-numbers s {n} e = go (header-refused s n e)
   where
     go : (n ≡ 1) ⊎ (n ≡ 2) → OneOf (1 ∷ 2 ∷ []) n
@@ -214,6 +216,13 @@ module _ {s : Bytes} {v : ℕ} {k room f : Bytes} {r : ℕ} {t g : Bytes} (w : P
   refused-prove-writes-nothing h =
       let e = refused-of (provedInto s v k room) (λ z. h (w .answer ∙ z)) in
       (w .proof ∙ ap (λ a. roomAfter a room) (e .1), w .told ∙ ap (λ a. lengthBytes a f) (e .1))
+
+-- A comparison.
+module _ {first second limit : ℕ} {s room f : Bytes} {r : ℕ} {t g : Bytes} (w : Changes first second limit s room f r t g) where
+  pub refused-changes-writes-nothing : (r ≡ 0 → ⊥) → (t ≡ room) × (g ≡ f)
+  refused-changes-writes-nothing h =
+      let e = refused-of (w .answer) (λ z. h (w .number ∙ z)) in
+      (w .list ∙ ap (λ a. compared.roomAfter a room) (e .1), w .told ∙ ap (λ a. countBytes a f) (e .1))
 
 -- The proof check.
 module _ {root k x f : Bytes} {r : ℕ} {g : Bytes} (w : Verifies root k x f r g) where

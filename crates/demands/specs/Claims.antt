@@ -3,11 +3,11 @@ use Prim.Native.Nat.{ℕ, _+_, _≤_, _<_}
 use mathlib.Core.Path.{_≡_}
 use mathlib.Core.Logic.{_↔_}
 use mathlib.Core.Bool.{Bool, true, false}
-use mathlib.Core.List.{List, [], _∷_}
+use mathlib.Core.List.{List, [], _∷_, map}
 use mathlib.Core.Option.{some}
 use lib.ListN.{length, take}
 use Rattle.terms.specs.Bits.{Bytes, Whole32, Place}
-use Rattle.terms.specs.Fields.{num, field, slice, zeroBytes}
+use Rattle.terms.specs.Fields.{le, num, field, slice, zeroBytes}
 use Rattle.terms.specs.Records.{Grant, Ask, Record, Proof, zeros}
 use Rattle.meaning.specs.Tree.{withBatch, treeOf, hash, VTree, unversioned, grantsIn}
 use Rattle.meaning.specs.Store.{treeAtVersion, retiredBy, newRecords}
@@ -19,6 +19,10 @@ use Rattle.refusals.specs.Rows.{ProofIs}
 use Rattle.meaning.specs.Proving.{proof, proofLength}
 use Rattle.meaning.specs.History.{Call, Entry, entry, ledger, grantsOf, Holds}
 use Rattle.histories.specs.Claims.{AfterApply, AfterPrune}
+use Rattle.changed.specs.Changes.{Change, undone, items, listBytes}
+use Rattle.changed.specs.Compare.{changesOf, visitsOf}
+use Rattle.changed.specs.Claims.{WhatChanged}
+use Rattle.fields.specs.Written.{written}
 use Rattle.nodehash.specs.Node.{leafHash, innerHash}
 use Rattle.proofrecords.specs.ProofBytes.{presenceKind, absenceKind}
 use Rattle.layout.specs.Sizes.{slotSize}
@@ -144,3 +148,20 @@ pub record Accepts (root k x : Bytes) (answer : Verdict) : Type 0 where
   pub proof : Proof
   pub is-proof : ProofIs x proof
   pub holds : checker.Holds leafHash innerHash root k proof answer
+
+-- Document 02, 2026-01: a comparison that was accepted, from version first to version second of the bytes s. The list at the front of the room
+-- says what changed, the rest of the room stays, and the array has the number of its records.
+pub record ListsChanges (first second limit : ℕ) (s room t g : Bytes) : Type 0 where
+  pub sound : SoundBytes s
+  pub kept : Kept (storeOf s) first × Kept (storeOf s) second
+  pub changes : List Change
+  pub what : WhatChanged (grantsOfVersion s first) (grantsOfVersion s second) changes
+  -- first and second swapped list what undoes it, and equal versions nothing
+  pub undoes : changesOf (storeOf s) second first ≡ map undone changes
+  pub equal : first ≡ second → changes ≡ []
+  pub room-holds : t ≡ written 0 (listBytes (items changes)) room
+  pub told : g ≡ le 4 (length (items changes))
+  -- the visits are within the limit, the same for second and first, and at most 32,769
+  pub within : visitsOf (storeOf s) first second ≤ limit
+  pub symmetric : visitsOf (storeOf s) first second ≡ visitsOf (storeOf s) second first
+  pub few : visitsOf (storeOf s) first second ≤ 32769

@@ -5,7 +5,7 @@ use mathlib.Core.List.{[], _∷_, _++_}
 use Rattle.terms.specs.Bits.{Bytes}
 use Rattle.refusals.specs.Exactly.{Table}
 use Rattle.refusals.specs.Rows.{WrongLength, NotSound, Not32}
-use Rattle.refusals.specs.Orders.{headerRows, batchRows, versionRows, keyRows, proofRows, holdingRows}
+use Rattle.refusals.specs.Orders.{headerRows, batchRows, versionRows, keyRows, proofRows, comparisonRows, holdingRows}
 
 -- 1, 2; then 3 by full soundness.
 abbrev pub soundRows : Bytes → Table
@@ -35,9 +35,13 @@ rootRows s v = headerRows s ++ versionRows s v
 abbrev pub getRows : Bytes → ℕ → Bytes → Table
 getRows s v k = (12, Not32 (k ∷ [])) ∷ headerRows s ++ keyRows s v k
 
--- Proving: 12; then 1, 2; then 8, 3, 9.
+-- Proving: 12; then 1, 2; then 8, 14, 3, 9.
 abbrev pub proveRows : Bytes → ℕ → Bytes → Bytes → Table
 proveRows s v k room = (12, Not32 (k ∷ [])) ∷ headerRows s ++ proofRows s v k room
+
+-- Document 02, 2026-01: 'Order: 1, 2, 3 by full soundness, 8, 13, 9.'
+abbrev pub changesRows : Bytes → ℕ → ℕ → ℕ → Bytes → Table
+changesRows s first second limit room = soundRows s ++ comparisonRows s first second limit room
 
 -- The proof check: 12; then 10, 11.
 abbrev pub verifyRows : Bytes → Bytes → Bytes → Table

@@ -10,6 +10,7 @@ use Rattle.applying_c.specs.Export as apply
 use Rattle.pruning_c.specs.Export as prune
 use Rattle.reads_c.specs.Export as read
 use Rattle.proving_c.specs.Export as prove
+use Rattle.changes_c.specs.Export as compare
 use Rattle.verify.specs.Verify as verify
 
 -- Formatting the bytes s answers r and leaves the bytes t.
@@ -40,6 +41,11 @@ ReadsKey s v k f r g = read.ReadsKey s v k f r g
 -- Proving the key k in version v of the bytes s answers r; the room is left as t, the array f for the proof's length as g.
 abbrev pub Proves : Bytes → ℕ → Bytes → Bytes → Bytes → ℕ → Bytes → Bytes → Type 0
 Proves s v k room f r t g = prove.Proves s v k room f r t g
+
+-- Comparing version first of the bytes s with version second, within a limit of visits, answers r; the room is left as t, the array f for the
+-- number of records as g.
+abbrev pub Changes : ℕ → ℕ → ℕ → Bytes → Bytes → Bytes → ℕ → Bytes → Bytes → Type 0
+Changes first second limit s room f r t g = compare.Changes first second limit s room f r t g
 
 -- Checking the bytes x as a proof of the key k against a root answers r; the array f for what is found is left as g.
 abbrev pub Verifies : Bytes → Bytes → Bytes → Bytes → ℕ → Bytes → Type 0

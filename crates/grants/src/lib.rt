@@ -1,6 +1,6 @@
 // The public calls, for C, Rust and others to link. Each answers 0 where it is accepted, else document 01's number of refusal; a refused
 // call writes nothing, its answer included. A slice is passed as a pointer and a length, an array as a pointer alone.
-ghost use Rattle.grants.specs.Contracts.{Formats, Checks, Applies, Prunes, ReadsRoot, ReadsKey, Proves, Verifies, Hashes};
+ghost use Rattle.grants.specs.Contracts.{Formats, Checks, Applies, Prunes, ReadsRoot, ReadsKey, Proves, Changes, Verifies, Hashes};
 
 // Makes a fresh store of any bytes of the right length.
 #[no_mangle]
@@ -62,6 +62,21 @@ pub extern "C" fn grants_prove(
     ensures { λ r. ⌜ Proves (now (store .entry)) version (now (key .entry)) (now (room .entry)) (now (length .entry)) r (now (room .exit)) (now (length .exit)) ⌝ }
 {
     proving_c::grants_prove(store, version, key, room, length)
+}
+
+// Writes what changed from the first version to the second to the front of the room, as records of 72 bytes; records: how many, little-endian.
+#[no_mangle]
+pub extern "C" fn grants_changes(
+    store: &[u8],
+    first: u32,
+    second: u32,
+    limit: u32,
+    room: &mut [u8],
+    records: &mut [u8; 4],
+) -> u32
+    ensures { λ r. ⌜ Changes first second limit (now (store .entry)) (now (room .entry)) (now (records .entry)) r (now (room .exit)) (now (records .exit)) ⌝ }
+{
+    changes_c::grants_changes(store, first, second, limit, room, records)
 }
 
 // What a proof shows of a key against a root: 1 and the value, or 0 and 32 zero bytes for 'absent'.

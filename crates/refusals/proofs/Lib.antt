@@ -3,3 +3,4 @@ pub mod Headers
 pub mod Batches
 pub mod Walks
 pub mod Proofs
+pub mod Changes

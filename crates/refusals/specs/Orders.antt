@@ -4,7 +4,7 @@ use Prim.Native.Nat.{ℕ}
 use mathlib.Core.List.{[], _∷_}
 use Rattle.terms.specs.Bits.{Bytes}
 use Rattle.refusals.specs.Exactly.{Table}
-use Rattle.refusals.specs.Rows.{WrongLength, WrongHeader, LostToGet, LostToProve, BatchOffForm, NotAscending, NoVersionLeft, TooFewFree, NotKept, TooLong, ProofOffForm, DoesNotHold, EmptyVersion}
+use Rattle.refusals.specs.Rows.{WrongLength, WrongHeader, LostToGet, LostToProve, BatchOffForm, NotAscending, NoVersionLeft, TooFewFree, NotKept, TooLong, ProofOffForm, DoesNotHold, EmptyVersion, NotBothKept, TooManyVisits, ListTooLong}
 
 -- 1, 2.
 abbrev pub headerRows : Bytes → Table
@@ -25,6 +25,11 @@ keyRows s v k = (8, NotKept s v) ∷ (3, LostToGet s v k) ∷ []
 -- Proving's own: 8, 14, 3, 9.
 abbrev pub proofRows : Bytes → ℕ → Bytes → Bytes → Table
 proofRows s v k room = (8, NotKept s v) ∷ (14, EmptyVersion s v) ∷ (3, LostToProve s v k) ∷ (9, TooLong s v k room) ∷ []
+
+-- A comparison's own (document 02, 2026-01): 8, 13, 9.
+abbrev pub comparisonRows : Bytes → ℕ → ℕ → ℕ → Bytes → Table
+comparisonRows s first second limit room =
+    (8, NotBothKept s first second) ∷ (13, TooManyVisits s first second limit) ∷ (9, ListTooLong s first second room) ∷ []
 
 -- The proof check's own: 10, 11.
 abbrev pub holdingRows : Bytes → Bytes → Bytes → Table

@@ -15,6 +15,8 @@ use Rattle.meaning.specs.Sound.{Kept, Sound}
 use Rattle.meaning.specs.Calls.{accepted, ascending}
 use Rattle.meaning.specs.Reading.{Verdict}
 use Rattle.meaning.specs.Proving.{proof, proofLength}
+use Rattle.changed.specs.Changes.{items, itemSize}
+use Rattle.changed.specs.Compare.{changesOf, visitsOf}
 use Rattle.checker.specs.Holding.{Holds}
 use Rattle.ways.specs.Ways.{KeyLost, ProofLost}
 use Rattle.nodehash.specs.Node.{leafHash, innerHash}
@@ -103,6 +105,18 @@ DoesNotHold root k x = (p : Proof) × ProofIs x p × ((answer : Verdict) → Hol
 -- 12: a key or root handed in isn't 32 bytes.
 abbrev pub Not32 : List Bytes → Type 0
 Not32 handed = All (λ x. length x ≡ 32) handed → ⊥
+
+-- 8 of a comparison (document 02, 2026-01): one of the two versions isn't in oldest to latest.
+abbrev pub NotBothKept : Bytes → ℕ → ℕ → Type 0
+NotBothKept s first second = Kept (storeOf s) first × Kept (storeOf s) second → ⊥
+
+-- 13 (document 02, 2026-01): the count of visits is above the limit.
+abbrev pub TooManyVisits : Bytes → ℕ → ℕ → ℕ → Type 0
+TooManyVisits s first second limit = limit < visitsOf (storeOf s) first second
+
+-- 9 of a comparison (document 02, 2026-01): the list is longer than the buffer.
+abbrev pub ListTooLong : Bytes → ℕ → ℕ → Bytes → Type 0
+ListTooLong s first second room = length room < itemSize * length (items (changesOf (storeOf s) first second))
 
 -- 14: proving in an empty version, one whose root is not found (2026-03).
 abbrev pub EmptyVersion : Bytes → ℕ → Type 0

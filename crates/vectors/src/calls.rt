@@ -30,7 +30,7 @@ fn refused(no: u32, end: &[u8]) {
 }
 
 // Whether a call that may write to these bytes was accepted; if not, what it gave. `before` is what they hashed to before it.
-fn accepted(no: u32, before: Hash, bytes: &[u8]) -> bool {
+pub fn accepted(no: u32, before: Hash, bytes: &[u8]) -> bool {
     if no == 0 {
         return true;
     }

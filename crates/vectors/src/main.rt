@@ -1,7 +1,8 @@
-// The program of vectors: it reads a script, whose lines are the rows of document 01 and the calls that show them, and writes what came of each
+// The program of vectors: it reads a script, whose lines are the rows of documents 01 and 02 and the calls that show them, and writes what came of each
 // through the public calls. The script is the crate's file stdin and says its own form; all that is written is held to the file stdout. For a
 // new call: a function of `calls`, a line of `call` below, and a line of the script's head that says its form.
 mod calls;
+mod changed;
 
 use place::same;
 use script::say;
@@ -81,6 +82,10 @@ fn said(c: &[u8], words: &[u8]) -> bool {
         say::line(b"  01    ", words, b"\n");
         return true;
     }
+    if same(c, b"02") {
+        say::line(b"  02    ", words, b"\n");
+        return true;
+    }
     if same(c, b"#") {
         return true;
     }
@@ -120,6 +125,9 @@ fn call(l: &[u8], c: &[u8], store: &mut [u8]) -> bool {
     }
     if same(c, b"prove") {
         return calls::prove(l, store);
+    }
+    if same(c, b"changes") {
+        return changed::changes(l, store);
     }
     if same(c, b"levels") {
         return calls::levels(store);

@@ -152,6 +152,15 @@ impl History {
                 let _ = both::apply(tally, "to a damaged store", seed, &mut s, &b);
             }
             6 => self.fit(tally),
+            12 => {
+                // any two kept versions, and each with itself and the other way round
+                let (oldest, latest) = (u32_at(&self.s, 12), latest(&self.s));
+                let v = oldest + self.random.below((latest - oldest + 1) as usize) as u32;
+                let w = oldest + self.random.below((latest - oldest + 1) as usize) as u32;
+                for (a, b) in [(v, w), (w, v), (v, latest), (v, v)] {
+                    let _ = both::changes(tally, &mut self.random, "in a history", seed, &self.s, a, b);
+                }
+            }
             7 => {
                 let b = self.no_change();
                 let root = second::root(&self.s, latest(&self.s)).unwrap();

@@ -70,3 +70,40 @@ pub fn reads(tally: &mut Tally, random: &mut Random, seed: u64, s: &[u8], versio
     tally.same("verify", seed, ours::verify(&root, key, &proof), second::verify(&root, key, &proof));
     Some((root, proof))
 }
+
+/// A comparison of two versions, with a limit and a room near what is needed.
+pub fn changes(tally: &mut Tally, random: &mut Random, case: &str, seed: u64, s: &[u8], first: u32, second: u32) -> Result<u32, u32> {
+    let (visits, records) = second::changes::measures(s, first, second).unwrap_or((7, 3));
+    let limit = match random.below(6) {
+        0 => 0,
+        1 => visits - 1,
+        2 => visits,
+        3 => u32::MAX as usize,
+        _ => visits + random.below(9),
+    };
+    let length = match random.below(5) {
+        0 => (72 * records).saturating_sub(1),
+        1 => 72 * records,
+        2 => random.below(72 * records + 1),
+        _ => 72 * records + random.below(100),
+    };
+    let room: Vec<u8> = (0..length).map(|_| random.byte()).collect();
+    changes_with(tally, case, seed, s, first, second, limit as u32, &room)
+}
+
+pub fn changes_with(
+    tally: &mut Tally,
+    case: &str,
+    seed: u64,
+    s: &[u8],
+    first: u32,
+    second: u32,
+    limit: u32,
+    room: &[u8],
+) -> Result<u32, u32> {
+    let (x, a) = lent(room, |room| ours::changes(s, first, second, limit, room));
+    let mut b = room.to_vec();
+    let y = second::changes(s, first, second, limit, &mut b);
+    tally.wrote("changes", case, seed, (x, &a), (y, &b));
+    y
+}

@@ -68,6 +68,10 @@ fn round(seed: u64, tally: &mut Tally) {
             proofs.push((root, k, p));
         }
     }
+    for _ in 0..3 {
+        let (v, w) = (version(&mut random, &s), version(&mut random, &s));
+        let _ = both::changes(tally, &mut random, "of a made store", seed, &s, v, w);
+    }
     let bytes: Vec<Vec<u8>> = proofs.iter().map(|(_, _, p)| p.clone()).collect();
     for (root, k, p) in &proofs {
         for _ in 0..4 {
@@ -187,7 +191,7 @@ fn pairs(tally: &mut Tally) {
     let (s, keys) = loop {
         let (s, keys) = cases::store(&mut random);
         let latest = s[16];
-        if latest > 2 && second::root(&s, latest as u32).map_or(false, |r| r != [0; 32]) {
+        if latest > 2 && s[12] <= 1 && second::changes::measures(&s, 1, latest as u32).is_ok_and(|m| m.1 > 0) && second::root(&s, latest as u32).map_or(false, |r| r != [0; 32]) {
             break (s, keys);
         }
     };
@@ -221,6 +225,20 @@ fn pairs(tally: &mut Tally) {
     ] {
         let answer = both::prune(tally, what, 0, &mut store.to_vec(), version);
         tally.equal(what, 0, answer, Err(wanted));
+    }
+    let (visits, records) = second::changes::measures(&s, 1, out - 1).unwrap();
+    let room = vec![5; 72 * records];
+    for (what, store, second, limit, room, wanted) in [
+        ("changes: 1 before 2", &bad_header[..s.len() - 1], out - 1, 0, &room[..], Err(1)),
+        ("changes: 2 before 3", &bad_header[..], out, 0, &room[1..], Err(2)),
+        ("changes: 3 before 8", &damaged[..], out, 0, &room[1..], Err(3)),
+        ("changes: 8 before 13", &s[..], out, 0, &room[1..], Err(8)),
+        ("changes: 13 before 9", &s[..], out - 1, visits as u32 - 1, &room[1..], Err(13)),
+        ("changes: a byte short", &s[..], out - 1, visits as u32, &room[1..], Err(9)),
+        ("changes: limit and room just enough", &s[..], out - 1, visits as u32, &room[..], Ok(records as u32)),
+    ] {
+        let answer = both::changes_with(tally, what, 0, store, 1, second, limit, room);
+        tally.equal(what, 0, answer, wanted);
     }
     let root = [1; 32];
     for (what, root, key, proof) in [

@@ -21,6 +21,16 @@ extern "C" {
         room_len: usize,
         length: *mut [u8; 4],
     ) -> u32;
+    fn grants_changes(
+        store: *const u8,
+        store_len: usize,
+        first: u32,
+        second: u32,
+        limit: u32,
+        room: *mut u8,
+        room_len: usize,
+        records: *mut [u8; 4],
+    ) -> u32;
     fn grants_verify(
         root: *const u8,
         root_len: usize,
@@ -105,6 +115,13 @@ pub fn get(store: &[u8], version: u32, key: &[u8]) -> Result<Option<Bytes32>, Re
 pub fn prove(store: &[u8], version: u32, key: &[u8], room: &mut [u8]) -> Result<u32, Refusal> {
     let (to, most) = (room.as_mut_ptr(), room.len());
     answered(|length| unsafe { grants_prove(store.as_ptr(), store.len(), version, key.as_ptr(), key.len(), to, most, length) })
+        .map(u32::from_le_bytes)
+}
+
+/// The number of records, at the front of the room.
+pub fn changes(store: &[u8], first: u32, second: u32, limit: u32, room: &mut [u8]) -> Result<u32, Refusal> {
+    let (to, most) = (room.as_mut_ptr(), room.len());
+    answered(|records| unsafe { grants_changes(store.as_ptr(), store.len(), first, second, limit, to, most, records) })
         .map(u32::from_le_bytes)
 }
 

@@ -83,6 +83,21 @@ pub fn of_check_and_prune() -> [(&'static str, usize); 2] {
     [("check", check), ("prune", most(move || assert!(crate::ours::prune(&mut s.clone(), 1).is_ok())))]
 }
 
+/// A comparison's most: two keys that part at the last bit, both given another value.
+#[allow(dead_code)]
+pub fn of_changes() -> usize {
+    let key = |last: u8| {
+        let mut k = ZEROS;
+        k[31] = last;
+        k
+    };
+    let batch = |value: u8| -> Vec<u8> { [0, 1].iter().flat_map(|&l| ask_bytes(&Ask { key: key(l), value: Some([value; 32]) })).collect() };
+    let mut s = cases::fresh(600, 0, 0);
+    second::apply(&mut s, &batch(1)).unwrap();
+    second::apply(&mut s, &batch(2)).unwrap();
+    most(move || assert_eq!(crate::ours::changes(&s, 1, 2, u32::MAX, &mut vec![0; 288]), Ok(4)))
+}
+
 /// Apply's for each of those.
 pub fn of_apply() -> Vec<(String, usize)> {
     let each = |(name, s, b): (String, Vec<u8>, Vec<u8>)| {

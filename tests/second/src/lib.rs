@@ -1,8 +1,9 @@
-//! The grant store a second time, in plain Rust, from document 01 and from nothing else. It is what the proved library is compared
+//! The grant store a second time, in plain Rust, from documents 01 and 02 and from nothing else. It is what the proved library is compared
 //! with, so it says each rule as 01 says it: trees are made from sets of grants, soundness follows every kept version's tree.
 
 pub mod bytes;
 pub mod calls;
+pub mod changes;
 pub mod check;
 pub mod proof;
 #[path = "../../common/plain_sha256.rs"]
@@ -11,6 +12,7 @@ pub mod sound;
 pub mod tree;
 
 pub use calls::{apply, format, get, prune, root};
+pub use changes::changes;
 pub use check::verify;
 pub use proof::prove;
 pub use sound::check;

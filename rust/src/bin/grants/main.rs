@@ -6,6 +6,7 @@ mod asked;
 mod book;
 mod commands;
 mod dates;
+mod diff;
 mod fail;
 mod files;
 mod grow;

@@ -3,7 +3,7 @@
 use crate::args::{Args, Choice};
 use crate::fail::Fail;
 use crate::out::Out;
-use crate::{commands, grow, listing, names, publish, show, statement};
+use crate::{commands, diff, grow, listing, names, publish, show, statement};
 
 pub struct Command {
     pub name: &'static str,
@@ -238,6 +238,25 @@ Exit status 1 where there is none. Without VERSION, the latest. The store is che
             BOOK,
         ],
         run: listing::list,
+    },
+    Command {
+        name: "diff",
+        usage: "STORE FIRST [SECOND]",
+        what: "what changed from one version to another, else to the latest",
+        help: "\
+A line for each key added (+ KEY VALUE), removed (- KEY VALUE) or given another value (~ KEY OLD -> NEW), in key order, and a
+line that counts them. FIRST may be the later one: the list then undoes the other. --batch writes a batch that `grants apply`
+takes and that makes the one version's grants of the other's; --records writes the library's own list (docs/FORMAT.md).",
+        words: (2, 3),
+        choices: &[
+            JSON,
+            flag("--stat", "the counts alone"),
+            flag("--batch", "lines that apply takes: a delete without its value, a change as its insert"),
+            valued("--records", "FILE", "write the records of 72 bytes to a file"),
+            valued("--limit", "N", "refuse with 13 where more places would be visited; else 32769, which is always enough"),
+            FORCE,
+        ],
+        run: diff::diff,
     },
     Command {
         name: "history",

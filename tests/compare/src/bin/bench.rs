@@ -1,5 +1,6 @@
 //! The library's calls beside the second program, in one run: short runs of the two in turn, the best of each. Then where apply's time goes,
-//! that it does not grow with the versions, and the stack that each call takes. With the argument `stack` that last part alone.
+//! that it does not grow with the versions, and the stack that each call takes. With the argument `stack` that last part alone, with
+//! `changes` the comparisons alone.
 
 #[path = "../cases.rs"]
 #[allow(dead_code)]
@@ -190,6 +191,36 @@ fn beside_check(random: &mut Random) {
     }
 }
 
+/// What changed in a full store of 16,384 slots: one of 3,200 grants, and all of them. Batches take the keys in order, a quarter each.
+fn comparisons(random: &mut Random) {
+    let mut s = cases::fresh(16_384, 0, 0);
+    let mut keys: Vec<[u8; 32]> = (0..3_200).map(|_| random.hash()).collect();
+    keys.sort();
+    let mut publish = |keys: &[[u8; 32]], value: u8| {
+        for part in keys.chunks(800) {
+            let batch: Vec<u8> = part.iter().flat_map(|k| ask_bytes(&Ask { key: *k, value: Some([value; 32]) })).collect();
+            apply_to_sound(&mut s, &batch).unwrap();
+        }
+        second::bytes::store(&s).unwrap().latest
+    };
+    let versions = [publish(&keys, 1), publish(&keys[..1], 2), publish(&keys, 3)];
+    let check = (0..3).map(|_| milliseconds(&mut || assert_eq!(ours::check(&s), Ok(())))).fold(f64::MAX, f64::min);
+    for (what, first, second) in [("one", versions[0], versions[1]), ("all", versions[1], versions[2])] {
+        let (visits, records) = second::changes::measures(&s, first, second).unwrap();
+        let name = format!("changes-{what}-of-3200-in-{}-{visits}-visits-{records}-records", cases::taken(&s));
+        let room = vec![0; 72 * records];
+        let (limit, s) = (visits as u32, &s);
+        let took = compare_on(
+            &name,
+            3,
+            &room,
+            |room| ours::changes(s, first, second, limit, room),
+            |room| second::changes(s, first, second, limit, room),
+        );
+        println!("where changes-{what} check {:.0}% the two walks {:.3}ms", 100.0 * check / took, (took - check).max(0.0));
+    }
+}
+
 /// The same content with few versions kept and with some 4,000,000,000.
 fn versions() {
     for capacity in [1_024, 16_384] {
@@ -241,6 +272,7 @@ fn stacks() {
     print("prune", stack::most(move || assert!(ours::prune(&mut t.clone(), latest).is_ok())));
     print("format", stack::most(move || assert!(ours::format(&mut s.clone()).is_ok())));
     print("prove", stack::of_prove());
+    print("changes", stack::of_changes());
     let applies = stack::of_apply();
     applies.iter().for_each(|(name, used)| print(&format!("apply-{name}"), *used));
     let most = applies.iter().map(|(_, used)| *used).max().unwrap();
@@ -254,6 +286,9 @@ fn stacks() {
 fn main() {
     if std::env::args().nth(1).as_deref() == Some("stack") {
         return stacks();
+    }
+    if std::env::args().nth(1).as_deref() == Some("changes") {
+        return comparisons(&mut Random(23));
     }
     let mut random = Random(11);
     let proofs: Vec<_> = (0..1000).map(|_| path(&mut random, 20)).collect();
@@ -286,6 +321,7 @@ fn main() {
     println!("bench check-free-slots-all-versions {:.3}s", start.elapsed().as_secs_f64());
     beside_check(&mut random);
     applies(&mut random);
+    comparisons(&mut Random(23));
     versions();
     stacks();
 }

@@ -1,0 +1,6 @@
+pub mod Parts
+pub mod Lists
+pub mod Visits
+pub mod Walk
+pub mod Ends
+pub mod Theorems

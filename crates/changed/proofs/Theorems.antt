@@ -1,0 +1,68 @@
+-- The theorems on what changed between two kept versions of a sound store: the list, the list the other way round, equal versions, and the
+-- visits. Their trees are shaped, so their grants ascend. Assumes nothing.
+use Prim.Native.Nat.{ℕ, _+_, _*_, _≤_}
+use native.Mathlib.Omega.{arith}
+use mathlib.Core.Path.{_≡_}
+use mathlib.Core.List.{List, [], _∷_, map}
+use lib.ListN.{length}
+use Rattle.terms.specs.Bits.{Bytes}
+use Rattle.terms.specs.Records.{Store}
+use Rattle.meaning.specs.Tree.{unversioned, grantsIn}
+use Rattle.meaning.specs.Store.{treeAtVersion}
+use Rattle.meaning.specs.Sound.{Sound, Kept}
+use Rattle.meaning.proofs.Runs.{Ascending}
+use Rattle.meaning.proofs.Shaped.{shaped-ascending}
+use Rattle.histories.proofs.Trees.{kept-shaped}
+use Rattle.histories.proofs.Whole.{sound-whole}
+use Rattle.changed.specs.Changes.{Change, changeKey, changed, undone}
+use Rattle.changed.specs.Compare.{changesOf, visitsOf}
+use Rattle.changed.specs.Claims.{KeyOrder, WhatChanged}
+use Rattle.changed.proofs.Parts.{InOrder, part-changed, changed-order}
+use Rattle.changed.proofs.Lists.{changed-same, changed-undone, changed-applied}
+use Rattle.changed.proofs.Visits.{visits-comm, visits-by-slots}
+
+key-order : (cs : List Change) → InOrder changeKey cs → KeyOrder cs
+key-order [] s = tt
+key-order (c ∷ cs) s = (s .0, key-order cs (s .1))
+
+at-most : {n k : ℕ} → n ≤ 1 + 2 * k → k ≤ 16384 → n ≤ 32769
+at-most h l = omega arith
+
+module _ (leafHash innerHash : Bytes → Bytes → Bytes) (st : Store) (sound : Sound leafHash innerHash st) where
+  ascends : (v : ℕ) → Kept st v → Ascending (grantsIn (treeAtVersion st v))
+  ascends v k = shaped-ascending [] (unversioned (treeAtVersion st v)) (kept-shaped leafHash innerHash st (sound-whole leafHash innerHash st sound) v k)
+
+  -- Equal versions give none.
+  pub equal-versions-give-none : (v : ℕ) → Kept st v → changesOf st v v ≡ []
+  unfolding changesOf
+  equal-versions-give-none v k = changed-same (grantsIn (treeAtVersion st v)) (ascends v k)
+
+  module _ (first second : ℕ) (a : Kept st first) (b : Kept st second) where
+    -- The list says what changed, in key order, each key once; applied to the first version's grants it gives the second's.
+    pub list-is-what-changed : WhatChanged (grantsIn (treeAtVersion st first)) (grantsIn (treeAtVersion st second)) (changesOf st first second)
+    unfolding changesOf
+    list-is-what-changed =
+        let x = grantsIn (treeAtVersion st first) in
+        let y = grantsIn (treeAtVersion st second) in
+        record {
+          exact = λ k. part-changed k x y (ascends first a) (ascends second b);
+          ordered = key-order (changed x y) (changed-order x y (ascends first a) (ascends second b));
+          applied = changed-applied x y (ascends first a) (ascends second b);
+        }
+
+    -- First and second swapped give the list that undoes it.
+    pub swapped-undoes : changesOf st second first ≡ map undone (changesOf st first second)
+    unfolding changesOf
+    swapped-undoes = changed-undone (grantsIn (treeAtVersion st first)) (grantsIn (treeAtVersion st second)) (ascends first a) (ascends second b)
+
+    -- Visits are at most 32,769.
+    pub visits-at-most-32769 : visitsOf st first second ≤ 32769
+    unfolding visitsOf
+    visits-at-most-32769 =
+        let w = sound-whole leafHash innerHash st sound in
+        at-most (visits-by-slots leafHash innerHash st (treeAtVersion st first) (treeAtVersion st second) (w .stands first a) (w .stands second b)) (w .size .1)
+
+-- Visits are the same for second and first.
+pub visits-symmetric : (st : Store) (first second : ℕ) → visitsOf st first second ≡ visitsOf st second first
+unfolding visitsOf
+visits-symmetric st first second = visits-comm (treeAtVersion st first) (treeAtVersion st second)

@@ -1,0 +1,5 @@
+pub mod Changes
+pub mod Visits
+pub mod Compare
+pub mod Walk
+pub mod Claims

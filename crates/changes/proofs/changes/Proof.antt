@@ -1,0 +1,26 @@
+-- `changes::changes` meets its contract: it is refused by check, or the store is sound. Assumes nothing.
+use mathlib.Core.Path.{refl}
+use Rattle.promises.proofs.Calls.{checked-refuses, checked-sound}
+use Rattle.changes.proofs.Answers.{refused-by-check}
+use borrow.Author.Needs.{needs}
+use Rattle.changes.proofs.changes.Statement.{statement}
+use Rattle.changes.proofs.changes.Tie as tie
+
+check-requires : tie.Need-check-requires
+check-requires c κs = search needs
+
+returns : tie.Need-returns
+returns c = refused-by-check (checked-refuses (c .before .check .ensures) (c .if1 .taken))
+
+changes-sound-requires : tie.Need-changes-sound-requires
+changes-sound-requires c κs = checked-sound (c .before .before .check .ensures) (c .before .if1 .left)
+
+same-length : tie.Need-same-length
+same-length c = search needs
+
+returns-2 : tie.Need-returns-2
+returns-2 c = search needs
+
+pub changes-spec : {M : Type 1} → statement M
+changes-spec =
+    tie.close (tie.spec check-requires returns changes-sound-requires same-length returns-2)

@@ -1,0 +1,64 @@
+// What changed between two kept versions, document 02, request 2026-01: the two trees are walked together, once to count visits and records,
+// once to write the list.
+use changes_top::root_top;
+use changes_walk::Walked;
+use changes_walk::walk;
+use place::Place;
+use read_step::Opened;
+use read_step::open;
+use soundness::check;
+ghost use Rattle.promises.specs.Calls.{SoundBytes};
+ghost use Rattle.changes.specs.Changes.{comparedSays, Compares};
+
+// 8: a version isn't in oldest to latest.
+const NOT_KEPT: u32 = 8;
+
+// 9: the list is longer than the buffer.
+const NO_ROOM: u32 = 9;
+
+// 13: more visits than the limit.
+const TOO_MANY_VISITS: u32 = 13;
+
+const ITEM_SIZE: usize = 72;
+
+// A number of refusal, or how many records the list has.
+pub enum Compared {
+    Refused(u32),
+    Listed(u32),
+}
+
+// Compares two versions of a sound store.
+fn changes_sound(store: &[u8], first: u32, second: u32, limit: u32, room: &mut [u8]) -> Compared
+    requires { ⌜ SoundBytes (now store) ⌝ }
+    ensures { λ r. ⌜ Compares first second limit (now (store .entry)) (now (room .entry)) (comparedSays r) (now (room .exit)) ⌝ }
+{
+    let Opened::Kept = open(store, first) else {
+        return Compared::Refused(NOT_KEPT);
+    };
+    let Opened::Kept = open(store, second) else {
+        return Compared::Refused(NOT_KEPT);
+    };
+    let top = Place::top();
+    let old = root_top(store, first, top);
+    let new = root_top(store, second, top);
+    let Walked::Done { budget: _, next: n } = walk(store, top, old, new, limit, false, room, 0)
+    else {
+        return Compared::Refused(TOO_MANY_VISITS);
+    };
+    if room.len() / ITEM_SIZE < n {
+        return Compared::Refused(NO_ROOM);
+    }
+    walk(store, top, old, new, limit, true, room, 0);
+    Compared::Listed(n as u32)
+}
+
+// Compares two versions of a store, where check accepts it; refused, nothing is written.
+pub fn changes(store: &[u8], first: u32, second: u32, limit: u32, room: &mut [u8]) -> Compared
+    ensures { λ r. ⌜ Compares first second limit (now (store .entry)) (now (room .entry)) (comparedSays r) (now (room .exit)) ⌝ }
+{
+    let refusal = check(store);
+    if refusal != 0 {
+        return Compared::Refused(refusal);
+    }
+    changes_sound(store, first, second, limit, room)
+}

@@ -1,0 +1,28 @@
+-- The comparison for a caller in another language: what the call answers for any bytes, and every byte of the room and of its array.
+-- Assumes nothing.
+use Prim.Native.Nat.{ℕ}
+use mathlib.Core.Path.{_≡_}
+use mathlib.Core.List.{List}
+use lib.ListN.{length}
+use Rattle.terms.specs.Bits.{Bytes}
+use Rattle.terms.specs.Fields.{le}
+use Rattle.meaning.specs.Calls.{Answer, refused, accepted}
+use Rattle.meaning.specs.Answers.{numberOf}
+use Rattle.promises.specs.Calls.{Does}
+use Rattle.changed.specs.Changes.{Item}
+use Rattle.changed.specs.Compare.{compare}
+use Rattle.changes.specs.Changes.{roomAfter}
+
+-- The number of records, 4 bytes little-endian; a refused call writes nothing.
+abbrev pub countBytes : Answer (List Item) → Bytes → Bytes
+countBytes (refused n) old = old
+countBytes (accepted xs) old = le 4 (length xs)
+
+-- Comparing version first of the bytes s with version second, within a limit of visits, answers r; the room is left as t, the array f for the
+-- number of records as g. The answer is the one that the definition gives for any bytes; the store is as it was.
+pub record Changes (first second limit : ℕ) (s room f : Bytes) (r : ℕ) (t g : Bytes) : Type 0 where
+  pub answer : Answer (List Item)
+  pub does : Does (compare first second limit (length room)) s answer s
+  pub number : r ≡ numberOf answer
+  pub list : t ≡ roomAfter answer room
+  pub told : g ≡ countBytes answer f
