@@ -1,12 +1,13 @@
 # The commands of the README. A fresh machine has the Rattle kit, make and cargo.
-.PHONY: demo test lib tool bench soak fmt
+.PHONY: demo test lib tool bench soak fmt rooms
 
 demo:
 	@tests/demo
 
-# Every crate from nothing with the edits that must fail, then each other test over what was built.
+# Every crate from nothing with the edits that must fail, then each other test over what was built. `rt` waits for a whole batch of crates or
+# edits before it starts the next: batches of four leave fewer cores idle than batches of two.
 test:
-	@tests/gate 'rt ci' tests/format tests/sha256/run tests/second/run tests/passes/run tests/compare/run tests/rust/run \
+	@RT_JOBS=$${RT_JOBS:-4} tests/gate 'rt ci' tests/format tests/rooms tests/sealed tests/sha256/run tests/second/run tests/passes/run tests/compare/run tests/rust/run \
 		tests/tool/run tests/examples/run
 
 lib:
@@ -25,3 +26,7 @@ soak:
 
 fmt:
 	@rt fmt
+
+# The picture of the rooms and the tables of docs/ARCHITECTURE.md, anew from crates.txt.
+rooms:
+	@tests/rooms --draw

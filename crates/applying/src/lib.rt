@@ -10,15 +10,16 @@ use fields::put_u32;
 use hash::Hash;
 use layout::sizes;
 use lookup::Found;
-use lookup::find;
+use lookup::find_root;
 use place::Place;
 use soundness::check;
+use store::slot_count;
 use store::slot_of;
+use store::version_at;
 ghost use mathlib.Core.Path.{_≡_};
 ghost use mathlib.Core.Bool.{true};
 ghost use lib.ListN.{length};
-ghost use Rattle.meaning.specs.Store.{find};
-ghost use Rattle.place.specs.Place.{placeOf, Proper};
+ghost use Rattle.meaning.specs.Store.{rootOf};
 ghost use Rattle.layout.specs.Headers.{sizeRight};
 ghost use Rattle.layout.specs.Stores.{storeOf};
 ghost use Rattle.apply_place.specs.Placing.{Stored};
@@ -53,7 +54,7 @@ fn count_free(store: &[u8]) -> usize
     requires { ⌜ Stored (now store) ⌝ }
     ensures { λ r. ⌜ FreeCount (now (store .entry)) r ⌝ }
 {
-    let n = (store.len() - sizes::HEADER_SIZE) / sizes::SLOT_SIZE;
+    let n = slot_count(store);
     let mut free = 0;
     let mut i = 0;
     while i < n {
@@ -67,15 +68,16 @@ fn count_free(store: &[u8]) -> usize
     free
 }
 
-// The version, if it has a root; else 0.
-fn root_version(store: &[u8], version: u32, top: Place) -> u32
-    requires { ⌜ (sizeRight (length (now store)) ≡ true) × Proper top ⌝ }
-    ensures { λ r. ⌜ r ≡ rootVersion version (find version (placeOf top) (storeOf (now (store .entry)) .slots)) ⌝ }
+// The version of the root of a version; 0 where there is none.
+fn root_version(store: &[u8], version: u32) -> u32
+    requires { ⌜ Stored (now store) ⌝ }
+    ensures { λ r. ⌜ r ≡ rootVersion (rootOf (storeOf (now (store .entry))) version) ⌝ }
 {
-    let Found::At(_) = find(store, version, top) else {
+    let found = find_root(store, version);
+    let Found::At(i) = found else {
         return 0;
     };
-    version
+    version_at(store, i)
 }
 
 // Makes the next version of a sound store.
@@ -89,7 +91,7 @@ fn publish(store: &mut [u8], batch: &[u8]) -> Applied
     }
     let new = latest + 1;
     let top = Place::top();
-    let old = root_version(store, latest, top);
+    let old = root_version(store, latest);
     let needs = at_root(store, false, new, top, old, batch);
     if count_free(store) < needs.count {
         return Applied::Refused(NO_ROOM);

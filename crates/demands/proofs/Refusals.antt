@@ -11,7 +11,6 @@ use lib.ListN.{length}
 use lib.Dec.{eqb, ltb}
 use borrow.Author.Tests.{eqb-false}
 use Rattle.terms.specs.Bits.{Bytes, left, right, sameBytes}
-use Rattle.terms.specs.Fields.{field}
 use Rattle.terms.specs.Records.{Ask, Proof, presence, absence, Store}
 use Rattle.terms.proofs.Tests.{and-right}
 use Rattle.meaning.specs.Calls.{Answer, refused, accepted, Outcome, isKept, apply, prune}
@@ -22,8 +21,9 @@ use Rattle.histories.specs.Claims.{ApplyRefuses, not-in-form, not-ascending, no
 use Rattle.histories.proofs.Theorems.{apply-refuses-exactly, prune-refuses-exactly}
 use Rattle.nodehash.specs.Node.{leafHash, innerHash}
 use Rattle.proofrecords.specs.ProofBytes.{proofIn}
-use Rattle.layout.specs.Headers.{Headed, refusal, header, sizeRight, headerRight, headerOf}
+use Rattle.layout.specs.Headers.{Headed, refusal, header, sizeRight, headerOf}
 use Rattle.layout.specs.Stores.{storeOf}
+use Rattle.layout.proofs.Headers.{header-refused}
 use Rattle.format.specs.Format.{formatAnswer, formatBytes}
 use Rattle.soundness.specs.Check as check
 use Rattle.batch.specs.Batch.{batchOf}
@@ -96,14 +96,11 @@ module _ {s t : Bytes} {r : ℕ} (w : Formats s r t) where
 
 -- 1, 2.
 header-numbers : (s : Bytes) {n : ℕ} → headerOf s ≡ refusal n → OneOf (1 ∷ 2 ∷ []) n
-unfolding headerOf
-header-numbers s {n} = go (sizeRight (length s)) (headerRight s)
+header-numbers s {n} e = go (header-refused s n e)
   where
-    go : (a b : Bool) → cond a (cond b (header (field 8 4 s) (field 12 4 s) (field 16 4 s)) (refusal 2)) (refusal 1) ≡ refusal n →
-        OneOf (1 ∷ 2 ∷ []) n
-    go false b e = inl (cc)
-    go true false e = inr (inl (cc))
-    go true true e = clash (cc)
+    go : (n ≡ 1) ⊎ (n ≡ 2) → OneOf (1 ∷ 2 ∷ []) n
+    go (inl z) = inl z
+    go (inr z) = inr (inl z)
 
 -- Check: 1, 2; then 3.
 pub check-numbers : {s : Bytes} {r : ℕ} → Checks s r → OneOf (0 ∷ 1 ∷ 2 ∷ 3 ∷ []) r

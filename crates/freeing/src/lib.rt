@@ -1,10 +1,24 @@
-// Freeing what is retired, document 01, 'Pruning': every record retired since a version or earlier, slot by slot.
+// What pruning does to a store, document 01, 'Pruning': whether a version is kept, and freeing every record retired since it or earlier.
 use store::clear_slot_at;
+use store::latest_of;
+use store::oldest_of;
 use store::retired_at;
 use store::slot_count;
 ghost use mathlib.Core.Path.{_≡_};
-ghost use Rattle.layout.specs.Stores.{SlotWithin};
+ghost use Rattle.meaning.specs.Calls.{isKept};
+ghost use Rattle.layout.specs.Stores.{storeOf, HeaderWithin, SlotWithin};
 ghost use Rattle.freeing.specs.Free.{freedSlot, freedCount, Readable, Frees};
+
+// Whether the version is in oldest to latest.
+pub fn is_kept(store: &[u8], version: u32) -> bool
+    requires { ⌜ HeaderWithin (now store) ⌝ }
+    ensures { λ r. ⌜ r ≡ isKept (storeOf (now (store .entry))) version ⌝ }
+{
+    if version < oldest_of(store) {
+        return false;
+    }
+    version <= latest_of(store)
+}
 
 // Frees slot i if its retired-since is the version or earlier; answers how many records it freed.
 fn free_slot(store: &mut [u8], i: usize, version: u32) -> u32

@@ -14,7 +14,7 @@ ghost use Rattle.layout.specs.Sizes.{slotSize};
 ghost use Rattle.layout.specs.Headers.{sizeRight};
 ghost use Rattle.layout.specs.Slots.{slotOf};
 ghost use Rattle.layout.specs.Stores.{storeOf};
-ghost use Rattle.lookup.specs.Lookup.{isUsed, FoundIn};
+ghost use Rattle.lookup.specs.Lookup.{isUsed, FoundIn, RootIn};
 
 // Whether 120 bytes are a record in form.
 pub fn holds_record(s: &[u8]) -> bool
@@ -69,4 +69,12 @@ pub fn find(store: &[u8], version: u32, place: Place) -> Found
         }
         i += 1;
     }
+}
+
+// The root of a version.
+pub fn find_root(store: &[u8], version: u32) -> Found
+    requires { ⌜ sizeRight (length (now store)) ≡ true ⌝ }
+    ensures { λ r. ⌜ RootIn (storeOf (now (store .entry))) version r ⌝ }
+{
+    find(store, version, Place::top())
 }

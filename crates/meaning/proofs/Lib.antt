@@ -1,6 +1,7 @@
 pub mod Desk
 pub mod Finding
 pub mod Nodes
+pub mod Roots
 pub mod Sides
 pub mod Runs
 pub mod Versions

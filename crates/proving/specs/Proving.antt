@@ -7,12 +7,11 @@ use mathlib.Core.List.{_++_}
 use lib.ListN.{length, drop}
 use lib.Dec.{eqb}
 use Rattle.terms.specs.Bits.{Bytes, left, right, sameBytes}
-use Rattle.terms.specs.Fields.{slice}
 use Rattle.terms.specs.Records.{Proof, presence}
 use Rattle.meaning.specs.Calls.{Answer, refused, accepted}
 use Rattle.meaning.specs.Proving.{absenceFrom, prove, proofLength, fitted}
 use Rattle.proofrecords.specs.ProofBytes.{proofBytes}
-use Rattle.layout.specs.Sizes.{keyAt}
+use Rattle.layout.specs.Slots.{keyIn}
 use Rattle.layout.specs.Headers.{headerOf}
 use Rattle.layout.specs.Stores.{slotIn, storeOf}
 use Rattle.read_step.specs.Walk.{byHeader}
@@ -61,7 +60,7 @@ abbrev pub absentFrom : Bytes → Bytes → declared-walked.Walked → Answer Pr
 absentFrom s k w = absenceFrom k (neighbourSays s k w left) (neighbourSays s k w right)
 
 abbrev pub provedAt : Bytes → Bytes → declared-walked.Walked → ℕ → Answer Proof
-provedAt s k w i = cond (sameBytes k (slice keyAt 32 (slotIn i s))) (presentAt s w i) (absentFrom s k w)
+provedAt s k w i = cond (sameBytes k (keyIn (slotIn i s))) (presentAt s w i) (absentFrom s k w)
 
 -- A search that lost its way.
 abbrev pub wayLost : declared-way.Way → Bool

@@ -1,10 +1,8 @@
 -- The outcome of each way through the call: the header and soundness first, then whether the version is kept; freeing the retired records
 -- and setting oldest is pruning. Assumes nothing.
-use Prim.Native.Nat.{ℕ, _≤_, _<_}
+use Prim.Native.Nat.{ℕ}
 use mathlib.Core.Path.{_≡_, ap, sym, _∙_, subst}
 use mathlib.Core.Bool.{true, false}
-use lib.Dec.{leb}
-use borrow.Author.Tests.{le-leb, lt-leb}
 use Rattle.terms.specs.Bits.{Bytes, Byte, All}
 use Rattle.meaning.specs.Calls.{refused, accepted, refuse, isKept, prune}
 use Rattle.layout.specs.Stores.{storeOf, storeBytes, withOldest, putBounds}
@@ -13,16 +11,6 @@ use Rattle.promises.specs.Calls.{SoundBytes, refuses, accepts}
 use Rattle.promises.proofs.Calls.{sound-form, sound-back}
 use Rattle.freeing.specs.Free.{Readable, emptied, Frees}
 use Rattle.pruning.specs.Prune.{Prunes}
-
--- the version is kept, as the code tests it
-module _ (s : Bytes) (v : ℕ) where
-  pub below-oldest : v < storeOf s .oldest → false ≡ isKept (storeOf s) v
-  unfolding isKept
-  below-oldest h = rw (lt-leb (storeOf s .oldest) v h)
-
-  pub up-to-latest : storeOf s .oldest ≤ v → leb v (storeOf s .latest) ≡ isKept (storeOf s) v
-  unfolding isKept
-  up-to-latest h = rw (le-leb (storeOf s .oldest) v h)
 
 module _ {s : Bytes} (w : SoundBytes s) where
   pub sound-readable : All Byte s → Readable s

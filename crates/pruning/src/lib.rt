@@ -1,12 +1,8 @@
 // Pruning: every record retired since a version or earlier is freed, and oldest becomes that version.
 use freeing::free_retired;
+use freeing::is_kept;
 use soundness::check;
-use store::latest_of;
-use store::oldest_of;
 use store::put_oldest;
-ghost use mathlib.Core.Path.{_≡_};
-ghost use Rattle.meaning.specs.Calls.{isKept};
-ghost use Rattle.layout.specs.Stores.{storeOf, HeaderWithin};
 ghost use Rattle.promises.specs.Calls.{SoundBytes};
 ghost use Rattle.pruning.specs.Prune.{prunedSays, Prunes};
 
@@ -17,17 +13,6 @@ const NOT_KEPT: u32 = 8;
 pub enum Pruned {
     Refused(u32),
     Freed(u32),
-}
-
-// Whether the version is in oldest to latest.
-fn is_kept(store: &[u8], version: u32) -> bool
-    requires { ⌜ HeaderWithin (now store) ⌝ }
-    ensures { λ r. ⌜ r ≡ isKept (storeOf (now (store .entry))) version ⌝ }
-{
-    if version < oldest_of(store) {
-        return false;
-    }
-    version <= latest_of(store)
 }
 
 // Prunes a sound store to a version.

@@ -1,9 +1,10 @@
 -- Slot i of a store in lent memory: it lies within the store, is what its bytes are read as, and writing its part leaves all else. Assumes
 -- nothing.
-use Prim.Native.Nat.{ℕ, _+_, _-_, _≤_}
+use Prim.Native.Nat.{ℕ, _+_, _-_, _<_, _≤_}
 use native.Mathlib.Omega.{arith}
 use native.Mathlib.Nat.{add-sub-cancel-left}
 use mathlib.Core.Path.{_≡_, ap, sym, _∙_}
+use mathlib.Core.Bool.{true}
 use mathlib.Core.List.{_++_}
 use lib.ListN.{length, take, drop}
 use Rattle.terms.specs.Bits.{Bytes, Byte, All}
@@ -12,6 +13,7 @@ use Rattle.terms.proofs.Fields.{length-slice, field-slice, all-slice}
 use Rattle.fields.specs.Written.{written}
 use Rattle.fields.proofs.Written.{part-written}
 use Rattle.layout.specs.Sizes.{slotSize, roomOf, slotAt}
+use Rattle.layout.specs.Headers.{sizeRight}
 use Rattle.layout.specs.Slots.{slotOf, SlotForm}
 use Rattle.layout.specs.Stores.{slotIn, storeOf, slotNo, Has, SlotWithin}
 use Rattle.layout.proofs.Headers.{size-says}
@@ -32,10 +34,13 @@ pub slot-bytes : (i : ℕ) (s : Bytes) → All Byte s → All Byte (slotIn i s)
 unfolding slotIn
 slot-bytes i s b = all-slice (slotAt i) slotSize s b
 
+pub slot-fits : (s : Bytes) → sizeRight (length s) ≡ true → (i : ℕ) → i < roomOf (length s) → SlotWithin i s
+slot-fits s e i h = omega (arith, size-says (length s) e)
+
 -- a slot that a store has
 module _ {s : Bytes} {i : ℕ} (h : Has s i) where
   pub slot-within : SlotWithin i s
-  slot-within = let t = size-says (length s) (h .size) in omega (arith, h .inside)
+  slot-within = slot-fits s (h .size) i (h .inside)
 
   pub slot-is : slotNo i s ≡ slotOf (slotIn i s)
   slot-is = slot-at s i (h .inside)

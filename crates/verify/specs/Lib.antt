@@ -1,3 +1,2 @@
-pub mod Paths
 pub mod Holding
 pub mod Verify

@@ -4,7 +4,7 @@ use mathlib.Core.Path.{sym, _∙_}
 use Rattle.terms.specs.Bits.{Byte}
 use Rattle.terms.proofs.Lists.{all-of}
 use Rattle.layout.specs.Stores.{storeOf}
-use Rattle.apply_place.proofs.Changing.{changed-stored, stored-accepted, stored-size}
+use Rattle.apply_place.proofs.Changing.{changed-stored, stored-accepted}
 use Rattle.promises.proofs.Calls.{sound-long}
 use Rattle.applying.specs.Apply.{appliedSays}
 use Rattle.applying.proofs.Ready.{stored}
@@ -34,7 +34,7 @@ root-version-requires : tie.Need-root-version-requires
 root-version-requires c κs =
     let a = c .before .before .before .before .before .before .before in
     let b = all-of Byte (a .args .store .now) 0 (λ i _. omega (arith, c .before .before .before .before .before .before .slice-known .given i)) in
-    (stored-size (stored (a .pre) b), c .before .top .ensures .proper)
+    stored (a .pre) b
 
 at-root-requires : tie.Need-at-root-requires
 unfolding storeOf
