@@ -6,19 +6,19 @@ use mathlib.Core.Logic.{⊎-elim}
 use lib.ListN.{take, drop}
 use lib.Dec.{eqb}
 use Rattle.terms.specs.Bits.{Bytes}
-use Rattle.terms.specs.Fields.{field}
 use Rattle.meaning.specs.Reading.{bodyHash}
 use Rattle.hash.specs.declared.Hash.{Hash}
 use Rattle.hash.specs.Hash.{hashBytes}
 use Rattle.nodehash.specs.Node.{leafHash, innerHash}
-use Rattle.layout.specs.Sizes.{leafKind, kindAt}
+use Rattle.layout.specs.Sizes.{leafKind}
 use Rattle.layout.specs.Slots.{innerIn, grantIn, leftIn, rightIn, kidOn, recordIn}
 use Rattle.layout.specs.Stores.{slotIn, Has}
 use Rattle.check_slot.proofs.Records.{leaf-hashed}
+use Rattle.check_pass.specs.Passes.{kindIn}
 use Rattle.check_pass.proofs.Records.{record-cases, read-as}
 use Rattle.check_hash.specs.Known.{storedAt, HashIs}
 
-module _ {s : Bytes} {c : ℕ} (h : Has s c) {k : ℕ} (kind : k ≡ field kindAt 2 (slotIn c s)) where
+module _ {s : Bytes} {c : ℕ} (h : Has s c) {k : ℕ} (kind : k ≡ kindIn (slotIn c s)) where
   pub leaf-hash-is : k ≡ leafKind → {g : Bytes} → g ≡ grantIn (slotIn c s) → (v : Hash) → hashBytes v ≡ leafHash (take 32 g) (drop 32 g) → HashIs s c (hashBytes v)
   unfolding recordIn
   leaf-hash-is e g v f r a = ⊎-elim

@@ -11,7 +11,7 @@ use Rattle.terms.specs.Bits.{Bytes, before, sameBytes}
 use Rattle.terms.proofs.Fields.{length-slice}
 use Rattle.terms.proofs.Order.{before-irrefl}
 use Rattle.terms.proofs.Tests.{is-false, same-bytes}
-use Rattle.layout.specs.Sizes.{slotSize, bitsAt}
+use Rattle.layout.specs.Sizes.{slotSize}
 use Rattle.layout.specs.Slots.{countIn, bitsIn, versionIn}
 use Rattle.layout.specs.Stores.{slotIn, Has}
 use Rattle.check_pass.specs.Passes.{Passed}
@@ -52,7 +52,7 @@ module _ (x y : Bytes) {c d : ℕ} (e : c ≡ countIn x) (f : d ≡ countIn y) w
         (before-joined (bitsIn x) (bitsIn y) (versionIn x ∷ []) (versionIn y ∷ []) (bits-long x l ∙ sym (bits-long y m)))
       where
         bits-long : (z : Bytes) → length z ≡ slotSize → length (bitsIn z) ≡ 32
-        bits-long z k = length-slice bitsAt 32 z (omega arith)
+        bits-long z k = length-slice _ 32 z (omega arith)
 
     module _ {a b : Bytes} (ae : a ≡ bitsIn x) (be : b ≡ bitsIn y) {t : Bool} (te : t ≡ sameBytes a b) where
       pub by-version : t ≡ true → {v z : ℕ} → v ≡ versionIn x → z ≡ versionIn y → ltb v z ≡ before (nodeKey x) (nodeKey y)

@@ -8,7 +8,7 @@ use lib.Dec.{eqb}
 use borrow.Author.Tests.{eqb-true}
 use Rattle.terms.specs.Bits.{Bytes, Byte, All, bits, begins, noneSet}
 use Rattle.terms.specs.Fields.{allZero}
-use Rattle.terms.specs.Records.{Body, Record, Slot, free, used, spoiled}
+use Rattle.terms.specs.Records.{Body, Slot, free, used}
 use Rattle.meaning.specs.Sound.{At}
 use Rattle.meaning.specs.Local.{endsBefore}
 use Rattle.meaning.proofs.Finding.{used-eq}

@@ -13,13 +13,13 @@ use Rattle.terms.specs.Records.{Record, free, used, spoiled}
 use Rattle.terms.proofs.Fields.{all-of-tests}
 use Rattle.meaning.specs.Sound.{At}
 use Rattle.meaning.proofs.Finding.{used-eq}
-use Rattle.layout.specs.Sizes.{slotSize, mostSlots, leafKind, innerKind, kindAt}
+use Rattle.layout.specs.Sizes.{slotSize, mostSlots, leafKind, innerKind}
 use Rattle.layout.specs.Slots.{leafIn, innerIn, recordIn, headRight, isLeaf, isInner, versionIn, sinceIn, slotOf, slotBytes}
 use Rattle.layout.specs.Stores.{slotIn, storeOf, Has, SlotWithin}
 use Rattle.layout.proofs.Headers.{size-says}
 use Rattle.layout.proofs.Slots.{slot-back}
 use Rattle.store.proofs.Slots.{slots-many, slot-long, slot-bytes, slot-within, slot-is}
-use Rattle.check_pass.specs.Passes.{Room}
+use Rattle.check_pass.specs.Passes.{kindIn, Room}
 
 -- a slot by its number
 pub room-has : {s : Bytes} {n i : ℕ} → Room s n → i < n → Has s i
@@ -44,19 +44,19 @@ free-spoiled x e = let z : _≡_ {A = ℕ} 0 1 = cc in omega arith
 pub used-spoiled : (r : Record) (x : Bytes) → used r ≡ spoiled x → ⊥
 used-spoiled r x e = let z : _≡_ {A = ℕ} 0 1 = cc in omega arith
 
-leaf-kind : (x : Bytes) → isLeaf x ≡ true → field kindAt 2 x ≡ leafKind
+leaf-kind : (x : Bytes) → isLeaf x ≡ true → kindIn x ≡ leafKind
 unfolding isLeaf headRight leafIn
-leaf-kind x e = eqb-true (field kindAt 2 x) leafKind (all-of-tests _ (all-of-tests _ e .0) .1 .0)
+leaf-kind x e = eqb-true (kindIn x) leafKind (all-of-tests _ (all-of-tests _ e .0) .1 .0)
 
-inner-kind : (x : Bytes) → isInner x ≡ true → field kindAt 2 x ≡ innerKind
+inner-kind : (x : Bytes) → isInner x ≡ true → kindIn x ≡ innerKind
 unfolding isInner headRight innerIn
-inner-kind x e = eqb-true (field kindAt 2 x) innerKind (all-of-tests _ (all-of-tests _ e .0) .1 .0)
+inner-kind x e = eqb-true (kindIn x) innerKind (all-of-tests _ (all-of-tests _ e .0) .1 .0)
 
 abbrev pub LeafHere : Bytes → Record → Type 0
-LeafHere x r = (field kindAt 2 x ≡ leafKind) × (r ≡ recordIn x (leafIn x))
+LeafHere x r = (kindIn x ≡ leafKind) × (r ≡ recordIn x (leafIn x))
 
 abbrev pub InnerHere : Bytes → Record → Type 0
-InnerHere x r = (field kindAt 2 x ≡ innerKind) × (r ≡ recordIn x (innerIn x)) × (isInner x ≡ true)
+InnerHere x r = (kindIn x ≡ innerKind) × (r ≡ recordIn x (innerIn x)) × (isInner x ≡ true)
 
 -- bytes that are a record are a leaf or an inner record, and their kind says which
 pub record-cases : (x : Bytes) (r : Record) → slotOf x ≡ used r → LeafHere x r ⊎ InnerHere x r
@@ -80,9 +80,9 @@ module _ (x : Bytes) (r : Record) (e : slotOf x ≡ used r) where
   retired-of = ⊎-elim (λ w. ap (λ q. q .retired) (w .1)) (λ w. ap (λ q. q .retired) (w .1)) (record-cases x r e)
 
 -- a free slot's fields are 0
-pub free-zero : (x : Bytes) → length x ≡ slotSize → All Byte x → slotOf x ≡ free → (versionIn x ≡ 0) × (field kindAt 2 x ≡ 0)
+pub free-zero : (x : Bytes) → length x ≡ slotSize → All Byte x → slotOf x ≡ free → (versionIn x ≡ 0) × (kindIn x ≡ 0)
 unfolding slotBytes zeroBytes field slice
-free-zero x l b e = let z = sym (ap slotBytes e) ∙ slot-back x l b in (ap (versionIn) (sym z), ap (field kindAt 2) (sym z))
+free-zero x l b e = let z = sym (ap slotBytes e) ∙ slot-back x l b in (ap (versionIn) (sym z), ap kindIn (sym z))
 
 -- the bytes of slot i, as they were read
 module _ {s : Bytes} {i : ℕ} (h : Has s i) {x : Bytes} (here : x ≡ slotIn i s) where

@@ -1,16 +1,12 @@
 -- The tests of one record, in the order of the code: alone, its body, above. Assumes nothing.
-use native.Mathlib.Omega.{arith}
 use mathlib.Core.Path.{_≡_, refl, ap, ap₂, sym, _∙_}
 use mathlib.Core.Bool.{Bool, true, false, _&&_}
 use mathlib.Core.List.{[], _∷_}
 use lib.ListN.{take, drop}
-use lib.Seq.{drop-drop}
 use Rattle.terms.specs.Bits.{Bytes, left, right, Place, begins}
-use Rattle.terms.specs.Fields.{slice, allOf}
+use Rattle.terms.specs.Fields.{allOf}
 use Rattle.terms.specs.Records.{Body, innerBody, Store}
 use Rattle.terms.proofs.Tests.{and-true}
-use Rattle.terms.proofs.Lists.{drop-take}
-use Rattle.terms.proofs.Fields.{slice-slice}
 use Rattle.meaning.specs.Reading.{bodyHash}
 use Rattle.local.specs.Test.{childTest, bodyTest, recordTest}
 use Rattle.hash.specs.declared.Hash.{Hash}
@@ -18,10 +14,11 @@ use Rattle.hash.specs.Hash.{hashBytes}
 use Rattle.nodehash.specs.Node.{leafHash, innerHash}
 use Rattle.place.specs.declared.Place as declared-place
 use Rattle.place.specs.Place.{placeOf}
-use Rattle.layout.specs.Slots.{leafIn}
+use Rattle.layout.specs.Slots.{keyIn, grantIn, leafIn}
 use Rattle.layout.specs.Stores.{storeOf}
 use Rattle.slots.specs.declared.Child as declared-child
 use Rattle.slots.specs.Answer.{childSays}
+use Rattle.slots.proofs.Parts.{grant-key, grant-value}
 use Rattle.kin.specs.Kin.{isLeafBody}
 use Rattle.check_slot.specs.declared.Head as declared
 use Rattle.check_slot.specs.Parts.{recordOn, foundOn, aloneTests, AloneSays, aboveTest}
@@ -54,17 +51,14 @@ module _ (s : Bytes) (h : declared.Head) (o : Body) where
 
 -- a leaf's key and grant, where they lie
 module _ (x : Bytes) where
-  pub leaf-body : (st : Store) (p : Place) {y : Bytes} → y ≡ slice 48 32 x → {t : Bool} → t ≡ begins p y → bodyTest st p (leafIn x) ≡ t
+  pub leaf-body : (st : Store) (p : Place) {y : Bytes} → y ≡ keyIn x → {t : Bool} → t ≡ begins p y → bodyTest st p (leafIn x) ≡ t
   unfolding leafIn
   leaf-body st p e f = ap (begins p) (sym e) ∙ sym f
 
-  pub leaf-hashed : {g : Bytes} → g ≡ slice 48 64 x → (v : Hash) → hashBytes v ≡ leafHash (take 32 g) (drop 32 g) →
+  pub leaf-hashed : {g : Bytes} → g ≡ grantIn x → (v : Hash) → hashBytes v ≡ leafHash (take 32 g) (drop 32 g) →
       bodyHash leafHash innerHash (leafIn x) ≡ hashBytes v
-  unfolding leafIn slice
-  leaf-hashed e v f =
-      let a : take 32 (slice 48 64 x) ≡ slice 48 32 x = slice-slice 48 64 0 32 x (omega arith) in
-      let b : drop 32 (slice 48 64 x) ≡ slice 80 32 x = drop-take 32 64 (drop 48 x) ∙ ap (take 32) (drop-drop 32 48 x) in
-      sym (f ∙ ap₂ leafHash (ap (take 32) e ∙ a) (ap (drop 32) e ∙ b))
+  unfolding leafIn
+  leaf-hashed e v f = sym (f ∙ ap₂ leafHash (ap (take 32) e ∙ grant-key x) (ap (drop 32) e ∙ grant-value x))
 
   pub leaf-kind : isLeafBody (leafIn x) ≡ true
   unfolding leafIn

@@ -9,7 +9,6 @@ use lib.Seq.{take-all}
 use lib.Dec.{eqb}
 use borrow.Author.Tests.{ne-eqb, eqb-false, not-true}
 use Rattle.terms.specs.Bits.{Bytes, Byte, All, sameBytes}
-use Rattle.terms.specs.Fields.{field}
 use Rattle.terms.specs.Records.{Record, Slot, free, used, spoiled}
 use Rattle.terms.proofs.Places.{length-pack}
 use Rattle.terms.proofs.Tests.{same-bytes}
@@ -18,13 +17,13 @@ use Rattle.meaning.specs.Local.{endsBefore}
 use Rattle.place.specs.declared.Place as declared-place
 use Rattle.place.specs.Place.{placeOf, Proper}
 use Rattle.place.proofs.Places.{proper-count}
-use Rattle.layout.specs.Sizes.{leafKind, kindAt}
+use Rattle.layout.specs.Sizes.{leafKind}
 use Rattle.layout.specs.Slots.{innerIn, recordIn, countIn, bitsIn, versionIn, sinceIn, slotOf}
 use Rattle.layout.specs.Stores.{slotIn, storeOf, Has}
 use Rattle.lookup.proofs.Matching.{place-is}
 use Rattle.store.proofs.Slots.{slot-is}
 use Rattle.kin.specs.Kin.{endsAt, isLeafBody}
-use Rattle.check_pass.specs.Passes.{Passed}
+use Rattle.check_pass.specs.Passes.{kindIn, Passed}
 use Rattle.check_pass.proofs.Records.{record-cases, version-of, retired-of, free-zero, read-long, read-bytes, read-as, stands}
 use Rattle.check_seen.specs.Seen.{OwnAt}
 use Rattle.check_tie.specs.Side.{Node, Outlives}
@@ -34,7 +33,7 @@ bits-long p w = ap length (w .trimmed) ∙ length-pack 32 (placeOf p)
 
 module _ {s : Bytes} {c : ℕ} (h : Has s c) where
   -- a slot with a version or a kind, whose own fields are right, holds a record
-  pub holds : All Byte s → OwnAt (storeOf s) c → (versionIn (slotIn c s) ≡ 0 → ⊥) ⊎ (field kindAt 2 (slotIn c s) ≡ 0 → ⊥) → (r : Record) × (slotOf (slotIn c s) ≡ used r)
+  pub holds : All Byte s → OwnAt (storeOf s) c → (versionIn (slotIn c s) ≡ 0 → ⊥) ⊎ (kindIn (slotIn c s) ≡ 0 → ⊥) → (r : Record) × (slotOf (slotIn c s) ≡ used r)
   holds bytes own some = go (slotOf (slotIn c s)) refl
     where
       go : (y : Slot) → slotOf (slotIn c s) ≡ y → (r : Record) × (slotOf (slotIn c s) ≡ used r)
@@ -69,7 +68,7 @@ module _ {s : Bytes} {c : ℕ} (h : Has s c) where
     pub some-other : (other : ℕ) → (other ≡ 0 → ⊥) → Outlives s c ends other
     some-other other f r a = (its-end r a, elim (isLeafBody (r .body)) as (λ t. cond t (eqb other 0) false ≡ false) [ true ↦ ne-eqb other 0 f | false ↦ refl ])
 
-    no-leaf : (other : ℕ) {k : ℕ} → k ≡ field kindAt 2 (slotIn c s) → (k ≡ leafKind → ⊥) → Outlives s c ends other
+    no-leaf : (other : ℕ) {k : ℕ} → k ≡ kindIn (slotIn c s) → (k ≡ leafKind → ⊥) → Outlives s c ends other
     unfolding recordIn innerIn
     no-leaf other e f r a = (
       its-end r a,
@@ -77,6 +76,6 @@ module _ {s : Bytes} {c : ℕ} (h : Has s c) where
           (λ w. ap (λ q. cond (isLeafBody (q .body)) (eqb other 0) false) (w .1)) (record-cases (slotIn c s) r (read-as h refl r a)),
     )
 
-    pub by-kind : (other : ℕ) {k : ℕ} → k ≡ field kindAt 2 (slotIn c s) → (t : Bool) → t ≡ not (eqb k leafKind) → Passed t (Outlives s c ends other)
+    pub by-kind : (other : ℕ) {k : ℕ} → k ≡ kindIn (slotIn c s) → (t : Bool) → t ≡ not (eqb k leafKind) → Passed t (Outlives s c ends other)
     by-kind other {k} e true f = no-leaf other e (eqb-false k leafKind (not-true (eqb k leafKind) (sym f)))
     by-kind other e false f = tt

@@ -8,7 +8,6 @@ use mathlib.Core.List.{List}
 use lib.ListN.{length, take, drop}
 use borrow.Author.Tests.{leb-true, eq-eqb, ne-eqb}
 use Rattle.terms.specs.Bits.{Bytes, Byte, All, Side, left, right, bits, noneSet}
-use Rattle.terms.specs.Fields.{field}
 use Rattle.terms.specs.Records.{Record, used}
 use Rattle.terms.proofs.Fields.{all-of-tests}
 use Rattle.meaning.specs.Sound.{At}
@@ -18,7 +17,7 @@ use Rattle.local.specs.Test.{keptLife}
 use Rattle.nodehash.specs.Node.{leafHash, innerHash}
 use Rattle.place.specs.declared.Place as declared-place
 use Rattle.place.specs.Place.{Stands}
-use Rattle.layout.specs.Sizes.{innerKind, kindAt, roomOf}
+use Rattle.layout.specs.Sizes.{innerKind, roomOf}
 use Rattle.layout.specs.Headers.{sizeRight}
 use Rattle.layout.specs.Slots.{countIn, bitsIn, placeIn, versionIn, sinceIn, leafIn, leftIn, rightIn, kidOn, innerIn, recordIn, headRight, isInner, slotOf}
 use Rattle.layout.specs.Stores.{slotIn, storeOf, Has}
@@ -26,6 +25,7 @@ use Rattle.slots.proofs.Reading.{inner-head}
 use Rattle.kin.specs.declared.Kept as declared-kept
 use Rattle.kin.specs.Kin.{Keeps, endsAt}
 use Rattle.store.proofs.Slots.{slots-many}
+use Rattle.check_pass.specs.Passes.{kindIn}
 use Rattle.check_pass.proofs.Walks.{Walk, walk-start, walk-next}
 use Rattle.check_pass.proofs.Records.{record-cases, read-as, stands}
 use Rattle.check_hash.specs.Known.{linkSlot, linkSide, Stored, Known}
@@ -65,7 +65,7 @@ module _ {s : Bytes} {j : ℕ} (h : Has s j) where
   inside = omega (arith, h .inside, slots-many s)
 
   -- no inner record
-  pub other-tied : {k : ℕ} → k ≡ field kindAt 2 (slotIn j s) → (k ≡ innerKind → ⊥) → (xs : List ℕ) → SlotTied s j xs xs
+  pub other-tied : {k : ℕ} → k ≡ kindIn (slotIn j s) → (k ≡ innerKind → ⊥) → (xs : List ℕ) → SlotTied s j xs xs
   unfolding recordIn leafIn
   other-tied e f xs = record {
     tied = λ q a b some. ⊎-elim
@@ -75,7 +75,7 @@ module _ {s : Bytes} {j : ℕ} (h : Has s j) where
     under = under-other (storeOf s) j xs inside;
   }
 
-  module _ (bytes : All Byte s) (own : OwnAt (storeOf s) j) {k : ℕ} (ke : k ≡ field kindAt 2 (slotIn j s)) (inner : k ≡ innerKind) where
+  module _ (bytes : All Byte s) (own : OwnAt (storeOf s) j) {k : ℕ} (ke : k ≡ kindIn (slotIn j s)) (inner : k ≡ innerKind) where
     is-record : (slotOf (slotIn j s) ≡ used (recordIn (slotIn j s) (innerIn (slotIn j s)))) × (isInner (slotIn j s) ≡ true)
     is-record =
         let (r, e) = holds h bytes own (inr (λ z. omega (arith, ke, inner))) in

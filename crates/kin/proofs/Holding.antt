@@ -9,7 +9,6 @@ use lib.Seq.{take-suc}
 use native.Mathlib.Numerals.{add-one}
 use native.Mathlib.Nat.{zero-add}
 use Rattle.terms.specs.Bits.{Bytes, Byte, All, Place, bits, bit, longer, sameBytes}
-use Rattle.terms.specs.Fields.{field, slice}
 use Rattle.terms.specs.Records.{Record, Slot, free, used, spoiled}
 use Rattle.terms.proofs.Tests.{same-bytes, bytes-same}
 use Rattle.terms.proofs.Places.{length-bits}
@@ -19,9 +18,9 @@ use Rattle.local.specs.Test.{total, byRecord, isFound}
 use Rattle.place.specs.declared.Place as declared
 use Rattle.place.specs.Place.{placeOf, Proper, Stands, Grown}
 use Rattle.place.proofs.Places.{proper-count}
-use Rattle.layout.specs.Sizes.{versionAt, roomOf}
+use Rattle.layout.specs.Sizes.{roomOf}
 use Rattle.layout.specs.Headers.{sizeRight}
-use Rattle.layout.specs.Slots.{countIn, bitsIn, slotOf}
+use Rattle.layout.specs.Slots.{countIn, bitsIn, versionIn, slotOf}
 use Rattle.layout.specs.Stores.{slotIn, storeOf, slotNo, Has}
 use Rattle.store.proofs.Slots.{slot-long, slot-bytes, slot-within, slot-is}
 use Rattle.store.proofs.Scans.{Scan, scan-start, scan-here, scan-next, scan-end}
@@ -49,7 +48,7 @@ module _ {s : Bytes} {j : ℕ} (h : Has s j) (b : All Byte s) (v : ℕ) (p : dec
   not-held : NoNode (slotIn j s) v (placeOf p) → 0 ≡ byRecord 0 (countNode v (placeOf p)) (slotNo j s)
   not-held f = sym (ap (byRecord 0 (countNode v (placeOf p))) (slot-is h) ∙ none-counted v (placeOf p) (slotOf (slotIn j s)) f)
 
-  pub other-version : (field versionAt 4 (slotIn j s) ≡ v → ⊥) → 0 ≡ byRecord 0 (countNode v (placeOf p)) (slotNo j s)
+  pub other-version : (versionIn (slotIn j s) ≡ v → ⊥) → 0 ≡ byRecord 0 (countNode v (placeOf p)) (slotNo j s)
   other-version f = not-held (off-version (slotIn j s) (slot-long j s (slot-within h)) (slot-bytes j s b) v (placeOf p) f)
 
   pub other-count : (countIn (slotIn j s) ≡ p .count → ⊥) → 0 ≡ byRecord 0 (countNode v (placeOf p)) (slotNo j s)
@@ -64,7 +63,7 @@ module _ {s : Bytes} {j : ℕ} (h : Has s j) (b : All Byte s) (v : ℕ) (p : dec
   pub no-record : {x : Bytes} → x ≡ slotIn j s → isUsed (slotOf x) ≡ false → 0 ≡ byRecord 0 (countNode v (placeOf p)) (slotNo j s)
   no-record i f = not-held (λ r e. unused (slotOf (slotIn j s)) r (ap (λ y. isUsed (slotOf y)) (sym i) ∙ f) e)
 
-  pub held : {x y : Bytes} → x ≡ slotIn j s → y ≡ bitsIn x → field versionAt 4 (slotIn j s) ≡ v → countIn (slotIn j s) ≡ p .count → sameBytes y (p .bits) ≡ true →
+  pub held : {x y : Bytes} → x ≡ slotIn j s → y ≡ bitsIn x → versionIn (slotIn j s) ≡ v → countIn (slotIn j s) ≡ p .count → sameBytes y (p .bits) ≡ true →
       isUsed (slotOf x) ≡ true → 1 ≡ byRecord 0 (countNode v (placeOf p)) (slotNo j s)
   unfolding countIn countNode
   held i k a c d u =

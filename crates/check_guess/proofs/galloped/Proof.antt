@@ -1,7 +1,7 @@
 -- `check_guess::galloped` is safe and ends: a step is at most one more than what lies behind. Assumes nothing.
 use native.Mathlib.Omega.{arith}
 use borrow.Author.Needs.{needs}
-use Prim.Native.Nat.{_+_, _-_, _≤_, _<_}
+use Prim.Native.Nat.{_+_, _-_, _≤_}
 use Rattle.check_guess.proofs.galloped.Statement.{statement}
 use Rattle.check_guess.proofs.galloped.Tie as tie
 

@@ -1,7 +1,7 @@
 -- `check_guess::guessed` is safe and ends. Assumes nothing.
 use native.Mathlib.Omega.{arith}
 use borrow.Author.Needs.{needs}
-use Prim.Native.Nat.{_+_, _-_, _≤_, _<_}
+use Prim.Native.Nat.{_-_, _≤_}
 use Rattle.check_guess.proofs.guessed.Statement.{statement}
 use Rattle.check_guess.proofs.guessed.Tie as tie
 

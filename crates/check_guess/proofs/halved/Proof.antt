@@ -1,7 +1,7 @@
 -- `check_guess::halved` is safe and ends: the entries from low to high are left. Assumes nothing.
 use native.Mathlib.Omega.{arith}
 use borrow.Author.Needs.{needs}
-use Prim.Native.Nat.{_+_, _-_, _≤_, _<_}
+use Prim.Native.Nat.{_-_, _≤_}
 use Rattle.check_guess.proofs.halved.Statement.{statement}
 use Rattle.check_guess.proofs.halved.Tie as tie
 

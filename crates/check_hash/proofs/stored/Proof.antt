@@ -1,7 +1,7 @@
 -- `check_hash::stored` meets its contract: the link's number says slot and side. Assumes nothing.
 use native.Mathlib.Omega.{arith}
 use Prim.Native.Nat.{_-_, _/_}
-use mathlib.Core.Path.{sym, ap, refl, subst}
+use mathlib.Core.Path.{sym, ap, subst}
 use Rattle.layout.specs.Stores.{Has}
 use Rattle.store.proofs.Slots.{slot-within}
 use Rattle.check_pass.proofs.Records.{read-whole}

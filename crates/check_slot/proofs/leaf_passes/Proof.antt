@@ -1,10 +1,7 @@
 -- `check_slot::leaf_passes` meets its contract: alone, its key, above. Assumes nothing.
-use native.Mathlib.Omega.{arith}
-use mathlib.Core.Path.{ap, _∙_}
-use lib.ListN.{length}
+use mathlib.Core.Path.{_∙_}
 use borrow.Author.Tests.{not-true, not-false}
 use borrow.Author.Needs.{needs}
-use Rattle.terms.proofs.Fields.{length-slice}
 use Rattle.place.specs.Place.{placeOf}
 use Rattle.layout.specs.Slots.{leafIn}
 use Rattle.layout.specs.Stores.{storeOf}
@@ -27,7 +24,7 @@ key-of-requires c κs = search needs
 begins-requires : tie.Need-begins-requires
 begins-requires c κs =
     let c6 = c .before .before .before .before .before .before in
-    (ap length (c .key-of .ensures .0) ∙ length-slice 48 32 (c6 .args .s .now) (omega (arith, c6 .pre .1)), c6 .pre .0 .proper)
+    (c .key-of .ensures .1, c6 .pre .0 .proper)
 
 returns-2 : tie.Need-returns-2
 returns-2 c =
@@ -44,9 +41,7 @@ grant-of-requires : tie.Need-grant-of-requires
 grant-of-requires c κs = search needs
 
 leaf-hash-requires : tie.Need-leaf-hash-requires
-leaf-hash-requires c κs =
-    let c9 = c .before .before .before .before .before .before .before .before .before in
-    ap length (c .grant-of .ensures .0) ∙ length-slice 48 64 (c9 .args .s .now) (omega (arith, c9 .pre .1))
+leaf-hash-requires c κs = c .grant-of .ensures .1
 
 above-right-requires : tie.Need-above-right-requires
 above-right-requires c κs = search needs

@@ -5,8 +5,6 @@ use lib.Dec.{eqb}
 use borrow.Author.Needs.{needs}
 use Rattle.check_slot.proofs.root_right.Statement.{statement}
 use Rattle.check_slot.proofs.root_right.Tie as tie
-use Rattle.check_slot.proofs.root_right.Reads as reads
-use Rattle.check_slot.proofs.root_right.Lts as lts
 
 add-result : tie.Need-add-result
 add-result c = search needs

@@ -1,6 +1,4 @@
-use native.Mathlib.Omega.{arith}
 use borrow.Author.Needs.{needs}
-use Prim.Native.Nat.{_-_, _≤_, _<_}
 use Rattle.check_sums.proofs.Laws.{set-added}
 use Rattle.check_sums.proofs.add.Statement.{statement}
 use Rattle.check_sums.proofs.add.Tie as tie
