@@ -1,5 +1,5 @@
 # The commands of the README. A fresh machine has the Rattle kit, make and cargo.
-.PHONY: demo test lib tool bench soak fmt rooms
+.PHONY: demo test lib tool wasm bench soak fmt rooms
 
 demo:
 	@tests/demo
@@ -17,6 +17,10 @@ lib:
 # The command line tool over that library: target/bin/grants.
 tool:
 	@rust/tool
+
+# The library as WebAssembly (target/wasm, js/) and the page that shows a proof (docs/inspect/inspect.html), from the same module.
+wasm:
+	@js/build
 
 # Tool, manual page, completions, header, libraries and pkg-config file below PREFIX.
 .PHONY: install uninstall
