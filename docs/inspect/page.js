@@ -60,10 +60,17 @@ function draw(bytes, root, key, number) {
   return said;
 }
 
+// No verdict stands beside fields that it wasn't given for.
+function forget() {
+  for (const id of ['result', 'drawing']) at(id).hidden = true;
+  at('verdict').textContent = '';
+  at('taken').textContent = '';
+}
+
 // The verdict of what stands in the fields.
 function check() {
   let root, key, proof;
-  at('drawing').hidden = true;
+  forget();
   try {
     root = fromHex(at('root').value.trim());
     const asked = keyOf(at('key').value.trim());
@@ -167,6 +174,7 @@ async function openStore(name, bytes) {
 
 // A file is a store or a root by its size, else a proof; one of hex digits is taken for the bytes that they stand for.
 async function taken(file) {
+  forget();
   let bytes = new Uint8Array(await file.arrayBuffer());
   const text = new TextDecoder().decode(bytes).trim();
   if (/^([0-9a-f]{2})+$/i.test(text)) bytes = fromHex(text);
@@ -184,6 +192,7 @@ at('ask').addEventListener('submit', (event) => {
   event.preventDefault();
   check();
 });
+at('ask').addEventListener('input', forget);
 at('file').addEventListener('change', (event) => takeAll(event.target.files));
 for (const kind of ['dragover', 'dragleave', 'drop']) {
   document.addEventListener(kind, (event) => {

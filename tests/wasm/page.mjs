@@ -69,6 +69,9 @@ async function verdicts() {
   tally.equal('not hex', await asked('zz', 'lyrics sonata', proofs.then), 'this proof shows nothing');
   tally.equal('the empty root', await asked('00'.repeat(32), 'lyrics sonata', proofs.then), 'this proof shows nothing');
   tally.holds('the empty root, said', (await text('reason')).includes('nothing is granted'));
+  await browser.ask(`document.getElementById('root').focus()`);
+  await browser.press('a', 'KeyA', 'a');
+  tally.equal('no verdict beside a changed field', [await text('verdict'), await browser.ask(`document.getElementById('result').hidden`)], ['', true]);
   // One neighbour alone, which is not at the edge of the tree: the step that leaves room is named.
   const left = proofs.now.slice(0, 40 + 72 + 33 * (proofs.now[46] | (proofs.now[47] << 8)));
   left.set([left.length & 255, left.length >> 8, 0, 0, 17, 0, 1, 0]);

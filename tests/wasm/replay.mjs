@@ -55,7 +55,12 @@ function same(exports, { name, given, answer }) {
   );
 }
 
-export async function replay(tally, file, wasm) {
+// The stack lies first in memory, from its end downwards: what of it was ever written.
+function deepest(exports, stack) {
+  return stack - new Uint8Array(exports.memory.buffer, 0, stack).findIndex((byte) => byte !== 0);
+}
+
+export async function replay(tally, file, wasm, stack) {
   const { exports } = await WebAssembly.instantiate(await WebAssembly.compile(readFileSync(wasm)));
   const times = {};
   for (const call of calls(readFileSync(file))) {
@@ -64,5 +69,8 @@ export async function replay(tally, file, wasm) {
     if (!same(exports, call)) tally.fail(`${wasm}: ${call.name} number ${times[call.name]} is not as the native library has it`);
     else tally.pass();
   }
+  const most = deepest(exports, stack);
+  tally.holds(`${wasm}: ${most} bytes of stack leave a quarter of it free`, most < 0.75 * stack);
+  console.log(`${wasm}: ${most} of ${stack} bytes of stack at most`);
   console.log(`${wasm}: as the native library, byte by byte: ${Object.entries(times).map(([name, n]) => `${name} ${n}`).join(', ')}`);
 }
