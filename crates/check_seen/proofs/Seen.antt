@@ -14,7 +14,7 @@ use Rattle.meaning.specs.Sound.{At}
 use Rattle.meaning.specs.Local.{endsBefore, childVersion}
 use Rattle.terms.proofs.Tests.{same-place}
 use Rattle.local.specs.Test.{total, byRecord, keptLife, lifeAbove, lifeCovered, isSame, holders, names, isParent, linkOn, linkTest, childTest, bodyTest, isFound, recordTest, slotTest, slotsTest}
-use Rattle.local.proofs.Slots.{same-record, at-find}
+use Rattle.meaning.proofs.Finding.{same-record, at-find}
 use Rattle.local.proofs.Scans.{at-every}
 use Rattle.local.proofs.Records.{slot-elim, each-record, record-total, record-one}
 use Rattle.local.proofs.Naming.{names-eq, parent-names}

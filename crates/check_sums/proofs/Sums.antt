@@ -14,7 +14,7 @@ use Rattle.terms.specs.Records.{Record, free, Store}
 use Rattle.terms.proofs.Places.{longer-inj}
 use Rattle.meaning.specs.Sound.{At}
 use Rattle.local.specs.Test.{total, byRecord, names, keptLife, isParent, lifeAbove}
-use Rattle.local.proofs.Slots.{same-slot}
+use Rattle.meaning.proofs.Finding.{same-slot}
 use Rattle.local.proofs.Naming.{names-eq}
 use Rattle.check_sums.specs.Sums.{Added, Under, sideLife, SideAdded}
 
