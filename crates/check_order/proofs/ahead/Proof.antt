@@ -104,8 +104,7 @@ returns-3 c =
     let c9 = c8 .before in
     let c10 = c9 .before in
     let c11 = c10 .before in
-    let c12 = c11 .before in
-    let c13 = c12 .before in
+    let c13 = c11 .before .before in
     by-bits (slotIn (c13 .args .i) (c13 .args .store .now)) (slotIn (c13 .args .j) (c13 .args .store .now)) (c11 .count-at .ensures)
     (c10 .count-at2 .ensures) (c9 .if1 .left) (slot-long (c13 .args .i) (c13 .args .store .now) (slot-within (c13 .pre .0)))
     (slot-long (c13 .args .j) (c13 .args .store .now) (slot-within (c13 .pre .1)))
@@ -113,7 +112,7 @@ returns-3 c =
     (read-whole (c3 .hash-at2 .ensures .1) (c5 .bits-of2 .ensures .1)
     (c5 .bits-of2 .ensures .0 ∙ ap bitsIn (c6 .slot-of2 .ensures .0))) (c2 .same-hash .ensures) (c .before .if2 .left)
     (c7 .bits-of .ensures .0 ∙ ap bitsIn (c8 .slot-of .ensures .0))
-    (c5 .bits-of2 .ensures .0 ∙ ap bitsIn (c6 .slot-of2 .ensures .0)) (c12 .ensures)
+    (c5 .bits-of2 .ensures .0 ∙ ap bitsIn (c6 .slot-of2 .ensures .0)) (c .before2 .ensures)
 
 pub ahead-spec : {M : Type 1} → statement M
 ahead-spec =
