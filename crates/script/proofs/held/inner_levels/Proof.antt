@@ -1,8 +1,8 @@
 -- `held::inner_levels` is safe and ends. At most one is counted for each bit count. Assumes nothing.
 use Prim.Native.Nat.{_≤_, _-_}
 use borrow.Author.Needs.{needs}
-use Rattle.vectors.proofs.held.inner_levels.Statement.{statement}
-use Rattle.vectors.proofs.held.inner_levels.Tie as tie
+use Rattle.script.proofs.held.inner_levels.Statement.{statement}
+use Rattle.script.proofs.held.inner_levels.Tie as tie
 
 abbrev Inv-loop : tie.InvT-loop
 Inv-loop store slots n₀ count₀ n count = (count ≤ 256) × (n ≤ count)

@@ -1,8 +1,8 @@
 -- `held::counted` is safe and ends. At most one is counted for each slot. Assumes nothing.
 use Prim.Native.Nat.{_≤_, _-_}
 use borrow.Author.Needs.{needs}
-use Rattle.vectors.proofs.held.counted.Statement.{statement}
-use Rattle.vectors.proofs.held.counted.Tie as tie
+use Rattle.script.proofs.held.counted.Statement.{statement}
+use Rattle.script.proofs.held.counted.Tie as tie
 
 abbrev Inv-loop : tie.InvT-loop
 Inv-loop store slots at number n₀ i₀ n i = (i ≤ slots) × (n ≤ i)

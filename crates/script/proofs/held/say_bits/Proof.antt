@@ -1,14 +1,14 @@
 -- `held::say_bits` is safe and ends. Assumes nothing.
 use Prim.Native.Nat.{_≤_, _-_}
 use borrow.Author.Needs.{needs}
-use Rattle.vectors.proofs.held.say_bits.Statement.{statement}
-use Rattle.vectors.proofs.held.say_bits.Tie as tie
+use Rattle.script.proofs.held.say_bits.Statement.{statement}
+use Rattle.script.proofs.held.say_bits.Tie as tie
 
 abbrev Inv-loop : tie.InvT-loop
-Inv-loop store i n b₀ b = b ≤ n
+Inv-loop store i n b₀ t5 t6 b = b ≤ n
 
 abbrev μ-loop : tie.MeasureT-loop
-μ-loop store i n b₀ b = n - b
+μ-loop store i n b₀ t5 t6 b = n - b
 
 loop-holds : tie.Need-loop-holds Inv-loop μ-loop
 loop-holds c = search needs
@@ -16,8 +16,14 @@ loop-holds c = search needs
 bit-requires : tie.Need-bit-requires Inv-loop μ-loop
 bit-requires c κs = search needs
 
-say-bit-requires : tie.Need-say-bit-requires Inv-loop μ-loop
-say-bit-requires c κs = search needs
+slice-aggregate-choice : tie.Need-slice-aggregate-choice Inv-loop μ-loop
+slice-aggregate-choice c = search needs
+
+slice-aggregate-choice-2 : tie.Need-slice-aggregate-choice-2 Inv-loop μ-loop
+slice-aggregate-choice-2 c = search needs
+
+choice-requires : tie.Need-choice-requires Inv-loop μ-loop
+choice-requires c κs = search needs
 
 add-b : tie.Need-add-b Inv-loop μ-loop
 add-b c = search needs
@@ -39,7 +45,9 @@ say-bits-spec =
     μ-loop
     loop-holds
     bit-requires
-    say-bit-requires
+    slice-aggregate-choice
+    slice-aggregate-choice-2
+    choice-requires
     add-b
     loop-less
     loop-again

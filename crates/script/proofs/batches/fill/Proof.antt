@@ -1,16 +1,16 @@
--- `ask::fill` is safe and ends. The batch keeps its length. Assumes nothing.
+-- `batches::fill` is safe and ends. Assumes nothing.
 use Prim.Native.Nat.{_≤_, _-_}
 use mathlib.Core.Path.{_≡_}
 use lib.ListN.{length}
 use borrow.Author.Needs.{needs}
-use Rattle.vectors.proofs.ask.fill.Statement.{statement}
-use Rattle.vectors.proofs.ask.fill.Tie as tie
+use Rattle.script.proofs.batches.fill.Statement.{statement}
+use Rattle.script.proofs.batches.fill.Tie as tie
 
 abbrev Inv-loop : tie.InvT-loop
-Inv-loop batch₀ i₀ batch i = (i ≤ 1025) × (length batch ≡ length batch₀)
+Inv-loop batch₀ n i₀ batch i = (i ≤ n) × (length batch ≡ length batch₀)
 
 abbrev μ-loop : tie.MeasureT-loop
-μ-loop batch₀ i₀ batch i = 1025 - i
+μ-loop batch₀ n i₀ batch i = n - i
 
 loop-holds : tie.Need-loop-holds Inv-loop μ-loop
 loop-holds c = search needs
