@@ -8,6 +8,7 @@ use layout::read_header;
 use layout::size_right;
 use nodehash::leaf_hash;
 use slots::grant_of;
+use soundness::check;
 use store::kind_at;
 use store::slot_count;
 use store::slot_of;
@@ -17,7 +18,6 @@ ghost use lib.ListN.{length};
 ghost use Rattle.layout.specs.Headers.{sizeRight};
 ghost use Rattle.kin.specs.Kin.{Keeps};
 
-// What came of the passes.
 const FINE: u32 = 0;
 
 const SUSPECT_FAILS: u32 = 1;
@@ -26,6 +26,13 @@ const SUSPECT_PASSES: u32 = 2;
 
 const NO_STORE: u32 = 3;
 
+// The check itself.
+#[no_mangle]
+pub extern "C" fn check_store(store: &[u8]) -> u32 {
+    check(store)
+}
+
+// What came of the passes over the slots of a store that keeps these versions.
 fn suspected(store: &[u8], kept: Kept) -> u32
     requires { ⌜ Keeps (now store) kept ⌝ }
 {

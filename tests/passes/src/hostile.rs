@@ -98,7 +98,7 @@ pub fn hostile(random: &mut Random, n: usize) -> Vec<(&'static str, Vec<u8>)> {
     // Inner records on one way down, each of which names the child of another's version.
     let versions = (n / 256).max(1) as u32;
     let mut crossed = vec![];
-    for count in 0..255 {
+    for count in 1..255 {
         for version in 1..=versions {
             let child = Child { version: 1 + versions - version, hash: random.hash() };
             crossed.push(Record { place: place(&[0; 32], count), version, retired: 0, body: Body::Inner([child, NO_CHILD]) });

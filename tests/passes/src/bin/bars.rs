@@ -1,26 +1,40 @@
-//! How long check takes beside hashing each record once, beside the second program, and on hostile stores; and prune and apply beside check. Short runs in
-//! turn, the best of each. It fails above its bars.
+//! How long check takes beside hashing each record once, beside the second program, and on hostile stores: the best of many short runs, in processor
+//! time. It fails above its bars.
 
 #[path = "../../../compare/src/cases.rs"]
 #[allow(dead_code)]
 mod cases;
 #[path = "../hostile.rs"]
 mod hostile;
-#[path = "../../../compare/src/ours.rs"]
-#[allow(dead_code)]
-mod ours;
 #[path = "../trial.rs"]
 mod trial;
 
 use cases::Random;
-use second::bytes::{ask_bytes, Ask};
 use std::hint::black_box;
-use std::time::Instant;
+
+#[repr(C)]
+struct Time {
+    seconds: i64,
+    nanoseconds: i64,
+}
+
+extern "C" {
+    fn clock_gettime(clock: i32, time: *mut Time) -> i32;
+}
+
+/// The processor time of this program so far, which other work on the machine disturbs less than the clock's.
+fn spent() -> f64 {
+    const PROCESS_CPU_TIME: i32 = 2;
+    let mut t = Time { seconds: 0, nanoseconds: 0 };
+    // SAFETY: the call writes one such struct.
+    assert_eq!(unsafe { clock_gettime(PROCESS_CPU_TIME, &mut t) }, 0);
+    t.seconds as f64 * 1e3 + t.nanoseconds as f64 / 1e6
+}
 
 fn milliseconds(call: &mut dyn FnMut()) -> f64 {
-    let start = Instant::now();
+    let start = spent();
     call();
-    start.elapsed().as_secs_f64() * 1000.0
+    spent() - start
 }
 
 /// The best of many runs, each of as many calls as fill a millisecond.
@@ -29,17 +43,6 @@ fn best(call: &mut dyn FnMut()) -> f64 {
     let many = (1.0 / once).clamp(1.0, 1_000.0) as usize;
     let run = &mut || (0..many).for_each(|_| call());
     (0..40).map(|_| milliseconds(run)).fold(f64::MAX, f64::min) / many as f64
-}
-
-/// The best time of a call on a fresh copy of the store, copying apart.
-fn best_on(s: &[u8], call: &dyn Fn(&mut [u8])) -> f64 {
-    let mut t = s.to_vec();
-    (0..40)
-        .map(|_| {
-            t.copy_from_slice(s);
-            milliseconds(&mut || call(&mut t))
-        })
-        .fold(f64::MAX, f64::min)
 }
 
 struct Bars(bool);
@@ -59,8 +62,10 @@ fn main() {
     // At 64 slots the scans of each record took 2.2 times the hashing.
     for (capacity, most) in [(64, 2.2), (1_024, 1.8), (4_096, 1.8), (16_384, 1.8)] {
         let (s, _) = hostile::filled(&mut random, capacity, capacity / 64, capacity);
-        let check = best(&mut || assert_eq!(ours::check(black_box(&s)), Ok(())));
-        let hashes = best(&mut || drop(black_box(trial::hashes(black_box(&s)))));
+        let check = best(&mut || assert_eq!(trial::check(black_box(&s)), 0));
+        let hashes = best(&mut || {
+            black_box(trial::hashes(black_box(&s)));
+        });
         let plain = if capacity == 16_384 { best(&mut || assert_eq!(second::check(&s), Ok(()))) } else { f64::NAN };
         println!("check-full-{capacity} {check:.3}ms hashing each of {} records once {hashes:.3}ms", cases::taken(&s));
         bars.bar(&format!("check-full-{capacity}-beside-hashing"), check / hashes, most);
@@ -79,21 +84,12 @@ fn main() {
         .chain([("doubles", hostile::doubles(&s)), ("deep", deep)])
         .chain(hostile::damaged(&mut random, &s));
     for (name, t) in slow {
-        let time = best(&mut || drop(black_box(ours::check(black_box(&t)))));
-        println!("check-hostile-{name} {time:.3}ms answer {}", ours::check(&t).err().unwrap_or(0));
+        let time = best(&mut || {
+            black_box(trial::check(black_box(&t)));
+        });
+        println!("check-hostile-{name} {time:.3}ms answer {}", trial::check(&t));
         bars.bar(&format!("check-hostile-{name}-beside-the-sound-store"), time / sound, 4.0);
     }
 
-    for capacity in [1_024, 16_384] {
-        let (s, keys) = hostile::filled(&mut random, capacity, capacity / 64, capacity / 2);
-        let latest = second::bytes::store(&s).unwrap().latest;
-        let check = best(&mut || assert_eq!(ours::check(black_box(&s)), Ok(())));
-        let batch = ask_bytes(&Ask { key: keys[0], value: Some(random.hash()) });
-        let apply = best_on(&s, &|t| assert!(ours::apply(t, &batch).is_ok()));
-        let prune = best_on(&s, &|t| assert!(ours::prune(t, latest).is_ok()));
-        println!("half-full-{capacity} check {check:.3}ms apply-1-record {apply:.3}ms prune {prune:.3}ms");
-        bars.bar(&format!("apply-1-record-to-{capacity}-beside-check"), apply / check, 1.2);
-        bars.bar(&format!("prune-{capacity}-beside-check"), prune / check, 1.2);
-    }
     std::process::exit(!bars.0 as i32);
 }
