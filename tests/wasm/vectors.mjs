@@ -116,7 +116,7 @@ class Program {
   }
 
   async run() {
-    this.section = 'A begins 00, B 010, C 011, D 1; other bits zero; capacity 20.';
+    this.section = "The desk's store";
     const store = await this.format(2424);
     const all = [insert(key(A), 1), insert(key(B), 2), insert(key(C), 3), insert(key(D), 4)];
     const four = inner(inner(leaf(key(A), 1), inner(leaf(key(B), 2), leaf(key(C), 3))), leaf(key(D), 4));

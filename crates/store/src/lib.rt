@@ -12,9 +12,10 @@ use slots_put::put_leaf;
 ghost use mathlib.Core.Path.{_≡_};
 ghost use mathlib.Core.Bool.{true};
 ghost use lib.ListN.{length};
+ghost use Rattle.terms.specs.Fields.{field};
 ghost use Rattle.terms.specs.Records.{used, free, innerBody};
 ghost use Rattle.place.specs.Place.{placeOf, Proper};
-ghost use Rattle.layout.specs.Sizes.{slotSize, grantSize, roomOf};
+ghost use Rattle.layout.specs.Sizes.{slotSize, grantSize, kindAt, roomOf};
 ghost use Rattle.layout.specs.Headers.{sizeRight};
 ghost use Rattle.layout.specs.Slots.{countIn, versionIn, sinceIn, kidOn, recordOf};
 ghost use Rattle.layout.specs.Stores.{slotIn, storeOf, HeaderWithin, SlotWithin, withSlot, withSince, withOldest, withLatest};
@@ -89,6 +90,14 @@ pub fn count_at(store: &[u8], i: usize) -> u16
     ensures { λ r. ⌜ r ≡ countIn (slotIn i (now (store .entry))) ⌝ }
 {
     let at = sizes::HEADER_SIZE + sizes::SLOT_SIZE * i + sizes::COUNT_AT;
+    get_u16(store, at)
+}
+
+pub fn kind_at(store: &[u8], i: usize) -> u16
+    requires { ⌜ SlotWithin i (now store) ⌝ }
+    ensures { λ r. ⌜ r ≡ field kindAt 2 (slotIn i (now (store .entry))) ⌝ }
+{
+    let at = sizes::HEADER_SIZE + sizes::SLOT_SIZE * i + sizes::KIND_AT;
     get_u16(store, at)
 }
 

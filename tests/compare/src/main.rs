@@ -5,11 +5,14 @@
 mod applying;
 mod both;
 mod cases;
+#[path = "../../passes/src/hostile.rs"]
+mod hostile;
 mod ours;
 mod stack;
 mod tally;
 
 use cases::Random;
+use second::bytes::{ask_bytes, Ask};
 use tally::Tally;
 
 /// Versions in and just out of the kept ones.
@@ -230,9 +233,29 @@ fn pairs(tally: &mut Tally) {
     }
 }
 
+/// Stores that are hard on a check that guesses, and sound ones with one slot changed: check, and the calls that begin with it.
+fn hard(first: u64, tally: &mut Tally) {
+    let mut random = Random(first);
+    for capacity in [200, 1_024] {
+        let (full, keys) = hostile::filled(&mut random, capacity, capacity / 64, capacity);
+        let deep = hostile::deep(600);
+        let made = hostile::hostile(&mut random, capacity).into_iter();
+        let changed = [&full, &deep].map(|s| hostile::damaged(&mut random, s)).into_iter().flatten();
+        let doubled = ("doubles", hostile::doubles(&full));
+        for (name, s) in made.chain(changed).chain([doubled, ("full", full.clone()), ("deep", deep.clone())]) {
+            tally.same(name, first, ours::check(&s), second::check(&s));
+            let v = version(&mut random, &s);
+            let _ = both::prune(tally, name, first, &mut s.clone(), v);
+            let b = ask_bytes(&Ask { key: keys[0], value: None });
+            let _ = both::apply(tally, name, first, &mut s.clone(), &b);
+        }
+    }
+}
+
 fn all(rounds: u64, first: u64, tally: &mut Tally) {
     pairs(tally);
     edges(tally);
+    hard(first, tally);
     applying::named(first, tally);
     for n in 0..rounds {
         let seed = first.wrapping_add(n).wrapping_mul(0x9E37_79B9_7F4A_7C15);

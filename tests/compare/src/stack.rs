@@ -7,7 +7,7 @@ use std::hint::black_box;
 
 const PAINTED: usize = 2 << 20;
 
-/// Apply takes less.
+/// Each call takes less.
 pub const BAR: usize = 256 * 1024;
 
 /// The deepest byte below this frame that a call writes: the thread's stack is painted first, and looked at afterwards.
@@ -70,6 +70,17 @@ pub fn of_prove() -> usize {
     let asks: Vec<u8> = [0, 1, 6, 7].iter().flat_map(|&l| ask_bytes(&Ask { key: key(l), value: Some([1; 32]) })).collect();
     second::apply(&mut s, &asks).unwrap();
     most(move || assert_eq!(crate::ours::prove(&s, 1, &key(3), &mut vec![0; 17_080]), Ok(17_080)))
+}
+
+/// Check's and prune's: both hold the arrays of the passes, whatever the store.
+#[allow(dead_code)]
+pub fn of_check_and_prune() -> [(&'static str, usize); 2] {
+    let mut s = cases::fresh(600, 0, 0);
+    let asks: Vec<u8> = [1, 2].iter().flat_map(|&l| ask_bytes(&Ask { key: [l; 32], value: Some([l; 32]) })).collect();
+    second::apply(&mut s, &asks).unwrap();
+    let t = s.clone();
+    let check = most(move || assert!(crate::ours::check(&t).is_ok()));
+    [("check", check), ("prune", most(move || assert!(crate::ours::prune(&mut s.clone(), 1).is_ok())))]
 }
 
 /// Apply's for each of those.

@@ -5,8 +5,9 @@ use crate::book::{self, Book, Said};
 use crate::fail::Fail;
 use crate::files::{self, STORE_LIMIT};
 use crate::plain::{counted, quoted, shown, words, Word};
-use grants::{from_hex, Error, HexError, Key, Store};
+use grants::{from_hex, to_hex, Error, HexError, Key, Store};
 use std::collections::BTreeMap;
+use std::io::Write;
 use std::path::Path;
 
 pub type Bytes = Store<Vec<u8>>;
@@ -71,7 +72,7 @@ pub fn key(args: &Args, i: usize, store: Option<&Path>) -> Result<Vec<u8>, Fail>
     let text = args.text(i);
     if text.starts_with('"') {
         return match words(&text).as_deref() {
-            Ok([Word::Quoted(name)]) => Ok(Book::of(args, store)?.meaning(name)?.to_vec()),
+            Ok([Word::Quoted(name)]) => by_name(&Book::of(args, store)?, name),
             _ => Err(Fail::Usage(
                 "the key is wrong: a name stands between two double quotes".to_string(),
             )),
@@ -82,7 +83,7 @@ pub fn key(args: &Args, i: usize, store: Option<&Path>) -> Result<Vec<u8>, Fail>
     }
     let book = Book::of(args, store)?;
     if book.knows(&text) {
-        return Ok(book.meaning(&text)?.to_vec());
+        return by_name(&book, &text);
     }
     hex("key", &text).map_err(|fail| match fail {
         Fail::Usage(wrong) => Fail::Usage(format!(
@@ -92,6 +93,21 @@ pub fn key(args: &Args, i: usize, store: Option<&Path>) -> Result<Vec<u8>, Fail>
         )),
         fail => fail,
     })
+}
+
+/// What a name stands for; where that is the book's word alone, it is said.
+fn by_name(book: &Book, name: &str) -> Result<Vec<u8>, Fail> {
+    let key = book.meaning(name)?;
+    if key != grants::sha256(name.as_bytes()) {
+        note(book, &format!("{} is {}", quoted(name), to_hex(&key)));
+    }
+    Ok(key.to_vec())
+}
+
+/// Says beside the answer what it takes from the book.
+fn note(book: &Book, what: &str) {
+    // Where this can't be written the answer stands all the same.
+    let _ = writeln!(std::io::stderr(), "grants: by {}, {what}", book.shown());
 }
 
 /// The version that is asked for, else the latest; 0 where the header is wrong, which the call that follows will say.
@@ -151,6 +167,7 @@ fn on_day(args: &Args, store: &Bytes, path: &Path, day: &str) -> Result<u32, Fai
     if version < header.latest && !dated.contains_key(&(version + 1)) {
         return Err(cannot(no_date(&book, version + 1)));
     }
+    note(&book, &format!("version {version} was the latest on {day}"));
     Ok(version)
 }
 

@@ -163,6 +163,33 @@ fn applies(random: &mut Random) {
     }
 }
 
+/// Apply of one record and prune begin with check, and take hardly longer: fails above 1.2 times its time on the same store.
+fn beside_check(random: &mut Random) {
+    for capacity in [1_024, 16_384] {
+        let (s, keys) = filled(random, capacity, capacity / 64, capacity / 2, 0);
+        let latest = second::bytes::store(&s).unwrap().latest;
+        let b = ask_bytes(&Ask { key: keys[0], value: Some(random.hash()) });
+        let best = |call: &dyn Fn(&mut [u8])| {
+            let mut t = s.clone();
+            let mut once = || {
+                t.copy_from_slice(&s);
+                milliseconds(&mut || call(&mut t))
+            };
+            (0..40).map(|_| once()).fold(f64::MAX, f64::min)
+        };
+        let check = best(&|t| assert_eq!(ours::check(t), Ok(())));
+        let apply = best(&|t| assert!(ours::apply(t, &b).is_ok()));
+        let prune = best(&|t| assert!(ours::prune(t, latest).is_ok()));
+        for (name, time) in [("apply-1-record", apply), ("prune", prune)] {
+            println!("bar {name}-{capacity}-beside-check {:.2} bar 1.2 ({time:.3}ms, check {check:.3}ms)", time / check);
+            if time > 1.2 * check {
+                println!("bench: {name} takes more than 1.2 times check");
+                std::process::exit(1);
+            }
+        }
+    }
+}
+
 /// The same content with few versions kept and with some 4,000,000,000.
 fn versions() {
     for capacity in [1_024, 16_384] {
@@ -257,6 +284,7 @@ fn main() {
     let start = Instant::now();
     assert_eq!(ours::check(&wide), Ok(()));
     println!("bench check-free-slots-all-versions {:.3}s", start.elapsed().as_secs_f64());
+    beside_check(&mut random);
     applies(&mut random);
     versions();
     stacks();
