@@ -1,6 +1,6 @@
 // tests/wasm/page.mjs CHROMIUM [PICTURE]: docs/inspect/inspect.html in a headless browser: files dropped, verdicts read, by texts and roles. A second argument
 // names a file for a picture of the page.
-import { mkdirSync, rmSync, writeFileSync } from 'node:fs';
+import { mkdirSync, readFileSync, rmSync, writeFileSync } from 'node:fs';
 import { resolve } from 'node:path';
 import { pathToFileURL } from 'node:url';
 import { load, toHex } from '../../js/grants.js';
@@ -136,6 +136,23 @@ async function usable() {
   await browser.send('Emulation.clearDeviceMetricsOverride');
 }
 
+// js/ in a worker of the browser, handed the compiled module; the page's own policy allows no worker, so it is set aside.
+async function inWorker() {
+  await browser.send('Page.setBypassCSP', { enabled: true });
+  await browser.send('Page.reload');
+  await browser.until(`document.documentElement?.dataset.ready === 'true'`);
+  const source = ['js/refusals.js', 'js/grants.js'].map((name) => readFileSync(name, 'utf8').replace(/^import .*$/m, '')).join('');
+  const asks = `onmessage = async ({ data: { module, root, key, proof } }) => postMessage(toHex((await load(module)).verify(root, key, proof).value));`;
+  const given = { root: old, key: toHex(key('lyrics sonata')), proof: toHex(proofs.then) };
+  const came = await browser.ask(`(async () => {
+    const worker = new Worker('data:text/javascript;base64,${Buffer.from(source + asks).toString('base64')}', { type: 'module' });
+    const module = await WebAssembly.compile(Uint8Array.from(atob(document.getElementById('wasm').textContent.trim()), (c) => c.charCodeAt(0)));
+    worker.postMessage({ module, ...${JSON.stringify(given)} });
+    return new Promise((done, not) => { worker.onmessage = ({ data }) => done(data); worker.onerror = ({ message }) => not(new Error(message)); });
+  })()`);
+  tally.equal('in a worker of the browser', came, toHex(key('read')));
+}
+
 try {
   await browser.open(pathToFileURL('docs/inspect/inspect.html').href);
   await verdicts();
@@ -151,6 +168,7 @@ try {
     await browser.ask('document.getElementById("store").hidden = true; document.activeElement.blur(); scrollTo(0, 0)');
     writeFileSync(picture, await browser.picture());
   }
+  await inWorker();
 } catch (error) {
   tally.fail(error.stack);
 } finally {
