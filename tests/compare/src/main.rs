@@ -1,5 +1,6 @@
 //! The proved library beside the second program, on random histories, damaged stores and forged proofs. Deterministic: the first argument
 //! is the number of rounds (a round is some forty cases, every tenth a history besides, every 4,000th the largest store), the second the seed.
+//! A third names a file: each call of the library is written to it, but those on the largest store, whose copies would fill it.
 
 mod applying;
 mod both;
@@ -280,14 +281,15 @@ fn all(rounds: u64, first: u64, tally: &mut Tally) {
         if n % 10 == 0 {
             applying::history(seed, tally);
         }
-        if n % 4_000 == 0 {
+        if n % 4_000 == 0 && !ours::record::running() {
             applying::large(seed, tally);
         }
     }
 }
 
 fn main() {
-    let mut words = std::env::args().skip(1).map(|w| w.parse::<u64>().expect("a number"));
+    std::env::args().nth(3).iter().for_each(|name| ours::record::start(name));
+    let mut words = std::env::args().skip(1).take(2).map(|w| w.parse::<u64>().expect("a number"));
     let rounds = words.next().unwrap_or(4000);
     let first = words.next().unwrap_or(1);
     let mut tally = Tally::default();
@@ -295,6 +297,7 @@ fn main() {
     if std::panic::catch_unwind(std::panic::AssertUnwindSafe(|| all(rounds, first, &mut tally))).is_err() {
         tally.failed += 1;
     }
+    ours::record::end();
     for (answer, times) in &tally.answers {
         println!("{answer}: {times}");
     }

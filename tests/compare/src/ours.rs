@@ -1,8 +1,12 @@
 //! The exports of the proved library, as safe Rust. Each answer's array is handed in filled with a mark, between marked edges: a refused call
 //! must leave the array so, and every call the edges. That is looked at here, for every call.
 
+use record::{array, number, read, recorded, written};
 use second::bytes::{b32_at, u32_at};
 use second::{Bytes32, Refusal};
+
+#[path = "record.rs"]
+pub mod record;
 
 extern "C" {
     fn grants_format(store: *mut u8, store_len: usize) -> u32;
@@ -79,14 +83,14 @@ fn verdict(found: [u8; 33]) -> Option<Bytes32> {
 }
 
 pub fn format(store: &mut [u8]) -> Result<(), Refusal> {
-    match unsafe { grants_format(store.as_mut_ptr(), store.len()) } {
+    match recorded("format", &[written(store)], || unsafe { grants_format(store.as_mut_ptr(), store.len()) }) {
         0 => Ok(()),
         number => Err(number),
     }
 }
 
 pub fn check(store: &[u8]) -> Result<(), Refusal> {
-    match unsafe { grants_check(store.as_ptr(), store.len()) } {
+    match recorded("check", &[read(store)], || unsafe { grants_check(store.as_ptr(), store.len()) }) {
         0 => Ok(()),
         number => Err(number),
     }
@@ -94,28 +98,50 @@ pub fn check(store: &[u8]) -> Result<(), Refusal> {
 
 /// Version, root and count of new records.
 pub fn apply(store: &mut [u8], batch: &[u8]) -> Result<(u32, Bytes32, u32), Refusal> {
-    let answer = answered(|a| unsafe { grants_apply(store.as_mut_ptr(), store.len(), batch.as_ptr(), batch.len(), a) })?;
+    let answer = answered(|a| {
+        recorded("apply", &[written(store), read(batch), array(a)], || unsafe {
+            grants_apply(store.as_mut_ptr(), store.len(), batch.as_ptr(), batch.len(), a)
+        })
+    })?;
     Ok((u32_at(&answer, 0), b32_at(&answer, 4), u32_at(&answer, 36)))
 }
 
 /// How many records were freed.
 pub fn prune(store: &mut [u8], version: u32) -> Result<u32, Refusal> {
-    answered(|freed| unsafe { grants_prune(store.as_mut_ptr(), store.len(), version, freed) }).map(u32::from_le_bytes)
+    answered(|freed| {
+        recorded("prune", &[written(store), number(version), array(freed)], || unsafe {
+            grants_prune(store.as_mut_ptr(), store.len(), version, freed)
+        })
+    })
+    .map(u32::from_le_bytes)
 }
 
 pub fn root(store: &[u8], version: u32) -> Result<Bytes32, Refusal> {
-    answered(|root| unsafe { grants_root(store.as_ptr(), store.len(), version, root) })
+    answered(|root| {
+        recorded("root", &[read(store), number(version), array(root)], || unsafe {
+            grants_root(store.as_ptr(), store.len(), version, root)
+        })
+    })
 }
 
 pub fn get(store: &[u8], version: u32, key: &[u8]) -> Result<Option<Bytes32>, Refusal> {
-    answered(|found| unsafe { grants_get(store.as_ptr(), store.len(), version, key.as_ptr(), key.len(), found) }).map(verdict)
+    answered(|found| {
+        recorded("get", &[read(store), number(version), read(key), array(found)], || unsafe {
+            grants_get(store.as_ptr(), store.len(), version, key.as_ptr(), key.len(), found)
+        })
+    })
+    .map(verdict)
 }
 
 /// The length of the proof, at the front of the room.
 pub fn prove(store: &[u8], version: u32, key: &[u8], room: &mut [u8]) -> Result<u32, Refusal> {
     let (to, most) = (room.as_mut_ptr(), room.len());
-    answered(|length| unsafe { grants_prove(store.as_ptr(), store.len(), version, key.as_ptr(), key.len(), to, most, length) })
-        .map(u32::from_le_bytes)
+    answered(|length| {
+        recorded("prove", &[read(store), number(version), read(key), written(room), array(length)], || unsafe {
+            grants_prove(store.as_ptr(), store.len(), version, key.as_ptr(), key.len(), to, most, length)
+        })
+    })
+    .map(u32::from_le_bytes)
 }
 
 /// The number of records, at the front of the room.
@@ -126,12 +152,17 @@ pub fn changes(store: &[u8], first: u32, second: u32, limit: u32, room: &mut [u8
 }
 
 pub fn verify(root: &[u8], key: &[u8], proof: &[u8]) -> Result<Option<Bytes32>, Refusal> {
-    answered(|found| unsafe {
-        grants_verify(root.as_ptr(), root.len(), key.as_ptr(), key.len(), proof.as_ptr(), proof.len(), found)
+    answered(|found| {
+        recorded("verify", &[read(root), read(key), read(proof), array(found)], || unsafe {
+            grants_verify(root.as_ptr(), root.len(), key.as_ptr(), key.len(), proof.as_ptr(), proof.len(), found)
+        })
     })
     .map(verdict)
 }
 
 pub fn sha256(bytes: &[u8]) -> Bytes32 {
-    answered(|digest| unsafe { grants_sha256(bytes.as_ptr(), bytes.len(), digest) }).expect("never refused")
+    answered(|digest| {
+        recorded("sha256", &[read(bytes), array(digest)], || unsafe { grants_sha256(bytes.as_ptr(), bytes.len(), digest) })
+    })
+    .expect("never refused")
 }

@@ -1,0 +1,204 @@
+// The page: what is dropped, typed and clicked, the checker's verdicts, and the drawings.
+import { Refused, fromHex, load, toHex } from '../../js/grants.js';
+import { faultsOf, hashesOf, leavesOf, proofOf, recordsOf, treeOf } from './drawing.js';
+
+const at = (id) => document.getElementById(id);
+const grants = await load(Uint8Array.from(atob(at('wasm').textContent.trim()), (c) => c.charCodeAt(0)));
+const short = (bytes) => `${toHex(bytes).slice(0, 8)}..${toHex(bytes).slice(-4)}`;
+
+// An element with its class, its text or what is in it, and its attributes.
+function element(tag, { class: names, ...given } = {}, ...inside) {
+  const it = document.createElement(tag);
+  if (names) it.className = names;
+  for (const [name, value] of Object.entries(given)) it.setAttribute(name, value);
+  it.append(...inside.filter((x) => x !== undefined));
+  return it;
+}
+
+const hashBox = (names, label, hash) => element('span', { class: `box ${names}`, title: hash ? toHex(hash) : '' }, element('small', {}, label), hash ? element('span', { class: 'hex' }, short(hash)) : '');
+
+// Hex digits stand for a key, anything else for a name, whose SHA-256 is the key.
+function keyOf(text) {
+  const quoted = /^"(.*)"$/.exec(text);
+  if (!quoted && /^[0-9a-f]*$/i.test(text)) return { key: fromHex(text), taken: '' };
+  const name = quoted ? quoted[1] : text;
+  const key = grants.name(name);
+  return { key, taken: `the name “${name}”, so the key ${toHex(key)}` };
+}
+
+function say(kind, verdict, reason) {
+  at('result').hidden = false;
+  at('verdict').className = kind;
+  at('verdict').textContent = verdict;
+  at('reason').replaceChildren(...reason);
+}
+
+// One path, from the root down to the leaf.
+function drawn(path, hashes, root, failing) {
+  const top = hashes.at(-1);
+  const meets = toHex(top) === toHex(root);
+  const list = element('ol', { class: 'path', 'aria-label': `${path.what}: from the root down to the leaf` });
+  list.append(element('li', { class: 'top' }, element('span', { class: meets ? '' : 'bad' }, meets ? 'The hashes meet the root' : 'The hashes do not meet the root'), hashBox(meets ? 'mine' : 'fails', meets ? 'the root' : 'what the path leads to', top)));
+  path.steps.map((step, i) => ({ step, i })).reverse().forEach(({ step: { side, sibling }, i }) => {
+    const none = sibling.every((byte) => byte === 0);
+    const mine = hashBox(failing.includes(i) ? 'mine fails' : 'mine', side === 0 ? 'left: this path' : 'right: this path', hashes[i]);
+    const other = none ? hashBox('none', `${side === 0 ? 'right' : 'left'}: no sibling`) : hashBox('', `${side === 0 ? 'right' : 'left'}: sibling`, sibling);
+    list.append(element('li', { class: side === 1 ? 'right' : '' }, element('span', { class: failing.includes(i) ? 'bad' : 'note' }, `Step ${i + 1}${failing.includes(i) ? ': it fails here' : ''}`), element('span', { class: 'pair' }, ...(side === 0 ? [mine, other] : [other, mine]))));
+  });
+  list.append(element('li', {}, 'Leaf', hashBox('mine', 'key', path.key), hashBox('mine', 'value', path.value)));
+  return element('div', {}, element('h3', {}, `${path.what}: ${path.steps.length} ${path.steps.length === 1 ? 'step' : 'steps'}`), list);
+}
+
+function draw(bytes, root, key, number) {
+  const proof = number === 10 || number === 12 ? undefined : proofOf(bytes);
+  at('drawing').hidden = !proof;
+  if (!proof) return [];
+  const all = proof.paths.map((path) => hashesOf((message) => grants.sha256(message), path));
+  const { said, steps } = number === 11 ? faultsOf(proof, root, key, all.map((hashes) => hashes.at(-1))) : { said: [], steps: proof.paths.map(() => []) };
+  const paths = element('div', { class: 'paths' }, ...proof.paths.map((path, i) => drawn(path, all[i], root, steps[i])));
+  at('drawing').replaceChildren(element('h2', {}, proof.absence ? 'The neighbours of the key, and their paths' : 'The path'), paths);
+  return said;
+}
+
+// No verdict stands beside fields that it wasn't given for.
+function forget() {
+  for (const id of ['result', 'drawing']) at(id).hidden = true;
+  at('verdict').textContent = '';
+  at('taken').textContent = '';
+}
+
+// The verdict of what stands in the fields.
+function check() {
+  let root, key, proof;
+  forget();
+  try {
+    root = fromHex(at('root').value.trim());
+    const asked = keyOf(at('key').value.trim());
+    key = asked.key;
+    at('taken').textContent = asked.taken;
+    proof = fromHex(at('proof').value.replace(/\s/g, ''));
+  } catch {
+    say('nothing', 'this proof shows nothing', ['Root and proof are written in hex digits, two for each byte.']);
+    return;
+  }
+  const empty = root.length === 32 && root.every((byte) => byte === 0) ? ' This root is that of no grants: signed, it shows by itself that nothing is granted, and there is no proof.' : '';
+  try {
+    const found = grants.verify(root, key, proof);
+    draw(proof, root, key, 0);
+    if (found.present) say('granted', 'granted', ['The grant stands, with the value ', element('span', { class: 'hex' }, toHex(found.value))]);
+    else say('not-granted', 'not granted', ['There is no such grant under this root.']);
+  } catch (refused) {
+    if (!(refused instanceof Refused)) throw refused;
+    const why = draw(proof, root, key, refused.number);
+    say('nothing', 'this proof shows nothing', [`Refused with ${refused.number}: ${refused.sentence}.${empty}`, ...why.map((line) => element('span', { class: 'bad', style: 'display:block' }, line))]);
+  }
+}
+
+let store;
+let records;
+
+// The proof of a key in a version, by a click.
+function prove(version, key) {
+  at('root').value = toHex(store.root(version));
+  at('key').value = toHex(key);
+  at('proof').value = toHex(store.prove(version, key));
+  check();
+  at('result').scrollIntoView({ block: 'start' });
+  at('result').tabIndex = -1;
+  at('result').focus();
+}
+
+function node(tree, version) {
+  const place = tree.place || 'root';
+  const names = tree.version === version ? 'new' : '';
+  if (tree.below) {
+    const below = tree.below.map((child, bit) => child && element('li', {}, `${bit} `, node(child, version)));
+    return element('span', {}, element('span', { class: names }, `inner node ${place}, version ${tree.version}, slot ${tree.slot}`), element('ul', {}, ...below));
+  }
+  const button = element('button', { type: 'button', class: 'hex', title: toHex(tree.key) }, `prove ${short(tree.key)}`);
+  button.addEventListener('click', () => prove(version, tree.key));
+  return element('span', {}, button, ` = `, element('span', { class: `hex ${names}` }, `${short(tree.value)}`), ` leaf ${place.length > 24 ? `${place.slice(0, 20)}.. (${place.length} bits)` : place}, version ${tree.version}, slot ${tree.slot}`);
+}
+
+// What became of the keys since the version before.
+function changes(version) {
+  const [before, now] = [version - 1, version].map((v) => new Map(leavesOf(treeOf(records, v)).map((leaf) => [toHex(leaf.key), toHex(leaf.value)])));
+  const lines = [];
+  for (const [key, value] of now) if (before.get(key) !== value) lines.push(`${before.has(key) ? 'changed' : 'added'} ${key.slice(0, 8)}..${key.slice(-4)}`);
+  for (const key of before.keys()) if (!now.has(key)) lines.push(`removed ${key.slice(0, 8)}..${key.slice(-4)}`);
+  return lines;
+}
+
+function show(version) {
+  const tree = treeOf(records, version);
+  const since = version > store.oldest ? changes(version) : undefined;
+  at('tree').replaceChildren(
+    element('h2', { tabindex: '-1', id: 'tree-title' }, `The tree of version ${version}`),
+    element('p', { id: 'changes' }, since === undefined ? 'The version before it is not kept.' : since.length ? `Since version ${version - 1}: ${since.join(', ')}.` : `Since version ${version - 1} no grant changed.`),
+    tree ? element('div', { class: 'wide' }, node(tree, version)) : element('p', {}, 'It holds no grant: its root is 32 zero bytes, and that is itself the proof.'),
+  );
+  at('tree-title').focus();
+}
+
+const MOST_ROWS = 100;
+
+async function openStore(name, bytes) {
+  at('store').hidden = false;
+  at('store-title').textContent = `Store ${name}`;
+  at('tree').replaceChildren();
+  at('versions').replaceChildren();
+  store = await grants.open(bytes);
+  try {
+    store.check();
+  } catch (refused) {
+    if (!(refused instanceof Refused)) throw refused;
+    at('sound').className = 'bad';
+    at('sound').textContent = `This store is not to be used. Refused with ${refused.number}: ${refused.sentence}.`;
+    return;
+  }
+  records = recordsOf(bytes);
+  const { oldest, latest, capacity } = store;
+  at('sound').className = 'granted';
+  at('sound').textContent = `Sound: versions ${oldest} to ${latest}, ${capacity} slots.`;
+  const body = element('tbody');
+  for (let version = latest; version >= oldest && version > latest - MOST_ROWS; version -= 1) {
+    const button = element('button', { type: 'button' }, `version ${version}`);
+    button.addEventListener('click', () => show(version));
+    const leaves = leavesOf(treeOf(records, version)).length;
+    body.append(element('tr', {}, element('td', {}, button), element('td', {}, `${leaves}`), element('td', { class: 'hex' }, toHex(store.root(version)))));
+  }
+  const head = element('tr', {}, ...['Version', 'Grants', 'Root'].map((text) => element('th', { scope: 'col' }, text)));
+  at('versions').replaceChildren(element('div', { class: 'wide' }, element('table', {}, element('thead', {}, head), body)));
+  if (latest - oldest >= MOST_ROWS) at('versions').append(element('p', { class: 'note' }, `The last ${MOST_ROWS} versions are listed.`));
+}
+
+// A file is a store or a root by its size, else a proof; one of hex digits is taken for the bytes that they stand for.
+async function taken(file) {
+  forget();
+  let bytes = new Uint8Array(await file.arrayBuffer());
+  const text = new TextDecoder().decode(bytes).trim();
+  if (/^([0-9a-f]{2})+$/i.test(text)) bytes = fromHex(text);
+  if (bytes.length === 32) at('root').value = toHex(bytes);
+  else if (bytes.length >= 144 && bytes[0] === 24 && bytes[4] === 1) await openStore(file.name, bytes);
+  else at('proof').value = toHex(bytes);
+}
+
+async function takeAll(files) {
+  for (const file of files) await taken(file);
+  if (at('root').value && at('key').value && at('proof').value) check();
+}
+
+at('ask').addEventListener('submit', (event) => {
+  event.preventDefault();
+  check();
+});
+at('ask').addEventListener('input', forget);
+at('file').addEventListener('change', (event) => takeAll(event.target.files));
+for (const kind of ['dragover', 'dragleave', 'drop']) {
+  document.addEventListener(kind, (event) => {
+    event.preventDefault();
+    document.body.classList.toggle('over', kind === 'dragover');
+    if (kind === 'drop') takeAll(event.dataTransfer.files);
+  });
+}
+document.documentElement.dataset.ready = 'true';

@@ -1,0 +1,79 @@
+/** The calls of the grant store as WebAssembly. README.md shows them; docs/RULES.md of the checkout says what each does. */
+
+/** Bytes, or hex digits for them. */
+export type Bytes = Uint8Array | ArrayBuffer | ArrayBufferView | string;
+
+/** What a read or a proof says of a key. */
+export type Found = { present: true; value: Uint8Array } | { present: false };
+
+/** A key's new value, or null to take the key out. */
+export interface Change {
+  key: Bytes;
+  value: Bytes | null;
+}
+
+/** What a publishing made. */
+export interface Applied {
+  version: number;
+  root: Uint8Array;
+  newRecords: number;
+}
+
+/** A call was refused; it changed nothing. */
+export class Refused extends Error {
+  constructor(number: number);
+  /** The number of refusal. */
+  readonly number: number;
+  /** Its sentence. */
+  readonly sentence: string;
+}
+
+/** A store in memory of its own. Its calls run one after the other, and throw `Refused` where the library refuses. */
+export class Store {
+  private constructor();
+  /** A copy of the store's bytes, to be kept in a file. */
+  bytes(): Uint8Array;
+  /** What the header says; only `check` says whether the store is sound. */
+  readonly capacity: number;
+  readonly oldest: number;
+  readonly latest: number;
+  /** Makes the store fresh and empty again, whatever it holds. Refused: 1. */
+  format(): void;
+  /** Nothing where the store is sound. Refused: 1, 2, 3. */
+  check(): void;
+  /** Publishes the next version; changes may come in any order, bytes are taken as a batch. Refused: 1, 2, 3, 4, 5, 6, 7. */
+  apply(changes: Iterable<Change> | Bytes): Applied;
+  /** Keeps no version before this one; how many records were freed. Refused: 1, 2, 3, 8. */
+  prune(version: number): number;
+  /** The root of a version, 32 zero bytes where it holds no grant. Refused: 1, 2, 8. */
+  root(version: number): Uint8Array;
+  /** A key in a version; a read trusts the store. Refused: 12, 1, 2, 8, 3. */
+  get(version: number, key: Bytes): Found;
+  /** The proof that a key is in a version, or that it isn't, in at most so many bytes. Refused: 12, 1, 2, 8, 14, 3, 9. */
+  prove(version: number, key: Bytes, most?: number): Uint8Array;
+}
+
+/** The calls that need no store, and stores. */
+export class Grants {
+  private constructor();
+  /** To hand to a worker, whose `load` takes it. */
+  readonly module: WebAssembly.Module;
+  /** What a proof shows of a key against a root. Refused: 12, 10, 11. */
+  verify(root: Bytes, key: Bytes, proof: Bytes): Found;
+  sha256(bytes: Bytes): Uint8Array;
+  /** The key that stands for a name: the SHA-256 of its UTF-8 bytes. */
+  name(text: string): Uint8Array;
+  /** A fresh store of so many slots. Refused: 1. */
+  format(capacity: number): Promise<Store>;
+  /** A store of any bytes, copied. */
+  open(bytes: Bytes): Promise<Store>;
+}
+
+/** The library from its WebAssembly: bytes, a compiled module, a URL, or a path in Node; without one, grants.wasm beside this file. */
+export function load(source?: Uint8Array | ArrayBuffer | WebAssembly.Module | URL | string): Promise<Grants>;
+
+/** The bytes of a batch: records in the order of their keys. */
+export function batch(changes: Iterable<Change> | Bytes): Uint8Array;
+
+export function fromHex(text: string): Uint8Array;
+export function toHex(bytes: Bytes): string;

@@ -1,0 +1,268 @@
+// The calls of the grant store for Node, browsers and workers. What a store, a batch or a proof is worth is always the WebAssembly's word.
+import { REFUSALS } from './refusals.js';
+
+// A call was refused, and changed nothing.
+export class Refused extends Error {
+  constructor(number) {
+    const sentence = REFUSALS[number] ?? 'a number without a sentence here';
+    super(`refused with ${number}: ${sentence}`);
+    this.name = 'Refused';
+    this.number = number;
+    this.sentence = sentence;
+  }
+}
+
+// The bytes of hex digits, two for each.
+export function fromHex(text) {
+  if (text.length % 2 !== 0 || !/^[0-9a-f]*$/i.test(text)) throw new TypeError('not whole bytes in hex digits');
+  return Uint8Array.from({ length: text.length / 2 }, (_, i) => parseInt(text.slice(2 * i, 2 * i + 2), 16));
+}
+
+export function toHex(bytes) {
+  return Array.from(bytesOf(bytes), (b) => b.toString(16).padStart(2, '0')).join('');
+}
+
+// Bytes as they are, or of hex digits.
+function bytesOf(given) {
+  if (typeof given === 'string') return fromHex(given);
+  if (given instanceof Uint8Array) return given;
+  if (ArrayBuffer.isView(given)) return new Uint8Array(given.buffer, given.byteOffset, given.byteLength);
+  if (given instanceof ArrayBuffer) return new Uint8Array(given);
+  throw new TypeError('neither bytes nor hex digits');
+}
+
+// A version as the calls take it; WebAssembly would wrap any other number round.
+function versionOf(given) {
+  if (!Number.isInteger(given) || given < 0 || given > 0xffff_ffff) throw new RangeError('a version is a whole number from 0 to 4,294,967,295');
+  return given;
+}
+
+const u32 = (bytes, at) => new DataView(bytes.buffer, bytes.byteOffset, bytes.byteLength).getUint32(at, true);
+
+// Room that a call writes its answer to: an array, or a slice with its length.
+const answer = (length) => ({ length, slice: false });
+const room = (length) => ({ length, slice: true });
+
+const aligned = (at) => Math.ceil(at / 64) * 64;
+
+// An instance of the library and the memory that is its own: first the stack, then what is kept (a store), then what one call is lent.
+class Machine {
+  #exports;
+  #start;
+  #kept = 0;
+  #stopped = false;
+
+  constructor(instance) {
+    this.#exports = instance.exports;
+    this.#start = aligned(instance.exports.__heap_base.value);
+  }
+
+  has(name) {
+    return typeof this.#exports[`grants_${name}`] === 'function';
+  }
+
+  // All memory up to an end, grown where it was shorter.
+  #reach(end) {
+    const { memory } = this.#exports;
+    const missing = end - memory.buffer.byteLength;
+    if (missing > 0) memory.grow(Math.ceil(missing / 65536));
+    return new Uint8Array(memory.buffer);
+  }
+
+  keep(bytes) {
+    this.#reach(this.#start + bytes.length).set(bytes, this.#start);
+    this.#kept = bytes.length;
+  }
+
+  kept() {
+    return this.#reach(0).slice(this.#start, this.#start + this.#kept);
+  }
+
+  // A view of what is kept, for the one call as its store.
+  #lentStore() {
+    return [this.#start, BigInt(this.#kept)];
+  }
+
+  // One call. Given: 'store', a number, bytes, an answer or room. What it wrote to answer and room, in their order.
+  call(name, ...given) {
+    if (this.#stopped) throw new Error('an earlier call was stopped by the engine; make this anew');
+    const words = [];
+    const lent = [];
+    let end = this.#start + this.#kept;
+    for (const it of given) {
+      if (it === 'store') words.push(...this.#lentStore());
+      else if (typeof it === 'number') words.push(it);
+      else {
+        // No two overlap, and none is empty, so that each has a place of its own.
+        const at = aligned(end);
+        end = at + it.length + 1;
+        lent.push({ at, it });
+        words.push(at);
+        if (it instanceof Uint8Array || it.slice) words.push(BigInt(it.length));
+      }
+    }
+    const memory = this.#reach(end);
+    for (const { at, it } of lent) if (it instanceof Uint8Array) memory.set(it, at);
+    let number;
+    let wrote;
+    try {
+      number = this.#exports[`grants_${name}`](...words) >>> 0;
+      wrote = lent.filter(({ it }) => !(it instanceof Uint8Array)).map(({ at, it }) => memory.slice(at, at + it.length));
+    } catch (trap) {
+      this.#stopped = true;
+      throw trap;
+    } finally {
+      // Nothing that one call was lent is there for the next.
+      memory.fill(0, this.#start + this.#kept, end);
+    }
+    if (number !== 0) throw new Refused(number);
+    return wrote;
+  }
+}
+
+function found([flag, ...value]) {
+  return flag === 1 ? { present: true, value: Uint8Array.from(value) } : { present: false };
+}
+
+const LONGEST_PROOF = 17080;
+
+// The records of a batch in the order of their keys; a batch's own bytes stay as they are.
+export function batch(changes) {
+  if (typeof changes === 'string' || changes instanceof ArrayBuffer || ArrayBuffer.isView(changes)) return bytesOf(changes);
+  const records = Array.from(changes, ({ key, value }) => {
+    const record = new Uint8Array(72);
+    record.set(value === null ? [40, 0, 0, 0, 2] : [72, 0, 0, 0, 1]);
+    for (const [at, it] of value === null ? [[8, key]] : [[8, key], [40, value]]) {
+      const bytes = bytesOf(it);
+      if (bytes.length !== 32) throw new TypeError('a key and a value are 32 bytes');
+      record.set(bytes, at);
+    }
+    return record;
+  });
+  const order = (a, b) => {
+    const at = a.findIndex((byte, i) => i >= 8 && i < 40 && byte !== b[i]);
+    return at < 0 ? 0 : a[at] - b[at];
+  };
+  const all = new Uint8Array(72 * records.length);
+  records.sort(order).forEach((record, i) => all.set(record, 72 * i));
+  return all;
+}
+
+// A store in memory of its own.
+export class Store {
+  #machine;
+
+  constructor(machine) {
+    this.#machine = machine;
+  }
+
+  // A copy of the store's bytes.
+  bytes() {
+    return this.#machine.kept();
+  }
+
+  // What the header says; only `check` says whether the store is sound.
+  get capacity() {
+    return u32(this.bytes(), 8);
+  }
+
+  get oldest() {
+    return u32(this.bytes(), 12);
+  }
+
+  get latest() {
+    return u32(this.bytes(), 16);
+  }
+
+  format() {
+    this.#machine.call('format', 'store');
+  }
+
+  check() {
+    this.#machine.call('check', 'store');
+  }
+
+  apply(changes) {
+    const [wrote] = this.#machine.call('apply', 'store', batch(changes), answer(40));
+    return { version: u32(wrote, 0), root: wrote.slice(4, 36), newRecords: u32(wrote, 36) };
+  }
+
+  prune(version) {
+    return u32(this.#machine.call('prune', 'store', versionOf(version), answer(4))[0], 0);
+  }
+
+  root(version) {
+    return this.#machine.call('root', 'store', versionOf(version), answer(32))[0];
+  }
+
+  get(version, key) {
+    return found(this.#machine.call('get', 'store', versionOf(version), bytesOf(key), answer(33))[0]);
+  }
+
+  prove(version, key, most = LONGEST_PROOF) {
+    if (!Number.isInteger(most) || most < 0) throw new RangeError('room is a whole number of bytes');
+    const [proof, length] = this.#machine.call('prove', 'store', versionOf(version), bytesOf(key), room(Math.min(most, LONGEST_PROOF)), answer(4));
+    return proof.slice(0, u32(length, 0));
+  }
+}
+
+// The calls that need no store, and stores.
+export class Grants {
+  #machine;
+
+  constructor(module, instance) {
+    this.module = module;
+    this.#machine = new Machine(instance);
+  }
+
+  verify(root, key, proof) {
+    return found(this.#machine.call('verify', bytesOf(root), bytesOf(key), bytesOf(proof), answer(33))[0]);
+  }
+
+  sha256(bytes) {
+    return this.#machine.call('sha256', bytesOf(bytes), answer(32))[0];
+  }
+
+  // The key that stands for a name: the SHA-256 of its UTF-8 bytes, as in the command line tool.
+  name(text) {
+    return this.sha256(new TextEncoder().encode(text));
+  }
+
+  // A fresh store. No capacity above 16,384 is accepted, so none needs more memory than 16,385 would.
+  async format(capacity) {
+    if (!Number.isInteger(capacity) || capacity < 0) throw new RangeError('a capacity is a whole number');
+    const store = await this.open(new Uint8Array(24 + 120 * Math.min(capacity, 16385)));
+    store.format();
+    return store;
+  }
+
+  // A store of any bytes, copied; `check` says whether it is sound.
+  async open(bytes) {
+    if (!this.#machine.has('apply')) throw new Error('this WebAssembly only checks proofs: load grants.wasm');
+    const machine = new Machine(await WebAssembly.instantiate(this.module));
+    machine.keep(bytesOf(bytes));
+    return new Store(machine);
+  }
+}
+
+// The WebAssembly at a URL, or at a path in Node.
+async function fetched(source) {
+  const inNode = typeof process === 'object' && process.versions?.node;
+  if (inNode && !/^(https?|data|blob):/.test(String(source))) {
+    const { readFile } = await import('node:fs/promises');
+    return readFile(/^file:/.test(String(source)) ? new URL(source) : source);
+  }
+  const response = await fetch(source);
+  if (!response.ok) throw new Error(`${source}: ${response.status}`);
+  return response.arrayBuffer();
+}
+
+// The library from bytes, a compiled module, a URL or (in Node) a path; without one, grants.wasm beside this file.
+export async function load(source = new URL('grants.wasm', import.meta.url)) {
+  let module = source;
+  if (!(module instanceof WebAssembly.Module)) {
+    const named = typeof source === 'string' || source instanceof URL;
+    module = await WebAssembly.compile(named ? await fetched(source) : bytesOf(source));
+  }
+  return new Grants(module, await WebAssembly.instantiate(module));
+}

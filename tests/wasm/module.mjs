@@ -1,0 +1,123 @@
+// js/ as its README has it: what each call gives, what it refuses, and that nothing is left behind.
+import { createHash } from 'node:crypto';
+import { readFileSync } from 'node:fs';
+import { Worker } from 'node:worker_threads';
+import { Refused, batch, fromHex, load, toHex } from '../../js/grants.js';
+import { REFUSALS } from '../../js/refusals.js';
+
+function refused(call) {
+  try {
+    call();
+  } catch (error) {
+    return error instanceof Refused ? error.number : error.constructor.name;
+  }
+  return 'accepted';
+}
+
+async function loading(tally) {
+  const file = new URL('../../js/grants-verify.wasm', import.meta.url);
+  const empty = 'e3b0c44298fc1c149afbf4c8996fb92427ae41e4649b934ca495991b7852b855';
+  for (const source of [file, file.href, file.pathname, readFileSync(file), new Uint8Array(readFileSync(file)).buffer, await WebAssembly.compile(readFileSync(file))]) {
+    const grants = await load(source);
+    tally.equal('loaded', toHex(grants.sha256('')), empty);
+    tally.equal('a store of the checker alone', await grants.format(1).catch((e) => e.message), 'this WebAssembly only checks proofs: load grants.wasm');
+  }
+  const { module } = await load();
+  const script = `import { workerData, parentPort } from 'node:worker_threads';
+    const { load, toHex } = await import(workerData.url);
+    parentPort.postMessage(toHex((await load(workerData.module)).sha256('')));`;
+  const url = new URL('../../js/grants.js', import.meta.url).href;
+  const worker = new Worker(new URL(`data:text/javascript,${encodeURIComponent(script)}`), { workerData: { module, url } });
+  tally.equal('in a worker', await new Promise((done, not) => worker.once('message', done).once('error', not)), empty);
+  await worker.terminate();
+}
+
+async function publishing(tally, grants) {
+  const store = await grants.format(20);
+  const [chords, lyrics] = ['chords sonata', 'lyrics sonata'].map((name) => grants.name(name));
+  const read = grants.name('read');
+  const first = store.apply([{ key: lyrics, value: toHex(read) }, { key: chords, value: read }]);
+  tally.equal('the first version', [first.version, first.newRecords, store.oldest, store.latest, store.capacity], [1, first.newRecords, 0, 1, 20]);
+  const second = store.apply([{ key: lyrics, value: null }]);
+  tally.equal('its root', toHex(store.root(1)), toHex(first.root));
+  tally.equal('get', store.get(1, lyrics), { present: true, value: read });
+  tally.equal('get, absent', store.get(2, lyrics), { present: false });
+  const [then, now] = [store.prove(1, lyrics), store.prove(2, lyrics)];
+  tally.equal('present', grants.verify(first.root, lyrics, then), { present: true, value: read });
+  tally.equal('absent', grants.verify(toHex(second.root), toHex(lyrics).toUpperCase(), toHex(now)), { present: false });
+  tally.equal('views', grants.verify(new DataView(first.root.buffer), lyrics.buffer, then), { present: true, value: read });
+  tally.equal('last month', refused(() => grants.verify(second.root, lyrics, then)), 11);
+  tally.equal('a byte over', refused(() => grants.verify(first.root, lyrics, [...then, 0].reduce((h, b) => h + b.toString(16).padStart(2, '0'), ''))), 10);
+  tally.equal('a short root', refused(() => grants.verify(first.root.slice(1), lyrics, then)), 12);
+  tally.equal('no bytes', refused(() => grants.verify('', '', '')), 12);
+  for (const odd of ['abc', 'xy', ' ab', null, undefined, 7, [1, 2]]) tally.equal(`key ${odd}`, refused(() => grants.verify(first.root, odd, then)), 'TypeError');
+  for (const odd of [-1, 1.5, 2 ** 32, NaN, '1', undefined, 1n]) tally.equal(`version ${odd}`, refused(() => store.get(odd, lyrics)), 'RangeError');
+  return { store, lyrics, then, first };
+}
+
+// Every call that can be refused, refused: the store stays, and the sentence is the table's.
+async function refusing(tally, grants, { store, lyrics }) {
+  const before = toHex(store.bytes());
+  const damaged = await grants.open(store.bytes().fill(255, 400, 401));
+  const cases = [
+    [3, () => damaged.check()],
+    [4, () => store.apply(new Uint8Array(71))],
+    [5, () => store.apply([{ key: lyrics, value: null }, { key: lyrics, value: lyrics }])],
+    [7, () => store.apply(Array.from({ length: 20 }, (_, i) => ({ key: grants.name(`${i}`), value: lyrics })))],
+    [8, () => store.prune(3)],
+    [8, () => store.root(4294967295)],
+    [9, () => store.prove(1, lyrics, 71)],
+    [12, () => store.get(1, lyrics.slice(1))],
+    [14, () => store.prove(0, lyrics)],
+  ];
+  for (const [number, call] of cases) {
+    tally.equal(`refused with ${number}`, refused(call), number);
+    tally.equal(`after ${number}`, toHex(store.bytes()), before);
+  }
+  tally.equal('no slots', await grants.format(0).catch((e) => e.number), 1);
+  tally.equal('too many slots', await grants.format(1e9).catch((e) => e.number), 1);
+  const odd = await grants.open(new Uint8Array(144).fill(1));
+  tally.equal('a wrong header', refused(() => odd.check()), 2);
+  for (const [number, sentence] of Object.entries(REFUSALS)) {
+    const error = new Refused(Number(number));
+    tally.equal('its sentence', [error.name, error.number, error.sentence, error.message], ['Refused', Number(number), sentence, `refused with ${number}: ${sentence}`]);
+  }
+  const header = readFileSync('include/grants.h', 'utf8');
+  for (const [number, sentence] of Object.entries(REFUSALS)) tally.holds(`the header's sentence of ${number}`, new RegExp(`^ \\* +${number}  `, 'm').test(header) && header.includes(sentence));
+}
+
+// What was lent to a call is wiped when it ends, and memory stays as large as the largest call made it.
+async function memory(tally, grants, { lyrics, then, first }) {
+  let seen;
+  const instantiate = WebAssembly.instantiate;
+  WebAssembly.instantiate = async (...given) => (seen = await instantiate(...given));
+  const own = await load(grants.module);
+  WebAssembly.instantiate = instantiate;
+  const { exports } = seen;
+  const size = () => exports.memory.buffer.byteLength;
+  const left = () => new Uint8Array(exports.memory.buffer, exports.__heap_base.value).some((b) => b !== 0);
+  for (let i = 0; i < 2000; i += 1) own.verify(first.root, lyrics, then);
+  const small = size();
+  refused(() => own.verify(first.root, lyrics, new Uint8Array(17080).fill(9)));
+  tally.equal('memory after 2,000 proofs and a long refused one', size(), small);
+  tally.equal('nothing is left of a call', left(), false);
+  const long = new Uint8Array(3 << 20).fill(7);
+  tally.equal('a long message', toHex(own.sha256(long)), createHash('sha256').update(long).digest('hex'));
+  const large = size();
+  tally.holds('memory grew', large > small);
+  tally.equal('nothing is left of it', left(), false);
+  for (let i = 0; i < 20; i += 1) own.sha256(long);
+  tally.equal('memory after twenty more', size(), large);
+  const [one, other] = [await own.format(3), await own.format(3)];
+  one.apply([{ key: lyrics, value: lyrics }]);
+  tally.equal('two stores', [one.latest, other.latest], [1, 0]);
+}
+
+export async function module(tally, grants) {
+  await loading(tally);
+  const made = await publishing(tally, grants);
+  await refusing(tally, grants, made);
+  await memory(tally, grants, made);
+  tally.equal('hex', toHex(fromHex('00ffAb')), '00ffab');
+  tally.equal('a batch as it is', batch(new Uint8Array([1, 2])), new Uint8Array([1, 2]));
+}

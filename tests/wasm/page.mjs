@@ -1,0 +1,178 @@
+// tests/wasm/page.mjs CHROMIUM [PICTURE]: docs/inspect/inspect.html in a headless browser: files dropped, verdicts read, by texts and roles. A second argument
+// names a file for a picture of the page.
+import { mkdirSync, readFileSync, rmSync, writeFileSync } from 'node:fs';
+import { resolve } from 'node:path';
+import { pathToFileURL } from 'node:url';
+import { load, toHex } from '../../js/grants.js';
+import { Browser } from './browser.mjs';
+import { Tally } from './tally.mjs';
+
+const [program, picture] = process.argv.slice(2);
+const tally = new Tally();
+const folder = resolve('target/wasm/page');
+rmSync(folder, { recursive: true, force: true });
+mkdirSync(folder, { recursive: true });
+const file = (name, bytes) => {
+  writeFileSync(`${folder}/${name}`, bytes);
+  return `${folder}/${name}`;
+};
+
+// The README's market: four grants, then one withdrawn and one changed.
+const grants = await load();
+const store = await grants.format(20);
+const key = (name) => grants.name(name);
+const names = ['chords symphony', 'chords sonata', 'lyrics sonata', 'tuner symphony'];
+store.apply(names.map((name) => ({ key: key(name), value: key('read') })));
+store.apply([{ key: key('lyrics sonata'), value: null }, { key: key('chords sonata'), value: key('write') }]);
+const [old, now] = [1, 2].map((version) => toHex(store.root(version)));
+const proofs = { then: store.prove(1, key('lyrics sonata')), now: store.prove(2, key('lyrics sonata')) };
+const files = Object.fromEntries(Object.entries(proofs).map(([name, bytes]) => [name, file(name, bytes)]));
+const market = file('market', store.bytes());
+const tampered = file('tampered', store.bytes().fill(255, 400, 401));
+
+const browser = await Browser.start(program, `${folder}/profile`);
+const text = (id) => browser.ask(`document.getElementById('${id}').innerText`);
+const fill = (id, value) => browser.ask(`document.getElementById('${id}').value = ${JSON.stringify(value)}; 0`);
+const clicked = (words) => browser.ask(`[...document.querySelectorAll('button')].find((b) => b.textContent.startsWith(${JSON.stringify(words)})).click()`);
+const asked = async (root, name, proof) => {
+  await fill('root', root);
+  await fill('key', name);
+  await fill('proof', toHex(proof));
+  await browser.ask(`document.getElementById('check').click()`);
+  return text('verdict');
+};
+
+async function verdicts() {
+  await fill('root', old);
+  await fill('key', 'lyrics sonata');
+  await browser.drop(files.then);
+  await browser.until(`document.getElementById('verdict').textContent !== ''`);
+  tally.equal('then, dropped', await text('verdict'), 'granted');
+  tally.holds('its value', (await text('reason')).includes(toHex(key('read'))));
+  tally.holds('the name', (await text('taken')).includes(toHex(key('lyrics sonata'))));
+  const path = await text('drawing');
+  for (const words of ['The path', 'The leaf of the key: 3 steps', 'The hashes meet the root', 'Step 1', 'Step 3', 'sibling', 'Leaf']) tally.holds(`the drawing says ${words}`, path.includes(words));
+  tally.equal('in large letters', await browser.ask(`parseFloat(getComputedStyle(document.getElementById('verdict')).fontSize) >= 32`), true);
+  tally.holds('what this build is worth', /proofs/.test(await text('build')));
+  tally.equal('now', await asked(now, 'lyrics sonata', proofs.now), 'not granted');
+  const neighbours = await text('drawing');
+  for (const words of ['The left neighbour', 'The right neighbour', 'The hashes meet the root']) tally.holds(words, neighbours.includes(words));
+  tally.equal('last month', await asked(now, 'lyrics sonata', proofs.then), 'this proof shows nothing');
+  tally.holds('why', (await text('reason')).startsWith("Refused with 11: the proof is in form, but doesn't hold."));
+  tally.holds('where', (await text('reason')).includes('its path leads to another root') && (await text('drawing')).includes('The hashes do not meet the root'));
+  tally.equal('another key', await asked(old, toHex(key('tuner symphony')), proofs.then), 'this proof shows nothing');
+  tally.holds('why another key', (await text('reason')).includes('The proof was made for another key.'));
+  tally.equal('cut short', await asked(old, 'lyrics sonata', proofs.then.slice(1)), 'this proof shows nothing');
+  tally.holds('off form', (await text('reason')).startsWith('Refused with 10: '));
+  tally.equal('a short root', await asked('00', 'lyrics sonata', proofs.then), 'this proof shows nothing');
+  tally.holds('12', (await text('reason')).startsWith('Refused with 12: '));
+  tally.equal('not hex', await asked('zz', 'lyrics sonata', proofs.then), 'this proof shows nothing');
+  tally.equal('the empty root', await asked('00'.repeat(32), 'lyrics sonata', proofs.then), 'this proof shows nothing');
+  tally.holds('the empty root, said', (await text('reason')).includes('nothing is granted'));
+  await browser.ask(`document.getElementById('root').focus()`);
+  await browser.press('a', 'KeyA', 'a');
+  tally.equal('no verdict beside a changed field', [await text('verdict'), await browser.ask(`document.getElementById('result').hidden`)], ['', true]);
+  // One neighbour alone, which is not at the edge of the tree: the step that leaves room is named.
+  const left = proofs.now.slice(0, 40 + 72 + 33 * (proofs.now[46] | (proofs.now[47] << 8)));
+  left.set([left.length & 255, left.length >> 8, 0, 0, 17, 0, 1, 0]);
+  tally.equal('one neighbour of two', await asked(now, 'lyrics sonata', left), 'this proof shows nothing');
+  tally.holds('the step that fails', /step \d leaves room/.test(await text('reason')) && (await text('drawing')).includes('it fails here'));
+}
+
+async function stores() {
+  await browser.drop(market);
+  await browser.until(`document.getElementById('sound').textContent !== ''`);
+  tally.equal('the store', await text('sound'), 'Sound: versions 0 to 2, 20 slots.');
+  const versions = await text('versions');
+  for (const root of [old, now, '00'.repeat(32)]) tally.holds('a root of the store', versions.includes(root));
+  await clicked('version 2');
+  const tree = await text('tree');
+  tally.holds('the tree', tree.includes('The tree of version 2') && tree.includes('inner node root, version 2, slot 9'));
+  tally.holds('what changed', /Since version 1: changed 7455075c..3f6e, removed 4063e24a..7d73\./.test(tree));
+  tally.equal('its new nodes', await browser.ask(`document.querySelectorAll('#tree .new').length`), 3);
+  await clicked('prove 2564000e');
+  tally.equal('a proof by a click', [await text('verdict'), await browser.ask(`document.getElementById('root').value`)], ['granted', now]);
+  tally.equal('it has the focus', await browser.ask('document.activeElement.id'), 'result');
+  await clicked('version 0');
+  tally.holds('the empty version', (await text('tree')).includes('It holds no grant'));
+  await browser.drop(tampered);
+  await browser.until(`document.getElementById('sound').textContent.startsWith('This store is not')`);
+  tally.holds('a tampered store', (await text('sound')).includes("Refused with 3: the store isn't sound"));
+  tally.equal('and no tree of it', await browser.ask(`document.querySelectorAll('#tree *, #versions *').length`), 0);
+}
+
+async function usable() {
+  await browser.ask(`document.getElementById('result').hidden = true; document.activeElement.blur(); document.getElementById('root').focus()`);
+  const focus = [];
+  for (let i = 0; i < 5; i += 1) {
+    focus.push(await browser.ask('document.activeElement.id'));
+    await browser.press('Tab');
+  }
+  tally.equal('the tab key', focus, ['root', 'key', 'proof', 'check', 'file']);
+  await asked(now, 'lyrics sonata', proofs.now);
+  await browser.ask(`document.getElementById('verdict').textContent = ''; document.getElementById('key').focus()`);
+  await browser.press('Enter');
+  tally.equal('the enter key', await text('verdict'), 'not granted');
+  const roles = await browser.roles();
+  const has = (role, name) => roles.some((it) => it.role === role && it.name.startsWith(name));
+  for (const [role, name] of [['heading', 'What does this proof show?'], ['form', 'Root, key and proof'], ['textbox', 'Root, from who signs it'], ['textbox', 'Key, or a name'], ['textbox', 'Proof, from anybody'], ['button', 'Check the proof'], ['button', 'Open a proof or a store'], ['status', 'Verdict'], ['list', 'The left neighbour: from the root down to the leaf'], ['main', '']]) {
+    if (has(role, name)) tally.pass();
+    else tally.fail(`no ${role} called '${name}': ${JSON.stringify(roles.filter((it) => it.role === role))}`);
+  }
+  tally.equal('all controls have names', roles.filter((it) => ['button', 'textbox'].includes(it.role) && !it.name), []);
+  for (const scheme of ['light', 'dark']) {
+    await browser.send('Emulation.setEmulatedMedia', { features: [{ name: 'prefers-color-scheme', value: scheme }] });
+    const least = await browser.ask(`(() => {
+      const light = (c) => { const [r, g, b] = c.match(/[\\d.]+/g).map((x) => x / 255).map((x) => (x <= 0.03928 ? x / 12.92 : ((x + 0.055) / 1.055) ** 2.4)); return 0.2126 * r + 0.7152 * g + 0.0722 * b; };
+      const ground = (e) => { for (; e; e = e.parentElement) { const c = getComputedStyle(e).backgroundColor; if (c !== 'rgba(0, 0, 0, 0)') return c; } return 'rgb(255,255,255)'; };
+      return Math.min(...[...document.querySelectorAll('h1, h2, h3, p, label, button, input, textarea, small, .hex, li > span')].filter((e) => e.offsetParent).map((e) => { const [a, b] = [light(getComputedStyle(e).color), light(ground(e))]; return (Math.max(a, b) + 0.05) / (Math.min(a, b) + 0.05); }));
+    })()`);
+    if (least >= 4.5) tally.pass();
+    else tally.fail(`${scheme}: a contrast of ${least}`);
+  }
+  await browser.send('Emulation.setEmulatedMedia', { features: [] });
+  await browser.send('Emulation.setDeviceMetricsOverride', { width: 360, height: 740, deviceScaleFactor: 2, mobile: true });
+  tally.equal('on a phone nothing is wider than the page', await browser.ask('document.documentElement.scrollWidth <= 360'), true);
+  await browser.send('Emulation.clearDeviceMetricsOverride');
+}
+
+// js/ in a worker of the browser, handed the compiled module; the page's own policy allows no worker, so it is set aside.
+async function inWorker() {
+  await browser.send('Page.setBypassCSP', { enabled: true });
+  await browser.send('Page.reload');
+  await browser.until(`document.documentElement?.dataset.ready === 'true'`);
+  const source = ['js/refusals.js', 'js/grants.js'].map((name) => readFileSync(name, 'utf8').replace(/^import .*$/m, '')).join('');
+  const asks = `onmessage = async ({ data: { module, root, key, proof } }) => postMessage(toHex((await load(module)).verify(root, key, proof).value));`;
+  const given = { root: old, key: toHex(key('lyrics sonata')), proof: toHex(proofs.then) };
+  const came = await browser.ask(`(async () => {
+    const worker = new Worker('data:text/javascript;base64,${Buffer.from(source + asks).toString('base64')}', { type: 'module' });
+    const module = await WebAssembly.compile(Uint8Array.from(atob(document.getElementById('wasm').textContent.trim()), (c) => c.charCodeAt(0)));
+    worker.postMessage({ module, ...${JSON.stringify(given)} });
+    return new Promise((done, not) => { worker.onmessage = ({ data }) => done(data); worker.onerror = ({ message }) => not(new Error(message)); });
+  })()`);
+  tally.equal('in a worker of the browser', came, toHex(key('read')));
+}
+
+try {
+  await browser.open(pathToFileURL('docs/inspect/inspect.html').href);
+  await verdicts();
+  await stores();
+  await usable();
+  const requests = browser.events.filter((it) => it.method === 'Network.requestWillBeSent').map((it) => it.params.request.url.split(':')[0]);
+  tally.equal('nothing is fetched but the page', requests.filter((scheme) => scheme !== 'about'), ['file']);
+  const errors = browser.events.filter((it) => it.method === 'Runtime.exceptionThrown' || (it.method === 'Log.entryAdded' && it.params.entry.level === 'error'));
+  tally.equal('no error', errors.map((it) => JSON.stringify(it.params)), []);
+  if (picture) {
+    await browser.send('Emulation.setDeviceMetricsOverride', { width: 880, height: 1190, deviceScaleFactor: 1, mobile: false });
+    await browser.send('Emulation.setEmulatedMedia', { features: [{ name: 'prefers-color-scheme', value: 'light' }] });
+    await browser.ask('document.getElementById("store").hidden = true; document.activeElement.blur(); scrollTo(0, 0)');
+    writeFileSync(picture, await browser.picture());
+  }
+  await inWorker();
+} catch (error) {
+  tally.fail(error.stack);
+} finally {
+  await browser.end();
+}
+console.log(`${tally.passed} passed, ${tally.failed} failed`);
+process.exitCode = tally.failed ? 1 : 0;

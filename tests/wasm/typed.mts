@@ -1,0 +1,23 @@
+// What the types of js/ allow, and what they don't.
+import { load, Refused, type Found, type Store } from '../../js/grants.js';
+
+export async function shown(root: string, key: Uint8Array, proof: ArrayBuffer): Promise<string> {
+  const grants = await load(new URL('file:///grants-verify.wasm'));
+  try {
+    const found: Found = grants.verify(root, key, proof);
+    return found.present ? String(found.value.length) : 'absent';
+  } catch (refused) {
+    return refused instanceof Refused ? `${refused.number} ${refused.sentence}` : 'another error';
+  }
+}
+
+export async function published(): Promise<number> {
+  const grants = await load();
+  const store: Store = await grants.format(20);
+  const { version, newRecords } = store.apply([{ key: '00', value: null }]);
+  // @ts-expect-error a version is a number
+  store.prove('1', grants.name('x'));
+  // @ts-expect-error an absent key has no value
+  store.get(version, grants.name('x')).value;
+  return newRecords;
+}

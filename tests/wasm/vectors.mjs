@@ -1,0 +1,203 @@
+// The program of vectors once more, through js/: what comes must be the lines that the gate holds the proved program to (crates/vectors/stdout).
+import { createHash } from 'node:crypto';
+import { readFileSync } from 'node:fs';
+import { Refused, batch, toHex } from '../../js/grants.js';
+
+const [A, B, C, D, F] = [0x00, 0x40, 0x60, 0x80, 0x10];
+const zeros = Buffer.alloc(32);
+const sha256 = (...parts) => createHash('sha256').update(Buffer.concat(parts)).digest();
+const value = (byte) => Buffer.alloc(32, byte);
+
+function key(first, last = 0) {
+  const bytes = Buffer.alloc(32);
+  bytes[0] = first;
+  bytes[31] = last;
+  return bytes;
+}
+
+// The hashes of 01's trees, by Node's own SHA-256.
+const leaf = (k, byte) => sha256(Buffer.of(1), k, value(byte));
+const inner = (left, right) => sha256(Buffer.of(0), left, right);
+const lone = (hash, levels) => (levels === 0 ? hash : lone(inner(hash, zeros), levels - 1));
+const insert = (k, byte) => ({ key: k, value: value(byte) });
+const remove = (k) => ({ key: k, value: null });
+
+// The i-th key of a large batch: its first ten bits are i; the last one has those of the one before it and its last bit set.
+function numbered(i) {
+  const k = key(0, i < 1024 ? 0 : 1);
+  k.writeUInt16BE(Math.min(i, 1023) << 6);
+  return k;
+}
+
+// The tree of all numbers of ten bits from one on.
+const whole = (from, bits) => (bits === 0 ? leaf(numbered(from), 1) : inner(whole(from, bits - 1), whole(from + 2 ** (bits - 1), bits - 1)));
+
+class Program {
+  lines = {};
+  section = '';
+
+  constructor(grants) {
+    this.grants = grants;
+  }
+
+  say(line) {
+    (this.lines[this.section] ??= []).push(line);
+  }
+
+  // A call's line; a refused one must have left the store's bytes.
+  tried(what, store, call, note = ', nothing written') {
+    const before = toHex(store.bytes());
+    try {
+      this.say(`  came  ${what}: ${call()}`);
+    } catch (refused) {
+      if (!(refused instanceof Refused)) throw refused;
+      const after = note && toHex(store.bytes()) !== before ? ', BUT SOMETHING WRITTEN' : note;
+      this.say(`  came  ${what}: refused with ${refused.number}${after}`);
+      return false;
+    }
+    return true;
+  }
+
+  async format(bytes) {
+    const store = await this.grants.open(new Uint8Array(bytes));
+    this.tried(`format ${bytes} bytes`, store, () => (store.format(), 'accepted'));
+    return store;
+  }
+
+  slots(store, wanted) {
+    const bytes = Buffer.from(store.bytes());
+    const found = [];
+    for (let i = 0; 24 + 120 * i < bytes.length; i += 1) {
+      const slot = bytes.subarray(24 + 120 * i);
+      const [kind, count] = [slot.readUInt16LE(4), slot.readUInt16LE(6)];
+      const bits = Array.from({ length: count }, (_, b) => (slot[8 + (b >> 3)] >> (7 - (b & 7))) & 1).join('');
+      const record = { version: slot.readUInt32LE(40), retired: slot.readUInt32LE(44), count, kind };
+      if (kind !== 0 && wanted(record)) found.push({ ...record, text: `slot ${i} ${kind === 2 ? 'leaf' : 'inner'} ${bits || 'root'}` });
+    }
+    return found;
+  }
+
+  shown(found) {
+    this.say(`        ${found.map((it) => it.text).join('  ')}`);
+  }
+
+  apply(store, name, changes, root) {
+    let made;
+    const done = this.tried(name, store, () => {
+      made = store.apply(changes);
+      const retired = this.slots(store, (it) => it.retired === made.version).length;
+      return `version ${made.version}, new records ${made.newRecords}, retired since ${made.version}: ${retired}`;
+    });
+    if (!done) return;
+    if (made.newRecords > 0 && made.newRecords <= 20) this.shown(this.slots(store, (it) => it.version === made.version));
+    this.say(`        root ${toHex(made.root)}, ${root.equals(made.root) ? "the hash of 01's tree" : "NOT THE HASH OF 01'S TREE"}`);
+  }
+
+  prune(store, version) {
+    if (this.tried(`prune to ${version}`, store, () => `freed ${store.prune(version)}`)) this.shown(this.slots(store, () => true));
+  }
+
+  found(it) {
+    return it.present ? `present, value ${toHex(it.value)}` : 'absent';
+  }
+
+  prove(store, name, k, version, most) {
+    this.tried(`prove ${name} in version ${version}, buffer ${most} bytes`, store, () => {
+      const proof = Buffer.from(store.prove(version, k, most));
+      const kind = proof.readUInt16LE(4) === 16 ? 'steps' : 'flags';
+      const shown = this.grants.verify(store.root(version), k, proof);
+      return `length ${proof.length}, ${kind} ${proof.readUInt16LE(6)}; verify: ${this.found(shown)}`;
+    });
+  }
+
+  look(store, version) {
+    this.tried(`get B in version ${version}`, store, () => this.found(store.get(version, key(B))), '');
+    this.prove(store, 'B', key(B), version, 316);
+  }
+
+  async run() {
+    this.section = "The desk's store";
+    const store = await this.format(2424);
+    const all = [insert(key(A), 1), insert(key(B), 2), insert(key(C), 3), insert(key(D), 4)];
+    const four = inner(inner(leaf(key(A), 1), inner(leaf(key(B), 2), leaf(key(C), 3))), leaf(key(D), 4));
+    const three = inner(inner(leaf(key(A), 1), leaf(key(C), 5)), leaf(key(D), 4));
+    this.section = 'M1';
+    this.apply(store, 'insert A, B, C, D', all, four);
+    this.look(store, 1);
+    this.section = 'M2';
+    this.apply(store, 'delete B, insert C', [remove(key(B)), insert(key(C), 5)], three);
+    this.look(store, 1);
+    this.look(store, 2);
+    this.section = 'M3';
+    this.apply(store, 'empty batch', [], three);
+    this.section = 'M4';
+    this.apply(store, 'delete A', [remove(key(A))], inner(leaf(key(C), 5), leaf(key(D), 4)));
+    this.section = 'M5';
+    this.apply(store, 'delete D', [remove(key(D))], leaf(key(C), 5));
+    this.section = 'M6';
+    this.apply(store, 'delete C', [remove(key(C))], zeros);
+    this.look(store, 6);
+    this.section = 'M7';
+    this.prune(store, 4);
+    this.look(store, 3);
+    this.section = 'M8';
+    this.apply(store, 'insert E', [insert(key(D, 1), 6)], leaf(key(D, 1), 6));
+    this.section = 'M9';
+    const both = [insert(key(A), 1), insert(key(F), 2)];
+    for (const bytes of [2424, 624]) this.apply(await this.format(bytes), 'insert both', both, lone(inner(leaf(key(A), 1), leaf(key(F), 2)), 3));
+    this.section = 'M10';
+    const deep = await this.format(30984);
+    this.apply(deep, 'insert both', [insert(key(A), 1), insert(key(A, 1), 2)], lone(inner(leaf(key(A), 1), leaf(key(A, 1), 2)), 255));
+    const levels = (wanted) => new Set(this.slots(deep, wanted).map((it) => it.count)).size;
+    const leaves = this.slots(deep, (it) => it.kind === 2 && it.count === 256).length;
+    this.say(`  came  leaves at 256 bits: ${leaves}, levels with an inner node: ${levels((it) => it.kind === 3)}, levels in all: ${levels(() => true)}`);
+    this.prove(deep, 'the first', key(A), 1, 8520);
+    this.prove(deep, 'the second', key(A, 1), 1, 8520);
+    this.section = 'M11';
+    this.prune(store, 4);
+    this.prune(store, 8);
+    this.tried('check', store, () => (store.check(), 'sound'));
+    this.section = 'M12';
+    const full = await this.format(864);
+    this.apply(full, 'insert A, B, C, D', all, four);
+    this.apply(full, 'empty batch', [], four);
+    this.apply(full, 'delete A, B, C, D', [A, B, C, D].map((first) => remove(key(first))), zeros);
+    this.section = 'Closing cases';
+    const large = await this.format(245664);
+    const many = batch(Array.from({ length: 1025 }, (_, i) => insert(numbered(i), 1)));
+    this.apply(large, '1,025 records', many, zeros);
+    this.apply(large, '1,024 of them', many.subarray(0, 1024 * 72), whole(0, 10));
+    const long = await this.format(31464);
+    const ends = inner(inner(leaf(key(0, 0), 1), leaf(key(0, 1), 2)), zeros);
+    const others = inner(zeros, inner(leaf(key(0, 6), 3), leaf(key(0, 7), 4)));
+    const fourEnds = [insert(key(0, 0), 1), insert(key(0, 1), 2), insert(key(0, 6), 3), insert(key(0, 7), 4)];
+    this.apply(long, 'insert keys that end in 000, 001, 110, 111', fourEnds, lone(inner(ends, others), 253));
+    for (const most of [8520, 8519]) this.prove(long, 'the key that ends in 001', key(0, 1), 1, most);
+    for (const most of [17080, 17079]) this.prove(long, 'the key that ends in 010', key(0, 2), 1, most);
+    await this.format(2423);
+  }
+}
+
+// The lines below each heading of the file, without 01's words.
+function held(file) {
+  const sections = {};
+  let section = '';
+  for (const line of readFileSync(file, 'utf8').split('\n')) {
+    if (/^\S/.test(line)) section = line;
+    else if (line && !line.startsWith('  01 ')) (sections[section] ??= []).push(line);
+  }
+  return sections;
+}
+
+export async function vectors(tally, grants) {
+  const program = new Program(grants);
+  await program.run();
+  const wanted = held('crates/vectors/stdout');
+  for (const [section, lines] of Object.entries(program.lines)) {
+    const all = wanted[section] ?? [];
+    tally.equal(`vectors, ${section}: how many lines`, lines.length, all.length);
+    lines.forEach((line, i) => tally.equal(`vectors, ${section}`, line, all[i]));
+  }
+  const others = Object.keys(wanted).filter((section) => !program.lines[section]);
+  if (others.length) console.log(`rows of the vectors that js/ has no call for: ${others.join('; ')}`);
+}
