@@ -1,6 +1,7 @@
 // Applying a batch to a store in lent memory, document 01: the next version, or a number of refusal. Room is known before the first byte is
 // written: the steps are taken once without writing, to count the new records, and once with.
 use apply_outcome::child_of;
+use apply_guess::guess_all;
 use apply_root::at_root;
 use batch::batch_form;
 use batch::batch_order;
@@ -90,16 +91,18 @@ fn publish(store: &mut [u8], batch: &[u8]) -> Applied
     let new = latest + 1;
     let top = Place::top();
     let old = root_version(store, latest, top);
-    let needs = at_root(store, false, new, top, old, batch);
-    if count_free(store) < needs.count {
+    let mut guesses = [0u16; 8192];
+    guess_all(store, &mut guesses);
+    let needs = at_root(store, &guesses, false, new, top, old, batch);
+    if count_free(store) < needs.reach {
         return Applied::Refused(NO_ROOM);
     }
-    let made = at_root(store, true, new, top, old, batch);
+    let made = at_root(store, &guesses, true, new, top, old, batch);
     put_u32(store, sizes::LATEST_AT, new);
     let node = made.node;
     let says = child_of(node);
     let root = says.hash;
-    let count = made.count as u32;
+    let count = needs.reach as u32;
     Applied::Made {
         version: new,
         root,

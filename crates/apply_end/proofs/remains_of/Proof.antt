@@ -1,8 +1,8 @@
--- `apply_end::left_of` meets its contract, by the cases of both. Assumes nothing.
-use Rattle.apply_end.proofs.Ending.{left-at}
+-- `apply_end::remains_of` meets its contract, by the cases of both. Assumes nothing.
+use Rattle.apply_end.proofs.Ending.{remains-at}
 use borrow.Author.Needs.{needs}
-use Rattle.apply_end.proofs.left_of.Statement.{statement}
-use Rattle.apply_end.proofs.left_of.Tie as tie
+use Rattle.apply_end.proofs.remains_of.Statement.{statement}
+use Rattle.apply_end.proofs.remains_of.Tie as tie
 
 enum-told : tie.Need-enum-told
 enum-told c = search needs
@@ -35,25 +35,25 @@ returns : tie.Need-returns
 returns c = search needs
 
 returns-2 : tie.Need-returns-2
-returns-2 c = left-at (c .before .before .before .enum-told .given .1) (c .before .r .given .1)
+returns-2 c = remains-at (c .before .before .before .enum-told .given .1) (c .before .r .given .1)
 
 returns-3 : tie.Need-returns-3
 returns-3 c = search needs
 
 returns-4 : tie.Need-returns-4
-returns-4 c = left-at (c .before .before .before .l .given .1) (c .enum-told4 .given .1)
+returns-4 c = remains-at (c .before .before .before .l .given .1) (c .enum-told4 .given .1)
 
 returns-5 : tie.Need-returns-5
-returns-5 c = left-at (c .before .before .before .l .given .1) (c .enum-told5 .given .1)
+returns-5 c = remains-at (c .before .before .before .l .given .1) (c .enum-told5 .given .1)
 
 returns-6 : tie.Need-returns-6
-returns-6 c = left-at (c .before .before .before .l .given .1) (c .enum-told6 .given .1)
+returns-6 c = remains-at (c .before .before .before .l .given .1) (c .enum-told6 .given .1)
 
 returns-7 : tie.Need-returns-7
 returns-7 c = search needs
 
-pub left-of-spec : {M : Type 1} → statement M
-left-of-spec =
+pub remains-of-spec : {M : Type 1} → statement M
+remains-of-spec =
     tie.close
     (tie.spec
     enum-told
