@@ -10,7 +10,8 @@ use apply_read::node_in;
 use place::Place;
 use slots::Child;
 ghost use mathlib.Core.Path.{_≡_};
-ghost use Rattle.apply_inner.specs.Settling.{bothStayed, settledSays, Renews, Renewed, Ended, Settles, Settled};
+ghost use Rattle.apply_end.specs.Ending.{Ends};
+ghost use Rattle.apply_inner.specs.Settling.{bothStayed, settledSays, EndsOrStays, Renews, Renewed, Settles, Settled};
 
 // Whether both children are unchanged.
 fn both_stayed(l: Change, r: Change) -> bool
@@ -31,10 +32,14 @@ fn both_stayed(l: Change, r: Change) -> bool
 fn settled(l: Outcome, r: Outcome) -> Change
     ensures { λ c. ⌜ c ≡ settledSays l r ⌝ }
 {
-    if both_stayed(l.change, r.change) {
+    let lc = l.change;
+    let rc = r.change;
+    if both_stayed(lc, rc) {
         return Change::Unchanged;
     }
-    let stands = remains_of(l.node, r.node);
+    let ln = l.node;
+    let rn = r.node;
+    let stands = remains_of(ln, rn);
     let Remains::Nothing = stands else {
         return Change::Updated;
     };
@@ -46,22 +51,22 @@ fn end_or_stay(
     store: &mut [u8],
     guesses: &[u16; 8192],
     writes: bool,
-    new: u32,
+    since: u32,
     place: Place,
     reach: usize,
     change: Change,
     version: u32,
-    left: Child,
-    right: Child,
+    cl: Child,
+    cr: Child,
 ) -> Outcome
-    requires { ⌜ Ends (now store) (left .version) (right .version) place ⌝ }
-    ensures { λ o. ⌜ Ended new writes (now (store .entry)) (now (store .exit)) place reach change version left right o ⌝ }
+    requires { ⌜ Ends (now store) (cl .version) (cr .version) place ⌝ }
+    ensures { λ o. ⌜ EndsOrStays since writes (now (store .entry)) (now (store .exit)) place cl cr reach version change o ⌝ }
 {
     let Change::Deleted = change else {
         let node = Node::Inner {
             version,
-            left,
-            right,
+            left: cl,
+            right: cr,
         };
         return Outcome {
             change: Change::Unchanged,
@@ -69,10 +74,11 @@ fn end_or_stay(
             reach,
         };
     };
-    let gone = Change::Deleted;
-    mark_children(store, guesses, writes, place, gone, gone, left.version, right.version, new);
+    let old_left = cl.version;
+    let old_right = cr.version;
+    mark_children(store, guesses, writes, place, Change::Deleted, Change::Deleted, old_left, old_right, since);
     Outcome {
-        change,
+        change: Change::Deleted,
         node: Node::Nothing,
         reach,
     }
@@ -84,46 +90,52 @@ fn renew(
     guesses: &[u16; 8192],
     writes: bool,
     new: u32,
+    since: u32,
     place: Place,
-    left: Child,
-    right: Child,
+    cl: Child,
+    cr: Child,
     l: Outcome,
     r: Outcome,
 ) -> Outcome
-    requires { ⌜ Renews writes (now store) place left right l r ⌝ }
-    ensures { λ o. ⌜ Renewed new writes (now (store .entry)) (now (store .exit)) place left right l r o ⌝ }
+    requires { ⌜ Renews new since writes (now store) place cl cr l r ⌝ }
+    ensures { λ o. ⌜ Renewed new writes (now (store .entry)) (now (store .exit)) place cl cr l r o ⌝ }
 {
-    let stands = remains_of(l.node, r.node);
+    let ln = l.node;
+    let rn = r.node;
+    let stands = remains_of(ln, rn);
+    let lv = cl.version;
+    let rv = cr.version;
     let Remains::Leaf { key, value } = stands else {
-        mark_children(store, guesses, writes, place, l.change, r.change, left.version, right.version, new);
-        return fork(store, writes, new, place, left, right, l, r);
+        let lc = l.change;
+        let rc = r.change;
+        mark_children(store, guesses, writes, place, lc, rc, lv, rv, since);
+        return fork(store, writes, new, place, cl, cr, l, r);
     };
-    let gone = Change::Deleted;
-    mark_children(store, guesses, writes, place, gone, gone, left.version, right.version, new);
-    let node = Node::Leaf {
-        version: new,
-        key,
-        value,
-    };
+    mark_children(store, guesses, writes, place, Change::Deleted, Change::Deleted, lv, rv, since);
     Outcome {
         change: Change::Updated,
-        node,
+        node: Node::Leaf {
+            version: new,
+            key,
+            value,
+        },
         reach: r.reach,
     }
 }
 
-// At the inner node in a slot, above two children: its record says what they were.
+// At the inner node in a slot, above two children: its record says what they were. Where nothing is written, `since` is of no account.
 pub fn settle_in(
     store: &mut [u8],
     guesses: &[u16; 8192],
     writes: bool,
     new: u32,
+    since: u32,
     place: Place,
     slot: usize,
     l: Outcome,
     r: Outcome,
 ) -> Outcome
-    requires { ⌜ Settles new writes (now store) place slot l r ⌝ }
+    requires { ⌜ Settles new since writes (now store) place slot l r ⌝ }
     ensures { λ o. ⌜ Settled new writes (now (store .entry)) (now (store .exit)) place slot l r o ⌝ }
 {
     let node = node_in(store, slot);
@@ -137,7 +149,8 @@ pub fn settle_in(
     };
     let change = settled(l, r);
     let Change::Updated = change else {
-        return end_or_stay(store, guesses, writes, new, place, r.reach, change, version, left, right);
+        let reach = r.reach;
+        return end_or_stay(store, guesses, writes, since, place, reach, change, version, left, right);
     };
-    renew(store, guesses, writes, new, place, left, right, l, r)
+    renew(store, guesses, writes, new, since, place, left, right, l, r)
 }

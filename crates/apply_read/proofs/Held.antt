@@ -1,6 +1,6 @@
 -- The record that a slot holds, from its bytes: a leaf where they are one, else an inner record. Assumes nothing.
 use Prim.Native.Nat.{ℕ, _+_, _*_, _<_, _≤_}
-use mathlib.Core.Path.{_≡_, refl, ap, ap₂, sym, _∙_}
+use mathlib.Core.Path.{_≡_, refl, ap, ap₂, sym, _∙_, subst}
 use mathlib.Core.Bool.{Bool, true, false, cond}
 use lib.ListN.{length, getD, take, drop}
 use Rattle.terms.specs.Bits.{Bytes}
@@ -46,24 +46,28 @@ module _ {s : Bytes} {i : ℕ} (w : Used s i) where
     its-slot : (r : Record) → getD (storeOf s .slots) i free ≡ used r → slotOf x ≡ used r
     its-slot r u = ap slotOf d ∙ sym (slot-at s i (rw (stored-room (w .stored)) (w .within))) ∙ u
 
-    pub leaf-held : {v : ℕ} {k y : Hash} {t : Bool} → t ≡ isLeaf x → t ≡ true → v ≡ field 40 4 x → hashBytes k ≡ take 32 (drop 48 x) →
+    pub leaf-held : {v : ℕ} (k y : Hash) {t : Bool} → t ≡ isLeaf x → t ≡ true → v ≡ field 40 4 x → hashBytes k ≡ take 32 (drop 48 x) →
         hashBytes y ≡ take 32 (drop 80 x) → NodeHeld s i (N.Leaf v k y)
     unfolding recordIn leafIn slice
-    leaf-held l e v a b r u =
+    leaf-held k y l e v a b r u =
         let h = leaf-record x r (its-slot r u) (sym l ∙ e) in
         (v ∙ sym (ap (λ (q : Record). q .version) h), ap (λ (q : Record). q .body) h ∙ sym (ap₂ leafBody a b))
 
-    pub inner-held : {v : ℕ} {a b : child.Child} {t : Bool} → t ≡ isLeaf x → t ≡ false → v ≡ field 40 4 x → childSays a ≡ childIn 48 x →
-        childSays b ≡ childIn 84 x → NodeHeld s i (N.Inner v a b)
+    pub inner-held : {v : ℕ} (cl cr : child.Child) {t : Bool} → t ≡ isLeaf x → t ≡ false → v ≡ field 40 4 x → childSays cl ≡ childIn 48 x →
+        childSays cr ≡ childIn 84 x → NodeHeld s i (N.Inner v cl cr)
     unfolding recordIn innerIn
-    inner-held l e v a b r u =
+    inner-held cl cr l e v a b r u =
         let h = inner-record x r (its-slot r u) (sym l ∙ e) in
         (v ∙ sym (ap (λ (q : Record). q .version) h), ap (λ (q : Record). q .body) h ∙ sym (ap₂ innerBody a b))
 
-    pub ends-held : {t : Bool} → t ≡ isLeaf x → t ≡ true → GoesOn s (F.At i) End
+    pub ends-held : {f : found.Found} {t : Bool} → f ≡ F.At i → t ≡ isLeaf x → t ≡ true → GoesOn s f End
     unfolding recordIn leafIn
-    ends-held l e r u = (_, _, ap (λ (q : Record). q .body) (leaf-record x r (its-slot r u) (sym l ∙ e)))
+    ends-held e l z =
+        subst (λ g. GoesOn s g End) (sym e) (λ r u. (_, _, ap (λ (q : Record). q .body) (leaf-record x r (its-slot r u) (sym l ∙ z))))
 
-    pub goes-held : {t : Bool} {l r : ℕ} → t ≡ isLeaf x → t ≡ false → l ≡ field 48 4 x → r ≡ field 84 4 x → GoesOn s (F.At i) (Inner i l r)
+    pub goes-held : {f : found.Found} {t : Bool} {l r : ℕ} → f ≡ F.At i → t ≡ isLeaf x → t ≡ false → l ≡ field 48 4 x → r ≡ field 84 4 x →
+        GoesOn s f (Inner i l r)
     unfolding recordIn innerIn childIn
-    goes-held l e a b = (refl, λ r u. (_, _, ap (λ (q : Record). q .body) (inner-record x r (its-slot r u) (sym l ∙ e)), a, b))
+    goes-held {l = m} {r = n} e l z a b =
+        subst (λ g. GoesOn s g (Inner i m n)) (sym e)
+        (refl, λ r u. (_, _, ap (λ (q : Record). q .body) (inner-record x r (its-slot r u) (sym l ∙ z)), a, b))

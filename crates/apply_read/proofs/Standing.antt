@@ -117,8 +117,8 @@ module _ {s : Bytes} {p : place.Place} {v : ℕ} (w : Standing s p v) {o : found
     inner-there {l} {r} b =
         top-inner (storeOf s) (placeOf p) v (treeHere s p v) (w .stands) (w .top) (hit .1 .0) (hit .1 .2) its-form l r b
 
-    pub node-there : {n : node.Node} → NodeHeld s i n → NodeSays true n (treeHere s p v)
-    node-there {n} h = go n (h (hit .1 .0) (hit .1 .1))
+    pub node-there : (n : node.Node) → NodeHeld s i n → NodeSays true n (treeHere s p v)
+    node-there n h = go n (h (hit .1 .0) (hit .1 .1))
       where
         go : (m : node.Node) → HoldsNode m (hit .1 .0) → NodeSays true m (treeHere s p v)
         go N.Nothing b = absurd b

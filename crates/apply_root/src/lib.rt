@@ -51,7 +51,7 @@ pub fn at_root(
     version: u32,
     batch: &[u8],
 ) -> Outcome
-    requires { ⌜ HereRoot new (now store) top version (now batch) ⌝ }
+    requires { ⌜ HereRoot new writes (now store) top version (now batch) ⌝ }
     ensures { λ r. ⌜ Did new writes 0 (now (store .entry)) (now (store .exit)) (step.stepRoot leafHash innerHash new (treeHere (now (store .entry)) top version) (asks (now (batch .entry)))) r ⌝ }
 {
     let below = at_child(store, guesses, writes, new, 0, top, version, batch);

@@ -13,6 +13,7 @@ use batch::right_run;
 use place::Place;
 ghost use Rattle.apply_outcome.specs.Outcomes.{Did};
 ghost use Rattle.apply_tip.specs.Stepping.{Here, atNode, atChild};
+ghost use Rattle.apply_read.specs.Held.{versionIn};
 ghost use Rattle.apply_step.specs.Inner.{HereInner};
 
 // A child without a run is unchanged.
@@ -35,7 +36,8 @@ pub fn at_child(
     at_node(store, guesses, writes, new, from, place, version, run)
 }
 
-// The run is for the children. Settling is called at two places, so that the compiler keeps its locals out of the frames of this recursion.
+// The run is for the children. Settling is called at two places that differ in two arguments, so that the compiler makes no one call of them,
+// and keeps its locals out of the frames of this recursion.
 fn at_inner(
     store: &mut [u8],
     guesses: &[u16; 8192],
@@ -55,9 +57,9 @@ fn at_inner(
     let l = at_child(store, guesses, writes, new, from, place.left(), left, left_run(run, i));
     let r = at_child(store, guesses, writes, new, l.reach, place.right(), right, right_run(run, i));
     if writes {
-        return settle_in(store, guesses, true, new, place, slot, l, r);
+        return settle_in(store, guesses, true, new, new, place, slot, l, r);
     }
-    settle_in(store, guesses, false, new, place, slot, l, r)
+    settle_in(store, guesses, false, new, 0, place, slot, l, r)
 }
 
 // The node there is for the caller to mark or place.

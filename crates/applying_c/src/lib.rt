@@ -1,6 +1,6 @@
 // Applying a batch for C and Rust to link. A slice is passed as a pointer and a length, an array as a pointer alone. The call answers 0 where
 // it is accepted, else the number of refusal, and then it writes nothing.
-use applying::Applied;
+use apply_publish::Applied;
 use applying::apply;
 use fields::put_u32;
 use hash::Hash;

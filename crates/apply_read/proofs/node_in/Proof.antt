@@ -29,7 +29,7 @@ returns c =
     let c4 = c3 .before in
     let c5 = c4 .before in
     let c7 = c5 .before .before in
-    leaf-held (c7 .pre) (c5 .slot-of .ensures .0) (c3 .is-leaf .ensures) (c2 .if1 .taken) (c4 .get-u32 .ensures) (c1 .hash-at .ensures .1) (c .hash-at2 .ensures .1)
+    leaf-held (c7 .pre) (c5 .slot-of .ensures .0) (c1 .hash-at .result) (c .hash-at2 .result) (c3 .is-leaf .ensures) (c2 .if1 .taken) (c4 .get-u32 .ensures) (c1 .hash-at .ensures .1) (c .hash-at2 .ensures .1)
 
 child-in-requires : tie.Need-child-in-requires
 child-in-requires c κs = search needs
@@ -45,7 +45,7 @@ returns-2 c =
     let c4 = c3 .before in
     let c5 = c4 .before in
     let c7 = c5 .before .before in
-    inner-held (c7 .pre) (c5 .slot-of .ensures .0) (c3 .is-leaf .ensures) (c2 .if1 .left) (c4 .get-u32 .ensures) (c1 .child-in .ensures) (c .child-in2 .ensures)
+    inner-held (c7 .pre) (c5 .slot-of .ensures .0) (c1 .child-in .result) (c .child-in2 .result) (c3 .is-leaf .ensures) (c2 .if1 .left) (c4 .get-u32 .ensures) (c1 .child-in .ensures) (c .child-in2 .ensures)
 
 pub node-in-spec : {M : Type 1} → statement M
 node-in-spec =
