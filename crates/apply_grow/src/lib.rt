@@ -149,8 +149,24 @@ pub fn grow(
         },
         Few::Several => {
             let i = place.count;
-            let l = grow(store, writes, new, from, place.left(), stays, left_run(run, i));
-            let r = grow(store, writes, new, l.reach, place.right(), stays, right_run(run, i));
+            let l = grow(
+                store,
+                writes,
+                new,
+                from,
+                place.left(),
+                stays,
+                left_run(run, i),
+            );
+            let r = grow(
+                store,
+                writes,
+                new,
+                l.reach,
+                place.right(),
+                stays,
+                right_run(run, i),
+            );
             let none = child_of(Node::Nothing);
             fork(store, writes, new, place, none, none, l, r)
         }

@@ -105,12 +105,7 @@ fn holds(store: &[u8], i: usize, version: u32, place: Place) -> bool
 }
 
 // The slot of the node (version, place), which is there once at most: a guess that is right, or what a search finds; version 0 is no node.
-pub fn find_near(
-    store: &[u8],
-    guesses: &[u16; 8192],
-    version: u32,
-    place: Place,
-) -> Found
+pub fn find_near(store: &[u8], guesses: &[u16; 8192], version: u32, place: Place) -> Found
     requires { ⌜ Once (now store) version place ⌝ }
     ensures { λ r. ⌜ FoundIn (storeOf (now (store .entry)) .slots) version (placeOf place) r ⌝ }
 {

@@ -76,7 +76,17 @@ fn end_or_stay(
     };
     let old_left = cl.version;
     let old_right = cr.version;
-    mark_children(store, guesses, writes, place, Change::Deleted, Change::Deleted, old_left, old_right, since);
+    mark_children(
+        store,
+        guesses,
+        writes,
+        place,
+        Change::Deleted,
+        Change::Deleted,
+        old_left,
+        old_right,
+        since,
+    );
     Outcome {
         change: Change::Deleted,
         node: Node::Nothing,
@@ -111,7 +121,17 @@ fn renew(
         mark_children(store, guesses, writes, place, lc, rc, lv, rv, since);
         return fork(store, writes, new, place, cl, cr, l, r);
     };
-    mark_children(store, guesses, writes, place, Change::Deleted, Change::Deleted, lv, rv, since);
+    mark_children(
+        store,
+        guesses,
+        writes,
+        place,
+        Change::Deleted,
+        Change::Deleted,
+        lv,
+        rv,
+        since,
+    );
     Outcome {
         change: Change::Updated,
         node: Node::Leaf {
@@ -150,7 +170,18 @@ pub fn settle_in(
     let change = settled(l, r);
     let Change::Updated = change else {
         let reach = r.reach;
-        return end_or_stay(store, guesses, writes, since, place, reach, change, version, left, right);
+        return end_or_stay(
+            store,
+            guesses,
+            writes,
+            since,
+            place,
+            reach,
+            change,
+            version,
+            left,
+            right,
+        );
     };
     renew(store, guesses, writes, new, since, place, left, right, l, r)
 }

@@ -81,9 +81,13 @@ module _ (new : ℕ) (w : Bool) (p : Place) (a b : step.Outcome) (l r o : declar
   fork-did = record {
     change = ap changeSays (f .change);
     node =
-        subst (λ n. NodeSays w n (vinner new (a .node) (b .node))) (sym (f .node))
-        (a .node, b .node, refl, child-says w (l .node) (a .node) (f .left-child) refl (x .node) (f .left-is),
-        child-says w (r .node) (b .node) (f .right-child) refl (y .node) (f .right-is));
+        subst (λ n. NodeSays w n (vinner new (a .node) (b .node))) (sym (f .node)) (
+          a .node,
+          b .node,
+          refl,
+          child-says w (l .node) (a .node) (f .left-child) refl (x .node) (f .left-is),
+          child-says w (r .node) (b .node) (f .right-child) refl (y .node) (f .right-is),
+        );
     reach =
         let e = length-append (a .fresh ++ b .fresh) (on-left ++ on-right) in
         let g = length-append (a .fresh) (b .fresh) in

@@ -129,13 +129,7 @@ fn put_node(store: &mut [u8], i: usize, place: Place, node: Node)
 }
 
 // Places the record of the node at a place, and answers how far the new records reach; with no free slot there is nothing to place it in.
-pub fn place_node(
-    store: &mut [u8],
-    writes: bool,
-    from: usize,
-    place: Place,
-    node: Node,
-) -> usize
+pub fn place_node(store: &mut [u8], writes: bool, from: usize, place: Place, node: Node) -> usize
     requires { ⌜ Places writes (now store) from place (recordSays (placeOf place) node) ⌝ }
     ensures { λ r. ⌜ Placed writes from (recordSays (placeOf place) node) (now (store .entry)) (now (store .exit)) r ⌝ }
 {

@@ -137,7 +137,9 @@ module _ {s : Bytes} {p : place.Place} {v : ℕ} (w : Standing s p v) {o : found
     goes-there z g =
         let (j, h) = subst (GoesOn s (F.At i)) z g in
         let (cl, cr, b, k, m) = h (hit .1 .0) (hit .1 .1) in
-        let (x, y, t, q, u) = inner-there b in
-        (j, ap isInner t,
-        k ∙ ap (λ (c : Child). c .version) q ∙ sym (ap (λ z. topVersion (kid left z)) t),
-        m ∙ ap (λ (c : Child). c .version) u ∙ sym (ap (λ z. topVersion (kid right z)) t))
+        let (x, y, t, q, u) = inner-there b in (
+          j,
+          ap isInner t,
+          k ∙ ap (λ (c : Child). c .version) q ∙ sym (ap (λ z. topVersion (kid left z)) t),
+          m ∙ ap (λ (c : Child). c .version) u ∙ sym (ap (λ z. topVersion (kid right z)) t),
+        )

@@ -59,11 +59,7 @@ pub fn node_in(store: &[u8], i: usize) -> Node
 // Where the steps go on to from what was found: the slot of an inner node and the versions of its children.
 pub enum Onward {
     End,
-    Inner {
-        slot: usize,
-        left: u32,
-        right: u32,
-    },
+    Inner { slot: usize, left: u32, right: u32 },
 }
 
 pub fn onward_from(store: &[u8], found: Found) -> Onward

@@ -101,7 +101,7 @@ module _ {new : ℕ} {writes : Bool} {s : Bytes} {p : place.Place} {v : ℕ} {pa
 
     root-form : (b : Bool) → writes ≡ b → new ≤ top32 → b ≡ true → All RecordForm (recordSays (placeOf p) (newRootSays new (r .node)))
     root-form false i t e = absurd (false≢true e)
-    root-form true i t yes =
+    root-form true i t z =
         let e = ap (λ (o : step.Outcome). o .node) below-is in
         let sh : Shaped (placeOf p) (unversioned (below .node)) = subst (λ u. Shaped (placeOf p) (unversioned u)) e (child-shaped (w .here) t) in
         says-form (newRootSays new (r .node)) (newRoot new (below .node)) (placeOf p)
@@ -115,7 +115,7 @@ module _ {new : ℕ} {writes : Bool} {s : Bytes} {p : place.Place} {v : ℕ} {pa
       stored = changed-stored m;
       starts = starts-marked writes new (endsSays Deleted v (placeOf p)) m (x .reach .starts);
       proper = w .here .standing .proper;
-      form = λ yes. subst (λ n. All RecordForm (recordSays (placeOf p) n)) (sym e) (root-form writes refl t yes);
+      form = λ z. subst (λ n. All RecordForm (recordSays (placeOf p) n)) (sym e) (root-form writes refl t z);
     }
 
     -- the new root's record
@@ -123,9 +123,9 @@ module _ {new : ℕ} {writes : Bool} {s : Bytes} {p : place.Place} {v : ℕ} {pa
     root-record = recordAt leafHash innerHash [] (newRoot new (below .node))
 
     record-is : writes ≡ true → recordSays (placeOf p) (newRootSays new (r .node)) ≡ root-record
-    record-is yes =
+    record-is z =
         ap (λ q. recordSays q (newRootSays new (r .node))) (w .top)
-        ∙ says-record writes (newRootSays new (r .node)) (newRoot new (below .node)) yes root-says []
+        ∙ says-record writes (newRootSays new (r .node)) (newRoot new (below .node)) z root-says []
 
     record-many : length (recordSays (placeOf p) (newRootSays new (r .node))) ≡ length root-record
     unfolding updatedSays
@@ -152,7 +152,7 @@ module _ {new : ℕ} {writes : Bool} {s : Bytes} {p : place.Place} {v : ℕ} {pa
           (reaches-as writes (ap (λ c. length (recordSays (placeOf p) c)) e ∙ record-many) (z .reach));
       bytes =
           let m′ = subst (λ ns. Changed (whenWrites writes (mark new ns)) s₁ s₂) marks-are m in
-          let z′ = placed-as writes (λ yes. ap (recordSays (placeOf p)) e ∙ record-is yes) (z .bytes) in
+          let z′ = placed-as writes (λ z. ap (recordSays (placeOf p)) e ∙ record-is z) (z .bytes) in
           changed-as _ (whenWrites writes (λ u. placed (below .fresh ++ root-record) (mark new (below .retired ++ step.nodeAt [] tree) u)))
           (in-turn writes new (below .fresh) root-record (below .retired) (step.nodeAt [] tree) (storeOf s .slots) below-new ends-older)
           (changed-then (changed-then (done .bytes) m′) z′);

@@ -168,8 +168,8 @@ module _ {new : ℕ} {writes : Bool} {from : ℕ} {s : Bytes} {p : place.Place} 
         kept-side : (b : Side) (c : child.Child) (o : declared.Outcome) (a : step.Outcome) (t : VTree) → childSays c ≡ childOf leafHash innerHash (kid b whole) →
             changeSays (o .change) ≡ a .change → NodeSays writes (o .node) (a .node) → (a .change ≡ step.unchanged → a .node ≡ t) → t ≡ kid b whole →
             Kept writes c o
-        kept-side b c o a t says e h k i yes u =
-            says ∙ ap (childOf leafHash innerHash) (sym (k (sym e ∙ ap changeSays u) ∙ i)) ∙ sym (says-child writes (o .node) (a .node) yes h)
+        kept-side b c o a t says e h k i z u =
+            says ∙ ap (childOf leafHash innerHash) (sym (k (sym e ∙ ap changeSays u) ∙ i)) ∙ sym (says-child writes (o .node) (a .node) z h)
 
         kept-both : (cl cr : child.Child) → NodeSays true (N.Inner (versionIn s₂ slot) cl cr) (treeHere s₂ p (versionIn s₂ slot)) →
             Kept writes cl l × Kept writes cr r
@@ -177,9 +177,9 @@ module _ {new : ℕ} {writes : Bool} {from : ℕ} {s : Bytes} {p : place.Place} 
             let (a, b, e, sl, sr) = says in
             let is : whole ≡ vinner (versionIn s₂ slot) a b = sym read-again ∙ e in (
               kept-side left cl l lefts (treeHere s lp vl) (sl ∙ ap (λ z. childOf leafHash innerHash (kid left z)) (sym is)) (x .change) (x .node)
-              (child-kept left-here) left-read,
+                  (child-kept left-here) left-read,
               kept-side right cr r rights (treeHere s₁ rp vr) (sr ∙ ap (λ z. childOf leafHash innerHash (kid right z)) (sym is)) (y .change) (y .node)
-              (child-kept right-here) right-read,
+                  (child-kept right-here) right-read,
             )
 
         pub may-settle : {since : ℕ} → (writes ≡ true → since ≡ new) → new ≤ top32 → Settles new since writes s₂ p slot l r
@@ -229,7 +229,7 @@ module _ {new : ℕ} {writes : Bool} {from : ℕ} {s : Bytes} {p : place.Place} 
             (subst₂ (λ (t : Bool) (u : ℕ). SettledTo (settledSays l r) new t s₂ s₃ p u (z .left-child) (z .right-child) l r o) (sym same) same-version (z .settled)))
 
 -- by what was found
-module _ {new : ℕ} {writes : Bool} {from : ℕ} {s : Bytes} {p : place.Place} {v : ℕ} {part : Bytes} (w : Here new writes from s p v part) {o : found.Found}
+module _ {new : ℕ} {writes : Bool} {from : ℕ} {s : Bytes} {p : place.Place} {v : ℕ} {part : Bytes} (w : Here new writes from s p v part) (o : found.Found)
     (f : FoundIn (storeOf s .slots) v (placeOf p) o) where
   pub found-used : UsedAt s o
   found-used = go o refl
@@ -259,14 +259,14 @@ module _ {new : ℕ} {writes : Bool} {from : ℕ} {s : Bytes} {p : place.Place} 
 
     pub goes-on : HereInner new writes from s p i l r part
     goes-on =
-        subst (λ u. (n : HereAt u) → HereInner new writes from s p i l r part) its-version
-        (λ n. record { here = n .0; there = n .1; inner = n .2; left-is = n .3; right-is = n .4 })
-        (w, subst (FoundIn (storeOf s .slots) v (placeOf p)) (found-there .0) f, found-there .1, found-there .2, found-there .3)
-      where
-        abbrev HereAt : ℕ → Type 0
-        HereAt u =
-            Here new writes from s p u part × FoundIn (storeOf s .slots) u (placeOf p) (F.At i) × (isInner (treeHere s p u) ≡ true)
-            × (l ≡ topVersion (kid left (treeHere s p u))) × (r ≡ topVersion (kid right (treeHere s p u)))
+        let back = sym its-version in
+        record {
+          here = subst (λ u. Here new writes from s p u part) back w;
+          there = subst (λ u. FoundIn (storeOf s .slots) u (placeOf p) (F.At i)) back (subst (FoundIn (storeOf s .slots) v (placeOf p)) (found-there .0) f);
+          inner = subst (λ u. isInner (treeHere s p u) ≡ true) back (found-there .1);
+          left-is = subst (λ u. l ≡ topVersion (kid left (treeHere s p u))) back (found-there .2);
+          right-is = subst (λ u. r ≡ topVersion (kid right (treeHere s p u))) back (found-there .3);
+        }
 
     pub went-on : {s′ : Bytes} {c : declared.Outcome} → Did new writes from s s′ (atNode new s p (versionIn s i) part) c →
         Did new writes from s s′ (atNode new s p v part) c

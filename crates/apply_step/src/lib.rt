@@ -54,8 +54,26 @@ fn at_inner(
     ensures { λ r. ⌜ Did new writes from (now (store .entry)) (now (store .exit)) (atNode new (now (store .entry)) place (versionIn (now (store .entry)) slot) (now (run .entry))) r ⌝ }
 {
     let i = place.count;
-    let l = at_child(store, guesses, writes, new, from, place.left(), left, left_run(run, i));
-    let r = at_child(store, guesses, writes, new, l.reach, place.right(), right, right_run(run, i));
+    let l = at_child(
+        store,
+        guesses,
+        writes,
+        new,
+        from,
+        place.left(),
+        left,
+        left_run(run, i),
+    );
+    let r = at_child(
+        store,
+        guesses,
+        writes,
+        new,
+        l.reach,
+        place.right(),
+        right,
+        right_run(run, i),
+    );
     if writes {
         return settle_in(store, guesses, true, new, new, place, slot, l, r);
     }
@@ -84,5 +102,16 @@ fn at_node(
         }
         return at_tip(store, false, new, from, place, version, found, run);
     };
-    at_inner(store, guesses, writes, new, from, place, slot, left, right, run)
+    at_inner(
+        store,
+        guesses,
+        writes,
+        new,
+        from,
+        place,
+        slot,
+        left,
+        right,
+        run,
+    )
 }

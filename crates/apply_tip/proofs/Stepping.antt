@@ -57,7 +57,7 @@ use Rattle.apply_tip.proofs.Kept.{unchanged-is}
 
 -- the step at a node, by its case
 module _ (new : ℕ) (p : Place) (as′ : List Ask) where
-  abbrev stepping : ℕ → VTree → step.Outcome
+  abbrev pub stepping : ℕ → VTree → step.Outcome
   stepping n t = step.stepNode leafHash innerHash new n p t as′
 
   step-none : (n : ℕ) → stepping n vnone ≡ step.grow leafHash innerHash new n p none as′
@@ -71,10 +71,10 @@ module _ (new : ℕ) (p : Place) (as′ : List Ask) where
   step-leaf (suc n) v g = refl
 
   -- the step at the child on a side
-  abbrev side-step : ℕ → Side → VTree → step.Outcome
+  abbrev pub side-step : ℕ → Side → VTree → step.Outcome
   side-step n b t = step.stepChild (step.stepNode leafHash innerHash new n) (longer b p) t (run (length p) b as′)
 
-  step-inner : (n v : ℕ) (l r : VTree) →
+  pub step-inner : (n v : ℕ) (l r : VTree) →
       stepping (suc n) (vinner v l r) ≡ step.innerBy leafHash innerHash new p v l r (side-step n left l) (side-step n right r)
   unfolding step.stepNode step.stepInner
   step-inner n v l r = refl

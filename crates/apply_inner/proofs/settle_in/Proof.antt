@@ -2,7 +2,7 @@
 use mathlib.Core.Path.{subst}
 use Rattle.apply_inner.specs.Settling.{SettledTo}
 use Rattle.apply_inner.proofs.At.{its-slot, no-leaf, its-inner, its-version, may-end, may-renew}
-use Rattle.apply_inner.proofs.Settling.{settled-else, settled-renewed}
+use Rattle.apply_inner.proofs.Settling.{ends-new, settled-else, settled-renewed}
 use borrow.Author.Needs.{needs}
 use Rattle.apply_inner.proofs.settle_in.Statement.{statement}
 use Rattle.apply_inner.proofs.settle_in.Tie as tie
@@ -50,10 +50,10 @@ returns-2 c =
     let c12 = c9 .before .before .before in
     let v = its-version (c12 .pre) (c9 .node-in .ensures) (c7 .node .given .1) in
     record {
-    left-child = _;
-    right-child = _;
-    node = its-inner (c12 .pre) (c9 .node-in .ensures) (c7 .node .given .1);
-    settled = settled-else (c12 .args .l) (c12 .args .r) (c5 .settled .ensures) (c4 .match2 .keys2) (rw (← v) (c2 .end-or-stay .ensures));
+      left-child = _;
+      right-child = _;
+      node = its-inner (c12 .pre) (c9 .node-in .ensures) (c7 .node .given .1);
+      settled = settled-else (c12 .args .l) (c12 .args .r) (c5 .settled .ensures) (c4 .match2 .keys2) (ends-new (c12 .args .writes) (c12 .pre .marks) (rw (← v) (c2 .end-or-stay .ensures)));
     }
 
 renew-requires : tie.Need-renew-requires
@@ -75,10 +75,10 @@ returns-3 c =
     let c10 = c8 .before .before in
     let c13 = c10 .before .before .before in
     record {
-    left-child = _;
-    right-child = _;
-    node = its-inner (c13 .pre) (c10 .node-in .ensures) (c8 .node .given .1);
-    settled = settled-renewed (c13 .args .l) (c13 .args .r) (c6 .settled .ensures) _ (c4 .enum-told .given .1) (c2 .renew .ensures);
+      left-child = _;
+      right-child = _;
+      node = its-inner (c13 .pre) (c10 .node-in .ensures) (c8 .node .given .1);
+      settled = settled-renewed (c13 .args .l) (c13 .args .r) (c6 .settled .ensures) _ (c4 .enum-told .given .1) (c2 .renew .ensures);
     }
 
 pub settle-in-spec : {M : Type 1} → statement M

@@ -45,13 +45,13 @@ returns c =
     let c10 = c9 .before in
     let c13 = c10 .before .before .before in
     record {
-    left-child = _;
-    right-child = _;
-    change = refl;
-    node = refl;
-    left-is = c1 .child-after .ensures;
-    right-is = c .child-after2 .ensures;
-    placed = two-placed (c13 .args .writes) (c13 .args .l) (c13 .args .r) (c10 .left .ensures) (c5 .right .ensures) (c9 .place-updated .ensures) (c4 .place-updated2 .ensures);
+      left-child = _;
+      right-child = _;
+      change = refl;
+      node = refl;
+      left-is = c1 .child-after .ensures;
+      right-is = c .child-after2 .ensures;
+      placed = two-placed (c13 .args .writes) (c13 .args .l) (c13 .args .r) (c10 .left .ensures) (c5 .right .ensures) (c9 .place-updated .ensures) (c4 .place-updated2 .ensures);
     }
 
 pub fork-spec : {M : Type 1} → statement M

@@ -22,10 +22,10 @@ place-node-requires c κs =
     let c4 = c1 .before .before .before in
     let e = is-updated (placeOf (c4 .args .place)) (c4 .args .out) (c1 .enum-told .given .1) in
     record {
-    stored = c4 .pre .stored;
-    starts = c4 .pre .starts;
-    proper = c4 .pre .proper;
-    form = λ w. subst (All RecordForm) e (c4 .pre .form w);
+      stored = c4 .pre .stored;
+      starts = c4 .pre .starts;
+      proper = c4 .pre .proper;
+      form = λ w. subst (All RecordForm) e (c4 .pre .form w);
     }
 
 same-length : tie.Need-same-length

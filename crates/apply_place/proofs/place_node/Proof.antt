@@ -62,10 +62,10 @@ put-node-requires c κs =
     let c6 = c4 .before .before in
     let c9 = c6 .before .before .before in
     record {
-    stored = c9 .pre .stored;
-    proper = c9 .pre .proper;
-    lowest = free-at (storeOf (c9 .args .store .now) .slots) (c2 .i .given .1) (c4 .find-free .ensures);
-    form = c9 .pre .form (not-false _ (c6 .if1 .left));
+      stored = c9 .pre .stored;
+      proper = c9 .pre .proper;
+      lowest = free-at (storeOf (c9 .args .store .now) .slots) (c2 .i .given .1) (c4 .find-free .ensures);
+      form = c9 .pre .form (not-false _ (c6 .if1 .left));
     }
 
 add-result : tie.Need-add-result
