@@ -1,20 +1,31 @@
 # The commands of the README. A fresh machine has the Rattle kit, make and cargo.
-.PHONY: demo test lib tool bench soak fmt
+.PHONY: demo test lib tool bench soak fmt rooms
 
 demo:
 	@tests/demo
 
-# Every crate from nothing with the edits that must fail, then each other test over what was built.
+# Every crate from nothing with the edits that must fail, then each other test over what was built. `rt` waits for a whole batch of crates or
+# edits before it starts the next: batches of four leave fewer cores idle than batches of two.
 test:
-	@tests/gate 'rt ci' tests/format tests/sha256/run tests/second/run tests/compare/run tests/rust/run \
+	@RT_JOBS=$${RT_JOBS:-4} tests/gate 'rt ci' tests/format tests/rooms tests/belief tests/sealed tests/sha256/run tests/second/run tests/compare/run tests/rust/run \
 		tests/tool/run tests/examples/run
 
+# The static library, proved where `make test` has made the proofs, else the same sources compiled without them; the last line says which.
 lib:
-	@rt staticlib grants
+	@rust/lib
 
-# The command line tool: target/bin/grants.
+# The command line tool over that library: target/bin/grants.
 tool:
 	@rust/tool
+
+# Tool, manual page, completions, header, libraries and pkg-config file below PREFIX.
+.PHONY: install uninstall
+PREFIX ?= /usr/local
+install:
+	@rust/install '$(PREFIX)'
+
+uninstall:
+	@rust/install '$(PREFIX)' remove
 
 bench:
 	@bench/run
@@ -25,3 +36,7 @@ soak:
 
 fmt:
 	@rt fmt
+
+# The picture of the rooms and the tables of docs/ARCHITECTURE.md, anew from crates.txt.
+rooms:
+	@tests/rooms --draw

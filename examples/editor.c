@@ -1,9 +1,9 @@
 /* A marketplace publishes grants, and an editor checks one: format, apply, prove, verify, and what refusals look like.
  *
  *   make lib
- *   cc -Iinclude examples/editor.c target/staticlib/libgrants.a -o editor
+ *   cc -Iinclude examples/editor.c target/native/libgrants.a -o editor
  *
- * (That library is for x86-64; elsewhere `tests/archive grants` makes target/native/libgrants.a for the machine at hand.)
+ * (That library is for the machine at hand; after `make install`, `cc examples/editor.c $(pkg-config --cflags --libs grants) -o editor`.)
  * An editor needs `granted` alone: a root whose signature it has checked, a key, and a proof from anybody. */
 #include "grants.h"
 
@@ -48,9 +48,15 @@ static size_t show(uint32_t version, const uint8_t key[32]) {
     return refused ? 0 : number_at(length);
 }
 
-/* What an editor does. Unless the proof shows that the grant stands, nothing is opened. */
+/* What an editor does. Unless the proof shows that the grant stands, nothing is opened. A signed root of 32 zero bytes is itself the proof that
+   nothing is granted: there is no other. */
 static int granted(const uint8_t root[32], const uint8_t key[32], size_t length) {
+    static const uint8_t nothing[32];
     uint8_t found[33];
+    if (memcmp(root, nothing, 32) == 0) {
+        printf("editor: nothing is granted\n");
+        return 0;
+    }
     uint32_t refused = grants_verify(root, 32, key, 32, proof, length, found);
     if (refused) {
         printf("editor: refused with %u, the proof shows nothing\n", (unsigned)refused);
@@ -61,7 +67,7 @@ static int granted(const uint8_t root[32], const uint8_t key[32], size_t length)
 }
 
 int main(void) {
-    uint8_t plugin[32], other[32], score[32], first[32], second[32], batch[2 * RECORD], length[4];
+    uint8_t plugin[32], other[32], score[32], first[32], second[32], third[32], batch[2 * RECORD], length[4];
     size_t proof_length;
     memset(plugin, 0x40, 32);
     memset(other, 0x80, 32);
@@ -87,11 +93,17 @@ int main(void) {
     proof_length = show(1, plugin);
     if (granted(second, plugin, proof_length)) return 1;
 
-    /* So are keys out of order, a version that is not kept, and a proof for which there is no room; none of these writes anything. */
+    /* With the last grant withdrawn the version is empty: its root says so, and there is no proof. */
+    ask(batch, other, NULL);
+    if (publish(batch, 1, third)) return 1;
+    printf("an empty version: refused with %u\n", (unsigned)grants_prove(store, STORE, 3, plugin, 32, proof, LONGEST_PROOF, length));
+    if (granted(third, plugin, 0)) return 1;
+
+    /* Refused are also keys out of order, a version that is not kept, and a proof for which there is no room; none of these writes anything. */
     ask(batch, other, score);
     ask(batch + RECORD, plugin, score);
     printf("keys out of order: refused with %u\n", (unsigned)publish(batch, 2, second));
-    printf("version 3: refused with %u\n", (unsigned)grants_root(store, STORE, 3, second));
+    printf("version 4: refused with %u\n", (unsigned)grants_root(store, STORE, 4, second));
     printf("no room: refused with %u\n", (unsigned)grants_prove(store, STORE, 1, plugin, 32, proof, proof_length - 1, length));
     printf("the store is %s\n", grants_check(store, STORE) == 0 ? "sound" : "not sound");
     free(proof);

@@ -6,8 +6,13 @@
 
 use grants::{Applied, Batch, Error, Key, Proof, Root, Store, Value};
 
-/// What an editor does. Unless the proof shows that the grant stands, nothing is opened.
+/// What an editor does. Unless the proof shows that the grant stands, nothing is opened. A signed root of 32 zero bytes is itself the proof that
+/// nothing is granted: there is no other.
 fn granted(root: Root, key: Key, proof: &Proof) -> bool {
+    if root == Root::EMPTY {
+        println!("editor: nothing is granted");
+        return false;
+    }
     match proof.verify(root, key) {
         Ok(Some(_)) => println!("editor: the grant stands"),
         Ok(None) => println!("editor: there is no such grant"),
@@ -51,20 +56,31 @@ fn main() -> Result<(), Box<dyn std::error::Error>> {
     // An old proof under the new root is refused.
     assert!(!granted(second.root, plugin, &old));
 
-    // So are keys out of order, a version that is not kept, and a proof for which there is no room; none of these writes anything. A `Batch` puts
+    // With the last grant withdrawn the version is empty: its root says so, and there is no proof.
+    let number = |refused: Result<(), Error>| refused.unwrap_err().number();
+    let mut batch = Batch::new();
+    batch.delete(other)?;
+    let third = store.apply(&batch)?;
+    tell(&third);
+    println!(
+        "an empty version: refused with {}",
+        number(store.prove(3, plugin).map(drop))
+    );
+    assert!(!granted(third.root, plugin, &old));
+
+    // Refused are also keys out of order, a version that is not kept, and a proof for which there is no room; none of these writes anything. A `Batch` puts
     // its keys in order, so disorder takes bytes from elsewhere.
     let mut both = Batch::new();
     both.insert(plugin, score)?.insert(other, score)?;
     let mut bytes = both.to_bytes();
     bytes.rotate_left(72);
-    let number = |refused: Result<(), Error>| refused.unwrap_err().number();
     println!(
         "keys out of order: refused with {}",
         number(store.apply_bytes(&bytes).map(drop))
     );
     println!(
-        "version 3: refused with {}",
-        number(store.root(3).map(drop))
+        "version 4: refused with {}",
+        number(store.root(4).map(drop))
     );
     let mut room = vec![0; old.as_bytes().len() - 1];
     println!(

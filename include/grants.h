@@ -6,7 +6,9 @@
  * Each call returns 0 where it is accepted, else a number of refusal; a refused call writes nothing, its answer included. Buffers lent to one
  * call do not overlap. A pointer is never null, also where its length is 0. The calls keep no state, take no lock and allocate nothing; a
  * store may be used from any thread that owns it. All numbers in buffers are little-endian. Every call takes any bytes: bad input is refused.
- * The stack that each call takes is in docs/FIGURES.md; every byte of a store, a batch and a proof is in docs/FORMAT.md.
+ * The stack that each call takes is in docs/FIGURES.md; every byte of a store, a batch and a proof is in docs/FORMAT.md, and
+ * what the library does, complete and in words, in docs/RULES.md. The archive to link is target/native/libgrants.a of the checkout, or what
+ * `pkg-config --libs grants` names after `make install`.
  *
  *   1  the store's length isn't 24 + 120n, n in 1 to 16,384
  *   2  a header field isn't right, its capacity isn't n, or oldest is above latest
@@ -20,6 +22,7 @@
  *  10  the proof isn't one whole record in form, no byte over
  *  11  the proof is in form, but doesn't hold
  *  12  a key or root handed in isn't 32 bytes
+ *  14  the version is empty, so there is no proof
  *
  * 'Refused' below names a call's numbers in the order in which it tests for them: where several are deserved, the first is given.
  */
@@ -61,13 +64,15 @@ uint32_t grants_root(const uint8_t *store, size_t store_len, uint32_t version, u
 uint32_t grants_get(const uint8_t *store, size_t store_len, uint32_t version, const uint8_t *key, size_t key_len, uint8_t found[33]);
 
 /* Writes the proof that a key is in a version, or that it isn't, to the front of room; the rest of room stays. length: of the proof, 4 bytes.
-   No proof is longer than 17,080 bytes. It tests the header and what it meets on its way, not soundness: what comes from a store that isn't
-   sound, grants_verify may refuse. Refused: 12, 1, 2, 8, 3, 9. */
+   No proof is longer than 17,080 bytes; the shortest has 72, of absence 112. A version without a grant has no proof (14): its root of 32 zero
+   bytes, signed, is itself the proof that nothing is granted. It tests the header and what it meets on its way, not soundness: what comes from
+   a store that isn't sound, grants_verify may refuse. Refused: 12, 1, 2, 8, 14, 3, 9. */
 uint32_t grants_prove(const uint8_t *store, size_t store_len, uint32_t version, const uint8_t *key, size_t key_len, uint8_t *room,
                       size_t room_len, uint8_t length[4]);
 
 /* What a proof shows of a key against a root: all that an editor needs. The root must come from who signs it; the proof may come from anybody.
    found: 1 and the value for 'present', 0 and 32 zero bytes for 'absent'. Any number but 0 means that the proof shows nothing.
+   Where the signed root is 32 zero bytes nothing is granted, and no proof is needed: none is accepted against it.
    Refused: 12, 10, 11. */
 uint32_t grants_verify(const uint8_t *root, size_t root_len, const uint8_t *key, size_t key_len, const uint8_t *proof, size_t proof_len,
                        uint8_t found[33]);

@@ -1,7 +1,8 @@
-//! Links the proved library, libgrants.a: from the folder that GRANTS_LIB_DIR names, else from target/native of the checkout. Where it is not
-//! there yet, `tests/archive grants` makes it; that proves every function it is made of first, which takes some minutes.
+//! Links libgrants.a: from the folder that GRANTS_LIB_DIR names, else from target/native of the checkout, where `rust/library` makes it: of
+//! proved functions where this checkout's proofs are made, else of the same sources without them. The file libgrants.proofs beside it says which.
 
 use std::env;
+use std::fs;
 use std::path::{Path, PathBuf};
 use std::process::{Command, Stdio};
 
@@ -13,23 +14,33 @@ fn main() {
     };
     let archive = folder.join("libgrants.a");
     assert!(archive.is_file(), "{} is not there", archive.display());
+    let proofs = folder.join("libgrants.proofs");
+    let said = fs::read_to_string(&proofs).unwrap_or_default();
+    let said = said
+        .lines()
+        .next()
+        .unwrap_or("nothing is said about its proofs");
+    println!("cargo:rustc-env=GRANTS_PROOFS={said}");
+    if env::var_os("GRANTS_LIB_DIR").is_none() && said.contains("without") {
+        println!("cargo:warning=libgrants.a: {said}");
+    }
     println!("cargo:rerun-if-changed={}", archive.display());
+    println!("cargo:rerun-if-changed={}", proofs.display());
     println!("cargo:rustc-link-search=native={}", folder.display());
     println!("cargo:rustc-link-lib=static=grants");
 }
 
 fn native() -> PathBuf {
     let checkout = Path::new(&env::var_os("CARGO_MANIFEST_DIR").unwrap()).join("..");
-    let folder = checkout.join("target/native");
-    if !folder.join("libgrants.a").is_file() {
-        let made = Command::new(checkout.join("tests/archive"))
-            .arg("grants")
-            .stdout(Stdio::null())
-            .status();
-        assert!(
-            made.is_ok_and(|status| status.success()),
-            "no libgrants.a: `tests/archive grants` makes it with the Rattle kit, or GRANTS_LIB_DIR names the folder that has it"
-        );
+    for source in ["crates", "crates.txt"] {
+        println!("cargo:rerun-if-changed={}", checkout.join(source).display());
     }
-    folder
+    let made = Command::new(checkout.join("rust/library"))
+        .stdout(Stdio::null())
+        .status();
+    assert!(
+        made.is_ok_and(|status| status.success()),
+        "no libgrants.a: `rust/library` makes it with the Rattle kit, or GRANTS_LIB_DIR names the folder that has it"
+    );
+    checkout.join("target/native")
 }

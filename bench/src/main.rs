@@ -64,11 +64,31 @@ fn main() {
             black_box(proved::leaf_hash(black_box(&grant)));
         },
         || {
+            black_box(plain::leaf_hash_in_full(black_box(&left), black_box(&right)));
+        },
+    );
+    compare(
+        "leaf-hash-beside-the-trick",
+        4000,
+        || {
+            black_box(proved::leaf_hash(black_box(&grant)));
+        },
+        || {
             black_box(plain::leaf_hash(black_box(&left), black_box(&right)));
         },
     );
     compare(
         "inner-hash",
+        4000,
+        || {
+            black_box(proved::inner_hash(black_box(&left), black_box(&right)));
+        },
+        || {
+            black_box(plain::inner_hash_in_full(black_box(&left), black_box(&right)));
+        },
+    );
+    compare(
+        "inner-hash-beside-the-trick",
         4000,
         || {
             black_box(proved::inner_hash(black_box(&left), black_box(&right)));

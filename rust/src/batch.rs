@@ -15,7 +15,7 @@ const RECORD: usize = 72;
 /// let mut batch = Batch::new();
 /// batch.insert([2; 32], [7; 32])?.delete([1; 32])?;
 /// assert_eq!(batch.len(), 2);
-/// // The smaller key comes first, as document 01 wants it.
+/// // The smaller key comes first, as docs/RULES.md wants it.
 /// assert_eq!(batch.to_bytes()[8..40], [1; 32]);
 ///
 /// let doubled = batch.insert([1; 32], [9; 32]).unwrap_err();
@@ -68,7 +68,7 @@ impl Batch {
         self.asks.iter().map(|(key, value)| (*key, *value))
     }
 
-    /// The batch as document 01's records of 72 bytes.
+    /// The batch as records of 72 bytes (docs/FORMAT.md).
     pub fn to_bytes(&self) -> Vec<u8> {
         let mut bytes = Vec::with_capacity(self.len() * RECORD);
         for (key, value) in self.iter() {

@@ -1,6 +1,6 @@
 use std::fmt;
 
-/// A number of refusal of document 01. A refused call wrote nothing.
+/// A number of refusal (docs/RULES.md). A refused call wrote nothing.
 ///
 /// ```
 /// use grants::{Error, Store};
@@ -14,7 +14,7 @@ use std::fmt;
 #[non_exhaustive]
 pub enum Error {
     /// 1: the store's length isn't 24 + 120n, n in 1 to 16,384.
-    Size,
+    Size = 1,
     /// 2: a header field isn't right, its capacity isn't n, or oldest is above latest.
     Header,
     /// 3: the store isn't sound (check, apply, prune), or the walk says so (reads).
@@ -37,10 +37,12 @@ pub enum Error {
     ProofFails,
     /// 12: a key or root handed in isn't 32 bytes.
     NotThirtyTwoBytes,
+    /// 14: the version is empty, so there is no proof; its root of 32 zero bytes itself shows that nothing is granted.
+    EmptyVersion = 14,
 }
 
-/// 01's table, number 1 first, in the words of include/grants.h.
-const TABLE: [(Error, &str); 12] = [
+/// The table of the rules, number 1 first, in the words of include/grants.h.
+const TABLE: [(Error, &str); 13] = [
     (
         Error::Size,
         "the store's length isn't 24 + 120n, n in 1 to 16,384",
@@ -77,12 +79,20 @@ const TABLE: [(Error, &str); 12] = [
         Error::NotThirtyTwoBytes,
         "a key or root handed in isn't 32 bytes",
     ),
+    (
+        Error::EmptyVersion,
+        "the version is empty, so there is no proof",
+    ),
 ];
 
 impl Error {
-    /// The number that 01's table gives it, 1 to 12.
+    /// The number that the table gives it.
     pub fn number(self) -> u32 {
-        self as u32 + 1
+        self as u32
+    }
+
+    fn row(number: u32) -> Option<&'static (Error, &'static str)> {
+        TABLE.iter().find(|(error, _)| error.number() == number)
     }
 
     /// The refusal of a number, none where the table has no such row.
@@ -94,14 +104,13 @@ impl Error {
     /// assert_eq!(Error::from_number(0), None);
     /// ```
     pub fn from_number(number: u32) -> Option<Error> {
-        let row = usize::try_from(number).ok()?.checked_sub(1)?;
-        TABLE.get(row).map(|(error, _)| *error)
+        Error::row(number).map(|(error, _)| *error)
     }
 }
 
 impl fmt::Display for Error {
     fn fmt(&self, f: &mut fmt::Formatter<'_>) -> fmt::Result {
-        f.write_str(TABLE[*self as usize].1)
+        f.write_str(Error::row(self.number()).expect("each has its row").1)
     }
 }
 
@@ -113,13 +122,12 @@ mod tests {
 
     #[test]
     fn numbers_are_the_rows_of_the_table() {
-        for number in 1..=12 {
-            let error = Error::from_number(number).unwrap();
-            assert_eq!(error.number(), number);
-            assert_eq!(TABLE[number as usize - 1].0, error);
+        let numbers: Vec<u32> = TABLE.iter().map(|(error, _)| error.number()).collect();
+        assert_eq!(numbers, [1, 2, 3, 4, 5, 6, 7, 8, 9, 10, 11, 12, 14]);
+        for number in 0..=20 {
+            let listed = numbers.contains(&number).then_some(number);
+            assert_eq!(Error::from_number(number).map(Error::number), listed);
         }
-        assert_eq!(Error::from_number(0), None);
-        assert_eq!(Error::from_number(13), None);
         assert_eq!(Error::from_number(u32::MAX), None);
     }
 }

@@ -12,6 +12,14 @@ pub enum HexError {
     },
 }
 
+fn plural(n: usize) -> &'static str {
+    if n == 1 {
+        ""
+    } else {
+        "s"
+    }
+}
+
 impl fmt::Display for HexError {
     fn fmt(&self, f: &mut fmt::Formatter<'_>) -> fmt::Result {
         match self {
@@ -19,11 +27,11 @@ impl fmt::Display for HexError {
             HexError::Count {
                 digits,
                 wanted: Some(wanted),
-            } => write!(f, "{digits} hex digits, not {wanted}"),
+            } => write!(f, "{digits} hex digit{}, not {wanted}", plural(*digits)),
             HexError::Count {
                 digits,
                 wanted: None,
-            } => write!(f, "{digits} hex digits, an odd number"),
+            } => write!(f, "{digits} hex digit{}, an odd number", plural(*digits)),
         }
     }
 }

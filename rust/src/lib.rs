@@ -30,7 +30,7 @@
 //! # Ok::<(), Error>(())
 //! ```
 //!
-//! What is proved is the library: that every call ends, stays inside its buffers, and answers or refuses as document 01 says. This crate is a
+//! What is proved is the library: that every call ends, stays inside its buffers, and answers or refuses as docs/RULES.md says. This crate is a
 //! thin layer over it and is not proved. It adds no rule of its own; all its `unsafe` is in one module, `ffi`.
 #![deny(unsafe_code)]
 #![warn(missing_debug_implementations)]

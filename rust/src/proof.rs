@@ -63,13 +63,12 @@ impl AsRef<[u8]> for Proof {
 /// ```
 /// use grants::{verify, Error, Root};
 ///
-/// // Nothing is in the empty version: a proof without neighbours, 40 bytes.
+/// // Nothing is in an empty version: its root says so, and there is no proof. One without a neighbour is off form.
 /// let mut proof = [0; 40];
 /// proof[0] = 40;
 /// proof[4] = 17;
-/// assert_eq!(verify(Root::EMPTY, [0; 32], proof), Ok(None));
+/// assert_eq!(verify(Root::EMPTY, [0; 32], proof), Err(Error::ProofForm));
 /// assert_eq!(verify(Root::EMPTY, [0; 31], proof), Err(Error::NotThirtyTwoBytes));
-/// assert_eq!(verify(Root::EMPTY, [0; 32], &proof[1..]), Err(Error::ProofForm));
 /// ```
 pub fn verify(
     root: impl AsRef<[u8]>,

@@ -1,5 +1,5 @@
 //! Reading the records of a sound store, to list or draw them. Nothing is judged here: the library has said before that every slot is free or
-//! in form, and which records stand in a version follows from their lifetimes, by the last sentence of 01's 'Sound'.
+//! in form, and which records stand in a version follows from their lifetimes, by the last rule of 'Sound' in docs/RULES.md.
 
 use crate::{Header, Key, Value};
 use std::fmt;

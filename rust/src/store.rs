@@ -15,7 +15,7 @@ pub const fn store_bytes(capacity: u32) -> usize {
 
 /// A store over bytes, borrowed or owned: `&[u8]`, `&mut [u8]`, `Vec<u8>`, an array, a mapped file.
 ///
-/// Nothing is judged when a `Store` is made. Each call takes any bytes, tests what document 01 wants tested, and answers or refuses; a refused
+/// Nothing is judged when a `Store` is made. Each call takes any bytes, tests what docs/RULES.md wants tested, and answers or refuses; a refused
 /// call changes no byte.
 ///
 /// ```
@@ -105,7 +105,8 @@ impl<B: AsRef<[u8]>> Store<B> {
         ffi::get(self.as_bytes(), version, key.as_ref()).map(proof::found)
     }
 
-    /// The proof that a key is in a version, or that it isn't. Refused: 12, 1, 2, 8, 3.
+    /// The proof that a key is in a version, or that it isn't. In a version without a grant there is none (14): its root, [`Root::EMPTY`], is
+    /// itself the proof that nothing is granted. Refused: 12, 1, 2, 8, 14, 3.
     pub fn prove(&self, version: u32, key: impl AsRef<[u8]>) -> Result<Proof, Error> {
         let mut room = vec![0; PROOF_BYTES];
         let length = self.prove_into(version, key, &mut room)?;
@@ -113,16 +114,21 @@ impl<B: AsRef<[u8]>> Store<B> {
         Ok(Proof::from_bytes(room))
     }
 
-    /// The same, written to the front of `room`; the answer is the proof's length, and the rest of `room` stays. Refused: 12, 1, 2, 8, 3, 9.
+    /// The same, written to the front of `room`; the answer is the proof's length, and the rest of `room` stays. Refused: 12, 1, 2, 8, 14, 3, 9.
     ///
     /// ```
-    /// use grants::{Error, Store};
+    /// use grants::{Batch, Error, Store};
     ///
-    /// let store = Store::with_capacity(1)?;
-    /// let mut room = [9; 41];
-    /// assert_eq!(store.prove_into(0, [1; 32], &mut room)?, 40);
-    /// assert_eq!(room[40], 9);
-    /// assert_eq!(store.prove_into(0, [1; 32], &mut room[..39]), Err(Error::ProofTooLong));
+    /// let mut store = Store::with_capacity(1)?;
+    /// let mut room = [9; 113];
+    /// assert_eq!(store.prove_into(0, [1; 32], &mut room), Err(Error::EmptyVersion));
+    ///
+    /// let mut batch = Batch::new();
+    /// batch.insert([2; 32], [7; 32]).unwrap();
+    /// store.apply(&batch)?;
+    /// assert_eq!(store.prove_into(1, [1; 32], &mut room)?, 112);
+    /// assert_eq!(room[112], 9);
+    /// assert_eq!(store.prove_into(1, [1; 32], &mut room[..111]), Err(Error::ProofTooLong));
     /// # Ok::<(), Error>(())
     /// ```
     pub fn prove_into(
@@ -203,7 +209,7 @@ impl<B: AsRef<[u8]> + AsMut<[u8]>> Store<B> {
         self.apply_bytes(&batch.to_bytes())
     }
 
-    /// The same, of document 01's batch records of 72 bytes, from anybody. Refused: 1, 2, 3, 4, 5, 6, 7.
+    /// The same, of batch records of 72 bytes (docs/FORMAT.md), from anybody. Refused: 1, 2, 3, 4, 5, 6, 7.
     pub fn apply_bytes(&mut self, batch: &[u8]) -> Result<Applied, Error> {
         let answer = ffi::apply(self.bytes.as_mut(), batch)?;
         let mut root = [0; 32];

@@ -1,4 +1,4 @@
-//! 01's example through the safe calls: what the wrapper hands on is what the library answers.
+//! The example of docs/RULES.md through the safe calls: what the wrapper hands on is what the library answers.
 
 use grants::{Applied, Batch, Error, Key, Root, Store, Value};
 

@@ -24,7 +24,7 @@ macro_rules! round {
             .wrapping_add($k)
             .wrapping_add($w);
         let t2 = ($a.rotate_right(2) ^ $a.rotate_right(13) ^ $a.rotate_right(22))
-            .wrapping_add(($a & $b) ^ ($a & $c) ^ ($b & $c));
+            .wrapping_add($b ^ (($a ^ $b) & ($b ^ $c)));
         $d = $d.wrapping_add(t1);
         $h = t1.wrapping_add(t2);
     };
@@ -61,11 +61,9 @@ macro_rules! made {
     }};
 }
 
-fn compress(s: &mut [u32; 8], block: &[u8; 64]) {
-    let mut w = [0u32; 16];
-    for (word, bytes) in w.iter_mut().zip(block.chunks_exact(4)) {
-        *word = u32::from_be_bytes([bytes[0], bytes[1], bytes[2], bytes[3]]);
-    }
+/// The hash value after one block more, given its words. Inlined, so that words that are known are folded into the rounds.
+#[inline(always)]
+fn compress_words(s: &mut [u32; 8], mut w: [u32; 16]) {
     let [mut a, mut b, mut c, mut d, mut e, mut f, mut g, mut h] = *s;
     eight!(0, given, w, a b c d e f g h);
     eight!(8, given, w, a b c d e f g h);
@@ -78,6 +76,22 @@ fn compress(s: &mut [u32; 8], block: &[u8; 64]) {
     for (x, y) in s.iter_mut().zip([a, b, c, d, e, f, g, h]) {
         *x = x.wrapping_add(y);
     }
+}
+
+fn compress(s: &mut [u32; 8], block: &[u8; 64]) {
+    let mut w = [0u32; 16];
+    for (word, bytes) in w.iter_mut().zip(block.chunks_exact(4)) {
+        *word = u32::from_be_bytes([bytes[0], bytes[1], bytes[2], bytes[3]]);
+    }
+    compress_words(s, w);
+}
+
+/// The second block of a message of 65 bytes, of which all but the first byte is known.
+fn compress_second(s: &mut [u32; 8], last: u8) {
+    let mut w = [0u32; 16];
+    w[0] = u32::from_be_bytes([last, 0x80, 0, 0]);
+    w[15] = 520;
+    compress_words(s, w);
 }
 
 fn bytes(s: [u32; 8]) -> [u8; 32] {
@@ -107,18 +121,31 @@ pub fn sha256(message: &[u8]) -> [u8; 32] {
     bytes(s)
 }
 
-fn node(kind: u8, left: &[u8; 32], right: &[u8; 32]) -> [u8; 32] {
+fn first(kind: u8, left: &[u8; 32], right: &[u8; 32]) -> [u8; 64] {
     let mut first = [0; 64];
     first[0] = kind;
     first[1..33].copy_from_slice(left);
     first[33..].copy_from_slice(&right[..31]);
+    first
+}
+
+/// The hash of a node by two general compressions.
+fn node_in_full(kind: u8, left: &[u8; 32], right: &[u8; 32]) -> [u8; 32] {
     let mut second = [0; 64];
     second[0] = right[31];
     second[1] = 0x80;
     second[62..].copy_from_slice(&520u16.to_be_bytes());
     let mut s = START;
-    compress(&mut s, &first);
+    compress(&mut s, &first(kind, left, right));
     compress(&mut s, &second);
+    bytes(s)
+}
+
+/// The same with what is known of the second block folded in (request 2026-06).
+fn node(kind: u8, left: &[u8; 32], right: &[u8; 32]) -> [u8; 32] {
+    let mut s = START;
+    compress(&mut s, &first(kind, left, right));
+    compress_second(&mut s, right[31]);
     bytes(s)
 }
 
@@ -128,4 +155,14 @@ pub fn leaf_hash(key: &[u8; 32], value: &[u8; 32]) -> [u8; 32] {
 
 pub fn inner_hash(left: &[u8; 32], right: &[u8; 32]) -> [u8; 32] {
     node(0, left, right)
+}
+
+#[allow(dead_code)]
+pub fn leaf_hash_in_full(key: &[u8; 32], value: &[u8; 32]) -> [u8; 32] {
+    node_in_full(1, key, value)
+}
+
+#[allow(dead_code)]
+pub fn inner_hash_in_full(left: &[u8; 32], right: &[u8; 32]) -> [u8; 32] {
+    node_in_full(0, left, right)
 }

@@ -319,6 +319,8 @@ def checks(rng, number, count):
         for _ in range(6):
             k = rng.choice(keys + [key(rng.choice(KEYS), rng.choice([0, 1]))])
             p = model.answer(model.prove, s, s.latest, k)
+            if p == 14:
+                p = ('absence', k, None, None)  # the proof of an empty version before 2026-03
             if isinstance(p, int):
                 continue
             p = twisted(rng, p)

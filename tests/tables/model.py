@@ -1,4 +1,4 @@
-"""Document 01 read a second time, by its words, on records without bytes. Hashes are symbols: ('leaf', key, value), ('inner', left, right)
+"""Document 01 read a second time, with 2026-03 of document 02, by its words, on records without bytes. Hashes are symbols: ('leaf', key, value), ('inner', left, right)
 or ZEROS. Nothing here was made from the project's definitions; generate.py compares the two.
 """
 from dataclasses import dataclass, replace
@@ -202,6 +202,9 @@ def kept(store, version):
 
 def prove(store, version, key):
     kept(store, version)
+    # 2026-03: proving in an empty version is refused with 14, tested after 8.
+    if find(store, version, '') is None:
+        raise Refused(14)
     trail, end = walk(store, version, key)
     if end is not None and end.leaf[0] == key:
         return ('presence',) + end.leaf + (steps_of(trail),)
@@ -253,7 +256,7 @@ def check_proof(hashes, root, key, p):
         ok = ok and (n is None or climb(hashes, n) == root)
     ok = ok and (left is None or left[0] < key) and (right is None or key < right[0])
     if left is None and right is None:
-        ok = ok and root == bytes(32)
+        ok = False  # 2026-03: at least one neighbour is needed
     elif right is None:
         ok = ok and outermost('1', left[2])
     elif left is None:

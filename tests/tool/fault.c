@@ -123,3 +123,7 @@ int rename(const char *from, const char *to) {
 int unlink(const char *path) {
     return wrong("unlink", path, -1, 0, 0) ? -1 : REAL(unlink)(path);
 }
+
+int linkat(int from_folder, const char *from, int to_folder, const char *to, int flags) {
+    return wrong("link", from, -1, 0, 0) ? -1 : REAL(linkat)(from_folder, from, to_folder, to, flags);
+}

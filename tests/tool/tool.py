@@ -1,7 +1,10 @@
 """The command line tool as a person or a script meets it. Arguments: the tool, fault.so, the README, then names of tests where not all are
 to run, or --write-tour, which puts what the tour's commands print into the README. The last line counts what passed."""
 
+import csv
 import difflib
+import fcntl
+import hashlib
 import json
 import os
 import random
@@ -16,6 +19,8 @@ import time
 import traceback
 
 TOOL, FAULT, README = [os.path.abspath(p) for p in sys.argv[1:4]]
+TOP = os.path.dirname(README)
+os.environ["GRANTS_AUTHOR"] = "mira"
 
 ZERO = "00" * 32
 LARGEST = 16384
@@ -62,7 +67,9 @@ def answered(status, *words, **more):
     ran = grants(*words, **more)
     assert ran.status == status, "status %s was expected\n%r" % (status, ran)
     if status in (0, 1):
-        assert ran.err in ("", b""), ran
+        said = ran.err if isinstance(ran.err, str) else ran.err.decode()
+        # What an answer takes from the book is said beside it, and nothing else.
+        assert all(line.startswith("grants: by ") for line in said.splitlines()), ran
     else:
         assert ran.err.startswith("grants: ") and ran.err.count("\n") == 1, ran
         assert "panicked" not in ran.err, ran
@@ -127,7 +134,7 @@ def untouched(path, status, sentence, *words, **more):
 
 
 @test
-def the_example_of_document_01():
+def the_example_of_the_rules():
     answered(0, "format", "s", 20)
     made = [
         (FOUR, (1, 7)),
@@ -170,7 +177,7 @@ def proofs_are_made_and_checked():
     root = answered(0, "root", s).strip()
     for key, found in ((A, value(1)), (B, None), (C, value(5)), (D, value(4)), ("ff" * 32, None)):
         status, shown = (0, "present %s\n" % found) if found else (1, "absent\n")
-        out = answered(0, "prove", s, key, "--out", "proof")
+        out = answered(0, "prove", s, key, "--out", "proof", "--force")
         assert out == "proof: %d bytes, %s in version 2\n" % (os.path.getsize("proof"), shown.split()[0])
         assert answered(status, "verify", root, key, "proof") == shown
         # As hex, and through a pipe.
@@ -188,6 +195,28 @@ def proofs_are_made_and_checked():
         old = answered(0, "root", s, 1).strip()
         refused(21, "not to be trusted", "verify", old, key, "proof")
         refused(21, "refused with 11", "verify", root, "ab" * 32, "proof")
+
+
+@test
+def empty_versions():
+    """2026-03: a version without a grant has no proof; its root of zeros is what an editor goes by."""
+    sentence = "refused with 14: the version is empty, so there is no proof. The version's root is 32 zero bytes: signed, it is itself the proof"
+    s = desk()
+    answered(0, "apply", s, "-", input="".join("- %s\n" % key for key in sorted((A, B, C, D))))
+    for version in ([0], [3], []):
+        assert answered(0, "root", s, *version).strip() == "00" * 32
+        assert answered(1, "get", s, B, *version) == "absent\n"
+        for key in (A, "ab" * 32):
+            refused(24, sentence, "prove", s, key, *version)
+            refused(24, sentence, "prove", s, key, *version, "--out", "none")
+            assert not os.path.exists("none")
+    refused(18, "refused with 8", "prove", s, B, 4)
+    # What stood for it before is off form, whatever the root; a proof of another version fails under the zero root.
+    answered(0, "prove", s, B, 2, "--out", "absent")
+    refused(21, "refused with 11", "verify", "00" * 32, B, "absent")
+    for root in ("00" * 32, answered(0, "root", s, 2).strip()):
+        for key in (B, "ab" * 32):
+            refused(20, "refused with 10", "verify", root, key, write("bad", number(40, 4) + number(17, 2) + number(0, 2) + bytes.fromhex(B)))
 
 
 @test
@@ -287,13 +316,23 @@ def log_show_and_get_agree():
         answered(0, "apply", "s", "-", input=text)
     answered(0, "prune", "s", 3)
     told = json.loads(answered(0, "log", "s", "--json"))
-    lines = [line.split() for line in answered(0, "log", "s").splitlines()[1:]]
+    lines = [line.split() for line in answered(0, "log", "s", "--full").splitlines()[1:]]
     assert [v["version"] for v in told] == list(range(3, 13))
     for entry, line in zip(told, lines):
-        assert line == [str(entry[k]) for k in ("version", "grants", "records", "new", "root")]
+        columns = [entry[k] for k in ("version", "grants", "added", "removed", "changed", "records", "new", "root")]
+        assert line[:1] + line[3:10] == ["-" if c is None else str(c) for c in columns], (entry, line)
+    assert told[0]["added"] is None and told[0]["book"] == "agrees"
     trees = json.loads(answered(0, "show", "s", "--json", *range(3, 13)))
+    before = None
     for entry, tree in zip(told, trees):
         leaves = {r["key"]: r["value"] for r in tree["records"] if "key" in r}
+        grants_ = json.loads(answered(0, "list", "s", entry["version"], "--json"))["grants"]
+        assert [(g["key"], g["value"]) for g in grants_] == sorted(leaves.items())
+        if before is not None:
+            both = before.keys() & leaves.keys()
+            changed = sum(before[k] != leaves[k] for k in both)
+            assert [entry["added"], entry["removed"], entry["changed"]] == [len(leaves) - len(both), len(before) - len(both), changed]
+        before = leaves
         assert (entry["grants"], entry["records"]) == (len(leaves), len(tree["records"])) == (tree["grants"], len(tree["records"]))
         assert entry["root"] == tree["root"] == answered(0, "root", "s", entry["version"]).strip()
         for key in rng.sample(keys, 6):
@@ -349,13 +388,15 @@ def show_draws_a_picture_where_dot_is():
 def stat_tells_sizes():
     s = desk()
     told = json.loads(answered(0, "stat", s, "--json"))
-    assert told == {"capacity": 20, "used": 10, "free": 10, "oldest": 0, "latest": 2, "kept": 3, "bytes": 2424}
+    assert told == {"capacity": 20, "used": 10, "free": 10, "oldest": 0, "latest": 2, "kept": 3, "bytes": 2424, "publishings_left": 2}
     out = answered(0, "stat", s)
-    assert out == "capacity  20 slots\nused      10\nfree      10\nkept      0 to 2, 3 versions\nbytes     2424\n"
+    assert out.startswith("capacity  20 slots\nused      10\nfree      10\nkept      0 to 2, 3 versions\nbytes     2424\nleft      about 2 publishings, "), out
+    answered(0, "format", "one", 1)
+    assert answered(0, "stat", "one") == "capacity  1 slot\nused      0\nfree      1\nkept      0 to 0, 1 version\nbytes     144\n"
     # All versions there can be, in a store that is sound: no loop over them.
     write("wide", store_bytes(50, 2**32 - 1))
     assert json.loads(answered(0, "stat", "wide", "--json"))["kept"] == 2**32
-    assert answered(0, "log", "wide", "--last", 2).count(ZERO) == 2
+    assert answered(0, "log", "wide", "--last", 2, "--full").count(ZERO) == 2
     answered(0, "check", "wide")
     untouched("wide", 16, "latest is 4,294,967,295", "apply", "wide", "/dev/null")
     answered(0, "prune", "wide", 2**32 - 1)
@@ -368,7 +409,7 @@ def a_store_on_standard_input():
     for words in (("check", "-"), ("root", "-"), ("get", "-", C), ("prove", "-", B), ("log", "-"), ("show", "-"), ("stat", "-")):
         ran = grants(*words, input=raw)
         assert ran.status == 0, ran
-        named = grants(*[s if w == "-" else w for w in words])
+        named = grants(*[s if w == "-" else w for w in words], *(["--book", "/dev/null"] if words[0] == "log" else []))
         assert ran.out.decode().replace("- is sound", s + " is sound") == named.out
     for words in (("apply", "-", "-"), ("prune", "-", 1), ("format", "-", 20)):
         refused(2, "must be a file", *words)
@@ -410,7 +451,7 @@ def a_key_or_root_of_another_length():
         refused(22, "Write it as 64 hex digits", "verify", ZERO, key, "/dev/null")
         refused(22, "Write it as 64 hex digits", "verify", key, A, "/dev/null")
     refused(22, "The key has 63 hex digits", "get", s, A[:-1])
-    # 12 comes first in 01's order, whatever the store is.
+    # 12 comes first in the rules' order, whatever the store is.
     refused(22, "refused with 12", "get", write("bad", b"x"), A[:-2])
 
 
@@ -484,7 +525,7 @@ def format_loses_nothing():
     answered(0, "format", s, 1, "--force")
     assert read(s) == store_bytes(1)
     assert json.loads(answered(0, "format", "t", LARGEST, "--json")) == {"capacity": LARGEST, "bytes": 24 + 120 * LARGEST}
-    untouched(s, 17, "format a larger store", "apply", s, write("b", FOUR))
+    untouched(s, 17, "grants grow", "apply", s, write("b", FOUR))
 
 
 @test
@@ -519,7 +560,7 @@ def a_folder_that_may_not_be_written():
     os.chmod(s, 0o600)
     done = subprocess.run(["./tool", "check", s], capture_output=True, text=True, preexec_fn=other)
     assert done.returncode == 3 and "cannot read" in done.stderr, done
-    assert read(s) == before and sorted(os.listdir(".")) == [s, "tool"]
+    assert read(s) == before and sorted(os.listdir(".")) == [s, s + ".book", "tool"]
 
 
 @test
@@ -533,7 +574,9 @@ def links_and_modes_are_kept():
     assert stat.S_IMODE(os.stat(s).st_mode) == 0o640
     assert os.listdir("elsewhere") == ["link"]
     os.symlink("nowhere", "dangling")
-    refused(3, "cannot write dangling", "format", "dangling", 5)
+    refused(3, "is there already", "format", "dangling", 5)
+    refused(3, "cannot write dangling", "format", "dangling", 5, "--force")
+    assert not os.path.exists("nowhere")
 
 
 @test
@@ -553,7 +596,7 @@ def the_answer_can_not_be_written():
 def help_is_there():
     out = answered(0, "--help")
     names = [line.split()[0] for line in out.splitlines() if line.startswith("  ")]
-    assert names == "format check apply prune root get prove verify log show stat".split(), names
+    assert set("format check apply prune root get prove verify log show stat list history export import grow name".split()) <= set(names), names
     assert answered(0, "help") == answered(0, "-h") == out
     for name in names:
         told = answered(0, name, "--help")
@@ -580,36 +623,50 @@ def any_bytes_and_words():
         return bytes(changed)
 
     seen = set()
-    for _ in range(250):
+    book = read("desk.grants.book") + ('name %s "chords"\n' % A).encode()
+    for _ in range(350):
         before = noisy(good)
         write("s", before)
+        write("s.book", noisy(book))
         write("p", noisy(proof))
-        write("b", noisy(batch) if rng.random() < 0.6 else noisy(FOUR.encode()))
+        write("b", noisy(batch) if rng.random() < 0.6 else noisy((FOUR + '- "a" # b\n').encode()))
         version = rng.choice(("0", "1", "2", "3", "4294967295", "x"))
-        key = rng.choice((A, B, C, "ff" * 32, A[:-1], "zz"))
+        key = rng.choice((A, B, C, "ff" * 32, A[:-1], "zz", "chords", '"any"', '"', ""))
         words = rng.choice(
             (
                 ["check", "s"],
                 ["apply", "s", "b"],
                 ["apply", "s", "b", "--split"],
+                ["apply", "s", "b", "--dry-run"],
+                ["import", "s", "b"],
                 ["prune", "s", version],
+                ["grow", "s", "30"],
                 ["root", "s", version],
                 ["get", "s", key, version],
+                ["get", "s", key, "--at", "2026-05-03"],
                 ["prove", "s", key],
                 ["verify", root, key, "p"],
+                ["verify", "p", key, "p"],
                 ["log", "s"],
+                ["list", "s", "--csv"],
+                ["list", "s", version, "--json"],
+                ["export", "s"],
+                ["history", "s", key],
+                ["name", "s"],
+                ["name", "s", key],
                 ["show", "s", "--dot"],
                 ["show", "s", version],
                 ["stat", "s", "--json"],
             )
         )
         done = subprocess.run([TOOL] + words, capture_output=True, timeout=60)
-        assert done.returncode in (0, 1, 2, *range(11, 23)), (words, done)
-        assert b"panicked" not in done.stderr and (done.returncode in (0, 1)) == (done.stderr == b""), (words, done)
-        if done.returncode != 0 or words[0] not in ("apply", "prune"):
+        assert done.returncode in (0, 1, 2, 3, 4, *range(11, 23)), (words, done)
+        silent = all(line.startswith(b"grants: by s.book") for line in done.stderr.splitlines())
+        assert b"panicked" not in done.stderr and (done.returncode in (0, 1)) == silent, (words, done)
+        if done.returncode != 0 or words[0] not in ("apply", "import", "prune", "grow"):
             assert read("s") == before, words
         seen.add(done.returncode)
-    assert {0, 1, 2, 11, 12, 13, 14, 18, 20, 21, 22} <= seen, seen
+    assert {0, 1, 2, 3, 11, 12, 13, 14, 18, 20, 21, 22} <= seen, seen
 
 
 # A file that can't be written, a process that is killed.
@@ -627,14 +684,12 @@ def limited(bytes_, ignored):
 def a_file_may_not_grow():
     s = desk()
     for bytes_ in (0, 1, 24, 1000, 2423):
-        untouched(s, 3, "s as it was", "apply", s, "/dev/null", **limited(bytes_, True))
+        untouched(s, 3, "is as it was", "apply", s, "/dev/null", **limited(bytes_, True))
         refused(3, "was not made", "format", "t", 20, **limited(bytes_, True))
-    # Where the signal is not ignored the system ends the process.
-    before = read(s)
-    ran = grants("apply", s, "/dev/null", **limited(1000, False))
-    assert ran.status == -signal.SIGXFSZ and read(s) == before, ran
-    answered(0, "apply", s, "/dev/null", **limited(2424, True))
-    assert sorted(os.listdir(".")) == [s]
+        # The tool doesn't leave it to its caller to ignore the signal.
+        untouched(s, 3, "it would be larger than files may be here; it is as it was", "apply", s, "/dev/null", **limited(bytes_, False))
+    answered(0, "apply", s, "/dev/null", **limited(2424, False))
+    assert sorted(os.listdir(".")) == [s, s + ".book"]
 
 
 @test
@@ -661,9 +716,11 @@ def a_full_disk():
 def outcomes(s, words, before, after, env, **more):
     """A run with something going wrong in it leaves the old store or the new one, and the next run is not hindered."""
     write(s, before)
+    write(s + ".book", booked)
     ran = grants(*words, env=dict(env, LD_PRELOAD=FAULT), **more)
     left = read(s)
     assert left in (before, after), "neither the old store nor the new one\n%r" % ran
+    assert read(s + ".book").startswith(booked), "the book lost a line"
     answered(0, "check", s)
     grants(*words)
     assert read(s) == (after if left == before else read(s))
@@ -671,12 +728,13 @@ def outcomes(s, words, before, after, env, **more):
     return ran, left == after
 
 
-around = []
+around, booked = [], b"# a book\n"
 
 
 def calls_of(s, words, before):
     """The calls by which the command reads and writes files, in order."""
     write(s, before)
+    write(s + ".book", booked)
     log = os.path.abspath("../calls.log")
     if os.path.exists(log):
         os.remove(log)
@@ -695,17 +753,18 @@ def faulty(kind):
         assert len(calls) > 10 and before != after
         around[:] = sorted(os.listdir("."))
         seen = []
+        names = [name for name, _ in calls]
+        # From the first read of the store to its rename what went wrong leaves the old one.
         for at in range(1, len(calls) + 1):
             ran, done = outcomes(s, words, before, after, {"FAULT": kind, "FAULT_AT": str(at)})
             seen.append(done)
             name = calls[at - 1][0]
             if kind == "fail":
-                # Keeping the owner is the one thing that may fail without a word.
-                assert ran.status == (0 if name == "chown" else 3), "%s %r" % (name, ran)
+                # Keeping the owner is the one thing that may fail without a word, and a file beside that can't be removed waits for the next writer.
+                assert ran.status == (0 if name in ("chown", "unlink") else 3), "%s %r" % (name, ran)
             else:
                 assert ran.status == -signal.SIGKILL, ran
         # The old store up to the rename, the new one from there on.
-        names = [name for name, _ in calls]
         turn = names.index("rename")
         if kind != "fail":
             assert seen == [i > turn for i in range(len(calls))], seen
@@ -732,13 +791,11 @@ def written_beside_synced_renamed_synced():
     calls = calls_of(s, ("apply", s, "/dev/null"), read(s))
     beside, folder = os.path.abspath(".desk.grants.grants-new"), os.getcwd()
     order = [c for c in calls if c[0] in ("flock", "write", "fsync", "rename")][:-1]
+    book = beside.replace(".grants-new", ".book.grants-new")
     assert order == [
-        ["flock", beside],
-        ["write", beside],
-        ["fsync", beside],
-        ["rename", beside],
-        ["fsync", folder],
-    ], calls
+        ["flock", os.path.abspath(s)],
+        *[[call, name] for name in (beside, book) for call in ("flock", "write", "fsync", "rename")],
+    ][:5] + [["fsync", folder]] + [[call, book] for call in ("flock", "write", "fsync", "rename")] + [["fsync", folder]], calls
 
 
 @test
@@ -752,6 +809,9 @@ def a_fresh_store_is_made_or_not():
         assert ran.status == -signal.SIGKILL
         assert not os.path.exists("t") or read("t") == store_bytes(20)
         grants("format", "t", 20)
+        assert read("t") == store_bytes(20)
+        # What was left beside it goes with the next writing.
+        answered(0, "prune", "t", 0)
         assert read("t") == store_bytes(20) and os.listdir(".") == ["t"]
 
 
@@ -761,7 +821,7 @@ def a_leftover_is_written_over():
     beside = ".desk.grants.grants-new"
     write(beside, b"x" * 5000)
     answered(0, "apply", s, "/dev/null")
-    assert os.path.getsize(s) == 2424 and os.listdir(".") == [s]
+    assert os.path.getsize(s) == 2424 and sorted(os.listdir(".")) == [s, s + ".book"]
     answered(0, "check", s)
     # What else may stand there is not touched.
     write("mine", "dear")
@@ -796,7 +856,7 @@ def killed_after_any_time():
         assert left in (before, after), "neither the old store nor the new one"
         seen[left == after] += 1
     answered(0, "apply", "s", "b")
-    assert sorted(os.listdir(".")) == ["b", "s"]
+    assert sorted(os.listdir(".")) == ["b", "s", "s.book"]
     assert seen[False] > 0, seen
 
 
@@ -806,46 +866,728 @@ def many_writers_and_readers():
     writers = []
     for n in range(4):
         loop = "for i in 1 2 3 4 5 6 7 8 9 10; do '%s' apply s - </dev/null || exit 1; done" % TOOL
-        writers.append(subprocess.Popen(["bash", "-c", loop], stdout=subprocess.DEVNULL))
+        writers.append(subprocess.Popen(["bash", "-c", loop], stdout=subprocess.DEVNULL, stderr=subprocess.DEVNULL))
     looks = 0
     while any(w.poll() is None for w in writers):
         answered(0, "check", "s")
         looks += 1
     assert all(w.wait() == 0 for w in writers)
     assert json.loads(answered(0, "stat", "s", "--json"))["latest"] == 40, "a version was lost"
-    assert looks > 0 and os.listdir(".") == ["s"]
+    assert looks > 0 and sorted(os.listdir(".")) == ["s", "s.book"]
+    told = json.loads(answered(0, "log", "s", "--json"))
+    assert [v["book"] for v in told] == [None] + ["agrees"] * 40, "a line of the book was lost"
+
+
+# What the output can do to the status, what is not written, and who waits.
+
+
+@test
+def a_closed_pipe_makes_no_status_0():
+    s = desk()
+    root = answered(0, "root", s).strip()
+    answered(0, "prove", s, B, "--out", "absent")
+    answered(0, "prove", s, A, "--out", "present")
+    write("bad", bytes(2424))
+    cases = (
+        (21, "verify %s %s present --json" % (ZERO, A)),
+        (21, "verify %s %s present" % (ZERO, A)),
+        (20, "verify %s %s %s --json" % (root, A, s)),
+        (1, "verify %s %s absent" % (root, B)),
+        (1, "verify %s %s absent --json" % (root, B)),
+        (1, "get %s %s" % (s, B)),
+        (12, "check bad --json"),
+        (2, "get %s zz --json" % s),
+        (3, "check none --json"),
+        (0, "get %s %s" % (s, A)),
+    )
+    lines = "".join("(sleep .2; '%s' %s 2>/dev/null) | true; echo ${PIPESTATUS[0]}\n" % (TOOL, words) for _, words in cases)
+    came = subprocess.run(["bash", "-c", lines], capture_output=True, text=True, timeout=60)
+    assert came.stdout.split() == [str(status) for status, _ in cases], came
+    # Nor does a full disk, or standard output that is closed.
+    for status, words in cases[:9]:
+        with open("/dev/full", "w") as full:
+            done = subprocess.run([TOOL] + words.split(), stdout=full, stderr=subprocess.DEVNULL, timeout=60)
+        assert done.returncode == (3 if status in (0, 1) else status), (words, done)
+        closed = subprocess.run("exec '%s' %s >&- 2>&-" % (TOOL, words), shell=True, timeout=60)
+        assert closed.returncode in (status, 3), (words, closed)
+
+
+@test
+def only_regular_files_are_written():
+    s = desk()
+    os.mkfifo("fifo")
+    for words in (("apply", "fifo", "/dev/null"), ("prune", "fifo", 1), ("format", "fifo", 5, "--force"), ("grow", "fifo", 9)):
+        done = subprocess.run([TOOL] + [str(w) for w in words], capture_output=True, text=True, timeout=30)
+        assert done.returncode == 3 and "it is a fifo" in done.stderr, done
+    # A dangling link where the new file goes is not followed.
+    os.symlink("elsewhere", ".desk.grants.grants-new")
+    untouched(s, 3, "it is a symbolic link; remove it", "apply", s, "/dev/null")
+    assert not os.path.exists("elsewhere"), "the link was followed"
+    os.remove(".desk.grants.grants-new")
+    # Nor is one at the book, and none of these is waited for.
+    os.remove(s + ".book")
+    for make in (lambda name: os.symlink("elsewhere", name), os.mkfifo, os.mkdir):
+        make(s + ".book")
+        untouched(s, 3, "cannot read %s.book: it is a" % s, "apply", s, "/dev/null")
+        refused(3, "cannot read %s.book: it is a" % s, "log", s)
+        os.rmdir(s + ".book") if os.path.isdir(s + ".book") else os.remove(s + ".book")
+    os.symlink("elsewhere", "book")
+    untouched(s, 3, "cannot write book: it is a symbolic link", "apply", s, "/dev/null", "--book", "book")
+    assert not os.path.exists("elsewhere")
+    # Nor at an output file.
+    os.symlink("elsewhere", "out")
+    refused(3, "is there already", "prove", s, A, "--out", "out")
+    answered(0, "prove", s, A, "--out", "out", "--force")
+    assert not os.path.islink("out") and not os.path.exists("elsewhere")
+    try:
+        os.mknod("null", 0o666 | stat.S_IFCHR, os.makedev(1, 3))
+    except PermissionError:
+        print("  no device can be made here: that one is not replaced is not tested")
+        return
+    for words in (("format", "null", 5, "--force"), ("apply", "null", "/dev/null")):
+        refused(3, "it is a device", *words)
+    refused(3, "it is a device", "prove", s, A, "--out", "null", "--force")
+    assert stat.S_ISCHR(os.stat("null").st_mode)
+
+
+def as_user(user):
+    def other():
+        os.setgroups([])
+        os.setgid(65534)
+        os.setuid(user)
+
+    return other
+
+
+@test
+def two_users_write_one_store():
+    if os.getuid() != 0:
+        print("  no other user can be had here: two writers of two users are not tested")
+        return
+    os.chmod(".", 0o777)
+    os.chmod("..", 0o755)
+    shutil.copy(TOOL, "../tool")
+    shutil.copy(FAULT, "../fault.so")
+    os.chmod("../fault.so", 0o755)
+    desk("s", 200)
+    os.chmod("s", 0o666)
+    os.path.exists("s.book") and os.chmod("s.book", 0o666)
+
+    def run(user, *words, env=None):
+        full = dict(os.environ, **(env or {}))
+        return subprocess.run(["../tool"] + list(words), capture_output=True, text=True, preexec_fn=as_user(user), env=full, timeout=60)
+
+    # One user's writer is killed at each call in turn: the other's next one is not hindered.
+    for at in range(1, 90):
+        killed = run(1001, "apply", "s", "/dev/null", env={"LD_PRELOAD": "../fault.so", "FAULT": "kill", "FAULT_AT": str(at)})
+        if killed.returncode == 0:
+            break
+        done = run(1002, "apply", "s", "/dev/null")
+        assert done.returncode == 0, (at, done)
+        assert stat.S_IMODE(os.stat("s").st_mode) == 0o666
+    assert killed.returncode == 0 and at > 10, killed
+    # In a folder where only the owner may remove a file, what is left is stepped around.
+    os.chmod(".", 0o1777)
+    os.chown("s", 1002, -1)
+    os.path.exists("s.book") and os.chown("s.book", 1002, -1)
+    write(".s.grants-new", "left")
+    os.chown(".s.grants-new", 1001, -1)
+    done = run(1002, "apply", "s", "/dev/null")
+    assert done.returncode == 0 and read(".s.grants-new") == b"left", done
+    # Who may not write the store is told so.
+    os.chmod("s", 0o644)
+    done = run(1001, "apply", "s", "/dev/null")
+    assert done.returncode == 3 and "permission denied" in done.stderr, done
+
+
+@test
+def a_writer_waits_and_says_so():
+    s = desk()
+    holder = open(s, "rb")
+    fcntl.flock(holder, fcntl.LOCK_EX)
+    start = time.time()
+    untouched(s, 3, "is being written by process", "apply", s, "/dev/null", "--wait", 0)
+    assert time.time() - start < 30
+    told = "process %d of user" % os.getpid()
+    untouched(s, 3, told, "prune", s, 1, "--wait", 0)
+    waiting = subprocess.Popen([TOOL, "apply", s, "/dev/null"], stdout=subprocess.PIPE, stderr=subprocess.PIPE, text=True)
+    said = waiting.stderr.readline()
+    assert said.startswith("grants: waiting for process %d of user" % os.getpid()) and waiting.poll() is None, said
+    holder.close()
+    out, err = waiting.communicate(timeout=60)
+    assert waiting.returncode == 0 and out.startswith("version 3") and err == "", (out, err)
+    refused(2, "SECONDS is a number", "apply", s, "/dev/null", "--wait", "soon")
+
+
+@test
+def forty_at_once():
+    """Of many that make a store one does; of many that write it none is lost, nor what they say."""
+
+    def together(commands):
+        runs = [subprocess.Popen([TOOL] + words, stdout=subprocess.PIPE, stderr=subprocess.PIPE, text=True) for words in commands]
+        return [(*run.communicate(timeout=120), run.returncode) for run in runs]
+
+    for _ in range(3):
+        ended = together([["format", "s", str(300 + i)] for i in range(12)])
+        assert sorted(status for _, _, status in ended) == [0] + [3] * 11, ended
+        assert all("is there already" in err for _, err, status in ended if status), ended
+        assert os.listdir(".") == ["s"]
+        os.remove("s")
+    answered(0, "format", "s", 300)
+    ended = together([["apply", "s", "/dev/null", "--message", str(i)] for i in range(40)])
+    assert all(status == 0 for _, _, status in ended), ended
+    told = json.loads(answered(0, "log", "s", "--json"))
+    assert sorted(v["message"] for v in told[1:]) == sorted(str(i) for i in range(40))
+    assert sorted(os.listdir(".")) == ["s", "s.book"]
+
+
+@test
+def output_files_are_whole_and_not_lost():
+    s = desk()
+    root = answered(0, "root", s).strip()
+    write("proof", "dear")
+    untouched("proof", 3, "--force replaces it", "prove", s, A, "--out", "proof")
+    answered(0, "prove", s, A, "--out", "proof", "--force")
+    assert answered(0, "verify", root, A, "proof").startswith("present")
+    before, around_ = read("proof"), sorted(os.listdir("."))
+    for at in range(1, 30):
+        for kind in ("kill", "half"):
+            ran = grants("prove", s, B, "--out", "proof", "--force", env={"LD_PRELOAD": FAULT, "FAULT": kind, "FAULT_AT": str(at)})
+            assert read("proof") == before or answered(1, "verify", root, B, "proof")
+            answered(0, "prove", s, A, "--out", "proof", "--force")
+            assert sorted(os.listdir(".")) == around_, os.listdir(".")
+        if ran.status == 0:
+            break
+    assert at > 5
+    untouched("proof", 3, "larger than files may be", "prove", s, A, "--out", "proof", "--force", **limited(10, False))
+    # Bytes that are no UTF-8 name a file all the same.
+    name = b"p\xff\n"
+    done = subprocess.run([TOOL, "prove", s, A, b"--out=" + name], capture_output=True, timeout=60)
+    assert done.returncode == 0 and b"\xff" not in done.stdout and done.stdout.count(b"\n") == 1, done
+    assert name in os.listdir(b".")
+
+
+@test
+def names_of_stores():
+    longest = "n" * 255
+    answered(0, "format", longest, 5)
+    answered(0, "apply", longest, "/dev/null")
+    assert sorted(os.listdir(".")) == [longest]
+    refused(3, "the name is longer", "format", "n" * 256, 5)
+    for words in (("format", "new/", 5), ("apply", longest + "/", "/dev/null"), ("format", longest + "/", 5, "--force")):
+        refused(3, "a name that ends in / is a directory's", *words)
+    assert sorted(os.listdir(".")) == [longest]
+    # What a terminal would obey is shown, and paths are as they were given.
+    odd = "red\x1b[31m\nnew\u202e"
+    assert answered(0, "format", odd, 5) == "red\\u{1b}[31m\\nnew\\u{202e}: 5 free slots, 624 bytes\n"
+    refused(3, "red\\u{1b}[31m\\nnew\\u{202e} is there already", "format", odd, 5)
+    refused(2, "there is no command", "\x1b[31m")
+    refused(2, "one word too many", "check", odd, "\x1b]0;x\x07")
+    os.mkdir("folder")
+    write("folder/plain", "x")
+    os.symlink("folder/plain", "link")
+    refused(11, "link has 1 byte", "apply", "link", "/dev/null")
+    refused(3, "cannot write ./folder/none", "format", "./folder/none/x", 5)
+    refused(3, "cannot write ../here/folder: it is a directory", "apply", "../here/folder", "/dev/null")
+    os.chmod("folder/plain", 0o444)
+    refused(3, "cannot write ./link: it is read-only", "apply", "./link", "/dev/null")
+
+
+@test
+def small_words():
+    assert answered(0, "format", "one", 1) == "one: 1 free slot, 144 bytes\n"
+    s = desk()
+    refused(2, "VERSION is a number", "get", s, A, "+1")
+    refused(2, "CAPACITY is a number", "format", "t", "+5")
+    refused(2, "VERSION is a number", "get", s, A, "")
+    # A mark of the byte order is no part of a batch.
+    answered(0, "apply", s, "-", input="\ufeff+ %s %s\n" % (A, value(9)))
+    assert answered(0, "get", s, A) == value(9) + "\n"
+    # --json before the command, with --help, and as a word after --.
+    assert json.loads(answered(0, "--json", "root", s)) == json.loads(answered(0, "root", s, "--json"))
+    for words in (("--help",), ("help", "get"), ("get", "--help"), ("--version",)):
+        told = json.loads(answered(0, *words, "--json"))
+        assert list(told.values()) == [answered(0, *words)[:-1]], told
+        assert answered(0, "--json", *words) == answered(0, *words, "--json")
+    answered(0, "format", "--", "--json", 5)
+    assert answered(0, "root", "--", "--json") == ZERO + "\n"
+    refused(3, "cannot read --force", "check", "--", "--force")
+    ran = grants("--json", "get", s, "zz")
+    assert ran.status == 2 and json.loads(ran.out)["status"] == 2
+
+
+@test
+def a_doubled_key_at_a_seam():
+    answered(0, "format", "s", LARGEST)
+    keys = ["%08x" % n + "00" * 28 for n in range(1500)]
+    records = [record(k, value(1)) for k in keys]
+    doubled = b"".join(records[:1024] + records[1023:])
+    untouched("s", 15, "name each key once", "apply", "s", write("b", doubled), "--split")
+    falling = b"".join(records[1:1025] + records[:1] + records[1025:])
+    untouched("s", 15, "name each key once", "apply", "s", write("b", falling), "--split")
+    answered(0, "apply", "s", write("b", b"".join(records)), "--split")
+
+
+# The book, and what is asked by name and by day.
+
+NAMES = '+ "chords symphony" "read"\n+ "chords sonata" "read"\n+ "lyrics sonata" "read" # all of it\n+ "tuner symphony" "read"\n'
+
+
+def digest(name):
+    return hashlib.sha256(name.encode()).hexdigest()
+
+
+def market(name="market"):
+    answered(0, "format", name, 40)
+    answered(0, "apply", name, "-", "--message", "Spring list", "--date", "2026-05-03", input=NAMES)
+    second = '- "lyrics sonata"\n+ "chords sonata" "write"\n'
+    answered(0, "apply", name, "-", "--message", "Lyrics withdrawn", "--date", "2026-05-10T10:00:00Z", "--author", "tove", input=second)
+    return name
+
+
+@test
+def names_stand_for_their_hash():
+    m = market()
+    assert answered(0, "get", m, digest("chords sonata")) == digest("write") + "\n"
+    assert answered(0, "get", m, "chords sonata") == answered(0, "get", m, '"chords sonata"') == digest("write") + "\n"
+    assert answered(1, "get", m, "lyrics sonata") == "absent\n"
+    assert answered(0, "get", m, "lyrics sonata", 1) == digest("read") + "\n"
+    # A slip is no name, but in quotes anything is.
+    refused(2, 'market.book has no name "chords sonatas"', "get", m, "chords sonatas")
+    assert answered(1, "get", m, '"chords sonatas"') == "absent\n"
+    refused(22, "The key has 5 hex digits", "get", m, "cafe0")
+    refused(22, "The key has 1 hex digit.", "verify", ZERO, "a", "none")
+    answered(0, "apply", m, "-", input='+ "cafe" "read"\n')
+    assert answered(0, "get", m, "cafe") == digest("read") + "\n"
+    for wrong in ('"', '"a', '"a" b', '""x'):
+        refused(2, "two double quotes", "get", m, wrong)
+    answered(0, "prove", m, "chords sonata", "--out", "p")
+    root = answered(0, "root", m).strip()
+    assert answered(0, "verify", root, '"chords sonata"', "p") == "present %s\n" % digest("write")
+    # A name for a key that is not its hash.
+    answered(0, "apply", m, "-", input="+ %s %s\n" % (D, value(4)))
+    assert answered(0, "name", m, "the old desk", D) == '%s "the old desk"\n' % D
+    ran = grants("get", m, "the old desk")
+    assert (ran.status, ran.out) == (0, value(4) + "\n") and ran.err == 'grants: by market.book, "the old desk" is %s\n' % D, ran
+    assert grants("get", m, "chords sonata").err == "", "what a hash says needs no book"
+    refused(4, "lines are only ever added", "name", m, "the old desk", C)
+    refused(22, "64 hex digits", "name", m, "short", "ab")
+    answered(0, "apply", m, "-", input='- "the old desk"\n')
+    assert answered(1, "get", m, D) == "absent\n"
+    assert '%s "the old desk"\n' % D in answered(0, "name", m)
+    # Without a book, names in quotes are hashes still.
+    answered(0, "apply", m, "-", "--no-book", input='+ "the old desk" "read"\n')
+    assert answered(0, "get", m, digest("the old desk")) == digest("read") + "\n"
+    for text, sentence in (
+        ('+ "a "read"\n', "right after a closing quote"),
+        ('+ "a" "read\n', "a quote is not closed"),
+        ('+ "a\\n" "read"\n', "a backslash in quotes"),
+        ('+ a "read"\n', "a name stands in double quotes"),
+        ('"+" "a" "b"\n', "neither"),
+    ):
+        untouched(m, 14, sentence, "apply", m, write("b", text))
+    untouched(m, 15, "in line 1 and again in line 2", "apply", m, write("b", '- "a"\n- %s\n' % digest("a")))
+
+
+@test
+def the_book_is_text_that_only_grows():
+    m = market()
+    book = read(m + ".book").decode()
+    roots = [answered(0, "root", m, v).strip() for v in (1, 2)]
+    assert 'name %s "lyrics sonata"\n' % digest("lyrics sonata") in book
+    assert 'version 1 %s 2026-05-03T00:00:00Z "mira" "Spring list"\n' % roots[0] in book
+    assert book.endswith('version 2 %s 2026-05-10T10:00:00Z "tove" "Lyrics withdrawn"\n' % roots[1])
+    odd = 'two\nlines, "quotes" \\ and \x1b[31m # no comment'
+    answered(0, "apply", m, "-", "--message", odd, input='+ "%s" "read"\n' % 'a \\"b\\" # c')
+    after = read(m + ".book").decode()
+    assert after.startswith(book) and "\x1b" not in after
+    told = json.loads(answered(0, "log", m, "--json"))
+    assert [v["message"] for v in told] == [None, "Spring list", "Lyrics withdrawn", odd]
+    assert "\x1b" not in answered(0, "log", m) and answered(0, "log", m).count("\n") == 5
+    assert answered(0, "get", m, 'a "b" # c') == digest("read") + "\n"
+    # Its absence is no error, nor is a line that says nothing; no line is lost.
+    os.rename(m + ".book", "away")
+    assert json.loads(answered(0, "log", m, "--json"))[1]["book"] is None
+    assert "published" in answered(0, "log", m)
+    refused(2, "has no name", "get", m, "chords sonata")
+    assert answered(0, "get", m, "chords sonata", "--book", "away") == digest("write") + "\n"
+    write(m + ".book", "<<<<<<< ours\n" + after)
+    assert "1 line can't be read, the first is line 1" in answered(0, "log", m)
+    answered(0, "apply", m, "/dev/null")
+    assert read(m + ".book").decode().startswith("<<<<<<< ours\n" + after)
+    write(m + ".book", b"\xff\xfe")
+    untouched(m, 3, "no text in UTF-8", "apply", m, "/dev/null")
+    os.remove(m + ".book")
+    os.mkdir(m + ".book")
+    untouched(m, 3, "it is a directory", "apply", m, "/dev/null")
+    answered(0, "apply", m, "/dev/null", "--no-book")
+
+
+@test
+def the_book_is_not_trusted():
+    m = market()
+    book = read(m + ".book").decode()
+    root = answered(0, "root", m, 2).strip()
+    # A line with another root is not used, and neither is its date.
+    write(m + ".book", book.replace("version 2 " + root, "version 2 " + ZERO))
+    told = json.loads(answered(0, "log", m, "--json"))
+    assert [v["book"] for v in told] == [None, "agrees", "disagrees"] and told[2]["time"] is None and told[2]["message"] is None
+    assert answered(0, "log", m).splitlines()[-1].endswith("the book disagrees")
+    assert "(the book disagrees)" in answered(0, "list", m)
+    refused(4, "no date for version 2", "get", m, "chords sonata", "--at", "2026-05-20")
+    # The last line that agrees counts, and one that doesn't takes nothing away.
+    write(m + ".book", book + 'version 2 %s 2026-05-09 "eve" "forged"\n' % ZERO)
+    assert json.loads(answered(0, "log", m, "--json"))[2]["author"] == "tove"
+    # A name that stands for two keys stands for none.
+    write(m + ".book", book + 'name %s "chords sonata"\n' % D)
+    refused(4, "to two keys", "get", m, "chords sonata")
+    # A store that is older than its book is told so.
+    write(m + ".book", book + 'version 9 %s 2026-06-09 "mira" ""\n' % root)
+    assert "speaks of version 9: this store is older than its book" in answered(0, "log", m)
+    # A fresh store starts another history; names stay.
+    write(m + ".book", book)
+    answered(0, "format", m, 20, "--force")
+    answered(0, "apply", m, "-", input=FOUR)
+    assert [v["book"] for v in json.loads(answered(0, "log", m, "--json"))] == [None, "agrees"]
+    assert read(m + ".book").decode().startswith(book) and "older than its book" not in answered(0, "log", m)
+    assert answered(1, "get", m, "chords sonata") == "absent\n"
+    # And so does one that is made where another was taken away.
+    os.remove(m)
+    answered(0, "format", m, 20)
+    answered(0, "apply", m, "-", input=WITHDRAW)
+    assert [v["book"] for v in json.loads(answered(0, "log", m, "--json"))] == [None, "agrees"]
+    assert read(m + ".book").decode().count("\nfresh 2") == 2
+
+
+@test
+def who_could_open_it_on_that_day():
+    m = market()
+
+    def held(day, *more):
+        ran = grants("list", m, "--at", day, "--json", *more)
+        assert ran.status in (0, 1), ran
+        told = json.loads(ran.out)
+        return told["version"], [g["key_name"] for g in told["grants"]]
+
+    four = sorted(["chords symphony", "chords sonata", "lyrics sonata", "tuner symphony"], key=digest)
+    three = [name for name in four if name != "lyrics sonata"]
+    assert held("2026-05-02") == (0, [])
+    assert held("2026-05-03") == held("2026-05-09") == held("2026-05-10T09:59:59Z") == (1, four)
+    assert held("2026-05-10") == held("2026-05-10T10:00:00Z") == held("2030-01-01") == (2, three)
+    assert held("2026-05-09", "--match", "sonata") == (1, [n for n in four if "sonata" in n])
+    assert answered(0, "get", m, "lyrics sonata", "--at", "2026-05-09") == digest("read") + "\n"
+    ran = grants("get", m, "lyrics sonata", "--at", "2026-05-10")
+    assert (ran.status, ran.out) == (1, "absent\n") and ran.err == "grants: by market.book, version 2 was the latest on 2026-05-10\n", ran
+    assert answered(0, "root", m, "--at", "2026-05-09") == answered(0, "root", m, 1)
+    assert answered(0, "export", m, "--at", "2026-05-09") == answered(0, "export", m, 1)
+    assert answered(0, "show", m, "--at", "2026-05-09") == answered(0, "show", m, 1)
+    answered(0, "prove", m, "lyrics sonata", "--at", "2026-05-09", "--out", "then")
+    assert answered(0, "verify", answered(0, "root", m, 1).strip(), '"lyrics sonata"', "then").startswith("present")
+    refused(2, "VERSION and --at both", "get", m, "lyrics sonata", 1, "--at", "2026-05-09")
+    for wrong in ("yesterday", "2026-02-30", "2026-5-3", ""):
+        refused(2, "wants a date", "list", m, "--at", wrong)
+    refused(2, "wants a date", "apply", m, "/dev/null", "--date", "tomorrow")
+    # Where it can't be known, it isn't said.
+    answered(0, "apply", m, "-", "--no-book", input="- %s\n" % digest("chords sonata"))
+    refused(4, "no date for version 3", "list", m, "--at", "2026-06-01")
+    assert held("2026-05-09")[0] == 1
+    answered(0, "apply", m, "/dev/null", "--date", "2026-05-01")
+    refused(4, "don't ascend", "list", m, "--at", "2026-05-02")
+    answered(0, "prune", m, 2)
+    os.remove(m + ".book")
+    refused(4, "has no date for version", "list", m, "--at", "2026-06-01")
+    raw = read(m)
+    ran = grants("list", "-", "--at", "2026-06-01", input=raw)
+    assert ran.status == 4, ran
+
+
+@test
+def a_day_before_the_oldest_kept():
+    m = market()
+    answered(0, "prune", m, 2)
+    refused(4, "older than version 2, the oldest", "list", m, "--at", "2026-05-09")
+    assert answered(0, "list", m, "--at", "2026-05-10").startswith("version 2 (2026-05-10 10:00, tove: Lyrics withdrawn): 3 grants")
+
+
+@test
+def list_in_its_forms():
+    m = market()
+    out = answered(0, "list", m).splitlines()
+    assert out[0].startswith("version 2 (2026-05-10 10:00, tove: Lyrics withdrawn): 3 grants, root ")
+    assert '  %s..%s = %s..%s  "chords sonata" = "write"' % (digest("chords sonata")[:8], digest("chords sonata")[60:], digest("write")[:8], digest("write")[60:]) in out
+    assert digest("tuner symphony") in answered(0, "list", m, "--full")
+    rows = list(csv.reader(answered(0, "list", m, "--csv").splitlines()))
+    assert rows[0] == ["key", "value", "key_name", "value_name"] and len(rows) == 4
+    assert [digest("chords sonata"), digest("write"), "chords sonata", "write"] in rows
+    answered(0, "apply", m, "-", input='+ "a, \\"b\\"" "read"\n')
+    assert [digest('a, "b"'), digest("read"), 'a, "b"', "read"] in list(csv.reader(answered(0, "list", m, "--csv").splitlines()))
+    assert answered(1, "list", m, 0) == "version 0: 0 grants, root %s\n" % ZERO
+    assert answered(0, "list", m, "--book", "/dev/null").count('"') == 0
+    refused(18, "keeps versions 0 to 3", "list", m, 4)
+
+
+@test
+def export_and_import_go_round():
+    m = market()
+    answered(0, "apply", m, "-", input="+ %s %s\n" % (D, value(4)))
+    answered(0, "name", m, "the old desk", D)
+    out = answered(0, "export", m)
+    assert '+ "chords sonata" "write"\n' in out and '+ %s %s  # "the old desk"\n' % (D, value(4)) in out
+    for version in (1, 2, 3):
+        write("text", answered(0, "export", m, version))
+        answered(0, "format", "t", 40)
+        answered(0, "apply", "t", "text")
+        assert answered(0, "root", "t") == answered(0, "root", m, version)
+        assert answered(0, "export", "t").splitlines()[1:] == [l.split("  #")[0] for l in answered(0, "export", m, version).splitlines()[1:]]
+        os.remove("t")
+        os.remove("t.book")
+    # Into a store that holds others: they go, in as few records as it takes.
+    write("text", answered(0, "export", m, 1))
+    told = json.loads(answered(0, "import", m, "text", "--dry-run", "--json"))
+    assert told["dry_run"] and told["published"][0]["root"] == answered(0, "root", m, 1).strip()
+    answered(0, "import", m, "text", "--message", "as it was")
+    assert answered(0, "root", m) == answered(0, "root", m, 1)
+    assert json.loads(answered(0, "log", m, "--json"))[-1]["message"] == "as it was"
+    before = read(m)
+    assert "no version was published" in answered(0, "import", m, "text")
+    assert json.loads(answered(0, "import", m, "text", "--json")) == {"published": []} and read(m) == before
+    untouched(m, 14, "'+' lines alone", "import", m, write("b", "- %s\n" % D))
+    untouched(m, 14, "Line 1", "import", m, write("b", "hello"))
+    # More than a batch takes: several versions, and all or none.
+    answered(0, "format", "large", LARGEST)
+    answered(0, "apply", "large", write("many", many(2500)), "--split")
+    write("text", answered(0, "export", "large"))
+    answered(0, "format", "again", LARGEST)
+    assert answered(0, "import", "again", "text").count("version") == 3
+    assert answered(0, "root", "again") == answered(0, "root", "large")
+
+
+@test
+def a_dry_run_changes_nothing():
+    s = desk()
+    before, around_ = read(s), sorted(os.listdir("."))
+    write("../b", "- %s\n" % A)
+    os.chmod(s, 0o444)
+    out = answered(0, "apply", s, "../b", "--dry-run")
+    assert read(s) == before and sorted(os.listdir(".")) == around_
+    told = json.loads(answered(0, "apply", s, "../b", "--dry-run", "--json"))
+    os.chmod(s, 0o644)
+    really = json.loads(answered(0, "apply", s, "../b", "--json"))
+    assert told["published"] == really["published"] and told["free"] == json.loads(answered(0, "stat", s, "--json"))["free"]
+    made = really["published"][0]
+    assert out == "would be version 3, %d new records, root %s\n%d free slots would be left; nothing was changed\n" % (made["new_records"], made["root"], told["free"])
+    untouched(s, 17, "refused with 7", "apply", s, write("../c", many(200)), "--dry-run")
+
+
+@test
+def history_of_a_key():
+    m = market()
+    answered(0, "apply", m, "/dev/null", "--date", "2026-05-11")
+    answered(0, "apply", m, "-", "--date", "2026-05-12", "--message", "back", input='+ "lyrics sonata" "read"\n')
+    told = json.loads(answered(0, "history", m, "lyrics sonata", "--json"))
+    assert [(h["version"], h["value_name"], h["message"]) for h in told] == [(0, None, None), (1, "read", "Spring list"), (2, None, "Lyrics withdrawn"), (4, "read", "back")]
+    out = answered(0, "history", m, "lyrics sonata").splitlines()
+    assert len(out) == 4 and out[2].split() == ["2", "2026-05-10", "10:00", "absent", "tove:", "Lyrics", "withdrawn"]
+    assert answered(1, "history", m, "ff" * 32) == "         0  -                 absent\n"
+    # Against every read there is, over a history with prunes.
+    rng = random.Random(3)
+    keys = [rng.randbytes(32).hex() for _ in range(12)]
+    answered(0, "format", "s", 800)
+    for _ in range(25):
+        some = rng.sample(keys, 4)
+        text = "".join("- %s\n" % k if rng.random() < 0.4 else "+ %s %s\n" % (k, value(rng.randrange(3))) for k in some)
+        answered(0, "apply", "s", "-", "--no-book", input=text)
+    answered(0, "prune", "s", 6)
+    for key in keys[:4]:
+        reads = [grants("get", "s", key, v).out.strip() for v in range(6, 26)]
+        expected = [(6 + i, r) for i, r in enumerate(reads) if i == 0 or r != reads[i - 1]]
+        told = json.loads(grants("history", "s", key, "--json").out)
+        assert [(h["version"], h["value"] or "absent") for h in told] == expected
+
+
+@test
+def a_store_grows():
+    rng = random.Random(4)
+    keys = [rng.randbytes(32).hex() for _ in range(30)]
+    answered(0, "format", "s", 400)
+    for n in range(14):
+        some = rng.sample(keys, 6)
+        text = "".join("- %s\n" % k if rng.random() < 0.4 else "+ %s %s\n" % (k, rng.randbytes(32).hex()) for k in some)
+        answered(0, "apply", "s", "-", "--message", str(n), input=text)
+    for oldest in (0, 5, 14):
+        answered(0, "prune", "s", oldest)
+        shutil.copy("s", "t")
+        shutil.copy("s.book", "t.book")
+        told = json.loads(answered(0, "grow", "t", 1000 + oldest, "--json"))
+        assert (told["capacity"], told["oldest"], told["latest"]) == (1000 + oldest, oldest, 14)
+        answered(0, "check", "t")
+        for version in range(oldest, 15):
+            assert answered(0, "root", "t", version) == answered(0, "root", "s", version)
+            for key in rng.sample(keys, 3):
+                assert grants("get", "t", key, version).out == grants("get", "s", key, version).out
+        old, new = [json.loads(answered(0, "log", name, "--json")) for name in "st"]
+        names = ("version", "root", "grants", "added", "removed", "changed", "message")
+        assert [[v[k] for k in names] for v in old] == [[v[k] for k in names] for v in new]
+        if oldest:
+            refused(18, "keeps versions %d to 14" % oldest, "root", "t", oldest - 1)
+        # The same again, as small as it may be.
+        used = json.loads(answered(0, "stat", "t", "--json"))["used"]
+        answered(0, "grow", "t", used) if oldest == 0 else None
+        untouched("t", 17, "too few for versions %d to 14" % oldest, "grow", "t", used - 1)
+    untouched("s", 11, "a store has 1 to 16,384", "grow", "s", LARGEST + 1)
+    bad = bytearray(read("s"))
+    bad[24 + 60] ^= 1
+    untouched(write("bad", bytes(bad)), 13, "bad is damaged", "grow", "bad", 900)
+    write("wide", store_bytes(50, 2**32 - 1))
+    untouched("wide", 4, "its latest version is 4294967295", "grow", "wide", 60)
+    # More grants in the oldest kept version than one batch makes.
+    answered(0, "format", "large", LARGEST)
+    answered(0, "apply", "large", write("many", many(1500)), "--split")
+    answered(0, "prune", "large", 2)
+    root = answered(0, "root", "large")
+    answered(0, "grow", "large", 9000)
+    assert answered(0, "root", "large", 2) == root
+
+
+# A root that is signed, and what is installed.
+
+
+@test
+def a_root_to_be_signed():
+    m = market()
+    answered(0, "root", m, "--out", "root", "--not-after", "2999-01-01", "--date", "2026-05-11")
+    root = answered(0, "root", m).strip()
+    text = "the root of a grant store\nversion 2\nroot %s\npublished 2026-05-10T10:00:00Z\nmade 2026-05-11T00:00:00Z\nnot-after 2999-01-01T23:59:59Z\n" % root
+    assert read("root").decode() == text == answered(0, "root", m, "--out", "-", "--not-after", "2999-01-01", "--date", "2026-05-11")
+    answered(0, "prove", m, "chords sonata", "--out", "p")
+    assert answered(0, "verify", "root", '"chords sonata"', "p").startswith("present")
+    assert answered(0, "verify", "root", '"chords sonata"', "p", "--least", 2).startswith("present")
+    refused(4, "that of version 2, older than 3", "verify", "root", '"chords sonata"', "p", "--least", 3)
+    refused(2, "--least goes with a ROOT that is a file", "verify", root, '"chords sonata"', "p", "--least", 2)
+    untouched("root", 3, "--force replaces it", "root", m, "--out", "root")
+    answered(0, "root", m, 1, "--out", "root", "--force", "--not-after", "2026-05-12")
+    refused(4, "is past its date, 2026-05-12T23:59:59Z", "verify", "root", '"chords sonata"', "p")
+    write("root", text.replace("version 2", "version 2\nversion 3"))
+    for spoiled in (text + "x", text[:-1], text.replace("root of", "roof of"), text.replace("not-after", "not after"), "", "\0"):
+        write("root", spoiled)
+        refused(2, "neither 64 hex digits nor a file", "verify", "root", '"chords sonata"', "p")
+    refused(2, "--not-after goes with --out", "root", m, "--not-after", "2026-05-12")
+    refused(2, "is no hex digit", "verify", "none", A, "p")
+
+
+@test
+def the_signing_recipes():
+    """The blocks of docs/SIGNING.md, as far as their programs are here."""
+    market()
+    answered(0, "prove", "market", "chords sonata", "--out", "proof")
+    with open(os.path.join(TOP, "docs/SIGNING.md")) as f:
+        blocks = [block.split("```")[0] for block in f.read().split("```sh\n")[1:]]
+    env = dict(os.environ, PATH=os.path.dirname(TOOL) + ":" + os.environ["PATH"])
+
+    def tried(script):
+        """What the editor would see, in a folder of its own."""
+        shutil.rmtree("desk", ignore_errors=True)
+        os.mkdir("desk")
+        for name in ("market", "market.book", "proof"):
+            shutil.copy(name, "desk")
+        return subprocess.run(["bash", "-euc", script], capture_output=True, text=True, env=env, timeout=60, cwd="desk")
+
+    ran = 0
+    for program in ("ssh-keygen", "openssl", "minisign"):
+        (block,) = [block for block in blocks if program + " " in block]
+        if not shutil.which(program):
+            print("  %s is not here: its recipe is not tried" % program)
+            continue
+        done = tried(block)
+        assert done.returncode == 0 and "present " in done.stdout, (block, done)
+        # Another statement under the same signature.
+        changed = block.replace("# the editor\n", "sed -i 's/^version.*/version 9/' root.txt\n")
+        assert changed != block and "present " not in tried(changed).stdout, changed
+        ran += 1
+    assert ran >= 2
+
+
+@test
+def installed_for_others():
+    prefix = os.path.abspath("prefix")
+    make = ["make", "--no-print-directory", "-C", TOP, "PREFIX=" + prefix]
+    out = subprocess.run(make + ["install"], capture_output=True, text=True, timeout=600)
+    assert out.returncode == 0 and out.stdout.startswith("installed below %s for %s: grants " % (prefix, os.uname().machine)), out
+    assert ("its proofs checked" in out.stdout) != ("without its proofs" in out.stdout), out
+    env = dict(os.environ, PKG_CONFIG_PATH=prefix + "/lib/pkgconfig", LD_LIBRARY_PATH=prefix + "/lib")
+    held = read(os.path.join(TOP, "examples/editor.out"))
+    for how, name in (("-lgrants", "shared"), ("-l:libgrants.a", "static")):
+        line = "cc -std=c99 -Wall -Werror '%s/examples/editor.c' $(pkg-config --cflags --libs grants | sed s/-lgrants/%s/) -o %s" % (TOP, how, name)
+        subprocess.run(line, shell=True, env=env, check=True)
+        assert subprocess.run(["./" + name], env=env, capture_output=True, check=True).stdout == held
+    needed = subprocess.run(["readelf", "-d", "shared"], capture_output=True, text=True).stdout
+    assert "libgrants.so.0" in needed, needed
+    assert subprocess.run([prefix + "/bin/grants", "--version"], capture_output=True, text=True).stdout in out.stdout
+    page = read(prefix + "/share/man/man1/grants.1").decode()
+    for name in ("format", "verify", "history"):
+        assert ".SS grants %s " % name in page
+    if shutil.which("man") and shutil.which("groff"):
+        shown = subprocess.run(["man", "--warnings", "-l", prefix + "/share/man/man1/grants.1"], capture_output=True, text=True, env=dict(env, MANWIDTH="120", LC_ALL="C.UTF-8"))
+        assert shown.returncode == 0 and shown.stderr == "" and "the value of a key in a version" in shown.stdout, shown
+    completion = prefix + "/share/bash-completion/completions/grants"
+    script = "set -eu; . '%s'; COMP_WORDS=(grants hi) COMP_CWORD=1; _grants; echo ${COMPREPLY[@]}; COMP_WORDS=(grants get s --a) COMP_CWORD=3; _grants; echo ${COMPREPLY[@]}"
+    done = subprocess.run(["bash", "-c", script % completion], capture_output=True, text=True)
+    assert done.stdout == "history\n--at\n", done
+    if shutil.which("zsh"):
+        subprocess.run(["zsh", "-n", prefix + "/share/zsh/site-functions/_grants"], check=True)
+    subprocess.run(make + ["uninstall"], check=True, capture_output=True)
+    left = [name for _, _, names in os.walk(prefix) for name in names]
+    assert left == [], left
+
+
+@test
+def built_without_proofs():
+    """A checkout in which nothing is proved yet: the library and the tool are there at once, and say what they are worth."""
+    for name in ("crates", "crates.txt", "rust", "tests", "include", "Makefile"):
+        at = os.path.join(TOP, name)
+        shutil.copytree(at, name) if os.path.isdir(at) else shutil.copy(at, name)
+    env = {name: value for name, value in os.environ.items() if name != "GRANTS_LIB_DIR"}
+
+    def made(what):
+        done = subprocess.run(["make", "--no-print-directory", what], capture_output=True, text=True, env=env, timeout=900)
+        assert done.returncode == 0, done
+        assert "Compiled without proofs" in done.stderr and done.stderr.count("\n") == 1, done
+        return done.stdout.splitlines()
+
+    machine = os.uname().machine
+    last = "target/native/libgrants.a: for %s, compiled without its proofs (`make test` checks them)" % machine
+    told = made("lib")
+    assert told[-1] == last and len(told) == (1 if machine == "x86_64" else 2), told
+    assert all(os.path.exists(line.split(":")[0]) for line in told)
+    assert read("target/native/libgrants.proofs").splitlines()[-1] == b"not proved"
+    subprocess.run(["cc", "-Iinclude", TOP + "/examples/editor.c", "target/native/libgrants.a", "-o", "editor"], check=True)
+    assert subprocess.run(["./editor"], capture_output=True).stdout == read(TOP + "/examples/editor.out")
+    if shutil.which("cargo"):
+        assert made("tool")[-1].startswith("target/bin/grants: grants ")
+        version = subprocess.run(["target/bin/grants", "--version"], capture_output=True, text=True).stdout
+        assert "(library: compiled without its proofs (`make test` checks them))" in version, version
 
 
 # The README's tour.
 
 
-def steps(lines):
-    """The console blocks of the README: each command with the lines it goes on with, and where the output below it begins and ends."""
-    found, inside = [], False
-    for i, line in enumerate(lines):
-        if line.startswith("```"):
-            inside = line.strip() == "```console"
-        elif inside and line.startswith("$ "):
-            found.append([line[2:], i + 1, i + 1])
-        elif inside and line.startswith("> "):
-            found[-1] = [found[-1][0] + line[2:], i + 1, i + 1]
-        elif inside:
-            found[-1][2] = i + 1
-    return found
-
-
 def toured(text):
-    """The README with what its commands print now, all of them in one shell."""
-    lines = text.splitlines(True)
-    found = steps(lines)
-    script = "".join("%s\nprintf '\\0'\n" % command for command, _, _ in found)
+    """The README with what the blocks of its tour print now, all of them pasted into one shell."""
+    head, tour = text.split("## A tour", 1)
+    tour, rest = tour.split("\n## ", 1)
+    parts = tour.split("```")
+    blocks = [i for i, part in enumerate(parts) if part.startswith("sh\n") and "/path/to" not in part]
+    script = "".join("%s\nprintf '\\0'\n" % parts[i][3:] for i in blocks)
     path = os.path.dirname(TOOL) + ":" + os.environ["PATH"]
     run = subprocess.run(["bash"], input=script, text=True, stdout=subprocess.PIPE, stderr=subprocess.STDOUT, env=dict(os.environ, PATH=path))
     came = run.stdout.split("\0")
-    assert len(came) == len(found) + 1 and len(found) > 5, "%d commands of %d were run" % (len(came) - 1, len(found))
-    for (_, start, end), out in reversed(list(zip(found, came))):
-        lines[start:end] = [out]
-    return "".join(lines)
+    assert len(came) == len(blocks) + 1 and len(blocks) > 5, "%d blocks of %d were run" % (len(came) - 1, len(blocks))
+    for i, out in zip(blocks, came):
+        if parts[i + 2 : i + 3] and parts[i + 2].startswith("text\n") and parts[i + 1].strip() == "":
+            parts[i + 2] = "text\n" + out
+        else:
+            assert out == "", "this prints something:\n%s\n%s" % (parts[i], out)
+    return head + "## A tour" + "```".join(parts) + "\n## " + rest
 
 
 @test

@@ -1,24 +1,21 @@
 -- Bytes that are those of a store, and changes of its slots one after the other: reading gives back what was written. Assumes nothing.
-use Prim.Native.Nat.{ℕ, _+_, _*_, _-_, _<_, _≤_, _%_}
+use Prim.Native.Nat.{ℕ, _<_, _≤_}
 use native.Mathlib.Omega.{arith}
 use mathlib.Core.Path.{_≡_, ap, sym, _∙_, subst}
 use mathlib.Core.Bool.{Bool, true, false}
 use mathlib.Core.List.{List}
 use lib.ListN.{length, getD, set}
-use borrow.Author.Tests.{eq-eqb}
 use Rattle.terms.specs.Bits.{Bytes}
-use Rattle.terms.specs.Fields.{le}
 use Rattle.terms.specs.Records.{Record, Slot, Store, free, used}
 use Rattle.terms.specs.Form.{top32}
 use Rattle.terms.proofs.Lists.{all-at}
 use Rattle.meaning.specs.Store.{marked}
-use Rattle.fields.specs.Written.{written}
 use Rattle.layout.specs.Sizes.{roomOf}
 use Rattle.layout.specs.Headers.{sizeRight}
-use Rattle.layout.specs.Slots.{slotBytes, SlotForm}
-use Rattle.layout.specs.Stores.{storeOf, storeBytes, StoreForm, putSlot}
-use Rattle.layout.proofs.Headers.{Accepted, accepted, size-whole, room-of}
-use Rattle.layout.proofs.Stores.{store-said, store-accepted, slot-put-form, slot-put-bytes, retired-put-bytes}
+use Rattle.layout.specs.Slots.{SlotForm}
+use Rattle.layout.specs.Stores.{storeOf, storeBytes, SlotWithin, withSlot, withSince, StoreForm, putSlot}
+use Rattle.layout.proofs.Headers.{Accepted, accepted, room-of}
+use Rattle.layout.proofs.Stores.{store-said, store-accepted, store-size, slot-put-form, slot-put-bytes, retired-put-bytes}
 use Rattle.apply_place.specs.Placing.{Stored, putSlots, Changed, whenWrites}
 
 -- the bytes of a store in form are read as the store
@@ -40,15 +37,13 @@ stored-accepted {s} h =
     (accepted (storeBytes (storeOf s)) _ _ _ (store-accepted (storeOf s) (h .form)))
 
 pub stored-size : {s : Bytes} → Stored s → sizeRight (length s) ≡ true
-stored-size {s} h =
-    let a = stored-accepted h in
-    sym (size-whole (length s) (omega (arith, a)) (omega (arith, a))) ∙ eq-eqb ((length s - 24) % 120) 0 (omega (arith, a))
+stored-size {s} h = subst (λ t. sizeRight (length t) ≡ true) (sym (h .bytes)) (store-size (storeOf s) (h .form))
 
 pub stored-room : {s : Bytes} → Stored s → roomOf (length s) ≡ length (storeOf s .slots)
 stored-room {s} h = room-of (length s) _ (stored-accepted h .size)
 
 -- slot i lies within the bytes
-pub slot-within : {s : Bytes} → Stored s → (i : ℕ) → i < length (storeOf s .slots) → 24 + 120 * i + 120 ≤ length s
+pub slot-within : {s : Bytes} → Stored s → (i : ℕ) → i < length (storeOf s .slots) → SlotWithin i s
 slot-within h i l = let a = stored-accepted h in omega (arith, a)
 
 -- nothing changed
@@ -80,26 +75,26 @@ changed-then {f} {g} {s} {s′} {s″} c d =
 -- one slot written
 module _ {s s′ : Bytes} (h : Stored s) (i : ℕ) (l : i < length (storeOf s .slots)) where
   pub slot-changed : (f : List Slot → List Slot) (x : Slot) → SlotForm x → f (storeOf s .slots) ≡ set (storeOf s .slots) i x →
-      s′ ≡ written (24 + 120 * i) (slotBytes x) s → Changed f s s′
+      s′ ≡ withSlot i x s → Changed f s s′
   unfolding putSlots putSlot
   slot-changed f x k e w =
       let st = storeOf s in
       changed-as (λ xs. set xs i x) f (sym e)
       (record {
-        bytes = w ∙ ap (written (24 + 120 * i) (slotBytes x)) (h .bytes) ∙ sym (slot-put-bytes st (h .form) i x k l);
+        bytes = w ∙ ap (withSlot i x) (h .bytes) ∙ sym (slot-put-bytes st (h .form) i x k l);
         form = slot-put-form st (h .form) i x k l;
       })
 
   -- one record marked
   pub mark-changed : (f : List Slot → List Slot) (r : Record) (n : ℕ) → n ≤ top32 → getD (storeOf s .slots) i free ≡ used r →
-      f (storeOf s .slots) ≡ set (storeOf s .slots) i (used (marked n r)) → s′ ≡ written (24 + 120 * i + 44) (le 4 n) s → Changed f s s′
+      f (storeOf s .slots) ≡ set (storeOf s .slots) i (used (marked n r)) → s′ ≡ withSince i n s → Changed f s s′
   unfolding putSlots putSlot marked
   mark-changed f r n b u e w =
       let st = storeOf s in
       let form = subst SlotForm u (all-at SlotForm (st .slots) free i (h .form .each) l) in
       changed-as (λ xs. set xs i (used (marked n r))) f (sym e)
       (record {
-        bytes = w ∙ ap (written (24 + 120 * i + 44) (le 4 n)) (h .bytes) ∙ sym (retired-put-bytes st (h .form) i r n l u form b);
+        bytes = w ∙ ap (withSince i n) (h .bytes) ∙ sym (retired-put-bytes st (h .form) i r n l u form b);
         form =
             slot-put-form st (h .form) i (used (marked n r))
             (record { short = form .short; versioned = form .versioned; number = b; body = form .body }) l;

@@ -5,16 +5,14 @@ use mathlib.Core.Bool.{true, false}
 use lib.ListN.{length}
 use borrow.Author.Tests.{lt-ltb, le-ltb, eq-eqb, ne-eqb}
 use Rattle.terms.specs.Bits.{Bytes, Byte, All}
-use Rattle.terms.specs.Fields.{le}
 use Rattle.terms.specs.Form.{top32}
 use Rattle.terms.specs.Records.{Child, Store}
-use Rattle.fields.specs.Written.{written}
 use Rattle.meaning.specs.Tree.{unversioned, hash}
 use Rattle.meaning.specs.Store.{childOf, freeSlots, treeAtVersion}
 use Rattle.meaning.specs.Calls.{refused, accepted, refuse, Applied, Outcome, apply}
 use Rattle.hash.specs.Hash.{hashBytes}
 use Rattle.nodehash.specs.Node.{leafHash, innerHash}
-use Rattle.layout.specs.Stores.{storeOf, storeBytes, putBounds}
+use Rattle.layout.specs.Stores.{storeOf, storeBytes, withLatest, putBounds}
 use Rattle.layout.proofs.Stores.{latest-put-bytes}
 use Rattle.slots.specs.declared.Child as child
 use Rattle.slots.specs.Answer.{childSays}
@@ -73,7 +71,7 @@ module _ {s batch : Bytes} (w : Ready s batch) where
           ap (λ (o : Outcome Applied). o .store) by-steps ∙ rw (le-ltb (freeSlots (st .slots)) (length (outcome .fresh)) room)
 
       -- the slots are written, and then latest
-      pub made : {t u : Bytes} {r : declared.Outcome} (c : child.Child) {n : ℕ} → Did new true 0 s t outcome r → u ≡ written 16 (le 4 new) t →
+      pub made : {t u : Bytes} {r : declared.Outcome} (c : child.Child) {n : ℕ} → Did new true 0 s t outcome r → u ≡ withLatest new t →
           childSays c ≡ nodeChild (r .node) → n ≡ length (outcome .fresh) →
           Applies batch s (accepted (record { version = new; root = hashBytes (c .hash); count = n })) u
       unfolding stepped putBounds putSlots childSays childOf
@@ -82,5 +80,5 @@ module _ {s batch : Bytes} (w : Ready s batch) where
           ap (λ (x : Child). x .hash) (f ∙ says-child true (r .node) (outcome .node) refl (d .node)) in
           let after : storeBytes (apply leafHash innerHash (batchOf batch) st .store) ≡ u =
           ap storeBytes made-store ∙ latest-put-bytes (putSlots (steps.written new outcome (st .slots)) st) new
-          ∙ ap (written 16 (le 4 new)) (sym (d .bytes .bytes)) ∙ sym e in
+          ∙ ap (withLatest new) (sym (d .bytes .bytes)) ∙ sym e in
           rw (root, k) (subst (Applies batch s _) after (accepts (w .sound) made-answer))

@@ -6,18 +6,15 @@ use mathlib.Core.Bool.{Bool, true, false}
 use mathlib.Core.List.{[]}
 use lib.ListN.{length}
 use Rattle.terms.specs.Bits.{Bytes, Byte, All}
-use Rattle.terms.specs.Fields.{le}
 use Rattle.terms.specs.Form.{top32}
-use Rattle.fields.specs.Written.{written}
 use Rattle.meaning.specs.Tree.{VTree}
-use Rattle.meaning.specs.Store.{find, freeSlots}
+use Rattle.meaning.specs.Store.{freeSlots, rootOf}
 use Rattle.meaning.specs.Calls.{refused, accepted}
 use Rattle.hash.specs.Hash.{hashBytes}
 use Rattle.nodehash.specs.Node.{leafHash, innerHash}
 use Rattle.place.specs.declared.Place as place
 use Rattle.place.specs.Place as places
-use Rattle.place.specs.Place.{placeOf}
-use Rattle.layout.specs.Stores.{storeOf}
+use Rattle.layout.specs.Stores.{storeOf, withLatest}
 use Rattle.slots.specs.declared.Child as child
 use Rattle.slots.specs.Answer.{childSays}
 use Rattle.batch.specs.Batch.{asks}
@@ -37,12 +34,12 @@ abbrev steps : ℕ → Bytes → place.Place → ℕ → Bytes → step.Outcome
 steps n s p v batch = step.stepRoot leafHash innerHash n (treeHere s p v) (asks batch)
 
 module _ {s batch : Bytes} (w : Ready s batch) (bytes : All Byte s) (batchBytes : All Byte batch) {latest : ℕ} (is : latest ≡ storeOf s .latest)
-    {p : place.Place} (t : places.Stands [] 0 p) {v : ℕ} (root : v ≡ rootVersion latest (find latest (placeOf p) (storeOf s .slots))) where
+    {p : place.Place} (t : places.Stands [] 0 p) {v : ℕ} (root : v ≡ rootVersion (rootOf (storeOf s) latest)) where
   next-is : latest + 1 ≡ storeOf s .latest + 1
   next-is = ap (_+ 1) is
 
-  root-of : v ≡ rootVersion (storeOf s .latest) (find (storeOf s .latest) (placeOf p) (storeOf s .slots))
-  root-of = root ∙ ap (λ n. rootVersion n (find n (placeOf p) (storeOf s .slots))) is
+  root-of : v ≡ rootVersion (rootOf (storeOf s) (storeOf s .latest))
+  root-of = root ∙ ap (λ n. rootVersion (rootOf (storeOf s) n)) is
 
   pub first-time : (writes : Bool) → HereRoot (latest + 1) writes s p v batch
   first-time writes = here-root w bytes t root-of writes next-is
@@ -79,10 +76,10 @@ module _ {s batch : Bytes} (w : Ready s batch) (bytes : All Byte s) (batchBytes 
         fits = omega (arith, free-is, steps-are counted .reach .counts, f .small)
 
         pub published : {s₂ u : Bytes} {r₂ : declared.Outcome} (c : child.Child) → Did (latest + 1) true 0 s₁ s₂ (steps (latest + 1) s₁ p v batch) r₂ →
-            u ≡ written 16 (le 4 (latest + 1)) s₂ → childSays c ≡ nodeChild (r₂ .node) →
+            u ≡ withLatest (latest + 1) s₂ → childSays c ≡ nodeChild (r₂ .node) →
             Applies batch s (accepted (record { version = latest + 1; root = hashBytes (c .hash); count = r₁ .reach })) u
         published {s₂} {u} {r₂} c d e g =
             let wrote = steps-are (subst (λ z. Did (latest + 1) true 0 z s₂ (steps (latest + 1) z p v batch) r₂) unwritten d) in
             subst (λ n. Applies batch s (accepted (record { version = n; root = hashBytes (c .hash); count = r₁ .reach })) u) (sym next-is)
-            (made w bytes batchBytes some-version fits c wrote (e ∙ ap (λ n. written 16 (le 4 n) s₂) next-is) g
+            (made w bytes batchBytes some-version fits c wrote (e ∙ ap (λ n. withLatest n s₂) next-is) g
             (let k = fits in let z = f .small in omega (arith, steps-are counted .reach .counts, free-is)))

@@ -42,7 +42,7 @@ pub fn publish(store: &mut [u8], batch: &[u8]) -> Applied
     }
     let new = latest + 1;
     let top = Place::top();
-    let old = root_version(store, latest, top);
+    let old = root_version(store, latest);
     let mut guesses = [0u16; 8192];
     guess_all(store, &mut guesses);
     let needs = at_root(store, &guesses, false, new, top, old, batch);

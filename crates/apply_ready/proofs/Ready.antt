@@ -8,28 +8,46 @@ use mathlib.Core.Bool.{Bool, true, false}
 use mathlib.Core.List.{List, []}
 use mathlib.Core.Option.{Option, none, some}
 use Rattle.terms.specs.Bits.{Bytes, Byte, All, Place, longer}
+use Rattle.terms.specs.Fields.{field}
 use Rattle.terms.specs.Records.{Body, Record, Slot, Store}
+use Rattle.terms.proofs.Fields.{length-slice, all-slice}
 use Rattle.meaning.specs.Tree.{VTree, vnone, vleaf, vinner, unversioned, topVersion}
-use Rattle.meaning.specs.Store.{find, treeFrom, treeAtVersion}
+use Rattle.meaning.specs.Store.{rootOf, treeFrom, treeAtVersion}
 use Rattle.meaning.specs.Sound.{Kept, Found, Stands}
 use Rattle.meaning.proofs.Shaped.{Shaped}
 use Rattle.histories.proofs.Slots.{Has}
-use Rattle.histories.proofs.Standing.{found-record, reads, root-some, root-none}
+use Rattle.meaning.proofs.Roots.{root-none, root-some}
+use Rattle.histories.proofs.Standing.{found-record, reads}
 use Rattle.histories.proofs.Trees.{kept-shaped}
 use Rattle.histories.proofs.Whole.{Whole, sound-whole}
 use Rattle.nodehash.specs.Node.{leafHash, innerHash}
 use Rattle.place.specs.declared.Place as place
 use Rattle.place.specs.Place as places
 use Rattle.place.specs.Place.{placeOf}
-use Rattle.layout.specs.Stores.{storeOf}
+use Rattle.layout.specs.Sizes.{slotSize, slotAt, versionAt}
+use Rattle.layout.specs.Stores.{slotIn, storeOf}
+use Rattle.layout.proofs.Stores.{slot-at}
+use Rattle.lookup.specs.declared.Found.the-variants.{At}
+use Rattle.lookup.specs.Lookup.{Located}
+use Rattle.lookup.proofs.Matching.{version-is}
 use Rattle.steps.specs.Given.{Older}
 use Rattle.apply_place.specs.Placing.{Stored}
 use Rattle.apply_place.specs.Reach.{Starts}
+use Rattle.apply_place.proofs.Changing.{stored-room, slot-within}
 use Rattle.apply_place.proofs.Keeping.{unique-single}
 use Rattle.apply_read.specs.Standing.{treeHere}
 use Rattle.apply_root.specs.Root.{HereRoot}
 use Rattle.promises.proofs.Calls.{sound-form, sound-back}
 use Rattle.apply_ready.specs.Ready.{Ready, rootVersion}
+
+-- the version in the slot of a record found is the record's
+pub found-version : {s : Bytes} → Stored s → All Byte s → (o : Option Record) (i : ℕ) → Located (storeOf s .slots) o (At i) →
+    field versionAt 4 (slotIn i s) ≡ rootVersion o
+unfolding slotIn
+found-version {s} h bytes o i (l, (r, e, f)) =
+    let fits = slot-within h i l in
+    let here = sym (slot-at s i (rw (stored-room h) l)) ∙ e in
+    version-is (slotIn i s) (length-slice (slotAt i) slotSize s fits) (all-slice (slotAt i) slotSize s bytes) r here ∙ ap rootVersion (sym f)
 
 -- a tree of records that are older is older
 module _ (st : Store) (m : ℕ) (below : (r : Record) → Has r (st .slots) → r .version < m) where
@@ -71,16 +89,16 @@ module _ {s batch : Bytes} (w : Ready s batch) (bytes : All Byte s) where
   older = stands-older st (st .latest + 1) (λ r h. omega (arith, whole .versions r h)) [] latestTree (whole .stands (st .latest) kept)
 
   -- the version of its root
-  top-is : rootVersion (st .latest) (find (st .latest) [] (st .slots)) ≡ topVersion latestTree
-  top-is = go (find (st .latest) [] (st .slots)) refl
+  top-is : rootVersion (rootOf st (st .latest)) ≡ topVersion latestTree
+  top-is = go (rootOf st (st .latest)) refl
     where
-      go : (o : Option Record) → find (st .latest) [] (st .slots) ≡ o → rootVersion (st .latest) o ≡ topVersion latestTree
+      go : (o : Option Record) → rootOf st (st .latest) ≡ o → rootVersion o ≡ topVersion latestTree
       go none e = sym (ap topVersion (root-none st (st .latest) e))
       go (some r) e = sym (root-some st (st .latest) r e .1)
 
-  module _ {p : place.Place} (t : places.Stands [] 0 p) {v : ℕ} (e : v ≡ rootVersion (st .latest) (find (st .latest) (placeOf p) (st .slots))) where
+  module _ {p : place.Place} (t : places.Stands [] 0 p) {v : ℕ} (e : v ≡ rootVersion (rootOf st (st .latest))) where
     root-is : v ≡ topVersion latestTree
-    root-is = e ∙ ap (λ q. rootVersion (st .latest) (find (st .latest) q (st .slots))) (t .place) ∙ top-is
+    root-is = e ∙ top-is
 
     pub tree-is : treeHere s p v ≡ latestTree
     unfolding treeHere

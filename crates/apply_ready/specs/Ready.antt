@@ -20,9 +20,9 @@ pub record Ready (s batch : Bytes) : Type 0 where
   pub run : Run [] batch
 
 -- The version of a root that is found; 0 where there is none.
-abbrev pub rootVersion : ℕ → Option Record → ℕ
-rootVersion v none = 0
-rootVersion v (some r) = v
+abbrev pub rootVersion : Option Record → ℕ
+rootVersion none = 0
+rootVersion (some r) = r .version
 
 -- How many slots are free.
 pub record FreeCount (s : Bytes) (n : ℕ) : Type 0 where

@@ -1,16 +1,12 @@
 // What is looked at before a batch is applied: the free slots, and the version of the root.
 use fields::all_zero;
-use layout::sizes;
 use lookup::Found;
-use lookup::find;
-use place::Place;
+use lookup::find_root;
+use store::slot_count;
 use store::slot_of;
+use store::version_at;
 ghost use mathlib.Core.Path.{_≡_};
-ghost use mathlib.Core.Bool.{true};
-ghost use lib.ListN.{length};
-ghost use Rattle.meaning.specs.Store.{find};
-ghost use Rattle.place.specs.Place.{placeOf, Proper};
-ghost use Rattle.layout.specs.Headers.{sizeRight};
+ghost use Rattle.meaning.specs.Store.{rootOf};
 ghost use Rattle.layout.specs.Stores.{storeOf};
 ghost use Rattle.apply_place.specs.Placing.{Stored};
 ghost use Rattle.apply_ready.specs.Ready.{rootVersion, FreeCount};
@@ -20,7 +16,7 @@ pub fn count_free(store: &[u8]) -> usize
     requires { ⌜ Stored (now store) ⌝ }
     ensures { λ r. ⌜ FreeCount (now (store .entry)) r ⌝ }
 {
-    let n = (store.len() - sizes::HEADER_SIZE) / sizes::SLOT_SIZE;
+    let n = slot_count(store);
     let mut free = 0;
     let mut i = 0;
     while i < n {
@@ -34,13 +30,14 @@ pub fn count_free(store: &[u8]) -> usize
     free
 }
 
-// The version, if it has a root; else 0.
-pub fn root_version(store: &[u8], version: u32, top: Place) -> u32
-    requires { ⌜ (sizeRight (length (now store)) ≡ true) × Proper top ⌝ }
-    ensures { λ r. ⌜ r ≡ rootVersion version (find version (placeOf top) (storeOf (now (store .entry)) .slots)) ⌝ }
+// The version of the root of a version; 0 where there is none.
+pub fn root_version(store: &[u8], version: u32) -> u32
+    requires { ⌜ Stored (now store) ⌝ }
+    ensures { λ r. ⌜ r ≡ rootVersion (rootOf (storeOf (now (store .entry))) version) ⌝ }
 {
-    let Found::At(_) = find(store, version, top) else {
+    let found = find_root(store, version);
+    let Found::At(i) = found else {
         return 0;
     };
-    version
+    version_at(store, i)
 }

@@ -16,7 +16,7 @@ use Rattle.promises.specs.Calls.{exports-refusal, exports-answer}
 use Rattle.apply_publish.specs.Apply.{appliedSays, Applies}
 use Rattle.apply_publish.specs.declared.Applied as declared
 use Rattle.apply_publish.specs.declared.Applied.the-variants.{Refused, Made}
-use Rattle.applying_c.specs.Export.{answerBytes, Exports}
+use Rattle.applying_c.specs.Export.{answerBytes, ApplyExports}
 
 -- four bytes, 32, and four
 pub answer-put : (v n : ℕ) (h : Hash) (f f₁ y f₂ : Bytes) → length f ≡ 40 → f₁ ≡ written 0 (le 4 v) f →
@@ -33,10 +33,10 @@ answer-put v n h f f₁ y f₂ l e g k =
     ∙ ap (λ z. le 4 v ++ (hashBytes h ++ z)) (append-nil (le 4 n))
 
 module _ (batch : Bytes) {s f t : Bytes} {a : declared.Applied} (o : Applies batch s (appliedSays a) t) where
-  pub export-refused : {m : ℕ} → a ≡ Refused m → Exports batch s f m t f
+  pub export-refused : {m : ℕ} → a ≡ Refused m → ApplyExports batch s f m t f
   unfolding appliedSays
   export-refused {m} e = exports-refusal (subst (λ q. Applies batch s (appliedSays q) t) e o)
 
-  pub export-made : {v n : ℕ} {h : Hash} {g : Bytes} → a ≡ Made v h n → g ≡ answerBytes v (hashBytes h) n → Exports batch s f 0 t g
+  pub export-made : {v n : ℕ} {h : Hash} {g : Bytes} → a ≡ Made v h n → g ≡ answerBytes v (hashBytes h) n → ApplyExports batch s f 0 t g
   unfolding appliedSays
-  export-made e q = subst (Exports batch s f 0 t) (sym q) (exports-answer (subst (λ r. Applies batch s (appliedSays r) t) e o))
+  export-made e q = subst (ApplyExports batch s f 0 t) (sym q) (exports-answer (subst (λ r. Applies batch s (appliedSays r) t) e o))

@@ -16,5 +16,5 @@ abbrev pub told : Applied → Bytes
 told a = answerBytes (a .version) (a .root) (a .count)
 
 -- Applying a batch to the bytes s, with the array f for the answer: what is answered, and what is left of s and of f.
-abbrev pub Exports : Bytes → Bytes → Bytes → ℕ → Bytes → Bytes → Type 0
-Exports batch s f r t g = calls.Exports (apply leafHash innerHash (batchOf batch)) told s f r t g
+abbrev pub ApplyExports : Bytes → Bytes → Bytes → ℕ → Bytes → Bytes → Type 0
+ApplyExports batch s f r t g = calls.Exports (apply leafHash innerHash (batchOf batch)) told s f r t g

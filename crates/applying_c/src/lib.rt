@@ -1,5 +1,5 @@
-// Applying a batch for C and Rust to link. A slice is passed as a pointer and a length, an array as a pointer alone. The call answers 0 where
-// it is accepted, else the number of refusal, and then it writes nothing.
+// Applying a batch at the boundary: the call answers 0 where it is accepted, else the number of refusal, and then it writes nothing. `grants`
+// exports it.
 use apply_publish::Applied;
 use applying::apply;
 use fields::put_u32;
@@ -8,7 +8,7 @@ use hash::put_hash;
 ghost use mathlib.Core.Path.{_≡_};
 ghost use lib.ListN.{length};
 ghost use Rattle.hash.specs.Hash.{hashBytes};
-ghost use Rattle.applying_c.specs.Export.{answerBytes, Exports};
+ghost use Rattle.applying_c.specs.Export.{answerBytes, ApplyExports};
 
 // Version, root and count fill 40 bytes.
 fn put_answer(answer: &mut [u8], version: u32, root: Hash, count: u32)
@@ -21,9 +21,8 @@ fn put_answer(answer: &mut [u8], version: u32, root: Hash, count: u32)
 }
 
 // Applies a batch to a store; version, root and count of new records go out in 40 bytes.
-#[no_mangle]
-pub extern "C" fn grants_apply(store: &mut [u8], batch: &[u8], answer: &mut [u8; 40]) -> u32
-    ensures { λ r. ⌜ Exports (now (batch .entry)) (now (store .entry)) (now (answer .entry)) r (now (store .exit)) (now (answer .exit)) ⌝ }
+pub fn grants_apply(store: &mut [u8], batch: &[u8], answer: &mut [u8; 40]) -> u32
+    ensures { λ r. ⌜ ApplyExports (now (batch .entry)) (now (store .entry)) (now (answer .entry)) r (now (store .exit)) (now (answer .exit)) ⌝ }
 {
     let applied = apply(store, batch);
     match applied {

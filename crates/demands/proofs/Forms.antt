@@ -1,7 +1,8 @@
 -- A proof drawn from a store whose slots are in form is in form: what a read sees there has keys, values and hashes of 32 bytes, so have the
 -- nodes that a walk passes, and so have the paths of walk and searches. Assumes nothing.
 use Prim.Native.Nat.{ℕ, zero, suc, _≤_}
-use mathlib.Core.Path.{_≡_, subst}
+use native.Mathlib.Omega.{arith}
+use mathlib.Core.Path.{_≡_, refl, sym, subst}
 use mathlib.Core.Bool.{Bool, true, false, cond, not}
 use mathlib.Core.List.{List, [], _∷_, _++_, map}
 use mathlib.Core.Option.{Option, none, some}
@@ -10,14 +11,17 @@ use lib.Dec.{eqb}
 use Rattle.terms.specs.Bits.{Bytes, Whole32, Side, left, right, Place, longer, All, bit, begins, sameBytes}
 use Rattle.terms.specs.Records.{Child, Body, leafBody, innerBody, Record, Slot, free, used, spoiled, Store, Step, Presence, Proof, presence, absence}
 use Rattle.terms.specs.Form.{BodyForm}
-use Rattle.terms.proofs.Lists.{all-append}
+use Rattle.terms.proofs.Lists.{all-append, all-at}
 use Rattle.meaning.specs.Store.{isNode, find, rootOf, childOn}
+use Rattle.meaning.specs.Sound.{At}
 use Rattle.meaning.specs.Calls.{Answer, refused, accepted, isKept}
 use Rattle.meaning.specs.Reading.{Seen, lost, gap, leafSeen, fork, seenBody, seenChild, seenAt, seenRoot, seen, Pass, End, broken, atLeaf, atGap, walk}
 use Rattle.meaning.specs.Proving.{step, presenceOf, stepUp, isGap, raisedBy, descend, Sought, lostWay, nobody, somebody, sought, turnsAway, fromTrail, beyond, neighbour, absenceFrom, absenceAt, proveEnd, proveSeen, proof}
+use Rattle.meaning.proofs.Roots.{root-at}
+use Rattle.meaning.proofs.Empty.{proof-by-searches}
 use Rattle.shown.proofs.Lengths.{pathIf, pathsOf}
 use Rattle.shown.proofs.Theorems.{paths-have-256-steps}
-use Rattle.proofrecords.specs.ProofBytes.{StepForm, PresenceForm, NeighbourForm, ProofForm}
+use Rattle.proofrecords.specs.ProofBytes.{flagsOf, StepForm, PresenceForm, NeighbourForm, ProofForm}
 use Rattle.layout.specs.Slots.{SlotForm}
 
 -- what holds of both holds of either
@@ -151,16 +155,17 @@ neighbour-form b k (atGap trail) h = trail-form b trail h
 abbrev GivenForm : Answer Proof → Type 0
 GivenForm (refused n) = Unit {0}
 GivenForm (accepted (presence q)) = PathForm q
-GivenForm (accepted (absence a)) = Whole32 (a .key) × PathIf (a .leftward) × PathIf (a .rightward)
+GivenForm (accepted (absence a)) =
+    Whole32 (a .key) × PathIf (a .leftward) × PathIf (a .rightward) × (1 ≤ flagsOf (a .leftward) (a .rightward))
 
 absence-form : (k : Bytes) (x y : Sought) → Whole32 k → SoughtForm x → SoughtForm y → GivenForm (absenceFrom k x y)
 absence-form k lostWay y w f g = tt
 absence-form k nobody lostWay w f g = tt
-absence-form k nobody nobody w f g = (w, tt, tt)
-absence-form k nobody (somebody q) w f g = (w, tt, g)
+absence-form k nobody nobody w f g = tt
+absence-form k nobody (somebody q) w f g = (w, tt, g, omega arith)
 absence-form k (somebody p) lostWay w f g = tt
-absence-form k (somebody p) nobody w f g = (w, f, tt)
-absence-form k (somebody p) (somebody q) w f g = (w, f, g)
+absence-form k (somebody p) nobody w f g = (w, f, tt, omega arith)
+absence-form k (somebody p) (somebody q) w f g = (w, f, g, omega arith)
 
 sides-form : (k : Bytes) (e : End) → Whole32 k → EndForm e → GivenForm (absenceAt k e)
 unfolding absenceAt
@@ -174,12 +179,22 @@ end-form k (atLeaf l x trail) w h =
     (leaf-form l x trail (h .0) (h .1) (h .2)) (sides-form k e w h)
 end-form k (atGap trail) w h = sides-form k (atGap trail) w h
 
+root-form : (st : Store) (v : ℕ) → All SlotForm (st .slots) → FoundForm (rootOf st v)
+unfolding At
+root-form st v h = go (rootOf st v) refl
+  where
+    go : (o : Option Record) → rootOf st v ≡ o → FoundForm o
+    go none e = tt
+    go (some r) e =
+        let (i, a, p, f) = root-at st v r e in subst SlotForm (a .1) (all-at SlotForm (st .slots) free i h (a .0)) .body
+
 given-form : (st : Store) (v : ℕ) (k : Bytes) → All SlotForm (st .slots) → Whole32 k → GivenForm (proof st v k)
-unfolding proof proveSeen seen rootOf
+unfolding proveSeen seen
 given-form st v k h w =
-    let x : Seen = seenRoot (find v [] (st .slots)) (λ b d. seenAt 255 (st .slots) (b ∷ []) d) in
-    let f : SeenForm x = root-seen 255 (st .slots) (find v [] (st .slots)) h (find-form v [] (st .slots) h) in
-    either GivenForm (isKept st v) (proveEnd k (walk k 0 [] x)) (refused 8) (end-form k (walk k 0 [] x) w (walk-form k 0 [] x f tt)) tt
+    let x : Seen = seenRoot (rootOf st v) (λ b d. seenAt 255 (st .slots) (b ∷ []) d) in
+    let f : SeenForm x = root-seen 255 (st .slots) (rootOf st v) h (root-form st v h) in
+    subst GivenForm (sym (proof-by-searches st v k))
+    (either GivenForm (isKept st v) (proveEnd k (walk k 0 [] x)) (refused 8) (end-form k (walk k 0 [] x) w (walk-form k 0 [] x f tt)) tt)
 
 -- with at most 256 steps in each path
 path-whole : (q : Presence) → PathForm q → length (q .steps) ≤ 256 → PresenceForm q
@@ -190,7 +205,7 @@ proof-form st v k p h w e = go p (subst GivenForm e (given-form st v k h w)) (pa
   where
     go : (p : Proof) → GivenForm (accepted p) → All (λ q. length (q .steps) ≤ 256) (pathsOf p) → ProofForm p
     go (presence q) f s = path-whole q f (s .0)
-    go (absence a) f s = let n = sides (a .leftward) (a .rightward) (f .1) (f .2) s in (f .0, n .0, n .1)
+    go (absence a) f s = let n = sides (a .leftward) (a .rightward) (f .1) (f .2) s in (f .0, n .0, n .1, f .3)
       where
         sides : (l r : Option Presence) → PathIf l → PathIf r → All (λ q. length (q .steps) ≤ 256) (pathIf l ++ pathIf r) →
             NeighbourForm l × NeighbourForm r

@@ -20,7 +20,7 @@ use Rattle.proofrecords.specs.ProofBytes.{presenceKind, absenceKind, stepsBytes
 use Rattle.proofrecords.proofs.Proofs.{length-presence, length-absence}
 use Rattle.layout.specs.Headers.{Headed, refusal, header, headerOf}
 use Rattle.layout.specs.Stores.{storeOf}
-use Rattle.read_step.specs.Walk.{byHeader}
+use Rattle.read_step.specs.Headed.{byHeader}
 use Rattle.proving.specs.Proving.{proveAnswer, roomAfter}
 use Rattle.proving_c.specs.Export.{provedInto, lengthBytes}
 use Rattle.grants.specs.Contracts.{Proves}
@@ -98,7 +98,7 @@ kind-is (absence a) rest =
 
 module _ {s : Bytes} {v : ℕ} {k room f t g : Bytes} (w : Proves s v k room f 0 t g) where
   there-is : (p : Proof) × (provedInto s v k room ≡ accepted p)
-  there-is = accepted-of (provedInto s v k room) (λ n e. never-0 (12 ∷ 1 ∷ 2 ∷ 8 ∷ 3 ∷ 9 ∷ []) refl (prove-refusals s v k (length room) n e)) (w .answer)
+  there-is = accepted-of (provedInto s v k room) (λ n e. never-0 (12 ∷ 1 ∷ 2 ∷ 8 ∷ 14 ∷ 3 ∷ 9 ∷ []) refl (prove-refusals s v k (length room) n e)) (w .answer)
 
   pub its-proof : Proof
   its-proof = there-is .0

@@ -1,17 +1,19 @@
 -- Demand 3 over the bytes: each public call keeps that the bytes are those of a sound store which holds what the history has given it, because
 -- what its contract leaves are the bytes of the store that the definition leaves. Assumes nothing.
-use Prim.Native.Nat.{ℕ}
+use Prim.Native.Nat.{ℕ, _≤_}
 use native.Mathlib.Omega.{arith}
 use mathlib.Core.Path.{_≡_, refl, ap, sym, _∙_, subst}
 use mathlib.Core.Bool.{Bool, true, false, cond}
+use mathlib.Core.Logic.{_↔_}
 use mathlib.Core.List.{List, [], _∷_}
 use mathlib.Core.Option.{Option, none, some}
-use lib.ListN.{length}
+use lib.ListN.{length, take}
 use lib.Dec.{eqb}
 use borrow.Author.Tests.{eq-eqb, ne-eqb}
 use Rattle.terms.specs.Bits.{Bytes, Byte, All, Whole32}
-use Rattle.terms.specs.Records.{Grant, Ask, Store}
-use Rattle.meaning.specs.Tree.{treeOf, hash}
+use Rattle.terms.specs.Fields.{num}
+use Rattle.terms.specs.Records.{Grant, Ask, Store, zeros}
+use Rattle.meaning.specs.Tree.{grantsAt, treeOf, hash}
 use Rattle.meaning.specs.Store.{formatted}
 use Rattle.meaning.specs.Sound.{Kept}
 use Rattle.meaning.specs.Calls.{refused, accepted, Outcome}
@@ -29,14 +31,14 @@ use Rattle.batch.specs.Batch.{batchOf}
 use Rattle.batch.proofs.Batches.{batch-of-back}
 use Rattle.format.specs.Format.{formatAnswer, formatBytes}
 use Rattle.promises.specs.Calls.{SoundBytes, wrong-header, not-sound, refuses, accepts, Exports, exports-refusal, exports-answer}
-use Rattle.grants.specs.Contracts.{ReadsRoot, ReadsKey}
+use Rattle.grants.specs.Contracts.{ReadsRoot, ReadsKey, Proves, Verifies}
 use Rattle.meaning.specs.Answers.{foundBytes}
 use Rattle.demands.specs.Calls.{Called, formats, applies, prunes, checks, reads-root, reads-key, proves, verifies, hashes, Calls, none-yet, then-called, Life}
-use Rattle.demands.specs.Claims.{AfterHistory}
+use Rattle.demands.specs.Claims.{grantsOfVersion, AfterHistory}
 use Rattle.demands.proofs.Hashes.{leaf-hash-whole, inner-hash-whole}
 use Rattle.demands.proofs.Stored.{stored-is, stored-sound}
 use Rattle.demands.proofs.Given.{told-short}
-use Rattle.demands.proofs.Showing.{root-of-tree, key-of-grants}
+use Rattle.demands.proofs.Showing.{root-of-tree, key-of-grants, sound-is-shown, fourteen-exactly-if-empty}
 use Rattle.demands.proofs.Refusals.{never-0, apply-refusals, prune-refusals}
 
 -- what is kept from call to call
@@ -136,6 +138,27 @@ module _ {t : Bytes} (w : SoundBytes t) {es : List Entry} (h : Holds leafHash in
   held-key {k} whole x =
       let e = key-of-grants w kept whole x in (e .0, e .1 ∙ ap (λ y. foundBytes (answerOf k y)) (h .gives v kept .3 ∙ same-grants))
 
+  its-grants : grantsOfVersion t v ≡ gs
+  its-grants = h .gives v kept .3 ∙ same-grants
+
+  held-shown : {k room f u g f₁ root f₂ found : Bytes} {r r₁ r₂ : ℕ} → (gs ≡ [] → ⊥) → Whole32 k → 17080 ≤ length room → Proves t v k room f r u g →
+      ReadsRoot t v f₁ r₁ root → Verifies root k (take (num g) u) f₂ r₂ found →
+      (r ≡ 0) × (r₁ ≡ 0) × (r₂ ≡ 0) × (found ≡ foundBytes (answerOf k gs))
+  held-shown {k} {room} {f} {u} {g} granted whole long x y z =
+      let s = sound-is-shown w v kept k whole (λ e. granted (sym its-grants ∙ e)) in
+      let e = s .room x long in
+      let c = s .checked (subst (λ n. Proves t v k room f n u g) e x) y z in
+      (e, c .0, c .1, c .2 ∙ ap (λ y. foundBytes (answerOf k y)) its-grants)
+
+  held-empty : {k room f u g : Bytes} {r : ℕ} → Whole32 k → Proves t v k room f r u g → (r ≡ 14) ↔ (gs ≡ [])
+  held-empty {k} whole x =
+      let e = fourteen-exactly-if-empty w v kept k whole x in (λ n. sym its-grants ∙ e .0 n, λ n. e .1 (its-grants ∙ n))
+
+-- the root of no grants
+no-grants-zeros : hash leafHash innerHash (treeOf []) ≡ zeros
+unfolding treeOf grantsAt
+no-grants-zeros = refl
+
 -- Demand 3. After any sequence of public calls a store that only they wrote is sound and holds what its history gives it.
 pub store-after-history : {history : List (Call × Bool)} {t : Bytes} → Life history t → AfterHistory history t
 unfolding formatAnswer
@@ -150,6 +173,9 @@ store-after-history {t = t} life =
       lifetimes = records-stand-in-their-lifetimes leafHash innerHash (storeOf t) _ h;
       reads-root = λ a b. held-root (sound-bytes k) h a b;
       reads-key = λ a b. held-key (sound-bytes k) h a b;
+      shows = λ a b. held-shown (sound-bytes k) h a b;
+      shows-nothing = λ a b. held-empty (sound-bytes k) h a b;
+      zero-root = λ a b x. let e = held-root (sound-bytes k) h a b x in (e .0, e .1 ∙ no-grants-zeros);
       paths = paths-have-at-most-256-steps leafHash innerHash (storeOf t) (k .keeps .sound);
       proofs = λ w. told-short w;
     }

@@ -2,8 +2,13 @@ pub mod Hashes
 pub mod Stored
 pub mod Outcomes
 pub mod Refusals
+pub mod Exact
+pub mod Accepting
 pub mod Forms
 pub mod Given
 pub mod Showing
+pub mod Shortest
 pub mod Versions
+pub mod Cut
 pub mod Histories
+pub mod Desk

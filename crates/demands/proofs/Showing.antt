@@ -1,24 +1,26 @@
 -- Demand 2, the prover and the checker: on a sound store the proof that is given is in form, so the checker reads back what the prover wrote,
 -- and its answer is what the version's grants say of the key. Assumes nothing.
-use Prim.Native.Nat.{ℕ, _≤_}
+use Prim.Native.Nat.{ℕ, _≤_, _<_}
 use native.Mathlib.Omega.{arith}
-use mathlib.Core.Path.{_≡_, ap, sym, _∙_, subst}
+use mathlib.Core.Path.{_≡_, refl, ap, sym, _∙_, subst}
 use mathlib.Core.Logic.{_↔_}
-use mathlib.Core.List.{_∷_}
+use mathlib.Core.Bool.{Bool, true, false, cond}
+use mathlib.Core.List.{[], _∷_}
 use lib.ListN.{length, take}
-use borrow.Author.Tests.{eq-eqb}
+use lib.Dec.{ltb}
+use borrow.Author.Tests.{eq-eqb, ltb-true, ltb-false}
 use Rattle.terms.specs.Bits.{Bytes, Whole32}
 use Rattle.terms.specs.Fields.{num, field}
 use Rattle.terms.specs.Records.{Proof, presence, absence}
 use Rattle.meaning.specs.Tree.{hash, unversioned}
 use Rattle.meaning.specs.Sound.{Kept}
-use Rattle.meaning.specs.Calls.{Answer, accepted}
+use Rattle.meaning.specs.Calls.{Answer, refused, accepted}
 use Rattle.meaning.specs.Reading.{Verdict, present, absent, answerOf, readKey}
-use Rattle.meaning.specs.Proving.{proof, proofLength, prove}
+use Rattle.meaning.specs.Proving.{HoldsGrant, proof, proofLength, fitted, prove}
 use Rattle.meaning.specs.Checking.{checked}
 use Rattle.shown.proofs.Walks.{present-absent}
 use Rattle.shown.proofs.Verdicts.{accepted-same, Agrees}
-use Rattle.shown.proofs.Theorems.{proof-agrees-with-read, proofs-have-17080-bytes, given-with-room, root-read-is-hash, key-read-is-answer, shown}
+use Rattle.shown.proofs.Theorems.{proof-agrees-with-read, proofs-have-17080-bytes, given-with-room, nine-without-room, root-read-is-hash, key-read-is-answer, shown, empty-root-is-zeros, empty-is-fourteen, fourteen-exactly-without-grant}
 use Rattle.nodehash.specs.Node.{leafHash, innerHash}
 use Rattle.proofrecords.specs.ProofBytes.{presenceKind, absenceKind, proofBytes, ProofForm}
 use Rattle.proofrecords.proofs.Proofs.{proof-back}
@@ -33,7 +35,8 @@ use Rattle.proving_c.specs.Export.{provedInto}
 use Rattle.verify.specs.Verify.{verified}
 use Rattle.meaning.specs.Answers.{numberOf, foundBytes, foundAfter}
 use Rattle.grants.specs.Contracts.{ReadsRoot, ReadsKey, Proves, Verifies}
-use Rattle.demands.specs.Claims.{treeOfVersion, grantsOfVersion, Shown}
+use Rattle.demands.specs.Claims.{treeOfVersion, grantsOfVersion, Shown, NothingToShow}
+use Rattle.demands.proofs.Refusals.{refused-prove-writes-nothing}
 use Rattle.demands.proofs.Hashes.{hash-whole}
 use Rattle.demands.proofs.Forms.{proof-form}
 use Rattle.demands.proofs.Given.{kindOf, its-proof, its-tests, kind-told, front-is}
@@ -65,25 +68,67 @@ by-kind (absence c) k a e g =
     ((λ z. absurd (omega arith), λ z. present-absent (z .0) (sym (z .1) ∙ is)), (λ z. is, λ z. e))
 
 -- the checker on the bytes of a proof in form
-checker-on : (root k : Bytes) (p : Proof) {a : Verdict} → length root ≡ 32 → length k ≡ 32 → ProofForm p →
+pub checker-on : (root k : Bytes) (p : Proof) {a : Verdict} → length root ≡ 32 → length k ≡ 32 → ProofForm p →
     checked leafHash innerHash root k p ≡ accepted a → verified root k (proofBytes p) ≡ accepted a
 unfolding verified
 checker-on root k p r l h e = rw (eq-eqb (length root) 32 r, eq-eqb (length k) 32 l, proof-back p h) e
 
-verify-left : {root k x f : Bytes} {r : ℕ} {g : Bytes} {a : Verdict} → Verifies root k x f r g → verified root k x ≡ accepted a →
+pub verify-left : {root k x f : Bytes} {r : ℕ} {g : Bytes} {a : Verdict} → Verifies root k x f r g → verified root k x ≡ accepted a →
     (r ≡ 0) × (g ≡ foundBytes a)
 verify-left {f = f} x e = (x .answer ∙ ap (λ b. numberOf b) e, x .found ∙ ap (λ b. foundAfter b f) e)
 
 module _ {s : Bytes} (w : SoundBytes s) (v : ℕ) (kept : Kept (storeOf s) v) (k : Bytes) (whole : Whole32 k) where
+  proved-into : (room : Bytes) → provedInto s v k room ≡ prove (storeOf s) v k (length room)
+  unfolding proveAnswer
+  proved-into room = rw (eq-eqb (length k) 32 (whole .0), w .headed)
+
+  -- Where the version holds no grant, 14,
+  empty-refused : {room f t g : Bytes} {r : ℕ} → grantsOfVersion s v ≡ [] → Proves s v k room f r t g → r ≡ 14
+  unfolding prove
+  empty-refused {room} e x =
+      x .answer
+      ∙ ap (λ a. numberOf a)
+      (proved-into room ∙ ap (fitted (length room)) (empty-is-fourteen leafHash innerHash (storeOf s) (w .sound) v kept k whole e))
+
+  -- and only there.
+  pub fourteen-exactly-if-empty : {room f t g : Bytes} {r : ℕ} → Proves s v k room f r t g → (r ≡ 14) ↔ (grantsOfVersion s v ≡ [])
+  unfolding prove
+  fourteen-exactly-if-empty {room} {r = r} x = (there, λ e. empty-refused e x)
+    where
+      go : (a : Answer Proof) → proof (storeOf s) v k ≡ a → numberOf (fitted (length room) a) ≡ 14 → a ≡ refused 14
+      go (refused n) f e = ap refused e
+      go (accepted p) f e = no-number (ltb (length room) (proofLength p)) e
+        where
+          no-number : (b : Bool) → numberOf {A = Proof} (cond b (refused 9) (accepted p)) ≡ 14 → accepted p ≡ refused 14
+          no-number true e = absurd (omega arith)
+          no-number false e = absurd (omega arith)
+
+      there : r ≡ 14 → grantsOfVersion s v ≡ []
+      there e =
+          fourteen-exactly-without-grant leafHash innerHash (storeOf s) (w .sound) v kept k whole .0
+          (go (proof (storeOf s) v k) refl (sym (ap (λ a. numberOf a) (proved-into room)) ∙ sym (x .answer) ∙ e))
+
+  pub sound-has-nothing-to-show : grantsOfVersion s v ≡ [] → NothingToShow s v k
+  sound-has-nothing-to-show e = record {
+    reads-root = λ x.
+        let a = root-of-tree w kept x in (
+          a .0,
+          a .1 ∙ accepted-same _ _ (sym (root-read-is-hash leafHash innerHash (storeOf s) (w .sound) v kept)
+              ∙ empty-root-is-zeros leafHash innerHash (storeOf s) (w .sound) v kept k whole e),
+        );
+    reads-key = λ x. let a = key-of-grants w kept whole x in (a .0, a .1 ∙ ap (λ gs. foundBytes (answerOf k gs)) e);
+    refused = λ x.
+        let n = empty-refused e x in let u = refused-prove-writes-nothing x (λ z. omega arith) in (n, u .0, u .1);
+  }
+
+module _ {s : Bytes} (w : SoundBytes s) (v : ℕ) (kept : Kept (storeOf s) v) (k : Bytes) (whole : Whole32 k) (some : HoldsGrant (storeOf s) v) where
   its : (p : Proof) × (proof (storeOf s) v k ≡ accepted p) ×
       (checked leafHash innerHash (hash leafHash innerHash (unversioned (treeOfVersion s v))) k p ≡ accepted (answerOf k (grantsOfVersion s v)))
-  its = shown leafHash innerHash (storeOf s) (w .sound) v kept k whole _ (root-read-is-hash leafHash innerHash (storeOf s) (w .sound) v kept)
+  its = shown leafHash innerHash (storeOf s) (w .sound) v kept k whole some _ (root-read-is-hash leafHash innerHash (storeOf s) (w .sound) v kept)
 
   with-room : {room f t g : Bytes} {r : ℕ} → Proves s v k room f r t g → proofLength (its .0) ≤ length room → r ≡ 0
-  unfolding proveAnswer
   with-room {room} x h =
-      let into : provedInto s v k room ≡ prove (storeOf s) v k (length room) = rw (eq-eqb (length k) 32 (whole .0), w .headed) in
-      x .answer ∙ ap (λ a. numberOf a) (into ∙ given-with-room (storeOf s) v k (its .0) (length room) (its .1) h)
+      x .answer ∙ ap (λ a. numberOf a) (proved-into w v kept k whole room ∙ given-with-room (storeOf s) v k (its .0) (length room) (its .1) h)
 
   -- it is the one that is given
   module _ {room f t g : Bytes} (x : Proves s v k room f 0 t g) where
@@ -96,6 +141,17 @@ module _ {s : Bytes} (w : SoundBytes s) (v : ℕ) (kept : Kept (storeOf s) v) (k
         subst (λ p. proofLength p ≤ length room) (sym (the-same y)) (its-tests y .fits),
     λ h. with-room x h,
   )
+
+  without-room : {room f t g : Bytes} {r : ℕ} → Proves s v k room f r t g → length room < proofLength (its .0) → r ≡ 9
+  without-room {room} x h =
+      x .answer ∙ ap (λ a. numberOf a) (proved-into w v kept k whole room ∙ nine-without-room (storeOf s) v k (its .0) (length room) (its .1) h)
+
+  short : {room f t g : Bytes} {r : ℕ} → Proves s v k room f r t g → (r ≡ 9) ↔ (length room < proofLength (its .0))
+  short {room} {r = r} x = (λ e. go (ltb (length room) (proofLength (its .0))) refl e, λ h. without-room x h)
+    where
+      go : (b : Bool) → ltb (length room) (proofLength (its .0)) ≡ b → r ≡ 9 → length room < proofLength (its .0)
+      go true f e = ltb-true (length room) (proofLength (its .0)) f
+      go false f e = absurd (omega (arith, with-room x (ltb-false (length room) (proofLength (its .0)) f)))
 
   module _ {room f t g : Bytes} (x : Proves s v k room f 0 t g) where
     form : ProofForm (its-proof x)
@@ -124,13 +180,14 @@ module _ {s : Bytes} (w : SoundBytes s) (v : ℕ) (kept : Kept (storeOf s) v) (k
         ∙ checker-on h k (its-proof x) long (whole .0) form holds) in
         (a .0, b .0, b .1)
 
-  -- Given room, the prover shows a grant exactly if the key is in the version, else its absence; and the checker accepts it.
+  -- Given room, for every version that holds a grant, the prover shows a grant exactly if the key is in the version, else its absence; and the checker accepts it.
   pub sound-is-shown : Shown s v k
   sound-is-shown = record {
     reads-key = key-of-grants w kept whole;
     proved = its .0;
     is-proved = its .1;
     given = λ x. given x;
+    short = λ x. short x;
     room = λ x h. with-room x (omega (arith, proofs-have-17080-bytes (storeOf s) v k (its .0) (its .1)));
     presence = λ x. kinds x .0;
     absence = λ x. kinds x .1;

@@ -2,7 +2,7 @@
 -- answer, field by field. Assumes nothing.
 use Prim.Native.Nat.{ℕ, _+_, _≤_}
 use native.Mathlib.Omega.{arith}
-use mathlib.Core.Path.{_≡_, refl, ap, sym, _∙_, subst, subst₂}
+use mathlib.Core.Path.{_≡_, refl, ap, sym, _∙_, subst}
 use mathlib.Core.List.{List, [], _∷_, _++_, append-nil}
 use mathlib.Core.Option.{Option, none, some}
 use lib.ListN.{length, getD}
@@ -14,11 +14,11 @@ use Rattle.terms.proofs.Fields.{num-le, length-le, cuts, cuts-flat}
 use Rattle.meaning.specs.Tree.{withBatch, treeOf, hash, unversioned, nextTree}
 use Rattle.meaning.specs.Store.{freeSlots, newRecords}
 use Rattle.meaning.specs.Sound.{Kept}
-use Rattle.meaning.specs.Calls.{Answer, accepted, refuse, Applied, prune, apply}
+use Rattle.meaning.specs.Calls.{Answer, accepted, refuse, Applied, apply}
 use Rattle.meaning.specs.Reading.{answerOf}
-use Rattle.histories.specs.Claims.{AfterApply, AfterPrune}
+use Rattle.histories.specs.Claims.{AfterApply}
 use Rattle.histories.proofs.Calls.{recordsNeeded, apply-cases}
-use Rattle.histories.proofs.Theorems.{sound-tree-of-grants, prune-keeps-sound, apply-keeps-sound}
+use Rattle.histories.proofs.Theorems.{sound-tree-of-grants, apply-keeps-sound}
 use Rattle.nodehash.specs.Node.{leafHash, innerHash}
 use Rattle.layout.specs.Stores.{storeOf, storeBytes}
 use Rattle.batch.specs.Batch.{batchOf}
@@ -26,11 +26,11 @@ use Rattle.batch.proofs.Batches.{batch-of-back}
 use Rattle.promises.specs.Calls.{SoundBytes, accepts, exports-refusal, exports-answer}
 use Rattle.applying_c.specs.Export.{answerBytes, told}
 use Rattle.meaning.specs.Answers.{foundBytes}
-use Rattle.grants.specs.Contracts.{Applies, Prunes, ReadsRoot, ReadsKey}
-use Rattle.demands.specs.Claims.{treeOfVersion, grantsOfVersion, latestOf, NextVersion, Pruned}
+use Rattle.grants.specs.Contracts.{Applies, ReadsRoot, ReadsKey}
+use Rattle.demands.specs.Claims.{treeOfVersion, grantsOfVersion, latestOf, NextVersion}
 use Rattle.demands.proofs.Hashes.{leaf-hash-whole, inner-hash-whole, hash-whole}
 use Rattle.demands.proofs.Stored.{stored-is, stored-sound}
-use Rattle.demands.proofs.Refusals.{no-refusal, never-0, apply-refusals, prune-refusals, does-numbers}
+use Rattle.demands.proofs.Refusals.{no-refusal, never-0, apply-refusals, does-numbers}
 use Rattle.demands.proofs.Showing.{root-of-tree, key-of-grants}
 
 -- what an accepted batch makes, on the store of the bytes
@@ -84,7 +84,7 @@ module _ {g : Bytes} (a : Applied) (is : g ≡ told a) (root32 : length (a .root
   count-told h = ap num (cut 2) ∙ num-le 4 (a .count) (omega arith)
 
 -- there are no more free slots than slots
-free-most : (s : List Slot) → freeSlots s ≤ length s
+pub free-most : (s : List Slot) → freeSlots s ≤ length s
 free-most [] = omega arith
 free-most (free ∷ s) = let h = free-most s in omega arith
 free-most (used r ∷ s) = let h = free-most s in omega arith
@@ -180,21 +180,3 @@ module _ {batch s t g : Bytes} (bytes : All Byte batch) (m : Makes batch s t g) 
 -- An accepted batch makes the next version.
 pub accepted-batch-makes-next-version : (batch : Bytes) {s f t g : Bytes} → All Byte batch → Applies batch s f 0 t g → NextVersion batch s t g
 accepted-batch-makes-next-version batch bytes w = next-version bytes (makes batch w refl)
-
--- An accepted pruning frees the records that it counts, and leaves the versions still kept their trees.
-pub accepted-prune-frees : (n : ℕ) {s f t g : Bytes} → Prunes n s f 0 t g → Pruned n s t g
-accepted-prune-frees n {s} w = go w refl
-  where
-    go : {f t g : Bytes} {r : ℕ} → Prunes n s f r t g → r ≡ 0 → Pruned n s t g
-    go (exports-refusal d) z = absurd (never-0 (1 ∷ 2 ∷ 3 ∷ 8 ∷ []) refl (does-numbers (8 ∷ []) (prune-refusals n) d) z)
-    go (exports-answer {a} (accepts w e)) z =
-        let st = prune n (storeOf s) .store in
-        let made = prune-keeps-sound leafHash innerHash n (storeOf s) a (w .sound) e in
-        let few : a ≤ top32 = omega (arith, made .count, made .capacity, free-most (st .slots), w .sound .size .1) in
-        let said = stored-is st (made .sound) in
-        record {
-          was = w;
-          sound = stored-sound st (made .sound);
-          bytes = ap storeBytes (sym said);
-          after = subst₂ (λ k x. AfterPrune leafHash innerHash n (storeOf s) k x) (sym (num-le 4 a (omega arith))) (sym said) made;
-        }

@@ -1,25 +1,28 @@
 -- What the demands claim of the public calls, in the words of their contracts. Assumes nothing.
-use Prim.Native.Nat.{ℕ, _+_, _≤_}
+use Prim.Native.Nat.{ℕ, _+_, _≤_, _<_}
 use mathlib.Core.Path.{_≡_}
 use mathlib.Core.Logic.{_↔_}
-use mathlib.Core.Bool.{Bool}
+use mathlib.Core.Bool.{Bool, true, false}
 use mathlib.Core.List.{List, [], _∷_}
 use mathlib.Core.Option.{some}
 use lib.ListN.{length, take}
 use Rattle.terms.specs.Bits.{Bytes, Whole32, Place}
-use Rattle.terms.specs.Fields.{num, field, slice}
-use Rattle.terms.specs.Records.{Grant, Ask, Record, Proof}
+use Rattle.terms.specs.Fields.{num, field, slice, zeroBytes}
+use Rattle.terms.specs.Records.{Grant, Ask, Record, Proof, zeros}
 use Rattle.meaning.specs.Tree.{withBatch, treeOf, hash, VTree, unversioned, grantsIn}
-use Rattle.meaning.specs.Store.{treeAtVersion, newRecords}
+use Rattle.meaning.specs.Store.{treeAtVersion, retiredBy, newRecords}
 use Rattle.meaning.specs.Sound.{At, Kept, NodeOf, Lives}
 use Rattle.meaning.specs.Calls.{accepted, Applied}
-use Rattle.meaning.specs.Reading.{present, absent, answerOf}
+use Rattle.meaning.specs.Reading.{Verdict, present, absent, answerOf}
+use Rattle.checker.specs.Holding as checker
+use Rattle.refusals.specs.Rows.{ProofIs}
 use Rattle.meaning.specs.Proving.{proof, proofLength}
 use Rattle.meaning.specs.History.{Call, Entry, entry, ledger, grantsOf, Holds}
 use Rattle.histories.specs.Claims.{AfterApply, AfterPrune}
 use Rattle.nodehash.specs.Node.{leafHash, innerHash}
 use Rattle.proofrecords.specs.ProofBytes.{presenceKind, absenceKind}
-use Rattle.layout.specs.Stores.{storeOf, storeBytes}
+use Rattle.layout.specs.Sizes.{slotSize}
+use Rattle.layout.specs.Stores.{slotIn, storeOf, storeBytes}
 use Rattle.batch.specs.Batch.{batchOf}
 use Rattle.promises.specs.Calls.{SoundBytes}
 use Rattle.applying_c.specs.Export.{told}
@@ -59,6 +62,16 @@ pub record AfterHistory (history : List (Call × Bool)) (t : Bytes) : Type 0 whe
       ReadsRoot t v f r g → (r ≡ 0) × (g ≡ hash leafHash innerHash (treeOf gs))
   pub reads-key : {v : ℕ} {gs : List Grant} {k f g : Bytes} {r : ℕ} → Kept (storeOf t) v → grantsOf v (ledgerOf history) ≡ some gs →
       Whole32 k → ReadsKey t v k f r g → (r ≡ 0) × (g ≡ foundBytes (answerOf k gs))
+  -- and what an editor sees of a version with a grant: of any key a proof is given, where there is room, and with the root read the proof check
+  -- answers for those grants
+  pub shows : {v : ℕ} {gs : List Grant} {k room f u g f₁ root f₂ found : Bytes} {r r₁ r₂ : ℕ} → Kept (storeOf t) v →
+      grantsOf v (ledgerOf history) ≡ some gs → (gs ≡ [] → ⊥) → Whole32 k → 17080 ≤ length room → Proves t v k room f r u g → ReadsRoot t v f₁ r₁ root →
+      Verifies root k (take (num g) u) f₂ r₂ found → (r ≡ 0) × (r₁ ≡ 0) × (r₂ ≡ 0) × (found ≡ foundBytes (answerOf k gs))
+  -- of a version without one there is no proof, exactly: 14, and the root is 32 zero bytes
+  pub shows-nothing : {v : ℕ} {gs : List Grant} {k room f u g : Bytes} {r : ℕ} → Kept (storeOf t) v → grantsOf v (ledgerOf history) ≡ some gs →
+      Whole32 k → Proves t v k room f r u g → (r ≡ 14) ↔ (gs ≡ [])
+  pub zero-root : {v : ℕ} {f g : Bytes} {r : ℕ} → Kept (storeOf t) v → grantsOf v (ledgerOf history) ≡ some [] → ReadsRoot t v f r g →
+      (r ≡ 0) × (g ≡ zeros)
   -- no path is longer than 256 steps
   pub paths : (v : ℕ) → Kept (storeOf t) v → (w : ℕ) (p : Place) → NodeOf w p (treeOfVersion t v) [] → length p ≤ 256
   -- no proof is longer than 17,080 bytes
@@ -95,15 +108,19 @@ pub record Pruned (n : ℕ) (s t g : Bytes) : Type 0 where
   pub bytes : t ≡ storeBytes (storeOf t)
   -- the versions still kept have their trees, and as many slots more are free as was told
   pub after : AfterPrune leafHash innerHash n (storeOf s) (num g) (storeOf t)
+  -- the slot of every record retired since n or earlier is free, 120 zero bytes; every other slot has the bytes it had
+  pub frees : (i : ℕ) (r : Record) → At (storeOf s) i r → retiredBy n r ≡ true → slotIn i t ≡ zeroBytes slotSize
+  pub keeps : (i : ℕ) → i < length (storeOf s .slots) → ((r : Record) → At (storeOf s) i r → retiredBy n r ≡ false) → slotIn i t ≡ slotIn i s
 
--- Demand 2: what is shown of a key in a kept version of a sound store.
+-- Demand 2: what is shown of a key in a kept version of a sound store, for every version that holds a grant (2026-03).
 pub record Shown (s : Bytes) (v : ℕ) (k : Bytes) : Type 0 where
   -- the key read answers what the version's grants say
   pub reads-key : {f g : Bytes} {r : ℕ} → ReadsKey s v k f r g → (r ≡ 0) × (g ≡ foundBytes (answerOf k (grantsOfVersion s v)))
-  -- there is a proof, which is given exactly if there is room for it; 17,080 bytes are enough
+  -- there is a proof, which is given exactly if there is room for it, and 9 exactly if the room is short; 17,080 bytes are enough
   pub proved : Proof
   pub is-proved : proof (storeOf s) v k ≡ accepted proved
   pub given : {room f t g : Bytes} {r : ℕ} → Proves s v k room f r t g → (r ≡ 0) ↔ (proofLength proved ≤ length room)
+  pub short : {room f t g : Bytes} {r : ℕ} → Proves s v k room f r t g → (r ≡ 9) ↔ (length room < proofLength proved)
   pub room : {room f t g : Bytes} {r : ℕ} → Proves s v k room f r t g → 17080 ≤ length room → r ≡ 0
   -- it shows a grant exactly if the key is in the version, else its absence
   pub presence : {room f t g : Bytes} → Proves s v k room f 0 t g →
@@ -112,3 +129,18 @@ pub record Shown (s : Bytes) (v : ℕ) (k : Bytes) : Type 0 where
   -- and the checker accepts it against the version's root, and finds what the key read finds
   pub checked : {room f t g f₁ root f₂ found : Bytes} {r₁ r₂ : ℕ} → Proves s v k room f 0 t g → ReadsRoot s v f₁ r₁ root →
       Verifies root k (take (num g) t) f₂ r₂ found → (r₁ ≡ 0) × (r₂ ≡ 0) × (found ≡ foundBytes (answerOf k (grantsOfVersion s v)))
+
+-- For a version that holds none: the root read answers zeros, the key read absent, and proving 14, with nothing written.
+pub record NothingToShow (s : Bytes) (v : ℕ) (k : Bytes) : Type 0 where
+  pub reads-root : {f g : Bytes} {r : ℕ} → ReadsRoot s v f r g → (r ≡ 0) × (g ≡ zeros)
+  pub reads-key : {f g : Bytes} {r : ℕ} → ReadsKey s v k f r g → (r ≡ 0) × (g ≡ foundBytes absent)
+  pub refused : {room f t g : Bytes} {r : ℕ} → Proves s v k room f r t g → (r ≡ 14) × (t ≡ room) × (g ≡ f)
+
+-- Demand 2: the proof check accepts the bytes x as a proof for the key k against a root, with this answer. The root and the key have 32 bytes,
+-- and x is one whole proof in form that holds.
+pub record Accepts (root k x : Bytes) (answer : Verdict) : Type 0 where
+  pub root32 : length root ≡ 32
+  pub key32 : length k ≡ 32
+  pub proof : Proof
+  pub is-proof : ProofIs x proof
+  pub holds : checker.Holds leafHash innerHash root k proof answer

@@ -1,2 +1,4 @@
 pub mod Calls
+pub mod Tables
 pub mod Claims
+pub mod Desk

@@ -2,6 +2,7 @@
 use fields::clear;
 use layout::put_header;
 use layout::size_right;
+use store::slot_count;
 ghost use mathlib.Core.Path.{_≡_};
 ghost use Rattle.format.specs.Format.{formatAnswer, formatBytes};
 
@@ -13,11 +14,10 @@ pub fn format(store: &mut [u8]) -> u32
     ensures answer { λ r. ⌜ r ≡ formatAnswer (now (store .entry)) ⌝ }
     ensures bytes { λ _. ⌜ now (store .exit) ≡ formatBytes (now (store .entry)) ⌝ }
 {
-    let n = store.len();
-    if !size_right(n) {
+    if !size_right(store.len()) {
         return WRONG_SIZE;
     }
-    let capacity = ((n - 24) / 120) as u32;
+    let capacity = slot_count(store) as u32;
     clear(store);
     put_header(store, capacity, 0, 0);
     0

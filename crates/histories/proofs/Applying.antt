@@ -6,7 +6,7 @@ use mathlib.Core.Path.{_≡_, refl, ap, ap₂, sym, _∙_, subst}
 use mathlib.Core.Logic.{_⊎_, inl, inr, _↔_}
 use mathlib.Core.Bool.{Bool, true, false, cond, not, _&&_, false≢true}
 use mathlib.Core.List.{List, []}
-use mathlib.Core.Option.{none, some}
+use mathlib.Core.Option.{some}
 use lib.ListN.{length}
 use lib.Dec.{leb}
 use borrow.Author.Tests.{leb-true, leb-false}
@@ -15,15 +15,16 @@ use Rattle.terms.specs.Records.{Record, Slot, Store}
 use Rattle.terms.specs.Form.{top32, RecordForm}
 use Rattle.terms.proofs.Tests.{is-false}
 use Rattle.terms.proofs.Members.{In, all-in}
-use Rattle.meaning.specs.Tree.{VTree, vnone, vinner, unversioned, topVersion}
+use Rattle.meaning.specs.Tree.{VTree, vinner, unversioned}
 use Rattle.meaning.specs.Store.{find, treeAtVersion, freeSlots, marked, hasNode, retire, retiredBy, recordsOf, newRecords, settled}
 use Rattle.meaning.specs.Sound.{At, Kept, Found, NodeOf, Lives, Hashes32, Stands}
-use Rattle.meaning.proofs.Finding.{isNode-eq, some-inner}
+use Rattle.meaning.proofs.Finding.{some-inner, none-not}
+use Rattle.meaning.proofs.Roots.{top-own}
 use Rattle.meaning.proofs.Shaped.{Shaped, no-lone-leaf}
-use Rattle.histories.proofs.Slots.{Has, none-find, Unique, unique-find}
-use Rattle.histories.proofs.Writing.{contents, contents-none, turned, turned-node, retire-at, placed-at, has-retire, spoiled-retire, find-retire, unique-retire, free-retire, has-placed, spoiled-placed, placed-has, length-written, New, Older, find-older, unique-placed}
-use Rattle.histories.proofs.Standing.{Formed, Top, top-none, top-some, reads-top, Alike, stands-alike, carried, node-found, kid-stands}
-use Rattle.histories.proofs.Whole.{Lifetime, retired-later, not-retired, Whole}
+use Rattle.histories.proofs.Slots.{Has, Unique, unique-find}
+use Rattle.histories.proofs.Writing.{contents, turned, turned-node, retire-at, placed-at, has-retire, spoiled-retire, find-retire, unique-retire, free-retire, has-placed, spoiled-placed, placed-has, length-written, New, Older, find-older, unique-placed}
+use Rattle.histories.proofs.Standing.{Formed, Exact, own-roots, Alike, stands-alike, node-found, reads-root, kid-stands}
+use Rattle.histories.proofs.Whole.{Lifetime, life-later, retired-later, not-retired, Whole}
 use Rattle.histories.proofs.Nodes.{recordsAt, top-record, kid-records, Origin, origin, origin-node, hasNode-node, node-hasNode, new-distinct, new-in, in-new}
 use Rattle.histories.proofs.Growing.{Grows, grow-same, grow-none, grow-leaf, grow-inner, grows-node, Grown}
 use Rattle.histories.proofs.Forms.{record-form}
@@ -198,33 +199,10 @@ module _ (leafHash innerHash : Bytes → Bytes → Bytes) where
     stands-old : (v : ℕ) → Kept st v → Stands leafHash innerHash st′ [] (treeAtVersion st v)
     stands-old v k = stands-alike leafHash innerHash st st′ [] (treeAtVersion st v) (alike v k) (w .stands v k)
 
-    -- the older versions have their trees
-    pub tree-old : (v : ℕ) → Kept st v → treeAtVersion st′ v ≡ treeAtVersion st v
-    tree-old v k =
-        carried leafHash innerHash st st′ v formed′ (w .stands v k) (alike v k)
-        (λ e. contents-none _ (find-old v [] (omega arith) ∙ ap contents e))
-
     stands-now : Stands leafHash innerHash st′ [] now
     stands-now =
         grows-stands st′ new [] (g .grows) (stands-old (st .latest) last-kept) (g .shaped)
         (λ x h e. find-fresh x (in-new leafHash innerHash new now x h e))
-
-    no-root : now ≡ vnone → find new [] (st′ .slots) ≡ none
-    unfolding marked
-    no-root e = none-find new [] (st′ .slots) (λ r h n. go r (isNode-eq new [] r n .0) (came r h))
-      where
-        go : (r : Record) → r .version ≡ new → Came r → ⊥
-        go r v (stayed h f) = omega (arith, w .versions r h)
-        go r v (ended q h k a b) = omega (arith, w .versions q h, ap (λ x. x .version) k)
-        go r v (fresh h k) = subst (λ t. In r (recordsAt leafHash innerHash [] t)) e h
-
-    -- the new version has the new tree
-    pub tree-new : treeAtVersion st′ new ≡ now
-    tree-new = reads-top leafHash innerHash st′ formed′ new now stands-now (go (g .top))
-      where
-        go : (now ≡ vnone) ⊎ (topVersion now ≡ new) → Top (st′ .slots) new now
-        go (inl e) = top-none e (no-root e)
-        go (inr e) = top-some e
 
     -- at an older version a record lives as before; one that ended now was there to the end
     exact-old : (v : ℕ) → Kept st v → (r : Record) → Came r → NodeOf (r .version) (r .place) (treeAtVersion st v) [] ↔ Lives v r
@@ -269,6 +247,23 @@ module _ (leafHash innerHash : Bytes → Bytes → Bytes) where
         let o : Origin leafHash innerHash r now [] = origin leafHash innerHash r [] now h in
         let t : r .retired ≡ 0 = o .is .retired in
         (λ n. (omega arith, not-retired new r (λ x. absurd (omega arith))), λ z. origin-node leafHash innerHash r [] now o)
+
+    later′ : (r : Record) → Has r (st′ .slots) → (r .retired ≡ 0) ⊎ (r .version < r .retired)
+    later′ r h = life-later (st .oldest) new r (lifetimes′ r (came r h))
+
+    -- the older versions have their trees
+    pub tree-old : (v : ℕ) → Kept st v → treeAtVersion st′ v ≡ treeAtVersion st v
+    tree-old v k =
+        let exact : Exact (st′ .slots) v (treeAtVersion st v) = λ r h. exact-old v k r (came r h) in
+        reads-root leafHash innerHash st′ formed′ unique′ v (treeAtVersion st v) (stands-old v k) exact
+        (own-roots (st′ .slots) v (treeAtVersion st v) later′ exact (top-own st v))
+
+    -- the new version has the new tree
+    pub tree-new : treeAtVersion st′ new ≡ now
+    tree-new =
+        let exact : Exact (st′ .slots) new now = λ r h. exact-now r (came r h) in
+        reads-root leafHash innerHash st′ formed′ unique′ new now stands-now exact
+        (own-roots (st′ .slots) new now later′ exact (λ s. elim (g .top) [ inl e ↦ none-not now s e | inr e ↦ e ]))
 
     -- what holds of the older versions and of the new one holds of all that are kept
     each : (P : ℕ → VTree → Type 0) → ((v : ℕ) → Kept st v → P v (treeAtVersion st v)) → P new now → (v : ℕ) → st .oldest ≤ v → v ≤ new →

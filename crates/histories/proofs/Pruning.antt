@@ -2,21 +2,23 @@
 -- still kept, so all that their trees name is found as before. Assumes nothing.
 use Prim.Native.Nat.{ℕ, zero, suc, _≤_}
 use native.Mathlib.Omega.{arith}
-use mathlib.Core.Path.{_≡_, ap, sym, subst₂}
+use mathlib.Core.Path.{_≡_, refl, ap, sym, subst₂}
 use mathlib.Core.Logic.{inl, inr}
 use mathlib.Core.List.{[]}
+use mathlib.Core.Option.{Option, none, some}
 use lib.ListN.{replicate, length-replicate, length-map}
 use Rattle.terms.specs.Bits.{Bytes, Place}
 use Rattle.terms.specs.Records.{Record, Slot, free, used, spoiled, Store}
 use Rattle.terms.proofs.Members.{In}
 use Rattle.meaning.specs.Tree.{vnone}
-use Rattle.meaning.specs.Store.{formatted, find, treeAtVersion, onRecord, pruneRecord, pruned}
-use Rattle.meaning.specs.Sound.{mostSlots, Kept, NodeOf}
+use Rattle.meaning.specs.Store.{formatted, find, rootOf, treeAtVersion, onRecord, pruneRecord, pruned}
+use Rattle.meaning.specs.Sound.{mostSlots, Kept, NodeOf, Stands}
 use Rattle.meaning.proofs.Finding.{free-used}
-use Rattle.histories.proofs.Slots.{Has, free-spoiled, find-has, none-find, Unique}
-use Rattle.histories.proofs.Writing.{contents, has-pruned, spoiled-pruned, find-pruned, none-pruned, unique-pruned}
-use Rattle.histories.proofs.Standing.{Formed, root-none, Alike, stands-alike, carried}
-use Rattle.histories.proofs.Whole.{Lifetime, retired-later, not-retired, Whole}
+use Rattle.meaning.proofs.Roots.{root-none, top-own}
+use Rattle.histories.proofs.Slots.{Has, free-spoiled, find-has, Unique, root-has}
+use Rattle.histories.proofs.Writing.{contents, has-pruned, spoiled-pruned, find-pruned, unique-pruned}
+use Rattle.histories.proofs.Standing.{Formed, Exact, own-roots, Alike, stands-alike, reads-root}
+use Rattle.histories.proofs.Whole.{Lifetime, life-later, retired-later, not-retired, Whole}
 
 -- formatting
 
@@ -37,7 +39,11 @@ unique-free (suc n) = unique-free n
 
 pub formatted-tree : (n v : ℕ) → treeAtVersion (formatted n) v ≡ vnone
 unfolding formatted
-formatted-tree n v = root-none (formatted n) v (none-find v [] (replicate n free) (λ r h k. no-record n r h))
+formatted-tree n v = go _ refl
+  where
+    go : (o : Option Record) → rootOf (formatted n) v ≡ o → treeAtVersion (formatted n) v ≡ vnone
+    go none e = root-none (formatted n) v e
+    go (some r) e = no-record n r (root-has (formatted n) v r e .0)
 
 pub formatted-whole : (leafHash innerHash : Bytes → Bytes → Bytes) (n : ℕ) → (1 ≤ n) × (n ≤ mostSlots) →
     Whole leafHash innerHash (formatted n)
@@ -78,11 +84,22 @@ module _ (leafHash innerHash : Bytes → Bytes → Bytes) (st : Store) (w : Whol
   unfolding cut
   cut-formed r h = w .formed r (has-pruned r n (st .slots) h .0)
 
+  cut-stands : (v : ℕ) → Kept (cut n st) v → Stands leafHash innerHash (cut n st) [] (treeAtVersion st v)
+  unfolding cut
+  cut-stands v l = stands-alike leafHash innerHash st (cut n st) [] (treeAtVersion st v) (alike v l) (w .stands v (omega arith, l .1))
+
+  cut-exact : (v : ℕ) → Kept (cut n st) v → Exact (pruned n (st .slots)) v (treeAtVersion st v)
+  unfolding cut
+  cut-exact v l r h = w .exact v (omega arith, l .1) r (has-pruned r n (st .slots) h .0)
+
   -- each version that is still kept has its tree
   pub cut-tree : (v : ℕ) → Kept (cut n st) v → treeAtVersion (cut n st) v ≡ treeAtVersion st v
   unfolding cut
   cut-tree v l =
-      carried leafHash innerHash st (cut n st) v cut-formed (w .stands v (omega arith, l .1)) (alike v l) (none-pruned v [] n (st .slots))
+      reads-root leafHash innerHash (cut n st) cut-formed (unique-pruned n (st .slots) (w .unique)) v (treeAtVersion st v) (cut-stands v l)
+      (cut-exact v l)
+      (own-roots (pruned n (st .slots)) v (treeAtVersion st v)
+      (λ r h. life-later (st .oldest) (st .latest) r (w .lifetimes r (has-pruned r n (st .slots) h .0))) (cut-exact v l) (top-own st v))
 
   cut-life : (r : Record) → Has r (pruned n (st .slots)) → Lifetime (st .oldest) (st .latest) r → Lifetime n (st .latest) r
   cut-life r h (inl e) = inl e
@@ -98,8 +115,6 @@ module _ (leafHash innerHash : Bytes → Bytes → Bytes) (st : Store) (w : Whol
     unique = unique-pruned n (st .slots) (w .unique);
     versions = λ r h. w .versions r (has-pruned r n (st .slots) h .0);
     lifetimes = λ r h. cut-life r h (w .lifetimes r (has-pruned r n (st .slots) h .0));
-    stands = λ v l.
-        rw (cut-tree v l)
-        (stands-alike leafHash innerHash st (cut n st) [] (treeAtVersion st v) (alike v l) (w .stands v (omega arith, l .1)));
-    exact = λ v l r h. rw (cut-tree v l) (w .exact v (omega arith, l .1) r (has-pruned r n (st .slots) h .0));
+    stands = λ v l. rw (cut-tree v l) (cut-stands v l);
+    exact = λ v l r h. rw (cut-tree v l) (cut-exact v l r h);
   }

@@ -1,4 +1,4 @@
--- Slots without their numbers: what stands in a list of slots, and that a record is found where no two share version and place.
+-- Slots without their numbers: what stands in a list of slots, that a record is found where no two share version and place, and roots.
 -- Assumes nothing.
 use Prim.Native.Nat.{ℕ, zero, suc, _<_}
 use native.Mathlib.Omega.{arith}
@@ -8,11 +8,13 @@ use mathlib.Core.List.{List, [], _∷_}
 use mathlib.Core.Option.{Option, none, some, Option·none-ne-some, Option·some-ne-none}
 use lib.ListN.{length, getD}
 use Rattle.terms.specs.Bits.{Bytes, Place}
-use Rattle.terms.specs.Records.{Record, Slot, free, used, spoiled}
+use Rattle.terms.specs.Records.{Record, Slot, free, used, spoiled, Store}
 use Rattle.terms.proofs.Tests.{is-false}
 use Rattle.terms.proofs.Members.{In, getD-in, in-getD}
-use Rattle.meaning.specs.Store.{find, isNode}
-use Rattle.meaning.proofs.Finding.{Hit, miss, hit, hits, isNode-eq, isNode-refl, free-used, spoiled-used, used-eq}
+use Rattle.meaning.specs.Store.{find, isNode, RootFor, rootOf}
+use Rattle.meaning.specs.Sound.{At}
+use Rattle.meaning.proofs.Finding.{Hit, miss, hit, hits, found-in, isNode-eq, isNode-refl, free-used, spoiled-used, used-eq}
+use Rattle.meaning.proofs.Roots.{root-at, no-root}
 
 -- a record stands in a slot
 abbrev pub Has : Record → List Slot → Type 0
@@ -22,14 +24,7 @@ pub free-spoiled : {A : Type 0} (x : Bytes) → free ≡ spoiled x → A
 free-spoiled x e = let z : _≡_ {A = ℕ} 0 1 = cc in absurd (omega arith)
 
 pub find-has : (v : ℕ) (p : Place) (s : List Slot) (r : Record) → find v p s ≡ some r → Has r s × (r .version ≡ v) × (r .place ≡ p)
-find-has v p s r e = go _ (hits s v p) e
-  where
-    go : (o : Option Record) → Hit s v p o → o ≡ some r → Has r s × (r .version ≡ v) × (r .place ≡ p)
-    go none (miss f) k = absurd (Option·none-ne-some r k)
-    go (some q) (hit i q′ l g n) k =
-        let m : q′ ≡ r = cc in
-        let w = isNode-eq v p q′ n in
-        (getD-in s i free (used r) l (g ∙ ap used m), sym (ap (λ x. x .version) m) ∙ w .0, sym (ap (λ x. x .place) m) ∙ w .1)
+find-has v p s r e = let (i, at, w, q) = found-in s v p r e in (getD-in s i free (used r) (at .0) (at .1), w, q)
 
 find-none : (v : ℕ) (p : Place) (s : List Slot) → find v p s ≡ none → (r : Record) → Has r s → isNode v p r ≡ false
 find-none v p s e r h = go _ (hits s v p) e
@@ -113,3 +108,12 @@ unique-find s r h k = go _ (hits s (r .version) (r .place))
         let m = in-getD s free (used r) k in
         let e : i ≡ m .0 = unique-at s h i (m .0) q′ r l g (m .1) (m .2) (w .0) (w .1) in
         ap some (used-eq q′ r (sym g ∙ ap (λ x. getD s x free) e ∙ m .2))
+
+-- the root of a version is a record at the empty place that is root for it; where none is found, there is none
+pub root-has : (st : Store) (v : ℕ) (r : Record) → rootOf st v ≡ some r → Has r (st .slots) × (r .place ≡ []) × RootFor v r
+unfolding At
+root-has st v r e = let (i, a, p, f) = root-at st v r e in (getD-in (st .slots) i free (used r) (a .0) (a .1), p, f)
+
+pub root-not : (st : Store) (v : ℕ) → rootOf st v ≡ none → (r : Record) → Has r (st .slots) → r .place ≡ [] → RootFor v r → ⊥
+unfolding At
+root-not st v e r h p f = let m = in-getD (st .slots) free (used r) h in no-root st v e (m .0) r (m .1, m .2) p f

@@ -1,23 +1,25 @@
 -- A tree that stands in a store is what is read there: each node is found, and its record names its children. So a tree goes over to
--- another store that finds the same at its nodes. Assumes nothing.
-use Prim.Native.Nat.{ℕ, zero, suc, _+_, _≤_}
+-- another store that finds the same at its nodes; and it is the tree of the version at which its nodes live. Assumes nothing.
+use Prim.Native.Nat.{ℕ, zero, suc, _+_, _<_, _≤_}
 use native.Mathlib.Omega.{arith}
 use mathlib.Core.Path.{_≡_, refl, ap, ap₂, sym, _∙_, subst, subst₂}
-use mathlib.Core.Logic.{inl, inr}
+use mathlib.Core.Logic.{_⊎_, inl, inr, _↔_}
 use mathlib.Core.Bool.{true, false}
 use mathlib.Core.List.{List, [], _∷_}
 use mathlib.Core.Option.{Option, none, some, Option·none-ne-some}
 use lib.ListN.{length}
 use borrow.Author.Tests.{ne-eqb}
 use Rattle.terms.specs.Bits.{Bytes, Side, left, right, Place, longer}
-use Rattle.terms.specs.Records.{grant, Body, leafBody, innerBody, Record, Slot, Store}
+use Rattle.terms.specs.Records.{grant, Body, leafBody, Record, Slot, Store}
 use Rattle.terms.specs.Form.{placeLimit, RecordForm}
 use Rattle.terms.proofs.Places.{length-longer}
 use Rattle.meaning.specs.Tree.{VTree, vnone, vleaf, vinner, topVersion, kid}
-use Rattle.meaning.specs.Store.{find, rootOf, treeBelow, treeFound, treeFrom, treeAtVersion, childOf}
-use Rattle.meaning.specs.Sound.{Found, Stands, NodeOf}
-use Rattle.meaning.proofs.Finding.{isNode-eq}
-use Rattle.histories.proofs.Slots.{Has, find-has, none-find}
+use Rattle.meaning.specs.Store.{find, RootFor, rootOf, treeBelow, treeFound, treeFrom, treeAtVersion, childOf}
+use Rattle.meaning.specs.Sound.{Found, Stands, NodeOf, Lives}
+use Rattle.meaning.proofs.Finding.{Some}
+use Rattle.meaning.proofs.Nodes.{node-top}
+use Rattle.meaning.proofs.Roots.{root-for, root-lives, root-none}
+use Rattle.histories.proofs.Slots.{Has, find-has, Unique, unique-find, root-has, root-not}
 use Rattle.histories.proofs.Writing.{contents}
 
 -- every record is in form
@@ -34,27 +36,6 @@ kid-node b w q vnone p n = absurd n
 kid-node b w q (vleaf v g) p n = absurd n
 kid-node false w q (vinner v l r) p n = inr (inl n)
 kid-node true w q (vinner v l r) p n = inr (inr n)
-
--- the top of what is read below a record
-below-top : (w v : ℕ) (b : Body) (below : Side → ℕ → VTree) (p : Place) → w ≡ v →
-    NodeOf v p (treeBelow w b below) p × (topVersion (treeBelow w b below) ≡ v)
-below-top w v (leafBody k x) below p e = ((e, refl), e)
-below-top w v (innerBody c d) below p e = (inl (e, refl), e)
-
--- what is read at the root's children
-abbrev onwards : Store → Side → ℕ → VTree
-onwards st b w = treeFrom 255 (st .slots) w (b ∷ [])
-
-pub root-some : (st : Store) (v : ℕ) (r : Record) → find v [] (st .slots) ≡ some r →
-    NodeOf v [] (treeAtVersion st v) [] × (topVersion (treeAtVersion st v) ≡ v)
-unfolding treeAtVersion rootOf
-root-some st v r e =
-    subst (λ o. NodeOf v [] (treeFound o (onwards st)) [] × (topVersion (treeFound o (onwards st)) ≡ v)) (sym e)
-    (below-top (r .version) v (r .body) (onwards st) [] (find-has v [] (st .slots) r e .1))
-
-pub root-none : (st : Store) (v : ℕ) → find v [] (st .slots) ≡ none → treeAtVersion st v ≡ vnone
-unfolding treeAtVersion rootOf
-root-none st v e = ap (λ o. treeFound o (onwards st)) e
 
 -- version 0 is no child
 read-zero : (n : ℕ) (s : List Slot) (p : Place) → treeFrom n s 0 p ≡ vnone
@@ -74,14 +55,31 @@ read-leaf zero s v p r k x e h f =
 read-leaf (suc n) s v p r k x e h f = read-found n s v p r e h ∙ ap (λ c. treeBelow v c (λ b u. treeFrom n s u (longer b p))) f
 
 -- the tree of a version is read on from its root record as from any node
-root-from : (n : ℕ) (s : List Slot) (v : ℕ) → 1 ≤ v → treeFound (find v [] s) (λ b w. treeFrom n s w (b ∷ [])) ≡ treeFrom (suc n) s v []
-unfolding longer
-root-from n s v h = rw (ne-eqb v 0 (λ z. omega arith))
+read-root : (st : Store) (v n : ℕ) (r : Record) → 255 ≡ n → rootOf st v ≡ some r → find (r .version) [] (st .slots) ≡ some r →
+    1 ≤ r .version → treeAtVersion st v ≡ treeFrom (suc n) (st .slots) (r .version) []
+unfolding treeAtVersion longer
+read-root st v n r m e f h =
+    ap (λ o. treeFound o (λ b w. treeFrom 255 (st .slots) w (b ∷ []))) e
+    ∙ ap (λ k. treeBelow (r .version) (r .body) (λ b w. treeFrom k (st .slots) w (b ∷ []))) m
+    ∙ sym (read-found n (st .slots) (r .version) [] r f h)
 
--- at the root: no node and none found, or a tree with the right version
-pub data Top (s : List Slot) (v : ℕ) (t : VTree) : Type 0 where
-  top-none : t ≡ vnone → find v [] s ≡ none → Top s v t
-  top-some : topVersion t ≡ v → Top s v t
+-- the nodes of a tree are the records that live at v
+abbrev pub Exact : List Slot → ℕ → VTree → Type 0
+Exact s v t = (r : Record) → Has r s → NodeOf (r .version) (r .place) t [] ↔ Lives v r
+
+-- the records at the empty place that are root for v are those that live at v
+abbrev pub OwnRoots : List Slot → ℕ → Type 0
+OwnRoots s v = (r : Record) → Has r s → r .place ≡ [] → RootFor v r ↔ Lives v r
+
+-- so it is where v stands at the top of such a tree, and records are retired later than their version or not at all
+pub own-roots : (s : List Slot) (v : ℕ) (t : VTree) → ((r : Record) → Has r s → (r .retired ≡ 0) ⊎ (r .version < r .retired)) →
+    Exact s v t → (Some t → topVersion t ≡ v) → OwnRoots s v
+own-roots s v t later exact top r h p = (
+  root-lives v r (later r h),
+  λ l.
+      let n = node-top (r .version) t [] (subst (λ q. NodeOf (r .version) q t []) p (exact r h .1 l)) in
+      root-for v r (sym (n .1) ∙ top (n .0)),
+)
 
 -- two stores that find the same, but for retirement, at the nodes of a tree
 unfoldable pub Alike : Store → Store → VTree → Place → Type 0
@@ -100,9 +98,6 @@ pub inner-short : (st : Store) → Formed (st .slots) → (v : ℕ) (p : Place) 
 inner-short st z v p b f =
     let r = found-record st v p b f in subst₂ (λ q c. length q ≤ placeLimit c) (r .3) (r .4) (z (r .0) (r .1) .short)
 
-no-zero : (s : List Slot) → Formed s → (p : Place) → find 0 p s ≡ none
-no-zero s z p = none-find 0 p s (λ r h n. let w = isNode-eq 0 p r n in let u = z r h .versioned in omega arith)
-
 module _ (leafHash innerHash : Bytes → Bytes → Bytes) where
   -- what stands is read
   pub reads : (st : Store) → Formed (st .slots) → (n : ℕ) (p : Place) (t : VTree) → length p + n ≡ 256 → Stands leafHash innerHash st p t →
@@ -117,20 +112,6 @@ module _ (leafHash innerHash : Bytes → Bytes → Bytes) where
       ∙ ap (λ c. treeBelow v c (λ b w. treeFrom n (st .slots) w (longer b p))) (s .0 .2)
       ∙ ap₂ (vinner v) (reads st z n (longer left p) l (omega (arith, length-longer left p)) (s .2))
       (reads st z n (longer right p) r (omega (arith, length-longer right p)) (s .3))
-
-  stands-version : (st : Store) → Formed (st .slots) → (p : Place) (t : VTree) → Stands leafHash innerHash st p t → topVersion t ≡ 0 →
-      t ≡ vnone
-  stands-version st z p vnone s e = refl
-  stands-version st z p (vleaf v g) s e = absurd (omega (arith, found-version st z v p _ (s .0)))
-  stands-version st z p (vinner v l r) s e = absurd (omega (arith, found-version st z v p _ (s .0)))
-
-  pub reads-top : (st : Store) → Formed (st .slots) → (v : ℕ) (t : VTree) → Stands leafHash innerHash st [] t → Top (st .slots) v t →
-      treeAtVersion st v ≡ t
-  unfolding treeAtVersion rootOf
-  reads-top st z v t s (top-none e f) = root-none st v f ∙ sym e
-  reads-top st z zero t s (top-some e) = root-none st 0 (no-zero (st .slots) z []) ∙ sym (stands-version st z [] t s e)
-  reads-top st z (suc v) t s (top-some e) =
-      root-from 255 (st .slots) (suc v) (omega arith) ∙ ap (λ w. treeFrom 256 (st .slots) w []) (sym e) ∙ reads st z 256 [] t refl s
 
   found-alike : (st st′ : Store) (v : ℕ) (p : Place) (b : Body) → contents (find v p (st′ .slots)) ≡ contents (find v p (st .slots)) →
       Found st v p b → Found st′ v p b
@@ -149,17 +130,6 @@ module _ (leafHash innerHash : Bytes → Bytes → Bytes) where
     stands-alike st st′ (longer right p) r (λ w q n. a w q (inr (inr n))) (s .3),
   )
 
-  -- then the tree of the version is the same
-  pub carried : (st st′ : Store) (v : ℕ) → Formed (st′ .slots) → Stands leafHash innerHash st [] (treeAtVersion st v) →
-      Alike st st′ (treeAtVersion st v) [] → (find v [] (st .slots) ≡ none → find v [] (st′ .slots) ≡ none) →
-      treeAtVersion st′ v ≡ treeAtVersion st v
-  carried st st′ v z s a f =
-      reads-top st′ z v (treeAtVersion st v) (stands-alike st st′ [] (treeAtVersion st v) a s) (go (find v [] (st .slots)) refl)
-    where
-      go : (o : Option Record) → find v [] (st .slots) ≡ o → Top (st′ .slots) v (treeAtVersion st v)
-      go none e = top-none (root-none st v e) (f e)
-      go (some r) e = top-some (root-some st v r e .1)
-
   -- a node of a standing tree is found
   pub node-found : (st : Store) (w : ℕ) (q p : Place) (t : VTree) → Stands leafHash innerHash st p t → NodeOf w q t p →
       (r : Record) × Has r (st .slots) × (r .version ≡ w) × (r .place ≡ q)
@@ -168,6 +138,30 @@ module _ (leafHash innerHash : Bytes → Bytes → Bytes) where
   node-found st w q p (vinner v l r) s (inl n) = let r = found-record st v p _ (s .0) in (r .0, r .1, r .2 ∙ n .0, r .3 ∙ n .1)
   node-found st w q p (vinner v l r) s (inr (inl n)) = node-found st w q (longer left p) l (s .2) n
   node-found st w q p (vinner v l r) s (inr (inr n)) = node-found st w q (longer right p) r (s .3) n
+
+  -- a tree that stands is that of v, where its nodes are the records that live at v: its top is the one root among them
+  pub reads-root : (st : Store) → Formed (st .slots) → Unique (st .slots) → (v : ℕ) (t : VTree) → Stands leafHash innerHash st [] t →
+      Exact (st .slots) v t → OwnRoots (st .slots) v → treeAtVersion st v ≡ t
+  reads-root st z u v t s exact own = go _ refl
+    where
+      lives-not : (n : NodeOf (topVersion t) [] t []) → rootOf st v ≡ none → ⊥
+      lives-not n e =
+          let (q, h, w, p) = node-found st (topVersion t) [] [] t s n in
+          root-not st v e q h p (own q h p .1 (exact q h .0 (subst₂ (λ x y. NodeOf x y t []) (sym w) (sym p) n)))
+
+      empty : (o : VTree) → o ≡ t → rootOf st v ≡ none → o ≡ vnone
+      empty vnone k e = refl
+      empty (vleaf w g) k e = absurd (lives-not (subst (λ x. NodeOf (topVersion x) [] x []) k (refl, refl)) e)
+      empty (vinner w l r) k e = absurd (lives-not (subst (λ x. NodeOf (topVersion x) [] x []) k (inl (refl, refl))) e)
+
+      go : (o : Option Record) → rootOf st v ≡ o → treeAtVersion st v ≡ t
+      go none e = root-none st v e ∙ sym (empty t refl e)
+      go (some r) e =
+          let (h, p, f) = root-has st v r e in
+          let top = node-top (r .version) t [] (subst (λ q. NodeOf (r .version) q t []) p (exact r h .1 (own r h p .0 f))) in
+          let found = ap (λ q. find (r .version) q (st .slots)) (sym p) ∙ unique-find (st .slots) r u h in
+          read-root st v 255 r refl e found (z r h .versioned .0)
+          ∙ ap (λ w. treeFrom 256 (st .slots) w []) (sym (top .1)) ∙ reads st z 256 [] t refl s
 
   -- what stands at a child
   pub kid-stands : (b : Side) (st : Store) (p : Place) (t : VTree) → Stands leafHash innerHash st p t →

@@ -1,7 +1,7 @@
 -- In a sound store each kept version's tree is shaped, so it is the tree of its grants: an inner record has a child, and no lone leaf.
 -- Assumes nothing.
 use Prim.Native.Nat.{ℕ}
-use mathlib.Core.Path.{_≡_, refl, ap, sym, _∙_, subst}
+use mathlib.Core.Path.{_≡_, refl, ap, ap₂, sym, _∙_, subst}
 use mathlib.Core.List.{[]}
 use mathlib.Core.Option.{Option, none, some, Option·some-injective}
 use Rattle.terms.specs.Bits.{Bytes, left, right, Place, longer}
@@ -9,11 +9,13 @@ use Rattle.terms.specs.Records.{Body, Record, Store}
 use Rattle.terms.specs.Form.{BodyForm}
 use Rattle.meaning.specs.Tree.{hash, VTree, vnone, vleaf, vinner, unversioned, topVersion}
 use Rattle.meaning.specs.Store.{find, rootOf, treeAtVersion, childOf}
-use Rattle.meaning.specs.Sound.{Kept, Found, NodeOf, Stands}
+use Rattle.meaning.specs.Sound.{Kept, Found, Stands}
 use Rattle.meaning.specs.Reading.{bodyHash, rootHash}
-use Rattle.meaning.proofs.Finding.{Within, there, go-kid}
+use Rattle.meaning.proofs.Finding.{Within, there, go-kid, Some, some-leaf, some-inner}
+use Rattle.meaning.proofs.Roots.{root-none, root-some}
 use Rattle.meaning.proofs.Shaped.{Shaped, kid-shaped, two-grants-below}
-use Rattle.histories.proofs.Standing.{Formed, found-record, inner-short, root-some, root-none}
+use Rattle.histories.proofs.Standing.{Formed, found-record, inner-short}
+use Rattle.histories.proofs.Slots.{unique-find, root-has}
 use Rattle.histories.proofs.Whole.{Whole}
 
 pub within-shaped : {u : VTree} {q : Place} {t : VTree} {p : Place} → Within u q t p → Shaped p (unversioned t) → Shaped q (unversioned u)
@@ -39,26 +41,26 @@ module _ (leafHash innerHash : Bytes → Bytes → Bytes) (st : Store) (w : Whol
   pub kept-shaped : (v : ℕ) → Kept st v → Shaped [] (unversioned (treeAtVersion st v))
   kept-shaped v k = stands-shaped leafHash innerHash st (w .formed) [] (treeAtVersion st v) (w .stands v k)
 
-  -- what is found has the body that was said
-  found-body : (v x : ℕ) (r : Record) (b : Body) → x ≡ v → find v [] (st .slots) ≡ some r → Found st x [] b → r .body ≡ b
+  -- the hash of the record at the top alone is the hash of the tree
+  found-body : (v : ℕ) (r : Record) (b : Body) → find v [] (st .slots) ≡ some r → Found st v [] b → r .body ≡ b
   unfolding Found
-  found-body v x r b e f g =
-      ap (λ y. y .body) (Option·some-injective r (g .0) (sym f ∙ ap (λ y. find y [] (st .slots)) (sym e) ∙ g .1)) ∙ g .2
+  found-body v r b f g = ap (λ y. y .body) (Option·some-injective r (g .0) (sym f ∙ g .1)) ∙ g .2
 
-  -- the hash of a root record alone is the hash of its version's tree
-  record-hash : (v : ℕ) (t : VTree) → Stands leafHash innerHash st [] t → NodeOf v [] t [] → topVersion t ≡ v →
-      (r : Record) → find v [] (st .slots) ≡ some r → bodyHash leafHash innerHash (r .body) ≡ hash leafHash innerHash (unversioned t)
+  record-hash : (t : VTree) → Some t → Stands leafHash innerHash st [] t → (r : Record) → find (topVersion t) [] (st .slots) ≡ some r →
+      bodyHash leafHash innerHash (r .body) ≡ hash leafHash innerHash (unversioned t)
   unfolding childOf
-  record-hash v vnone s n e r f = absurd n
-  record-hash v (vleaf x g) s n e r f = ap (bodyHash leafHash innerHash) (found-body v x r _ e f (s .0))
-  record-hash v (vinner x a b) s n e r f = ap (bodyHash leafHash innerHash) (found-body v x r _ e f (s .0))
+  record-hash (vleaf x g) some-leaf s r f = ap (bodyHash leafHash innerHash) (found-body x r _ f (s .0))
+  record-hash (vinner x a b) some-inner s r f = ap (bodyHash leafHash innerHash) (found-body x r _ f (s .0))
 
   pub root-hash : (v : ℕ) → Kept st v →
       rootHash leafHash innerHash (rootOf st v) ≡ hash leafHash innerHash (unversioned (treeAtVersion st v))
-  unfolding rootOf
-  root-hash v k = go (find v [] (st .slots)) refl
+  root-hash v k = go (rootOf st v) refl
     where
-      go : (o : Option Record) → find v [] (st .slots) ≡ o →
+      go : (o : Option Record) → rootOf st v ≡ o →
           rootHash leafHash innerHash o ≡ hash leafHash innerHash (unversioned (treeAtVersion st v))
       go none e = ap (λ t. hash leafHash innerHash (unversioned t)) (sym (root-none st v e))
-      go (some r) e = let t = root-some st v r e in record-hash v (treeAtVersion st v) (w .stands v k) (t .0) (t .1) r e
+      go (some r) e =
+          let (h, p, l) = root-has st v r e in
+          let top = root-some st v r e in
+          record-hash (treeAtVersion st v) (top .0) (w .stands v k) r
+          (ap₂ (λ x q. find x q (st .slots)) (top .1) (sym p) ∙ unique-find (st .slots) r (w .unique) h)

@@ -3,7 +3,7 @@
 use Prim.Native.Nat.{ℕ, _<_, _≤_}
 use native.Mathlib.Omega.{arith}
 use mathlib.Core.Path.{_≡_, refl, sym, _∙_}
-use mathlib.Core.Logic.{_⊎_, _↔_}
+use mathlib.Core.Logic.{_⊎_, inl, inr}
 use mathlib.Core.Bool.{Bool, true, false, _&&_, true≢false}
 use mathlib.Core.List.{[]}
 use lib.ListN.{length}
@@ -14,13 +14,18 @@ use Rattle.terms.specs.Records.{Record, free, used, spoiled, Store}
 use Rattle.terms.specs.Form.{top32}
 use Rattle.terms.proofs.Members.{In, getD-in, in-getD}
 use Rattle.meaning.specs.Store.{treeAtVersion, retiredBy}
-use Rattle.meaning.specs.Sound.{mostSlots, At, Kept, NodeOf, Lives, Stands, Sound}
+use Rattle.meaning.specs.Sound.{mostSlots, At, Kept, Stands, Sound}
 use Rattle.histories.proofs.Slots.{Has, Unique, at-unique, unique-at}
-use Rattle.histories.proofs.Standing.{Formed}
+use Rattle.histories.proofs.Standing.{Formed, Exact}
 
 -- retired-since is 0, or above the record's version, above oldest and at most latest
 abbrev pub Lifetime : ℕ → ℕ → Record → Type 0
 Lifetime oldest latest r = (r .retired ≡ 0) ⊎ ((r .version < r .retired) × (oldest < r .retired) × (r .retired ≤ latest))
+
+-- so it is retired later than its version, or not at all
+pub life-later : (oldest latest : ℕ) (r : Record) → Lifetime oldest latest r → (r .retired ≡ 0) ⊎ (r .version < r .retired)
+life-later oldest latest r (inl z) = inl z
+life-later oldest latest r (inr z) = inr (z .0)
 
 -- not retired by v: where it is retired at all, it is so since a later version
 pub retired-later : (v : ℕ) (r : Record) → retiredBy v r ≡ false → 1 ≤ r .retired → v < r .retired
@@ -50,8 +55,7 @@ module _ (leafHash innerHash : Bytes → Bytes → Bytes) where
     pub versions : (r : Record) → Has r (st .slots) → (1 ≤ r .version) × (r .version ≤ st .latest)
     pub lifetimes : (r : Record) → Has r (st .slots) → Lifetime (st .oldest) (st .latest) r
     pub stands : (v : ℕ) → Kept st v → Stands leafHash innerHash st [] (treeAtVersion st v)
-    pub exact : (v : ℕ) → Kept st v → (r : Record) → Has r (st .slots) →
-        NodeOf (r .version) (r .place) (treeAtVersion st v) [] ↔ Lives v r
+    pub exact : (v : ℕ) → Kept st v → Exact (st .slots) v (treeAtVersion st v)
 
   pub sound-whole : (st : Store) → Sound leafHash innerHash st → Whole st
   unfolding At

@@ -13,44 +13,24 @@ use Rattle.terms.specs.Fields.{field, slice}
 use Rattle.terms.specs.Records.{Record, Slot, free, used, spoiled}
 use Rattle.terms.proofs.Tests.{same-bytes, bytes-same}
 use Rattle.terms.proofs.Places.{length-bits}
-use Rattle.terms.proofs.Fields.{length-slice, all-slice}
+use Rattle.terms.proofs.Fields.{length-slice}
 use Rattle.meaning.specs.Store.{isNode, find}
 use Rattle.local.specs.Test.{total, byRecord, isFound}
 use Rattle.place.specs.declared.Place as declared
 use Rattle.place.specs.Place.{placeOf, Proper, Stands, Grown}
 use Rattle.place.proofs.Places.{proper-count}
-use Rattle.layout.specs.Sizes.{roomOf}
+use Rattle.layout.specs.Sizes.{versionAt, roomOf}
 use Rattle.layout.specs.Headers.{sizeRight}
-use Rattle.layout.specs.Slots.{countIn, slotOf}
-use Rattle.layout.specs.Stores.{slotIn, storeOf}
-use Rattle.layout.proofs.Headers.{size-says}
-use Rattle.layout.proofs.Stores.{slot-at, length-slots}
+use Rattle.layout.specs.Slots.{countIn, bitsIn, slotOf}
+use Rattle.layout.specs.Stores.{slotIn, storeOf, slotNo, Has}
+use Rattle.store.proofs.Slots.{slot-long, slot-bytes, slot-within, slot-is}
+use Rattle.store.proofs.Scans.{Scan, scan-start, scan-here, scan-next, scan-end}
 use Rattle.lookup.specs.declared.Found as declared-found
 use Rattle.lookup.specs.declared.Found.the-variants.{At, Nothing}
 use Rattle.lookup.specs.Lookup.{isUsed, FoundIn}
 use Rattle.lookup.proofs.Matching.{NoNode, off-version, off-count, off-bits, is-node}
 use Rattle.lookup.proofs.Searching.{used-or, unused}
-use Rattle.kin.specs.Kin.{Has, slotNo, countNode}
-use Rattle.kin.proofs.Scans.{total-next, total-end}
-
-module _ {s : Bytes} {j : ℕ} (h : Has s j) where
-  pub slot-fits : 24 + 120 * j + 120 ≤ length s
-  slot-fits = let t = size-says (length s) (h .size) in omega (arith, h .inside)
-
-  pub slot-is : slotNo j s ≡ slotOf (slotIn j s)
-  slot-is = slot-at s j (h .inside)
-
-  pub slot-long : length (slotIn j s) ≡ 120
-  unfolding slotIn
-  slot-long = length-slice (24 + 120 * j) 120 s slot-fits
-
-pub slot-bytes : (s : Bytes) (j : ℕ) → All Byte s → All Byte (slotIn j s)
-unfolding slotIn
-slot-bytes s j b = all-slice (24 + 120 * j) 120 s b
-
-pub slots-many : (s : Bytes) → length (storeOf s .slots) ≡ roomOf (length s)
-unfolding storeOf
-slots-many s = length-slots (roomOf (length s)) (drop 24 s)
+use Rattle.kin.specs.Kin.{countNode}
 
 none-counted : (v : ℕ) (p : Place) (y : Slot) → ((q : Record) → y ≡ used q → isNode v p q ≡ false) → byRecord 0 (countNode v p) y ≡ 0
 unfolding countNode
@@ -69,69 +49,54 @@ module _ {s : Bytes} {j : ℕ} (h : Has s j) (b : All Byte s) (v : ℕ) (p : dec
   not-held : NoNode (slotIn j s) v (placeOf p) → 0 ≡ byRecord 0 (countNode v (placeOf p)) (slotNo j s)
   not-held f = sym (ap (byRecord 0 (countNode v (placeOf p))) (slot-is h) ∙ none-counted v (placeOf p) (slotOf (slotIn j s)) f)
 
-  pub other-version : (field 40 4 (slotIn j s) ≡ v → ⊥) → 0 ≡ byRecord 0 (countNode v (placeOf p)) (slotNo j s)
-  other-version f = not-held (off-version (slotIn j s) (slot-long h) (slot-bytes s j b) v (placeOf p) f)
+  pub other-version : (field versionAt 4 (slotIn j s) ≡ v → ⊥) → 0 ≡ byRecord 0 (countNode v (placeOf p)) (slotNo j s)
+  other-version f = not-held (off-version (slotIn j s) (slot-long j s (slot-within h)) (slot-bytes j s b) v (placeOf p) f)
 
   pub other-count : (countIn (slotIn j s) ≡ p .count → ⊥) → 0 ≡ byRecord 0 (countNode v (placeOf p)) (slotNo j s)
   unfolding countIn
-  other-count f = not-held (off-count (slotIn j s) (slot-long h) (slot-bytes s j b) v (placeOf p) (λ e. f (e ∙ proper-count p w)))
+  other-count f = not-held (off-count (slotIn j s) (slot-long j s (slot-within h)) (slot-bytes j s b) v (placeOf p) (λ e. f (e ∙ proper-count p w)))
 
-  pub other-bits : {x : Bytes} → x ≡ slotIn j s → sameBytes (take 32 (drop 8 x)) (p .bits) ≡ false → 0 ≡ byRecord 0 (countNode v (placeOf p)) (slotNo j s)
-  unfolding slice
-  other-bits i f =
-      not-held (off-bits (slotIn j s) (slot-long h) (slot-bytes s j b) v (placeOf p) (λ e.
-      true≢false (sym (ap (λ y. sameBytes y (p .bits)) (ap (λ y. take 32 (drop 8 y)) i ∙ e ∙ sym (w .trimmed)) ∙ bytes-same (p .bits)) ∙ f)))
+  pub other-bits : {x y : Bytes} → x ≡ slotIn j s → y ≡ bitsIn x → sameBytes y (p .bits) ≡ false → 0 ≡ byRecord 0 (countNode v (placeOf p)) (slotNo j s)
+  other-bits i k f =
+      not-held (off-bits (slotIn j s) (slot-long j s (slot-within h)) (slot-bytes j s b) v (placeOf p) (λ e.
+      true≢false (sym (ap (λ z. sameBytes z (p .bits)) (k ∙ ap bitsIn i ∙ e ∙ sym (w .trimmed)) ∙ bytes-same (p .bits)) ∙ f)))
 
   pub no-record : {x : Bytes} → x ≡ slotIn j s → isUsed (slotOf x) ≡ false → 0 ≡ byRecord 0 (countNode v (placeOf p)) (slotNo j s)
   no-record i f = not-held (λ r e. unused (slotOf (slotIn j s)) r (ap (λ y. isUsed (slotOf y)) (sym i) ∙ f) e)
 
-  pub held : {x : Bytes} → x ≡ slotIn j s → field 40 4 (slotIn j s) ≡ v → countIn (slotIn j s) ≡ p .count → sameBytes (take 32 (drop 8 x)) (p .bits) ≡ true →
+  pub held : {x y : Bytes} → x ≡ slotIn j s → y ≡ bitsIn x → field versionAt 4 (slotIn j s) ≡ v → countIn (slotIn j s) ≡ p .count → sameBytes y (p .bits) ≡ true →
       isUsed (slotOf x) ≡ true → 1 ≡ byRecord 0 (countNode v (placeOf p)) (slotNo j s)
-  unfolding countIn countNode slice
-  held i a c d u =
+  unfolding countIn countNode
+  held i k a c d u =
       let (q, e) = used-or (slotOf (slotIn j s)) (ap (λ y. isUsed (slotOf y)) (sym i) ∙ u) in
       let n : isNode v (placeOf p) q ≡ true =
-      is-node (slotIn j s) (slot-long h) (slot-bytes s j b) v (placeOf p) (omega (arith, w .short, proper-count p w)) a (c ∙ sym (proper-count p w))
-      (ap (λ y. take 32 (drop 8 y)) (sym i) ∙ same-bytes _ (p .bits) d ∙ w .trimmed) q e
+      is-node (slotIn j s) (slot-long j s (slot-within h)) (slot-bytes j s b) v (placeOf p) (omega (arith, w .short, proper-count p w)) a (c ∙ sym (proper-count p w))
+      (ap bitsIn (sym i) ∙ sym k ∙ same-bytes _ (p .bits) d ∙ w .trimmed) q e
       in
       sym (ap (byRecord 0 (countNode v (placeOf p))) (slot-is h ∙ e) ∙ rw n)
 
--- the slots before j are counted
-pub record Counted (s : Bytes) (v : ℕ) (p : Place) (n count j : ℕ) : Type 0 where
-  pub size : sizeRight (length s) ≡ true
-  pub room : n ≡ roomOf (length s)
-  pub small : n ≤ 16384
-  pub within : j ≤ n
-  pub few : count ≤ j
-  pub rest : total (byRecord 0 (countNode v p)) (storeOf s .slots) ≡ count + total (byRecord 0 (countNode v p)) (drop j (storeOf s .slots))
+-- the slots before j are counted, those to come are not
+abbrev Uncounted : Bytes → ℕ → Place → ℕ → List Slot → List Slot → Type 0
+Uncounted s v p count xs ys = total (byRecord 0 (countNode v p)) (storeOf s .slots) ≡ count + total (byRecord 0 (countNode v p)) ys
 
-pub count-start : (s : Bytes) (v : ℕ) (p : Place) → sizeRight (length s) ≡ true → Counted s v p (roomOf (length s)) 0 0
-count-start s v p e = record { size = e; room = refl; small = size-says (length s) e .2; within = omega arith; few = omega arith; rest = rw zero-add }
+pub record Counted (s : Bytes) (v : ℕ) (p : Place) (n count j : ℕ) : Type 0 where
+  pub scan : Scan s (Uncounted s v p count) n j
+  pub few : count ≤ j
+
+pub count-start : (s : Bytes) (v : ℕ) (p : Place) → sizeRight (length s) ≡ true → {n : ℕ} → n ≡ roomOf (length s) → Counted s v p n 0 0
+count-start s v p e m = record { scan = scan-start s (Uncounted s v p 0) e m (rw zero-add); few = omega arith }
 
 module _ {s : Bytes} {v : ℕ} {p : Place} {n count j : ℕ} (w : Counted s v p n count j) where
-  pub count-slot : j < n → Has s j
-  count-slot h = record { size = w .size; inside = omega (arith, w .room) }
-
   pub count-few : {m : ℕ} → m ≡ byRecord 0 (countNode v p) (slotNo j s) → m ≤ 1
   count-few e = omega (arith, at-most-one v p (slotNo j s))
 
   pub count-next : {m : ℕ} → j < n → m ≡ byRecord 0 (countNode v p) (slotNo j s) → Counted s v p n (count + m) (j + 1)
   count-next {m} h e =
       let k = count-few e in
-      let l : j < length (storeOf s .slots) = omega (arith, slots-many s, w .room) in
-      record {
-        size = w .size;
-        room = w .room;
-        small = w .small;
-        within = omega arith;
-        few = omega (arith, w .few);
-        rest = omega (arith, w .rest, total-next (storeOf s .slots) free j (byRecord 0 (countNode v p)) l);
-      }
+      record { scan = scan-next (w .scan) h (Uncounted s v p (count + m)) (omega (arith, scan-here (w .scan) h)); few = omega (arith, w .few) }
 
   pub count-end : n ≤ j → count ≡ total (byRecord 0 (countNode v p)) (storeOf s .slots)
-  count-end h =
-      let l : length (storeOf s .slots) ≤ j = omega (arith, slots-many s, w .room) in
-      omega (arith, w .rest, total-end (storeOf s .slots) free j (byRecord 0 (countNode v p)) l)
+  count-end h = omega (arith, scan-end (w .scan) h)
 
 -- what a search says
 module _ (s : List Slot) (v : ℕ) (p : Place) (o : declared-found.Found) where

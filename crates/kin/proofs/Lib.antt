@@ -1,4 +1,3 @@
-pub mod Scans
 pub mod Holding
 pub mod Naming
 pub mod Summing

@@ -26,8 +26,10 @@ use Rattle.local.proofs.Naming.{names-eq, eq-names, names-inner, names-parent}
 use Rattle.nodehash.specs.Node.{leafHash, innerHash}
 use Rattle.place.specs.Place.{placeOf, Proper}
 use Rattle.place.proofs.Places.{proper-count}
-use Rattle.layout.specs.Slots.{countIn, leafIn, childIn, recordOf, recordBytes, slotOf}
-use Rattle.layout.specs.Stores.{slotIn, storeOf}
+use Rattle.layout.specs.Sizes.{slotSize}
+use Rattle.layout.specs.Slots.{countIn, leafIn, childIn, recordOf, recordBytes, slotOf, bitsIn, keyIn, valueIn, leftIn, rightIn, kidOn}
+use Rattle.layout.specs.Stores.{slotIn, storeOf, slotNo, Has}
+use Rattle.store.proofs.Slots.{slot-long, slot-bytes, slot-within, slot-is}
 use Rattle.layout.proofs.Slots.{left-child, right-child}
 use Rattle.slots.specs.declared.Child as declared-child
 use Rattle.slots.specs.declared.Kind as declared-kind
@@ -40,12 +42,11 @@ use Rattle.kin.specs.declared.Kept as declared-kept
 use Rattle.kin.specs.declared.Below as declared-below
 use Rattle.kin.specs.declared.Said as declared-said
 use Rattle.kin.specs.declared.Said.the-variants.{Lived}
-use Rattle.kin.specs.Kin.{Has, Keeps, slotNo, endsAt, childAt, isLeafBody, Is, couldName, linkTests, SaidOf, SlotSays}
-use Rattle.kin.proofs.Holding.{slot-is, slot-long, slot-bytes}
+use Rattle.kin.specs.Kin.{Keeps, endsAt, isLeafBody, Is, couldName, linkTests, SaidOf, SlotSays}
 
 -- the version of an inner record's child, by its field
-child-version : (x : Bytes) → length x ≡ 120 → All Byte x → (q : Record) → slotOf x ≡ used q → (b : Side) (c d : Child) → q .body ≡ innerBody c d →
-    childOn b c d .version ≡ field (childAt b) 4 x
+child-version : (x : Bytes) → length x ≡ slotSize → All Byte x → (q : Record) → slotOf x ≡ used q → (b : Side) (c d : Child) → q .body ≡ innerBody c d →
+    childOn b c d .version ≡ kidOn b x .version
 unfolding childIn
 child-version x l h q e b c d k = go b
   where
@@ -58,16 +59,16 @@ child-version x l h q e b c d k = go b
     bytes : recordBytes (recordOf (q .place) (q .version) (q .retired) (innerBody c d)) ≡ x
     bytes = ap recordBytes w ∙ says x l h q e .bytes
 
-    go : (b : Side) → childOn b c d .version ≡ field (childAt b) 4 x
-    go false = sym (ap (λ z. z .version) (left-child (q .place) (q .version) (q .retired) c d form)) ∙ ap (field 48 4) bytes
-    go true = sym (ap (λ z. z .version) (right-child (q .place) (q .version) (q .retired) c d form)) ∙ ap (field 84 4) bytes
+    go : (b : Side) → childOn b c d .version ≡ kidOn b x .version
+    go false = sym (ap (λ z. z .version) (left-child (q .place) (q .version) (q .retired) c d form)) ∙ ap (λ y. leftIn y .version) bytes
+    go true = sym (ap (λ z. z .version) (right-child (q .place) (q .version) (q .retired) c d form)) ∙ ap (λ y. rightIn y .version) bytes
 
 other-side : (b : Side) {A : Type 0} → not b ≡ b → A
 other-side true e = absurd (false≢true e)
 other-side false e = absurd (true≢false e)
 
 -- a record q in the bytes x, and a record r below `up`
-module _ (x : Bytes) (l : length x ≡ 120) (h : All Byte x) (q : Record) (e : slotOf x ≡ used q) (b : declared-below.Below) (w : Proper (b .up)) (st : Store)
+module _ (x : Bytes) (l : length x ≡ slotSize) (h : All Byte x) (q : Record) (e : slotOf x ≡ used q) (b : declared-below.Below) (w : Proper (b .up)) (st : Store)
     (r : Record) (i : Is st b r) where
   named-from : (c : Side) → names c q r ≡ true → (c ≡ b .right) × (q .place ≡ placeOf (b .up))
   named-from c n =
@@ -78,12 +79,12 @@ module _ (x : Bytes) (l : length x ≡ 120) (h : All Byte x) (q : Record) (e : s
   named-could n =
       let p = named-from (b .right) n .1 in
       let (c, d, k) = names-inner (b .right) q r (omega (arith, i .some, i .version)) n in
-      let count : field 6 2 x ≡ b .up .count = count-is x l h q e ∙ ap length p ∙ proper-count (b .up) w in
-      let version : field (childAt (b .right)) 4 x ≡ b .version =
+      let count : countIn x ≡ b .up .count = count-is x l h q e ∙ ap length p ∙ proper-count (b .up) w in
+      let version : kidOn (b .right) x .version ≡ b .version =
       sym (child-version x l h q e (b .right) c d k) ∙ ap (childVersion (b .right)) (sym k) ∙ sym (names-eq (b .right) q r n .0) ∙ i .version
       in
-      let place : slice 8 32 x ≡ b .up .bits = bits-are x l h q e ∙ ap (pack 32) p ∙ sym (w .trimmed) in
-      rw (eq-eqb (field 6 2 x) (b .up .count) count, eq-eqb (field (childAt (b .right)) 4 x) (b .version) version, place) (bytes-same (b .up .bits))
+      let place : bitsIn x ≡ b .up .bits = bits-are x l h q e ∙ ap (pack 32) p ∙ sym (w .trimmed) in
+      rw (eq-eqb (countIn x) (b .up .count) count, eq-eqb (kidOn (b .right) x .version) (b .version) version, place) (bytes-same (b .up .bits))
 
   not-named : couldName b x ≡ false → (c : Side) → names c q r ≡ false
   not-named f c =
@@ -92,13 +93,13 @@ module _ (x : Bytes) (l : length x ≡ 120) (h : All Byte x) (q : Record) (e : s
   named : (c d : Child) → q .body ≡ innerBody c d → couldName b x ≡ true → names (b .right) q r ≡ true
   unfolding couldName countIn
   named c d k t =
-      let counts = eqb (field 6 2 x) (b .up .count) in
-      let versions = eqb (field (childAt (b .right)) 4 x) (b .version) in
-      let same = sameBytes (slice 8 32 x) (b .up .bits) in
+      let counts = eqb (countIn x) (b .up .count) in
+      let versions = eqb (kidOn (b .right) x .version) (b .version) in
+      let same = sameBytes (bitsIn x) (b .up .bits) in
       let rest = and-right counts (versions && same) t in
-      let count = eqb-true (field 6 2 x) (b .up .count) (and-left counts (versions && same) t) in
-      let version = eqb-true (field (childAt (b .right)) 4 x) (b .version) (and-left versions same rest) in
-      let place = same-bytes (slice 8 32 x) (b .up .bits) (and-right versions same rest) in
+      let count = eqb-true (countIn x) (b .up .count) (and-left counts (versions && same) t) in
+      let version = eqb-true (kidOn (b .right) x .version) (b .version) (and-left versions same rest) in
+      let place = same-bytes (bitsIn x) (b .up .bits) (and-right versions same rest) in
       eq-names (b .right) q r
       (i .version ∙ sym version ∙ sym (child-version x l h q e (b .right) c d k) ∙ ap (childVersion (b .right)) (sym k))
       (i .place
@@ -109,13 +110,13 @@ module _ (x : Bytes) (l : length x ≡ 120) (h : All Byte x) (q : Record) (e : s
   named-once = is-false _ (λ n. other-side (b .right) (named-from (not (b .right)) n .0))
 
 -- the count and the version are right: the bits decide
-pub could-be : (b : declared-below.Below) (x y : Bytes) → y ≡ x → countIn x ≡ b .up .count → field (childAt (b .right)) 4 x ≡ b .version →
-    {t : Bool} → t ≡ sameBytes (take 32 (drop 8 y)) (b .up .bits) → t ≡ couldName b x
-unfolding couldName slice
-could-be b x y e c v f =
+pub could-be : (b : declared-below.Below) (x : Bytes) {y z : Bytes} → y ≡ x → z ≡ bitsIn y → countIn x ≡ b .up .count → kidOn (b .right) x .version ≡ b .version →
+    {t : Bool} → t ≡ sameBytes z (b .up .bits) → t ≡ couldName b x
+unfolding couldName
+could-be b x e i c v f =
     f
-    ∙ ap (λ z. sameBytes (take 32 (drop 8 z)) (b .up .bits)) e
-    ∙ sym (rw (eq-eqb (countIn x) (b .up .count) c, eq-eqb (field (childAt (b .right)) 4 x) (b .version) v))
+    ∙ ap (λ q. sameBytes q (b .up .bits)) (i ∙ ap bitsIn e)
+    ∙ sym (rw (eq-eqb (countIn x) (b .up .count) c, eq-eqb (kidOn (b .right) x .version) (b .version) v))
 
 -- a slot that is no parent says nothing
 module _ (st : Store) (r q : Record) (f : (b : Side) → names b q r ≡ false) where
@@ -173,7 +174,7 @@ module _ {s : Bytes} {j : ℕ} (h : Has s j) (a : All Byte s) (b : declared-belo
   pub no-parent : couldName b (slotIn j s) ≡ false → SlotSays s j b (Lived 0)
   no-parent f r i =
       none-said (storeOf s) r (slotNo j s) (λ q e.
-      not-named (slotIn j s) (slot-long h) (slot-bytes s j a) q (sym (slot-is h) ∙ e) b w (storeOf s) r i f)
+      not-named (slotIn j s) (slot-long j s (slot-within h)) (slot-bytes j s a) q (sym (slot-is h) ∙ e) b w (storeOf s) r i f)
 
   module _ (t : declared-slot.Slot) (read : Read (slotIn j s) t) where
     abbrev saysAs : declared-kind.Kind → Type 0
@@ -190,7 +191,7 @@ module _ {s : Bytes} {j : ℕ} (h : Has s j) (a : All Byte s) (b : declared-belo
             SaidOf (byRecord true (linkTest leafHash innerHash (storeOf s) r) (slotNo j s)) (byRecord 0 (lifeAbove (storeOf s) r) (slotNo j s)) (Lived 0)
         go Free o e = rw (← e) (refl, refl)
         go Leaf o e = none-said (storeOf s) r (slotNo j s) (λ q u.
-            leaf-names q r (slice 48 32 (slotIn j s)) (slice 80 32 (slotIn j s)) (ap (λ z. z .body) (used-eq q (recordSays t (leafIn (slotIn j s))) (sym u ∙ sym e))) v)
+            leaf-names q r (keyIn (slotIn j s)) (valueIn (slotIn j s)) (ap (λ z. z .body) (used-eq q (recordSays t (leafIn (slotIn j s))) (sym u ∙ sym e))) v)
         go (Inner c d) o e = absurd (⊎-elim (λ z. omega arith) (⊎-elim (λ z. omega arith) (λ z. omega arith)) o)
         go Spoiled o e = rw (← e) (refl, refl)
 
@@ -213,10 +214,10 @@ module _ {s : Bytes} {j : ℕ} (h : Has s j) (a : All Byte s) (b : declared-belo
         e = slot-is h ∙ sym (read .says) ∙ ap (λ x. kindSays x t (slotIn j s)) inner
 
         n : names (b .right) q r ≡ true
-        n = named (slotIn j s) (slot-long h) (slot-bytes s j a) q (sym (slot-is h) ∙ e) b w (storeOf s) r i (childSays c) (childSays d) refl could
+        n = named (slotIn j s) (slot-long j s (slot-within h)) (slot-bytes j s a) q (sym (slot-is h) ∙ e) b w (storeOf s) r i (childSays c) (childSays d) refl could
 
         o : names (not (b .right)) q r ≡ false
-        o = named-once (slotIn j s) (slot-long h) (slot-bytes s j a) q (sym (slot-is h) ∙ e) b w (storeOf s) r i
+        o = named-once (slotIn j s) (slot-long j s (slot-within h)) (slot-bytes j s a) q (sym (slot-is h) ∙ e) b w (storeOf s) r i
 
         same-links : (x : Side) →
             allOf (linksOn (storeOf s) r q (childSays c) (childSays d) refl x)

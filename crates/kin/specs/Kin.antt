@@ -1,14 +1,13 @@
 -- One record among those of its store, as the code looks at it: what the helpers of the check promise each other. No public promise
 -- reaches this file. Assumes nothing.
-use Prim.Native.Nat.{ℕ, suc, _≤_, _<_, max}
+use Prim.Native.Nat.{ℕ, suc, _≤_, max}
 use mathlib.Core.Path.{_≡_}
 use mathlib.Core.Bool.{Bool, true, false, cond, not, _&&_}
 use mathlib.Core.List.{List, [], _∷_}
-use lib.ListN.{length, getD}
+use lib.ListN.{length}
 use lib.Dec.{eqb, leb}
 use Rattle.terms.specs.Bits.{Bytes, Side, Place, longer, sameBytes}
-use Rattle.terms.specs.Fields.{field, slice}
-use Rattle.terms.specs.Records.{Body, leafBody, innerBody, Record, Slot, free, Store}
+use Rattle.terms.specs.Records.{Body, leafBody, innerBody, Record, Store}
 use Rattle.meaning.specs.Store.{isNode}
 use Rattle.meaning.specs.Reading.{bodyHash}
 use Rattle.meaning.specs.Local.{endsBefore}
@@ -16,30 +15,20 @@ use Rattle.local.specs.Test.{every, total, byRecord, linkTest, lifeAbove}
 use Rattle.hash.specs.Hash.{hashBytes}
 use Rattle.nodehash.specs.Node.{leafHash, innerHash}
 use Rattle.place.specs.Place.{placeOf}
-use Rattle.layout.specs.Sizes.{bitsAt, leftAt, rightAt, roomOf}
 use Rattle.layout.specs.Headers.{sizeRight}
-use Rattle.layout.specs.Slots.{countIn}
-use Rattle.layout.specs.Stores.{storeOf}
+use Rattle.layout.specs.Slots.{countIn, bitsIn, kidOn}
+use Rattle.layout.specs.Stores.{storeOf, slotNo}
 use Rattle.slots.specs.declared.Child as declared-child
 use Rattle.kin.specs.declared.Kept as declared-kept
 use Rattle.kin.specs.declared.Below as declared-below
 use Rattle.kin.specs.declared.Said as declared-said
 use Rattle.kin.specs.declared.Said.the-variants.{Lived, Wrong}
 
--- A store of the right size has a slot number j.
-pub record Has (s : Bytes) (j : ℕ) : Type 0 where
-  pub size : sizeRight (length s) ≡ true
-  pub inside : j < roomOf (length s)
-
--- Its header says which versions are kept.
+-- The header of a store of the right size says which versions are kept.
 pub record Keeps (s : Bytes) (k : declared-kept.Kept) : Type 0 where
   pub size : sizeRight (length s) ≡ true
   pub oldest : storeOf s .oldest ≡ k .oldest
   pub latest : storeOf s .latest ≡ k .latest
-
--- What slot number j is.
-abbrev pub slotNo : ℕ → Bytes → Slot
-slotNo j s = getD (storeOf s .slots) j free
 
 -- 1 for a record that is the node (v, p), else 0.
 unfoldable pub countNode : ℕ → Place → Record → ℕ
@@ -48,11 +37,6 @@ countNode v p q = cond (isNode v p q) 1 0
 -- The first version after the life of a record retired since n.
 abbrev pub endsAt : ℕ → ℕ → ℕ
 endsAt latest n = cond (eqb n 0) (suc latest) n
-
--- Where an inner record's child on a side begins.
-abbrev pub childAt : Side → ℕ
-childAt false = leftAt
-childAt true = rightAt
 
 -- The body is a leaf's.
 abbrev pub isLeafBody : Body → Bool
@@ -71,7 +55,7 @@ pub record Is (st : Store) (b : declared-below.Below) (r : Record) : Type 0 wher
 -- The fields of 120 bytes are those of an inner record that names it.
 unfoldable pub couldName : declared-below.Below → Bytes → Bool
 couldName b x =
-    eqb (countIn x) (b .up .count) && (eqb (field (childAt (b .right)) 4 x) (b .version) && sameBytes (slice bitsAt 32 x) (b .up .bits))
+    eqb (countIn x) (b .up .count) && (eqb (kidOn (b .right) x .version) (b .version) && sameBytes (bitsIn x) (b .up .bits))
 
 -- What a parent with this version and end of life says of it, naming the child c beside one of the version v.
 abbrev pub linkTests : declared-kept.Kept → declared-below.Below → ℕ → ℕ → declared-child.Child → ℕ → List Bool

@@ -1,13 +1,6 @@
 // One record among those of its store, document 01, 'Sound': its life, the slots that hold its node, its children, and its parents.
-use fields::get_u32;
 use hash::Hash;
 use hash::same_hash;
-use layout::sizes::BITS_AT;
-use layout::sizes::HEADER_SIZE;
-use layout::sizes::LEFT_AT;
-use layout::sizes::RIGHT_AT;
-use layout::sizes::SLOT_SIZE;
-use layout::sizes::VERSION_AT;
 use lookup::Found;
 use lookup::find;
 use lookup::holds_record;
@@ -16,8 +9,11 @@ use place::key_bit;
 use place::same;
 use slots::Child;
 use slots::Kind;
+use slots::bits_of;
 use slots::read_slot;
+use store::child_version_at;
 use store::count_at;
+use store::slot_count;
 use store::slot_of;
 use store::version_at;
 ghost use mathlib.Core.Path.{_≡_};
@@ -26,13 +22,13 @@ ghost use Prim.Native.Nat.{_-_, _≤_, _<_, max};
 ghost use lib.ListN.{length, take};
 ghost use lib.Dec.{eqb};
 ghost use Rattle.terms.specs.Bits.{bits};
-ghost use Rattle.terms.specs.Fields.{field, allOf};
+ghost use Rattle.terms.specs.Fields.{allOf};
 ghost use Rattle.meaning.specs.Store.{find};
 ghost use Rattle.local.specs.Test.{total, byRecord, isFound};
 ghost use Rattle.place.specs.Place.{placeOf, Proper, Stands, Grown};
 ghost use Rattle.layout.specs.Headers.{sizeRight};
-ghost use Rattle.layout.specs.Stores.{slotIn, storeOf};
-ghost use Rattle.kin.specs.Kin.{Has, Keeps, slotNo, countNode, endsAt, childAt, linkTests, couldName, SaidOf, Short, SlotSays, ParentsSay};
+ghost use Rattle.layout.specs.Stores.{slotIn, storeOf, slotNo, Has};
+ghost use Rattle.kin.specs.Kin.{Keeps, countNode, endsAt, linkTests, couldName, SaidOf, Short, SlotSays, ParentsSay};
 
 // The kept versions of a store.
 pub struct Kept {
@@ -41,7 +37,7 @@ pub struct Kept {
 }
 
 // The larger of two versions.
-fn later(a: u32, b: u32) -> u32
+pub fn later(a: u32, b: u32) -> u32
     ensures { λ r. ⌜ r ≡ max a b ⌝ }
 {
     if a < b {
@@ -84,7 +80,7 @@ fn holder(store: &[u8], j: usize, version: u32, place: Place) -> usize
     }
     let bits = place.bits;
     let s = slot_of(store, j);
-    if !same(&s[BITS_AT..VERSION_AT], &bits) {
+    if !same(bits_of(s), &bits) {
         return 0;
     }
     if !holds_record(s) {
@@ -98,7 +94,7 @@ pub fn holders(store: &[u8], version: u32, place: Place) -> usize
     requires { ⌜ (sizeRight (length (now store)) ≡ true) × Proper place ⌝ }
     ensures { λ r. ⌜ r ≡ total (byRecord 0 (countNode version (placeOf place))) (storeOf (now (store .entry)) .slots) ⌝ }
 {
-    let n = (store.len() - HEADER_SIZE) / SLOT_SIZE;
+    let n = slot_count(store);
     let mut count = 0;
     let mut j = 0;
     while j < n {
@@ -123,7 +119,7 @@ pub fn child_found(store: &[u8], version: u32, place: Place) -> bool
 }
 
 // The place one bit longer, on a side.
-fn longer(place: Place, right: bool) -> Place
+pub fn longer(place: Place, right: bool) -> Place
     requires { ⌜ Proper place × (place .count < 256) ⌝ }
     ensures { λ r. ⌜ Grown right place r ⌝ }
 {
@@ -157,18 +153,6 @@ pub struct Below {
     pub hash: Hash,
 }
 
-// The version that slot j has at its left or right child, were it an inner record.
-fn version_below(store: &[u8], j: usize, right: bool) -> u32
-    requires { ⌜ Has (now store) j ⌝ }
-    ensures { λ r. ⌜ r ≡ field (childAt right) 4 (slotIn j (now (store .entry))) ⌝ }
-{
-    let at = HEADER_SIZE + SLOT_SIZE * j;
-    if right {
-        return get_u32(store, at + RIGHT_AT);
-    }
-    get_u32(store, at + LEFT_AT)
-}
-
 // Whether slot j, were it an inner record, would name the record below it: most slots have another bit count.
 fn could_name(store: &[u8], j: usize, below: Below) -> bool
     requires { ⌜ Has (now store) j ⌝ }
@@ -178,12 +162,11 @@ fn could_name(store: &[u8], j: usize, below: Below) -> bool
     if count_at(store, j) as usize != up.count {
         return false;
     }
-    if version_below(store, j, below.right) != below.version {
+    if child_version_at(store, j, below.right) != below.version {
         return false;
     }
     let bits = up.bits;
-    let s = slot_of(store, j);
-    same(&s[BITS_AT..VERSION_AT], &bits)
+    same(bits_of(slot_of(store, j)), &bits)
 }
 
 // What a slot says of a record below it.
@@ -250,7 +233,7 @@ pub fn parents_right(store: &[u8], kept: Kept, below: Below, life: u64) -> bool
     requires { ⌜ Keeps (now store) kept × Proper (below .up) ⌝ }
     ensures { λ t. ⌜ ParentsSay (now (store .entry)) below life t ⌝ }
 {
-    let n = (store.len() - HEADER_SIZE) / SLOT_SIZE;
+    let n = slot_count(store);
     let mut sum = 0;
     let mut j = 0;
     while j < n {

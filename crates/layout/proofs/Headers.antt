@@ -3,6 +3,7 @@
 use Prim.Native.Nat.{ℕ, _+_, _*_, _-_, _<_, _≤_, _/_, _%_}
 use native.Mathlib.Omega.{arith}
 use mathlib.Core.Path.{_≡_, refl, ap, sym, _∙_}
+use mathlib.Core.Logic.{_⊎_, inl, inr}
 use mathlib.Core.Bool.{Bool, true, false, cond}
 use mathlib.Core.List.{List, [], _∷_, _++_, append-assoc}
 use lib.ListN.{length, getD, take, length-append}
@@ -207,6 +208,16 @@ accepted s n o l = go (sizeRight (length s)) (headerRight s) refl refl
           oldest = o′;
           latest = l′;
         }
+
+-- a header is refused with 1 or 2
+pub header-refused : (s : Bytes) (n : ℕ) → headerOf s ≡ refusal n → (n ≡ 1) ⊎ (n ≡ 2)
+unfolding headerOf
+header-refused s n = go (sizeRight (length s)) (headerRight s)
+  where
+    go : (a b : Bool) → cond a (cond b (header (field 8 4 s) (field 12 4 s) (field 16 4 s)) (refusal 2)) (refusal 1) ≡ refusal n → (n ≡ 1) ⊎ (n ≡ 2)
+    go false b e = inl (cc)
+    go true false e = inr (cc)
+    go true true e = let z : _≡_ {A = ℕ} 0 1 = cc in absurd (omega arith)
 
 zero-back : (i n : ℕ) (s : Bytes) → i + n ≤ length s → allZero (slice i n s) ≡ true → zeroBytes n ≡ slice i n s
 zero-back i n s h e = ap zeroBytes (sym (length-slice i n s h)) ∙ sym (zero-bytes (slice i n s) e)

@@ -3,8 +3,9 @@
 use Prim.Native.Nat.{ℕ, zero, suc, _+_, _*_, _-_, _<_, _≤_}
 use native.Mathlib.Omega.{arith}
 use mathlib.Core.Path.{_≡_, refl, ap, ap₂, sym, _∙_}
+use mathlib.Core.Bool.{true}
 use mathlib.Core.List.{List, [], _∷_, _++_, append-assoc}
-use lib.ListN.{length, getD, take, drop, set, length-append, length-drop, length-set, take-append-drop, replicate, replicate-append-replicate}
+use lib.ListN.{length, getD, take, drop, set, length-append, length-drop, length-set, take-append-drop, replicate, length-replicate, replicate-append-replicate}
 use lib.Seq.{take-at, drop-at, drop-drop, split-at, set-split, length-take-le}
 use Rattle.terms.specs.Bits.{Bytes, Byte, All}
 use Rattle.terms.specs.Fields.{le, slice, zeroBytes}
@@ -15,11 +16,11 @@ use Rattle.terms.proofs.Fields.{field-below, length-le, slice-between}
 use Rattle.fields.specs.Written.{written}
 use Rattle.fields.proofs.Written.{written-between, written-inside}
 use Rattle.layout.specs.Sizes.{roomOf}
-use Rattle.layout.specs.Headers.{header, headerOf, headerBytes}
+use Rattle.layout.specs.Headers.{header, sizeRight, headerOf, headerBytes}
 use Rattle.layout.specs.Slots.{recordOf, slotOf, slotBytes, SlotForm}
-use Rattle.layout.specs.Stores.{slotIn, slotsOf, slotsBytes, storeOf, storeBytes, StoreForm, putSlot, putBounds}
+use Rattle.layout.specs.Stores.{slotIn, slotsOf, slotsBytes, storeOf, storeBytes, slotNo, withSlot, withSince, withOldest, withLatest, StoreForm, putSlot, putBounds}
 use Rattle.layout.proofs.Slots.{slot-said, slot-back, slot-form, length-slot, retired-put}
-use Rattle.layout.proofs.Headers.{room-of, length-header, oldest-put, latest-put, header-said, Accepted, accepted, header-back}
+use Rattle.layout.proofs.Headers.{room-of, size-right-of, size-says, length-header, oldest-put, latest-put, header-said, Accepted, accepted, header-back}
 
 pub length-slots-bytes : (xs : List Slot) → All SlotForm xs → length (slotsBytes xs) ≡ 120 * length xs
 length-slots-bytes [] h = refl
@@ -69,15 +70,23 @@ module _ (st : Store) (f : StoreForm st) where
       header-said (storeBytes st) (length (st .slots)) (st .oldest) (st .latest) (slotsBytes (st .slots)) refl (length-slots-bytes (st .slots) (f .each))
       (f .some) (f .fits) (f .ordered) (f .number)
 
+  is-accepted : Accepted (storeBytes st) (length (st .slots)) (st .oldest) (st .latest)
+  is-accepted = accepted (storeBytes st) (length (st .slots)) (st .oldest) (st .latest) store-accepted
+
+  -- they have the right size, and room for its slots
+  pub store-size : sizeRight (length (storeBytes st)) ≡ true
+  store-size = size-right-of (length (storeBytes st)) (length (st .slots)) (is-accepted .size) (f .some) (f .fits)
+
+  pub store-room : roomOf (length (storeBytes st)) ≡ length (st .slots)
+  store-room = room-of (length (storeBytes st)) (length (st .slots)) (is-accepted .size)
+
   slots-after : drop 24 (storeBytes st) ≡ slotsBytes (st .slots)
   unfolding storeBytes
   slots-after = drop-at (headerBytes (length (st .slots)) (st .oldest) (st .latest)) (slotsBytes (st .slots)) 24 (length-header _ _ _)
 
   pub store-said : storeOf (storeBytes st) ≡ st
   unfolding storeOf
-  store-said =
-      let a = accepted (storeBytes st) (length (st .slots)) (st .oldest) (st .latest) store-accepted in
-      rw (a .oldest, a .latest, room-of (length (storeBytes st)) (length (st .slots)) (a .size), slots-after, slots-said (st .slots) (f .each))
+  store-said = rw (is-accepted .oldest, is-accepted .latest, store-room, slots-after, slots-said (st .slots) (f .each))
 
 -- accepted bytes are those of the store that they are read as, which is in form
 module _ (s : Bytes) (n o l : ℕ) (h : All Byte s) (a : Accepted s n o l) where
@@ -110,19 +119,30 @@ module _ (s : Bytes) (n o l : ℕ) (h : All Byte s) (a : Accepted s n o l) where
       }
 
 -- free slots are zero bytes
-pub free-bytes : (n : ℕ) → slotsBytes (replicate n free) ≡ zeroBytes (120 * n)
+free-bytes : (n : ℕ) → slotsBytes (replicate n free) ≡ zeroBytes (120 * n)
 unfolding slotBytes zeroBytes
 free-bytes zero = refl
 free-bytes (suc n) =
     let e : 120 + 120 * n ≡ 120 * suc n = omega arith in
     ap (zeroBytes 120 ++_) (free-bytes n) ∙ replicate-append-replicate 120 (120 * n) 0 ∙ ap zeroBytes e
 
-pub free-form : (n : ℕ) → All SlotForm (replicate n free)
-free-form zero = tt
-free-form (suc n) = (tt, free-form n)
+zeros-from : (m n : ℕ) → drop m (zeroBytes (m + n)) ≡ zeroBytes n
+unfolding zeroBytes
+zeros-from m n =
+    ap (drop m) (sym (replicate-append-replicate m n 0)) ∙ drop-at (replicate m 0) (replicate n 0) m (length-replicate m 0)
+
+-- so a header over zero bytes is a store of free slots
+pub fresh-bytes : (m o l : ℕ) → sizeRight m ≡ true →
+    written 0 (headerBytes (roomOf m) o l) (zeroBytes m) ≡ storeBytes (record { oldest = o; latest = l; slots = replicate (roomOf m) free })
+unfolding written storeBytes
+fresh-bytes m o l e =
+    let n = roomOf m in
+    let head : 0 + length (headerBytes n o l) ≡ 24 = omega (arith, length-header n o l) in
+    rw (head, length-replicate n free, free-bytes n)
+    (ap (λ k. headerBytes n o l ++ drop 24 (zeroBytes k)) (size-says m e .0) ∙ ap (headerBytes n o l ++_) (zeros-from 24 (120 * n)))
 
 -- slot i of bytes is what its 120 bytes are read as
-pub slot-at : (s : Bytes) (i : ℕ) → i < roomOf (length s) → getD (storeOf s .slots) i free ≡ slotOf (slotIn i s)
+pub slot-at : (s : Bytes) (i : ℕ) → i < roomOf (length s) → slotNo i s ≡ slotOf (slotIn i s)
 unfolding storeOf slotIn slice
 slot-at s i h = slots-at (roomOf (length s)) (drop 24 s) i h ∙ ap (λ r. slotOf (take 120 r)) (drop-drop (120 * i) 24 s)
 
@@ -181,7 +201,7 @@ module _ (st : Store) (f : StoreForm st) where
           each = all-set (st .slots) i x (f .each) k;
         }
 
-    pub slot-put-bytes : storeBytes (putSlot i x st) ≡ written (24 + 120 * i) (slotBytes x) (storeBytes st)
+    pub slot-put-bytes : storeBytes (putSlot i x st) ≡ withSlot i x (storeBytes st)
     unfolding putSlot storeBytes
     slot-put-bytes =
         rw (length-set (st .slots) i x)
@@ -194,20 +214,19 @@ module _ (st : Store) (f : StoreForm st) where
 
   -- another retired-since for the record in slot i: four bytes change
   pub retired-put-bytes : (i : ℕ) (r : Record) (n : ℕ) → i < length (st .slots) → getD (st .slots) i free ≡ used r → RecordForm r → n ≤ top32 →
-      storeBytes (putSlot i (used (recordOf (r .place) (r .version) n (r .body))) st) ≡ written (24 + 120 * i + 44) (le 4 n) (storeBytes st)
+      storeBytes (putSlot i (used (recordOf (r .place) (r .version) n (r .body))) st) ≡ withSince i n (storeBytes st)
   unfolding slotBytes slotIn
   retired-put-bytes i r n l e h k =
-      let a = accepted (storeBytes st) (length (st .slots)) (st .oldest) (st .latest) (store-accepted st f) in
-      let z = a .size in
+      let z = is-accepted st f .size in
       slot-put-bytes i (used (recordOf (r .place) (r .version) n (r .body))) (record { short = h .short; versioned = h .versioned; number = k; body = h .body }) l
       ∙ ap (λ y. written (24 + 120 * i) y (storeBytes st)) (retired-put r n ∙ ap (written 44 (le 4 n)) (sym (slot-in i l ∙ ap slotBytes e)))
       ∙ sym (written-inside (24 + 120 * i) 120 44 (le 4 n) (storeBytes st) (omega arith) (omega (arith, length-le 4 n)))
 
 -- another oldest: its four bytes change, and nothing else
-pub oldest-put-bytes : (st : Store) (o : ℕ) → storeBytes (putBounds o (st .latest) st) ≡ written 12 (le 4 o) (storeBytes st)
+pub oldest-put-bytes : (st : Store) (o : ℕ) → storeBytes (putBounds o (st .latest) st) ≡ withOldest o (storeBytes st)
 unfolding putBounds storeBytes
 oldest-put-bytes st o = oldest-put (length (st .slots)) (st .oldest) (st .latest) o (slotsBytes (st .slots))
 
-pub latest-put-bytes : (st : Store) (l : ℕ) → storeBytes (putBounds (st .oldest) l st) ≡ written 16 (le 4 l) (storeBytes st)
+pub latest-put-bytes : (st : Store) (l : ℕ) → storeBytes (putBounds (st .oldest) l st) ≡ withLatest l (storeBytes st)
 unfolding putBounds storeBytes
 latest-put-bytes st l = latest-put (length (st .slots)) (st .oldest) (st .latest) l (slotsBytes (st .slots))

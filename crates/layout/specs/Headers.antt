@@ -6,7 +6,7 @@ use lib.ListN.{length}
 use lib.Dec.{eqb, leb}
 use Rattle.terms.specs.Bits.{Bytes}
 use Rattle.terms.specs.Fields.{le, field, slice, zeroBytes, allZero, flat, allOf}
-use Rattle.layout.specs.Sizes.{headerSize, headerKind, mostSlots, kindAt, capacityAt, oldestAt, latestAt, slotSize, roomOf}
+use Rattle.layout.specs.Sizes.{headerSize, headerKind, mostSlots, kindAt, gapAt, capacityAt, oldestAt, latestAt, headerTailAt, slotSize, roomOf}
 
 -- What reading a header says: a number of refusal, or capacity, oldest and latest.
 pub data Headed : Type 0 where
@@ -27,10 +27,10 @@ abbrev pub headerTests : Bytes → List Bool
 headerTests s =
     eqb (field 0 4 s) headerSize
     ∷ eqb (field kindAt 2 s) headerKind
-    ∷ allZero (slice 6 2 s)
+    ∷ allZero (slice gapAt 2 s)
     ∷ eqb (field capacityAt 4 s) (roomOf (length s))
     ∷ leb (field oldestAt 4 s) (field latestAt 4 s)
-    ∷ allZero (slice 20 4 s)
+    ∷ allZero (slice headerTailAt 4 s)
     ∷ []
 
 unfoldable pub headerRight : Bytes → Bool

@@ -1,6 +1,7 @@
 -- Document 01, 'Bytes': the sizes, kinds and lengths of header and slot, and where their fields begin. All in one place, and nowhere else.
 -- Assumes nothing.
 use Prim.Native.Nat.{ℕ, _+_, _*_, _-_, _/_}
+pub use Rattle.terms.specs.Form.{mostSlots}
 
 -- Header, 24 bytes: length 24, kind 1, 2 zero, capacity 4, oldest 4, latest 4, 4 zero. Capacity n is 1 to 16,384.
 abbrev pub headerSize : ℕ
@@ -9,8 +10,8 @@ headerSize = 24
 abbrev pub headerKind : ℕ
 headerKind = 1
 
-abbrev pub mostSlots : ℕ
-mostSlots = 16384
+abbrev pub gapAt : ℕ
+gapAt = 6
 
 abbrev pub capacityAt : ℕ
 capacityAt = 8
@@ -20,6 +21,9 @@ oldestAt = 12
 
 abbrev pub latestAt : ℕ
 latestAt = 16
+
+abbrev pub headerTailAt : ℕ
+headerTailAt = 20
 
 -- Slot, 120 bytes. A leaf says length 112, kind 2; an inner record length 120, kind 3.
 abbrev pub slotSize : ℕ

@@ -2,15 +2,15 @@
 -- the children's versions and whether a leaf's key begins with its place are matters of soundness. Assumes nothing.
 use Prim.Native.Nat.{ℕ, _+_}
 use mathlib.Core.Path.{_≡_}
-use mathlib.Core.Bool.{Bool, cond, _||_}
+use mathlib.Core.Bool.{Bool, true, false, cond, _||_}
 use mathlib.Core.List.{List, [], _∷_, _++_}
 use lib.ListN.{length, take, drop}
 use lib.Dec.{eqb, leb}
-use Rattle.terms.specs.Bits.{Bytes, Byte, Place, All, bits, pack, noneSet}
+use Rattle.terms.specs.Bits.{Bytes, Byte, Side, Place, All, bits, pack, noneSet}
 use Rattle.terms.specs.Fields.{le, field, slice, zeroBytes, allZero, flat, allOf}
 use Rattle.terms.specs.Records.{Child, child, Body, leafBody, innerBody, Record, Slot, free, used, spoiled}
 use Rattle.terms.specs.Form.{placeLimit, RecordForm}
-use Rattle.layout.specs.Sizes.{slotSize, leafLength, leafKind, innerLength, innerKind, kindAt, countAt, bitsAt, versionAt, retiredAt, keyAt, valueAt, tailAt, leftAt, rightAt}
+use Rattle.layout.specs.Sizes.{slotSize, leafLength, leafKind, innerLength, innerKind, kindAt, countAt, bitsAt, versionAt, retiredAt, grantSize, keyAt, valueAt, tailAt, leftAt, rightAt}
 
 -- Leaf: length 112, kind 2. Inner: length 120, kind 3.
 abbrev pub lengthOf : Body → ℕ
@@ -25,20 +25,49 @@ kindOf (innerBody l r) = innerKind
 unfoldable pub countIn : Bytes → ℕ
 countIn x = field countAt 2 x
 
-unfoldable pub placeIn : Bytes → Place
-placeIn x = take (countIn x) (bits (slice bitsAt 32 x))
+abbrev pub bitsIn : Bytes → Bytes
+bitsIn x = slice bitsAt 32 x
 
--- A leaf's key 32, value 32.
+unfoldable pub placeIn : Bytes → Place
+placeIn x = take (countIn x) (bits (bitsIn x))
+
+-- Version and retired-since.
+abbrev pub versionIn : Bytes → ℕ
+versionIn x = field versionAt 4 x
+
+abbrev pub sinceIn : Bytes → ℕ
+sinceIn x = field retiredAt 4 x
+
+-- A leaf's key 32, value 32; both are its grant.
+abbrev pub keyIn : Bytes → Bytes
+keyIn x = slice keyAt 32 x
+
+abbrev pub valueIn : Bytes → Bytes
+valueIn x = slice valueAt 32 x
+
+abbrev pub grantIn : Bytes → Bytes
+grantIn x = slice keyAt grantSize x
+
 unfoldable pub leafIn : Bytes → Body
-leafIn x = leafBody (slice keyAt 32 x) (slice valueAt 32 x)
+leafIn x = leafBody (keyIn x) (valueIn x)
 
 -- A child's version 4, hash 32.
 unfoldable pub childIn : ℕ → Bytes → Child
 childIn i x = child (field i 4 x) (slice (i + 4) 32 x)
 
--- An inner record's left and right child.
+-- An inner record's left and right child, and the one on a side.
+abbrev pub leftIn : Bytes → Child
+leftIn x = childIn leftAt x
+
+abbrev pub rightIn : Bytes → Child
+rightIn x = childIn rightAt x
+
+abbrev pub kidOn : Side → Bytes → Child
+kidOn false x = leftIn x
+kidOn true x = rightIn x
+
 unfoldable pub innerIn : Bytes → Body
-innerIn x = innerBody (childIn leftAt x) (childIn rightAt x)
+innerIn x = innerBody (leftIn x) (rightIn x)
 
 -- A record of a place, a version, a retired-since and a body.
 abbrev pub recordOf : Place → ℕ → ℕ → Body → Record
@@ -46,7 +75,7 @@ recordOf p v n b = record { place = p; version = v; retired = n; body = b }
 
 -- The record with this body that the bytes hold.
 unfoldable pub recordIn : Bytes → Body → Record
-recordIn x b = recordOf (placeIn x) (field versionAt 4 x) (field retiredAt 4 x) b
+recordIn x b = recordOf (placeIn x) (versionIn x) (sinceIn x) b
 
 -- Length and kind; bit count (0 to 256, inner 0 to 255), unused bits zero; version at least 1.
 abbrev pub headTests : ℕ → ℕ → ℕ → Bytes → List Bool
@@ -54,8 +83,8 @@ headTests n kind limit x =
     eqb (field 0 4 x) n
     ∷ eqb (field kindAt 2 x) kind
     ∷ leb (countIn x) limit
-    ∷ noneSet (drop (countIn x) (bits (slice bitsAt 32 x)))
-    ∷ leb 1 (field versionAt 4 x)
+    ∷ noneSet (drop (countIn x) (bits (bitsIn x)))
+    ∷ leb 1 (versionIn x)
     ∷ []
 
 unfoldable pub headRight : Body → Bytes → Bool
@@ -76,9 +105,9 @@ someChild l r = leb 1 (l .version) || leb 1 (r .version)
 abbrev pub innerTests : Bytes → List Bool
 innerTests x =
     headRight (innerIn x) x
-    ∷ childRight (childIn leftAt x)
-    ∷ childRight (childIn rightAt x)
-    ∷ someChild (childIn leftAt x) (childIn rightAt x)
+    ∷ childRight (leftIn x)
+    ∷ childRight (rightIn x)
+    ∷ someChild (leftIn x) (rightIn x)
     ∷ []
 
 unfoldable pub isInner : Bytes → Bool

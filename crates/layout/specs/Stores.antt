@@ -1,13 +1,16 @@
 -- Document 01, 'Bytes': a store is its header and its slots, one after the other; the store is 24 + 120n bytes. Assumes nothing.
-use Prim.Native.Nat.{ℕ, zero, suc, _≤_}
+use Prim.Native.Nat.{ℕ, zero, suc, _+_, _<_, _≤_}
+use mathlib.Core.Path.{_≡_}
+use mathlib.Core.Bool.{true}
 use mathlib.Core.List.{List, [], _∷_, _++_}
-use lib.ListN.{length, take, drop, set}
+use lib.ListN.{length, getD, take, drop, set}
 use Rattle.terms.specs.Bits.{Bytes, All}
-use Rattle.terms.specs.Fields.{field, slice}
-use Rattle.terms.specs.Records.{Slot, Store}
-use Rattle.terms.specs.Form.{top32}
-use Rattle.layout.specs.Sizes.{headerSize, slotSize, mostSlots, oldestAt, latestAt, roomOf, slotAt}
-use Rattle.layout.specs.Headers.{headerBytes}
+use Rattle.terms.specs.Fields.{le, field, slice}
+use Rattle.terms.specs.Records.{Slot, free, Store}
+use Rattle.terms.specs.Form.{top32, mostSlots}
+use Rattle.fields.specs.Written.{written}
+use Rattle.layout.specs.Sizes.{headerSize, slotSize, oldestAt, latestAt, retiredAt, roomOf, slotAt}
+use Rattle.layout.specs.Headers.{sizeRight, headerBytes}
 use Rattle.layout.specs.Slots.{slotOf, slotBytes, SlotForm}
 
 -- The 120 bytes of slot i.
@@ -26,6 +29,34 @@ slotsBytes (x ∷ xs) = slotBytes x ++ slotsBytes xs
 -- The store that bytes of the right size hold.
 unfoldable pub storeOf : Bytes → Store
 storeOf s = record { oldest = field oldestAt 4 s; latest = field latestAt 4 s; slots = slotsOf (roomOf (length s)) (drop headerSize s) }
+
+-- What slot number i is, in a store of the right size that has it.
+abbrev pub slotNo : ℕ → Bytes → Slot
+slotNo i s = getD (storeOf s .slots) i free
+
+pub record Has (s : Bytes) (i : ℕ) : Type 0 where
+  pub size : sizeRight (length s) ≡ true
+  pub inside : i < roomOf (length s)
+
+-- The header, and the bytes of slot i, lie within these bytes.
+abbrev pub HeaderWithin : Bytes → Type 0
+HeaderWithin s = headerSize ≤ length s
+
+abbrev pub SlotWithin : ℕ → Bytes → Type 0
+SlotWithin i s = slotAt i + slotSize ≤ length s
+
+-- The bytes with another slot i, another retired-since in it, another oldest, another latest; and nothing else changed.
+abbrev pub withSlot : ℕ → Slot → Bytes → Bytes
+withSlot i x s = written (slotAt i) (slotBytes x) s
+
+abbrev pub withSince : ℕ → ℕ → Bytes → Bytes
+withSince i n s = written (slotAt i + retiredAt) (le 4 n) s
+
+abbrev pub withOldest : ℕ → Bytes → Bytes
+withOldest n s = written oldestAt (le 4 n) s
+
+abbrev pub withLatest : ℕ → Bytes → Bytes
+withLatest n s = written latestAt (le 4 n) s
 
 -- The bytes of a store.
 unfoldable pub storeBytes : Store → Bytes

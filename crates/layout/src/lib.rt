@@ -55,7 +55,7 @@ fn header_right(store: &[u8]) -> bool
     if get_u16(store, sizes::KIND_AT) != sizes::HEADER_KIND {
         return false;
     }
-    if !all_zero(&store[6..8]) {
+    if !all_zero(&store[sizes::GAP_AT..sizes::CAPACITY_AT]) {
         return false;
     }
     if get_u32(store, sizes::CAPACITY_AT) as usize
@@ -66,7 +66,7 @@ fn header_right(store: &[u8]) -> bool
     if get_u32(store, sizes::LATEST_AT) < get_u32(store, sizes::OLDEST_AT) {
         return false;
     }
-    all_zero(&store[20..24])
+    all_zero(&store[sizes::HEADER_TAIL_AT..sizes::HEADER_SIZE])
 }
 
 // Reads the header of any bytes.
@@ -93,9 +93,9 @@ pub fn put_header(store: &mut [u8], capacity: u32, oldest: u32, latest: u32)
 {
     put_u32(store, 0, sizes::HEADER_LENGTH);
     put_u16(store, sizes::KIND_AT, sizes::HEADER_KIND);
-    put_u16(store, 6, 0);
+    put_u16(store, sizes::GAP_AT, 0);
     put_u32(store, sizes::CAPACITY_AT, capacity);
     put_u32(store, sizes::OLDEST_AT, oldest);
     put_u32(store, sizes::LATEST_AT, latest);
-    put_u32(store, 20, 0);
+    put_u32(store, sizes::HEADER_TAIL_AT, 0);
 }

@@ -7,11 +7,15 @@ pub const HEADER_KIND: u16 = 1;
 
 pub const MOST_SLOTS: usize = 16384;
 
+pub const GAP_AT: usize = 6;
+
 pub const CAPACITY_AT: usize = 8;
 
 pub const OLDEST_AT: usize = 12;
 
 pub const LATEST_AT: usize = 16;
+
+pub const HEADER_TAIL_AT: usize = 20;
 
 pub const SLOT_SIZE: usize = 120;
 
@@ -45,4 +49,8 @@ pub const TAIL_AT: usize = 112;
 
 pub const LEFT_AT: usize = 48;
 
+pub const LEFT_HASH_AT: usize = 52;
+
 pub const RIGHT_AT: usize = 84;
+
+pub const RIGHT_HASH_AT: usize = 88;

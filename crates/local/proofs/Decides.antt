@@ -1,6 +1,6 @@
 -- The test decides soundness: it passes exactly the sound stores. A record passes its tests exactly if it is right by itself; what a rule
 -- asks of a record's children, the test asks of a record's parents. Assumes nothing.
-use Prim.Native.Nat.{ℕ, _<_, _≤_}
+use Prim.Native.Nat.{ℕ, suc, _-_, _<_, _≤_}
 use native.Mathlib.Omega.{arith}
 use mathlib.Core.Path.{_≡_, refl, ap, ap₂, sym, _∙_, subst}
 use mathlib.Core.Logic.{inl, inr, _↔_}
@@ -9,12 +9,15 @@ use lib.ListN.{length, getD}
 use Rattle.terms.specs.Bits.{Bytes, Side, left, right, Place, longer}
 use Rattle.terms.specs.Records.{Child, Body, leafBody, innerBody, Record, Slot, free, spoiled, Store}
 use Rattle.terms.specs.Form.{RecordForm, top32}
-use Rattle.meaning.specs.Store.{find, childOn}
+use mathlib.Core.List.{[]}
+use mathlib.Core.Option.{some, Option·some-injective}
+use Rattle.meaning.specs.Store.{find, rootOf, childOn}
 use Rattle.meaning.specs.Sound.{At, Sound, mostSlots}
 use Rattle.meaning.specs.Local.{Local, Linked, missing, found, BodyFits, childVersion, endsBefore}
 use Rattle.local.specs.Test.{firstKept, isSame, holders, names, isParent, linkTest, recordTest, slotTest, slotsTest, formTest, localTest}
-use Rattle.local.proofs.Slots.{found-at, same-record, at-find}
-use Rattle.local.proofs.Lifetimes.{Lifetime, life-ends}
+use Rattle.meaning.proofs.Finding.{found-at, same-record, at-find}
+use Rattle.meaning.proofs.Roots.{own-version, root-for, root-at, own-root}
+use Rattle.local.proofs.Lifetimes.{Lifetime, Living, living-lives, lives-living, life-ends}
 use Rattle.local.proofs.Standing.{linked-on}
 use Rattle.local.proofs.LocalIsGlobal.{local-is-global}
 use Rattle.local.proofs.Scans.{every-at, at-every}
@@ -117,7 +120,10 @@ module _ (leafHash innerHash : Bytes → Bytes → Bytes) (st : Store) where
       unique = passed-unique;
       versions = λ i r a. (formed i r a .versioned .0, passed i r a .latest);
       lifetimes = λ i r a. passed i r a .life;
-      roots = λ i r a. passed i r a .covered .0;
+      roots = λ v low i j r q a c e f k l.
+          let x = passed i r a .covered .0 e in
+          let y = passed j q c .covered .0 f in
+          passed-unique i j r q a c (omega arith) (e ∙ sym f);
       outlives = outlives (λ i r a. formed i r a .versioned .0) (λ i r a. passed i r a .links);
     }
 
@@ -133,9 +139,11 @@ module _ (leafHash innerHash : Bytes → Bytes → Bytes) (st : Store) where
     unique = passed-unique formed passed;
     versions = λ i r a. (formed i r a .versioned .0, passed i r a .latest);
     lifetimes = λ i r a. passed i r a .life;
-    roots = λ i r a e.
+    roots = λ v k i r a e l.
         let alone = passed i r a .covered .0 e in
-        (omega (arith, life-ends st r (header .0) (passed i r a .latest) (passed i r a .life)), alone);
+        let its : r .version ≡ v = omega (arith, lives-living st r v (k .1) l) in
+        own-root st v i r a e (root-for v r its)
+        (λ j q c f m. passed-unique formed passed j i q r c a (own-version v q m ∙ sym its) (f ∙ sym e));
     bodies = λ i r a. passed-bodies formed passed i r a (r .body) refl (passed i r a .body);
     parents = named-is-summed st (passed-kin formed passed (header .0)) .1 (λ i r a. passed i r a .covered .1);
   }
@@ -174,13 +182,32 @@ module _ (leafHash innerHash : Bytes → Bytes → Bytes) (st : Store) where
         ok .unique j k q x c d (e ∙ sym m) (f ∙ sym n)) in
         omega (arith, record-total st (isSame r) i r a, counted-node r r refl refl)
 
+    local-root : (v : ℕ) → st .oldest ≤ v → (i : ℕ) (r : Record) → At st i r → r .place ≡ [] → Living st v r → rootOf st v ≡ some r
+    local-root v low i r a e k =
+        let f = life-ends st r (ok .header .0) (ok .versions i r a .1) (ok .lifetimes i r a) in
+        ok .roots v (low, omega arith) i r a e (living-lives st r v k)
+
+    -- two root records that live at one version are that version's root
+    local-one : (v : ℕ) → st .oldest ≤ v → (i j : ℕ) (r q : Record) → At st i r → At st j q → r .place ≡ [] → q .place ≡ [] →
+        Living st v r → Living st v q → r ≡ q
+    local-one v low i j r q a c e f k l =
+        Option·some-injective r q (sym (local-root v low i r a e k) ∙ local-root v low j q c f l)
+
+    -- a root record lives at the last version of its life, so that is its own
+    local-alone : (i : ℕ) (r : Record) → At st i r → r .place ≡ [] → endsBefore st r ≡ suc (r .version)
+    local-alone i r a e =
+        let f = life-ends st r (ok .header .0) (ok .versions i r a .1) (ok .lifetimes i r a) in
+        let last = endsBefore st r - 1 in
+        let root = root-at st last r (local-root last (omega arith) i r a e (omega arith, omega arith)) in
+        omega (arith, own-version last r (root .3))
+
     local-kin : Kin st
     local-kin = record {
       order = ok .header .0;
       unique = ok .unique;
       versions = ok .versions;
       lifetimes = ok .lifetimes;
-      roots = λ i r a e. ok .roots i r a e .1;
+      roots = λ v low i j r q a c e f k l. ok .unique i j r q a c (ap (λ z. z .version) (local-one v low i j r q a c e f k l)) (e ∙ sym f);
       outlives = outlives (λ i r a. ok .versions i r a .0) local-links;
     }
 
@@ -191,7 +218,7 @@ module _ (leafHash innerHash : Bytes → Bytes → Bytes) (st : Store) where
       once = held-once i r a;
       body = bodies-found r (r .body) (ok .bodies i r a);
       links = local-links i r a;
-      covered = (λ e. ok .roots i r a e .1, named-is-summed st local-kin .0 (ok .parents) i r a);
+      covered = (local-alone i r a, named-is-summed st local-kin .0 (ok .parents) i r a);
     }
 
   -- Of a store with a right size and header, whose records are in form, the slots pass exactly if it is sound.

@@ -5,13 +5,15 @@ use native.Mathlib.Omega.{arith}
 use mathlib.Core.Path.{_≡_, refl}
 use mathlib.Core.Logic.{_⊎_, inl, inr}
 use mathlib.Core.Bool.{Bool, true, false, _&&_}
+use mathlib.Core.Option.{some}
 use lib.Dec.{eqb, leb}
 use borrow.Author.Tests.{eqb-true, eqb-false, le-leb, lt-leb, leb-false}
 use Rattle.terms.specs.Bits.{Side, Place}
 use Rattle.terms.specs.Records.{Record, Store}
-use Rattle.meaning.specs.Store.{retiredBy}
-use Rattle.meaning.specs.Sound.{At, Lives}
+use Rattle.meaning.specs.Store.{retiredBy, rootOf}
+use Rattle.meaning.specs.Sound.{At, Kept, Lives}
 use Rattle.meaning.specs.Local.{endsBefore, childVersion}
+use Rattle.meaning.proofs.Roots.{root-at, root-lives}
 
 -- at v a record has begun and not ended
 abbrev pub Living : Store → ℕ → Record → Type 0
@@ -65,3 +67,10 @@ module _ (st : Store) (r : Record) where
       go (inl e) k = (omega arith, omega arith, omega arith)
       go (inr e) (inl k) = absurd (omega arith)
       go (inr e) (inr k) = (omega arith, omega arith, omega arith)
+
+-- the root of a kept version lives then
+pub root-living : (st : Store) → ((i : ℕ) (r : Record) → At st i r → Lifetime st r) →
+    (v : ℕ) → Kept st v → (r : Record) → rootOf st v ≡ some r → Living st v r
+root-living st lifetimes v k r e =
+    let (i, a, p, f) = root-at st v r e in
+    lives-living st r v (k .1) (root-lives v r (elim (lifetimes i r a) [ inl z ↦ inl z | inr z ↦ inr (z .0) ]) f)

@@ -13,9 +13,8 @@ use Rattle.terms.specs.Records.{Record, free, Store}
 use Rattle.terms.proofs.Places.{length-longer, longer-inj}
 use Rattle.meaning.specs.Sound.{At}
 use Rattle.meaning.specs.Local.{endsBefore, childVersion}
-use Rattle.meaning.proofs.Finding.{Last, empty, one-more, last}
+use Rattle.meaning.proofs.Finding.{same-slot, Last, empty, one-more, last}
 use Rattle.local.specs.Test.{total, byRecord, isParent, firstKept, keptLife, lifeAbove}
-use Rattle.local.proofs.Slots.{same-slot}
 use Rattle.local.proofs.Lifetimes.{Living, ParentAt, Lifetime, life-ends}
 use Rattle.local.proofs.Scans.{total-le}
 use Rattle.local.proofs.Sums.{sumTo, inside, inside-is, is-inside, inside-one, sum-inside, sum-none, sum-swap, sum-full, sum-gap}
@@ -28,7 +27,8 @@ pub record Kin (st : Store) : Type 0 where
   pub unique : (i j : ℕ) (r q : Record) → At st i r → At st j q → r .version ≡ q .version → r .place ≡ q .place → i ≡ j
   pub versions : (i : ℕ) (r : Record) → At st i r → (1 ≤ r .version) × (r .version ≤ st .latest)
   pub lifetimes : (i : ℕ) (r : Record) → At st i r → Lifetime st r
-  pub roots : (i : ℕ) (r : Record) → At st i r → r .place ≡ [] → endsBefore st r ≡ suc (r .version)
+  pub roots : (v : ℕ) → st .oldest ≤ v → (i j : ℕ) (r q : Record) → At st i r → At st j q → r .place ≡ [] → q .place ≡ [] →
+      Living st v r → Living st v q → i ≡ j
   pub outlives : (i j : ℕ) (r q : Record) → At st i r → At st j q → isParent r q ≡ true →
       (r .version ≤ firstKept st q) × (endsBefore st q ≤ endsBefore st r)
 
@@ -173,10 +173,7 @@ module _ (st : Store) (kin : Kin st) where
     apart-last : (m : ℕ) (p : Place) → Last p → length p ≡ m →
         ((q : Place) → suc (length q) ≡ m → (w : ℕ) → st .oldest ≤ w → Apart w q) → (v : ℕ) → st .oldest ≤ v → Apart v p
     unfolding Apart
-    apart-last m p empty h ih v low i j r q a c e f k l =
-        let x = kin .roots i r a e in
-        let y = kin .roots j q c f in
-        kin .unique i j r q a c (omega arith) (e ∙ sym f)
+    apart-last m p empty h ih v low i j r q a c e f k l = kin .roots v low i j r q a c e f k l
     apart-last m p (one-more b o) h ih v low i j r q a c e f k l =
         let above = ih o (omega (arith, length-longer b o)) in
         one-child i j r q o b v a c (e ∙ sym f) (above v low)

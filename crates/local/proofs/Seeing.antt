@@ -6,18 +6,19 @@ use mathlib.Core.Path.{_≡_, refl, ap, sym, _∙_, subst, subst₂}
 use mathlib.Core.Logic.{_⊎_, inl, inr}
 use mathlib.Core.Bool.{true, false, not, true≢false}
 use mathlib.Core.List.{[]}
+use mathlib.Core.Option.{Option, none, some}
 use lib.ListN.{length}
 use Rattle.terms.specs.Bits.{Bytes, Side, left, right, Place, longer}
 use Rattle.terms.specs.Records.{Grant, Child, Body, leafBody, innerBody, Record, Store}
 use Rattle.terms.proofs.Places.{length-longer}
 use Rattle.meaning.specs.Tree.{VTree, vnone, vleaf, vinner, topVersion, kid, unversioned, hash}
-use Rattle.meaning.specs.Store.{treeAtVersion, childOf}
+use Rattle.meaning.specs.Store.{rootOf, treeAtVersion, childOf}
 use Rattle.meaning.specs.Reading.{bodyHash}
-use Rattle.meaning.specs.Sound.{At, Found, Stands, NodeOf, Kept, onlyLeaf, Sound}
+use Rattle.meaning.specs.Sound.{At, Found, Stands, NodeOf, Kept, Lives, onlyLeaf, Sound}
 use Rattle.meaning.specs.Local.{Local, Linked, missing, found, BodyFits, endsBefore, childVersion, LoneLeaf}
-use Rattle.meaning.proofs.Finding.{Within, there, go-kid, Some, some-leaf, some-inner, within-node, within-trans}
+use Rattle.meaning.proofs.Finding.{found-at, same-record, Within, there, go-kid, Some, some-leaf, some-inner, none-not, within-node, within-trans}
+use Rattle.meaning.proofs.Roots.{top-root}
 use Rattle.local.specs.Test.{firstKept}
-use Rattle.local.proofs.Slots.{RootCases, kidsFrom, some-body, found-at, root-cases, same-record, record-tree, root-tree}
 use Rattle.local.proofs.Lifetimes.{Living, EndsKept, ParentAt, living-lives, lives-living, life-ends}
 use Rattle.local.proofs.Above.{subtree, within-top, Above, above}
 
@@ -26,10 +27,6 @@ has-sibling : (b : Side) (w x : ℕ) (g : Grant) (l r : VTree) → onlyLeaf l r 
     kid b (vinner w l r) ≡ vleaf x g → kid (not b) (vinner w l r) ≡ vnone → ⊥
 has-sibling false w x g l r h e f = true≢false (subst₂ (λ s t. onlyLeaf s t ≡ false) e f h)
 has-sibling true w x g l r h e f = true≢false (subst₂ (λ s t. onlyLeaf s t ≡ false) f e h)
-
-none-not : {A : Type 0} (u : VTree) → Some u → u ≡ vnone → A
-none-not (vleaf w g) s e = let z : _≡_ {A = ℕ} 0 1 = cc in absurd (omega arith)
-none-not (vinner w l r) s e = let z : _≡_ {A = ℕ} 0 1 = cc in absurd (omega arith)
 
 none-or-some : (u : VTree) → (u ≡ vnone) ⊎ Some u
 none-or-some vnone = inl refl
@@ -213,29 +210,9 @@ module _ (leafHash innerHash : Bytes → Bytes → Bytes) where
         subst (BodyFits leafHash innerHash st r) (sym (u .body))
         (body-fits i r a v e (u .tree) (u′ .tree) (u .here) (u′ .here) (sym (u .body) ∙ u′ .body) (u .within) (u .stands) (u′ .within))
 
-    -- the root of v's tree has version v
-    root-version : (n v : ℕ) → n ≡ 256 → Some (treeAtVersion st v) → RootCases st v → topVersion (treeAtVersion st v) ≡ v
-    root-version n v e s (inl k) = none-not (treeAtVersion st v) s k
-    root-version n v e s (inr k) =
-        sym (ap topVersion (root-tree st (ok .versions) n v (k .1) e (k .3) (k .4)))
-        ∙ ap topVersion (record-tree st (ok .unique) (ok .versions) n (k .0) (k .1) (k .2))
-        ∙ some-body (k .1 .version) (k .1 .body) (kidsFrom n (st .slots) (k .1 .place)) .1
-        ∙ k .3
-
-    root-lives : (v i : ℕ) (r : Record) → At st i r → r .place ≡ [] → Kept st v → Living st v r → r .version ≡ v
-    root-lives v i r a e k l =
-        let u = seen v i r a k l in
-        let m : u .tree ≡ treeAtVersion st v = within-top (u .within) (omega (arith, ap length e)) .0 in
-        sym (u .version) ∙ ap topVersion m ∙ root-version 256 v refl (subst Some m (u .here)) (root-cases st v)
-
-    roots : (i : ℕ) (r : Record) → At st i r → r .place ≡ [] → (st .oldest ≤ r .version) × (endsBefore st r ≡ suc (r .version))
-    roots i r a e =
-        let (v, end) = last-version i r a in
-        let f = first-kept i r a v end in
-        let l = last-kept i r a v end in
-        let x = root-lives _ i r a e (f .0) (f .1) in
-        let y = root-lives v i r a e (l .0) (l .1) in
-        (omega arith, omega arith)
+    -- a root record that lives at v stands at the top of v's tree, so it is v's root
+    roots : (v : ℕ) → Kept st v → (i : ℕ) (r : Record) → At st i r → r .place ≡ [] → Lives v r → rootOf st v ≡ some r
+    roots v k i r a e l = top-root st v (ok .unique) i r a e (ok .exact v k i r a .1 l)
 
     -- the node above a record, in each tree of its life, is its parent
     parent-above : (p : Place) (b : Side) (v : ℕ) (r : Record) → Kept st v → (u : VTree) → topVersion u ≡ r .version →

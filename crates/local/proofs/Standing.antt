@@ -17,9 +17,9 @@ use Rattle.meaning.specs.Store.{childOn, treeBelow, treeFrom, treeAtVersion, ch
 use Rattle.meaning.specs.Reading.{bodyHash}
 use Rattle.meaning.specs.Sound.{At, Found, Stands, NodeOf, onlyLeaf, Sound}
 use Rattle.meaning.specs.Local.{Local, Linked, missing, found, BodyFits, childVersion, LoneLeaf}
-use Rattle.meaning.proofs.Finding.{Within, there, go-kid, Some, within-node, within-trans, Last, empty, one-more, last}
-use Rattle.local.proofs.Slots.{treeOn, RootCases, kidsFrom, no-version, kid-below, some-body, body-cases, root-cases, same-record, at-find, record-tree, root-tree}
-use Rattle.local.proofs.Lifetimes.{Living, living-lives, lives-living}
+use Rattle.meaning.proofs.Finding.{same-record, at-find, Within, there, go-kid, Some, some-body, within-node, within-trans, Last, empty, one-more, last}
+use Rattle.local.proofs.Slots.{treeOn, RootCases, kidsFrom, no-version, kid-below, body-cases, root-cases, record-tree, root-tree}
+use Rattle.local.proofs.Lifetimes.{Living, living-lives, lives-living, life-ends, root-living}
 
 -- the record is a node of the tree t that stands at p
 abbrev HasNode : Record → VTree → Place → Type 0
@@ -144,7 +144,7 @@ module _ (leafHash innerHash : Bytes → Bytes → Bytes) (st : Store) (ok : Loc
           Stands leafHash innerHash st [] (treeAtVersion st v)
       go n e (inl k) = subst (Stands leafHash innerHash st []) (sym k) tt
       go n e (inr k) =
-          subst₂ (Stands leafHash innerHash st) (k .4) (root-tree st (ok .versions) n v (k .1) e (k .3) (k .4))
+          subst₂ (Stands leafHash innerHash st) (k .4) (root-tree st (ok .unique) (ok .versions) n v (k .0) (k .1) e (k .2) (k .3) (k .4))
           (record-stands n (k .0) (k .1) (k .2) (omega (arith, ap length (k .4))) .stands)
 
   module _ (v : ℕ) (low : st .oldest ≤ v) where
@@ -187,9 +187,10 @@ module _ (leafHash innerHash : Bytes → Bytes → Bytes) (st : Store) (ok : Loc
     root-reached : (i : ℕ) (r : Record) → At st i r → r .place ≡ [] → Living st v r → Reached r
     unfolding Reached
     root-reached i r a e live n h =
-        let u = ok .roots i r a e in
+        let f = life-ends st r (ok .header .0) (ok .versions i r a .1) (ok .lifetimes i r a) in
+        let root = ok .roots v (low, omega arith) i r a e (living-lives st r v live) in
         subst₂ (λ x p. Within x p (treeAtVersion st v) [])
-        (sym (root-tree st (ok .versions) n v r (omega (arith, ap length e)) (omega arith) e)) (sym e) there
+        (sym (root-tree st (ok .unique) (ok .versions) n v i r (omega (arith, ap length e)) a root e)) (sym e) there
 
     kid-reached : (i j : ℕ) (r q : Record) (b : Side) → At st i r → At st j q →
         r .place ≡ longer b (q .place) → childVersion b (q .body) ≡ r .version → Reached q → Reached r
@@ -225,15 +226,15 @@ module _ (leafHash innerHash : Bytes → Bytes → Bytes) (st : Store) (ok : Loc
         subst (λ w. NodeOf w (r .place) (treeAtVersion st v) []) (ap topVersion e ∙ s .1)
         (within-node (subst Some (sym e) (s .0)) (reached _ i r a refl live n h))
 
-    node-living : (j : ℕ) (q : Record) → At st j q → HasNode q (treeAtVersion st v) [] → Living st v q
-    node-living j q at nd = go 256 refl (root-cases st v)
+    node-living : v ≤ st .latest → (j : ℕ) (q : Record) → At st j q → HasNode q (treeAtVersion st v) [] → Living st v q
+    node-living high j q at nd = go 256 refl (root-cases st v)
       where
         go : (n : ℕ) → n ≡ 256 → RootCases st v → Living st v q
         go n e (inl k) = absurd (subst (λ t. HasNode q t []) k nd)
         go n e (inr k) =
-            let u = ok .roots (k .0) (k .1) (k .2) (k .4) in
-            below-lives n (k .0) (k .1) (k .2) (omega (arith, ap length (k .4))) (omega (arith, k .3), omega (arith, k .3)) j q at
-            (subst₂ (λ t p. HasNode q t p) (sym (root-tree st (ok .versions) n v (k .1) e (k .3) (k .4))) (sym (k .4)) nd)
+            below-lives n (k .0) (k .1) (k .2) (omega (arith, ap length (k .4)))
+            (root-living st (ok .lifetimes) v (low, high) (k .1) (k .3)) j q at
+            (subst₂ (λ t p. HasNode q t p) (sym (root-tree st (ok .unique) (ok .versions) n v (k .0) (k .1) e (k .2) (k .3) (k .4))) (sym (k .4)) nd)
 
   limit : (o : Body) → placeLimit o ≤ 256
   limit (leafBody k x) = omega arith
@@ -250,7 +251,7 @@ module _ (leafHash innerHash : Bytes → Bytes → Bytes) (st : Store) (ok : Loc
     lifetimes = ok .lifetimes;
     stands = λ v k. root-stands v;
     exact = λ v k i r a. (
-      λ nd. living-lives st r v (node-living v (k .0) i r a nd),
+      λ nd. living-lives st r v (node-living v (k .0) (k .1) i r a nd),
       λ l.
           living-node v (k .0) (256 - length (r .place)) i r a (omega (arith, ok .formed i r a .short, limit (r .body)))
           (lives-living st r v (k .1) l),

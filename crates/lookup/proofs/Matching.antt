@@ -35,7 +35,7 @@ says x l h r e = record {
 }
 
 module _ (x : Bytes) (l : length x ≡ 120) (h : All Byte x) (r : Record) (e : slotOf x ≡ used r) where
-  version-is : field 40 4 x ≡ r .version
+  pub version-is : field 40 4 x ≡ r .version
   version-is = let s = says x l h r e in ap (field 40 4) (sym (s .bytes)) ∙ version-says r (s .form)
 
   pub count-is : field 6 2 x ≡ length (r .place)

@@ -1,21 +1,24 @@
 // Finding a node in lent memory, document 01, 'Reading and proving'.
 use fields::get_u16;
 use fields::get_u32;
+use layout::sizes;
 use place::Place;
 use slots::is_inner;
 use slots::is_leaf;
+use store::slot_count;
 ghost use mathlib.Core.Path.{_≡_};
 ghost use mathlib.Core.Bool.{true};
 ghost use lib.ListN.{length};
 ghost use Rattle.place.specs.Place.{placeOf, Proper};
+ghost use Rattle.layout.specs.Sizes.{slotSize};
 ghost use Rattle.layout.specs.Headers.{sizeRight};
 ghost use Rattle.layout.specs.Slots.{slotOf};
 ghost use Rattle.layout.specs.Stores.{storeOf};
-ghost use Rattle.lookup.specs.Lookup.{isUsed, FoundIn};
+ghost use Rattle.lookup.specs.Lookup.{isUsed, FoundIn, RootIn};
 
 // Whether 120 bytes are a record in form.
 pub fn holds_record(s: &[u8]) -> bool
-    requires { ⌜ length (now s) ≡ 120 ⌝ }
+    requires { ⌜ length (now s) ≡ slotSize ⌝ }
     ensures { λ r. ⌜ r ≡ isUsed (slotOf (now (s .entry))) ⌝ }
 {
     if is_leaf(s) {
@@ -37,33 +40,41 @@ pub fn find(store: &[u8], version: u32, place: Place) -> Found
 {
     let bits = place.bits;
     let count = place.count;
-    let n = (store.len() - 24) / 120;
+    let n = slot_count(store);
     let mut i = 0;
     'slots: loop {
         if n <= i {
             break 'slots Found::Nothing;
         }
-        let at = 24 + 120 * i;
-        if get_u32(store, at + 40) != version {
+        let at = sizes::HEADER_SIZE + sizes::SLOT_SIZE * i;
+        if get_u32(store, at + sizes::VERSION_AT) != version {
             i += 1;
             continue 'slots;
         }
-        if get_u16(store, at + 6) as usize != count {
+        if get_u16(store, at + sizes::COUNT_AT) as usize != count {
             i += 1;
             continue 'slots;
         }
         let mut k = 0;
         while k < 32 {
-            if store[at + 8 + k] != bits[k] {
+            if store[at + sizes::BITS_AT + k] != bits[k] {
                 i += 1;
                 continue 'slots;
             }
             k += 1;
         }
-        let end = at + 120;
+        let end = at + sizes::SLOT_SIZE;
         if holds_record(&store[at..end]) {
             break 'slots Found::At(i);
         }
         i += 1;
     }
+}
+
+// The root of a version.
+pub fn find_root(store: &[u8], version: u32) -> Found
+    requires { ⌜ sizeRight (length (now store)) ≡ true ⌝ }
+    ensures { λ r. ⌜ RootIn (storeOf (now (store .entry))) version r ⌝ }
+{
+    find(store, version, Place::top())
 }

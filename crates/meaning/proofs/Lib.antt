@@ -1,6 +1,8 @@
 pub mod Desk
 pub mod Finding
 pub mod Nodes
+pub mod Roots
+pub mod Empty
 pub mod Sides
 pub mod Runs
 pub mod Versions

@@ -7,7 +7,7 @@ use mathlib.Core.List.{List, [], _∷_, _++_, map}
 use mathlib.Core.Option.{none, some}
 use lib.ListN.{take, drop, replicate}
 use Rattle.terms.specs.Bits.{Bytes, left, right}
-use Rattle.terms.specs.Records.{Store, Presence, Proof, presence, zeros}
+use Rattle.terms.specs.Records.{Grant, Store, Presence, Proof, presence, zeros}
 use Rattle.meaning.specs.Tree.{grantsIn}
 use Rattle.meaning.specs.Store.{treeAtVersion}
 use Rattle.meaning.specs.Calls.{Answer, refused, accepted}
@@ -68,10 +68,10 @@ module _ (leafHash innerHash : Bytes → Bytes → Bytes) where
   unfolding computed
   proofs-of-M9 = refl
 
-  -- the four flags after M6: neither neighbour in versions 0 and 6, a left one, a right one, and both
+  -- after M6: no neighbour in versions 0 and 6, a left one, a right one, and both
   pub flags-of-M6 : proof six 0 C ∷ proof six 6 C ∷ proof six 5 D ∷ proof six 5 A ∷ proof six 4 D ∷ proof six 3 B ∷ []
-      ≡ accepted (absenceOf C none none)
-      ∷ accepted (absenceOf C none none)
+      ≡ refused 14
+      ∷ refused 14
       ∷ accepted (absenceOf D (some (presenceOf C c′ [])) none)
       ∷ accepted (absenceOf A none (some (presenceOf C c′ [])))
       ∷ accepted (presence (presenceOf D d (step right (leafHash C c′) ∷ [])))
@@ -153,8 +153,13 @@ checkGiven root k (accepted p) = checked toyLeaf toyInner root k p
 abbrev shownOf : Store → ℕ → Bytes → Answer Verdict
 shownOf st v k = checkGiven (rootHash toyLeaf toyInner (rootOf st v)) k (proof st v k)
 
+-- What it should be: what the version's grants say of the key, and 14 where it holds none.
+abbrev orEmpty : List Grant → Answer Verdict → Answer Verdict
+orEmpty [] said = refused 14
+orEmpty (g ∷ gs) said = said
+
 abbrev saidOf : Store → ℕ → Bytes → Answer Verdict
-saidOf st v k = accepted (answerOf k (grantsIn (treeAtVersion st v)))
+saidOf st v k = let gs = grantsIn (treeAtVersion st v) in orEmpty gs (accepted (answerOf k gs))
 
 abbrev keys : List Bytes
 keys = A ∷ B ∷ C ∷ D ∷ E ∷ F ∷ G ∷ H ∷ []
@@ -232,8 +237,22 @@ pub equal-paths-refused : check (keyOf 0b10000000 2) (presence pD′) ∷ check 
 unfolding computed
 equal-paths-refused = refl
 
--- an empty version has the zero root, and no other
-pub flags-0 : checked toyLeaf toyInner zeros A (absenceOf A none none) ∷ check A (absenceOf A none none) ∷ []
-    ≡ accepted absent ∷ refused 11 ∷ []
+-- a proof without a neighbour holds under no root, nor does one with a neighbour under the zero root
+pub flags-0 : checked toyLeaf toyInner zeros A (absenceOf A none none) ∷ check A (absenceOf A none none)
+    ∷ checked toyLeaf toyInner zeros F (absenceOf F (some pA) none) ∷ checked toyLeaf toyInner zeros F (absenceOf F none (some pB))
+    ∷ checked toyLeaf toyInner zeros F (absenceOf F (some pA) (some pB)) ∷ []
+    ≡ refused 11 ∷ refused 11 ∷ refused 11 ∷ refused 11 ∷ refused 11 ∷ []
 unfolding computed
 flags-0 = refl
+
+-- 8 comes before 14; an empty version is one whose root is not found, be it lost; a key read there answers absent, and the root read zeros
+abbrev rootless : Store
+rootless = store 1 1 (take 6 (s₁ toyLeaf toyInner .slots))
+
+pub eight-before-fourteen : map (λ v. proof rootless v A) (0 ∷ 1 ∷ 2 ∷ []) ≡ refused 8 ∷ refused 14 ∷ refused 8 ∷ []
+unfolding computed
+eight-before-fourteen = refl
+
+pub reads-of-rootless : (readKey rootless 1 A ≡ accepted absent) × (readRoot toyLeaf toyInner rootless 1 ≡ accepted zeros)
+unfolding computed
+reads-of-rootless = (refl, refl)

@@ -1,4 +1,5 @@
--- Document 01, 'Checking': when a proof holds, whoever wrote it. Assumes nothing.
+-- Document 01, 'Checking': when a proof holds, whoever wrote it; with 2026-03, by which a proof without a neighbour never does. Assumes
+-- nothing.
 use mathlib.Core.Bool.{Bool, true, false, cond, _&&_, _||_, not, Bool·beq}
 use mathlib.Core.List.{List, [], _∷_, reverse}
 use mathlib.Core.Option.{Option, none, some}
@@ -49,9 +50,9 @@ module _ (leafHash innerHash : Bytes → Bytes → Bytes) where
   unfoldable pub neighbourHolds : Side → Bytes → Bytes → Presence → Bool
   neighbourHolds b root k p = leadsTo root p && beyond b (p .key) k
 
-  -- The four flags: neither neighbour, only a left one, only a right one, both.
+  -- By the neighbours: none, only a left one, only a right one, both.
   abbrev pub absenceHolds : Bytes → Bytes → Option Presence → Option Presence → Bool
-  absenceHolds root k none none = sameBytes root zeros
+  absenceHolds root k none none = false
   absenceHolds root k (some l) none = neighbourHolds left root k l && outermost right (l .steps)
   absenceHolds root k none (some r) = neighbourHolds right root k r && outermost left (r .steps)
   absenceHolds root k (some l) (some r) =

@@ -2,7 +2,7 @@
 use Rattle.terms.specs.Bits.{longer, odd, byteBits, bit, begins}
 use Rattle.terms.specs.Records.{zeros}
 use Rattle.meaning.specs.Tree.{smaller, greater, grantsAt, treeOf, nodeVersion, nextTree}
-use Rattle.meaning.specs.Store.{formatted, isNode, rootOf, treeAtVersion, marked, retireIn, retiredBy, pruneRecord, childOf, recordsOf, newRecords, settled}
+use Rattle.meaning.specs.Store.{formatted, isNode, isRoot, rootOf, treeAtVersion, marked, retireIn, retiredBy, pruneRecord, childOf, recordsOf, newRecords, settled}
 use Rattle.meaning.specs.Calls.{refuse, isKept, prune, publish, applyAs}
 use Rattle.meaning.specs.Reading.{seen, readKey, readRoot}
 use Rattle.meaning.specs.Proving.{turnsAway, absenceAt, proveSeen, proof, presenceLength, prove}
@@ -10,7 +10,7 @@ use Rattle.meaning.specs.Checking.{keepsTo, sameStep, pathsPart, leadsTo
 use Rattle.meaning.specs.History.{keptBy}
 
 unfoldable pub computed : Unit {0}
-unfolding longer odd byteBits bit begins zeros smaller greater grantsAt treeOf nodeVersion nextTree formatted isNode rootOf treeAtVersion
+unfolding longer odd byteBits bit begins zeros smaller greater grantsAt treeOf nodeVersion nextTree formatted isNode isRoot rootOf treeAtVersion
     marked retireIn retiredBy pruneRecord childOf recordsOf newRecords settled refuse isKept prune publish applyAs seen readKey readRoot
     turnsAway absenceAt proveSeen proof presenceLength prove keepsTo sameStep pathsPart leadsTo neighbourHolds keptBy
 computed = tt

@@ -5,13 +5,14 @@ use mathlib.Core.Path.{_≡_}
 use mathlib.Core.Logic.{_⊎_}
 use mathlib.Core.Bool.{true, cond}
 use mathlib.Core.List.{[]}
+use mathlib.Core.Option.{some}
 use lib.ListN.{length, getD}
 use lib.Dec.{eqb}
 use Rattle.terms.specs.Bits.{Bytes, Side, left, right, Place, longer, begins}
 use Rattle.terms.specs.Records.{Child, Body, leafBody, innerBody, Record, free, spoiled, Store}
 use Rattle.terms.specs.Form.{RecordForm, top32}
-use Rattle.meaning.specs.Store.{childOn}
-use Rattle.meaning.specs.Sound.{At, mostSlots}
+use Rattle.meaning.specs.Store.{childOn, rootOf}
+use Rattle.meaning.specs.Sound.{At, Kept, Lives, mostSlots}
 use Rattle.meaning.specs.Reading.{bodyHash}
 
 -- The first version after a record's life; a record that is not retired lives past latest.
@@ -57,8 +58,8 @@ module _ (leafHash innerHash : Bytes → Bytes → Bytes) where
     pub versions : (i : ℕ) (r : Record) → At st i r → (1 ≤ r .version) × (r .version ≤ st .latest)
     pub lifetimes : (i : ℕ) (r : Record) →
         At st i r → (r .retired ≡ 0) ⊎ ((r .version < r .retired) × (st .oldest < r .retired) × (r .retired ≤ st .latest))
-    -- a root record lives at its own version alone, and that is kept
-    pub roots : (i : ℕ) (r : Record) → At st i r → r .place ≡ [] → (st .oldest ≤ r .version) × (endsBefore st r ≡ suc (r .version))
+    -- a root record that lives at a kept version is that version's root
+    pub roots : (v : ℕ) → Kept st v → (i : ℕ) (r : Record) → At st i r → r .place ≡ [] → Lives v r → rootOf st v ≡ some r
     pub bodies : (i : ℕ) (r : Record) → At st i r → BodyFits st r (r .body)
     -- at each kept version of its life, a record below the root is named by a record one bit shorter that lives then
     pub parents : (i : ℕ) (r : Record) (p : Place) (b : Side) →

@@ -1,12 +1,16 @@
--- Document 01, 'Reading and proving': the neighbours of a key, and the proof that the prover writes, for every store. Assumes nothing.
+-- Document 01, 'Reading and proving': the neighbours of a key, and the proof that the prover writes, for every store; and 2026-03: no
+-- neighbour, no absence proof. Assumes nothing.
 use Prim.Native.Nat.{ℕ, _+_, _*_}
+use mathlib.Core.Path.{_≡_}
 use mathlib.Core.Bool.{Bool, true, false, cond, _&&_, not, Bool·beq}
 use mathlib.Core.List.{List, [], _∷_, _++_, map}
 use mathlib.Core.Option.{Option, none, some}
 use lib.ListN.{length}
 use lib.Dec.{ltb}
 use Rattle.terms.specs.Bits.{Bytes, Side, left, right, before, sameBytes}
-use Rattle.terms.specs.Records.{Store, Step, Presence, Proof, presence, absence}
+use Rattle.terms.specs.Records.{Record, Store, Step, Presence, Proof, presence, absence}
+use Rattle.meaning.specs.Tree.{grantsIn}
+use Rattle.meaning.specs.Store.{rootOf, treeAtVersion}
 use Rattle.meaning.specs.Calls.{Answer, refused, accepted, isKept}
 use Rattle.meaning.specs.Reading.{Seen, lost, gap, leafSeen, fork, seen, Pass, End, broken, atLeaf, atGap, walk}
 
@@ -80,11 +84,11 @@ neighbour b k broken = lostWay
 neighbour b k (atLeaf l x trail) = cond (beyond b l k) (somebody (presenceOf l x (map stepUp trail))) (fromTrail b trail)
 neighbour b k (atGap trail) = fromTrail b trail
 
--- The proof of absence from what the two searches found, the left one first.
+-- The proof of absence from what the two searches found, the left one first; at least one neighbour is needed.
 abbrev pub absenceFrom : Bytes → Sought → Sought → Answer Proof
 absenceFrom k lostWay r = refused 3
 absenceFrom k nobody lostWay = refused 3
-absenceFrom k nobody nobody = accepted (absenceOf k none none)
+absenceFrom k nobody nobody = refused 14
 absenceFrom k nobody (somebody q) = accepted (absenceOf k none (some q))
 absenceFrom k (somebody p) lostWay = refused 3
 absenceFrom k (somebody p) nobody = accepted (absenceOf k (some p) none)
@@ -103,9 +107,18 @@ proveEnd k (atGap trail) = absenceAt k (atGap trail)
 unfoldable pub proveSeen : Bytes → Seen → Answer Proof
 proveSeen k s = proveEnd k (walk k 0 [] s)
 
--- The proof for a key in a version: 8, then 3.
+-- A version holds a grant: only then is there something to prove (2026-03).
+abbrev pub HoldsGrant : Store → ℕ → Type 0
+HoldsGrant st v = grantsIn (treeAtVersion st v) ≡ [] → ⊥
+
+-- No root found means an empty version.
+abbrev pub hasRoot : Option Record → Bool
+hasRoot none = false
+hasRoot (some r) = true
+
+-- The proof for a key in a version: 8, then 14 in an empty version, then 3.
 unfoldable pub proof : Store → ℕ → Bytes → Answer Proof
-proof st v k = cond (isKept st v) (proveSeen k (seen st v)) (refused 8)
+proof st v k = cond (isKept st v) (cond (hasRoot (rootOf st v)) (proveSeen k (seen st v)) (refused 14)) (refused 8)
 
 -- A presence proof of s steps has 72 + 33 s bytes.
 unfoldable pub presenceLength : Presence → ℕ
@@ -125,6 +138,6 @@ abbrev pub fitted : ℕ → Answer Proof → Answer Proof
 fitted room (refused n) = refused n
 fitted room (accepted p) = cond (ltb room (proofLength p)) (refused 9) (accepted p)
 
--- Proving into a buffer of `room` bytes: 8, 3, 9.
+-- Proving into a buffer of `room` bytes: 8, 14, 3, 9.
 unfoldable pub prove : Store → ℕ → Bytes → ℕ → Answer Proof
 prove st v k room = fitted room (proof st v k)

@@ -9,12 +9,9 @@ use lib.ListN.{length, getD}
 use Rattle.terms.specs.Bits.{Bytes, Whole32, left, right, Place, longer, begins}
 use Rattle.terms.specs.Records.{Body, leafBody, innerBody, Record, free, used, spoiled, Store}
 use Rattle.terms.specs.Form.{RecordForm, top32}
+pub use Rattle.terms.specs.Form.{mostSlots}
 use Rattle.meaning.specs.Tree.{VTree, vnone, vleaf, vinner}
 use Rattle.meaning.specs.Store.{find, treeAtVersion, childOf, retiredBy}
-
--- Capacity n is 1 to 16,384.
-abbrev pub mostSlots : ℕ
-mostSlots = 16384
 
 -- Slot i holds the record r.
 unfoldable pub At : Store → ℕ → Record → Type 0

@@ -1,5 +1,6 @@
 -- Document 01, 'Retirement', 'Placing' and 'Pruning', and finding a node in a store. Assumes nothing.
 use Prim.Native.Nat.{ℕ, zero, suc}
+use mathlib.Core.Path.{_≡_}
 use mathlib.Core.Bool.{Bool, true, false, cond, _&&_, _||_, not}
 use mathlib.Core.List.{List, [], _∷_, _++_, map}
 use mathlib.Core.Option.{Option, none, some}
@@ -17,16 +18,28 @@ formatted n = record { oldest = 0; latest = 0; slots = replicate n free }
 unfoldable pub isNode : ℕ → Place → Record → Bool
 isNode v p r = eqb (r .version) v && samePlace (r .place) p
 
+-- The record in the lowest slot that passes a test.
+abbrev pub lowest : (Record → Bool) → List Slot → Option Record
+lowest test [] = none
+lowest test (free ∷ s) = lowest test s
+lowest test (used r ∷ s) = cond (test r) (some r) (lowest test s)
+lowest test (spoiled x ∷ s) = lowest test s
+
 -- The lowest slot that matches a version and place is the one found.
 abbrev pub find : ℕ → Place → List Slot → Option Record
-find v p [] = none
-find v p (free ∷ s) = find v p s
-find v p (used r ∷ s) = cond (isNode v p r) (some r) (find v p s)
-find v p (spoiled x ∷ s) = find v p s
+find v p s = lowest (isNode v p) s
 
--- The root record of a version.
+-- A record at the empty place is the root for the version that it has.
+unfoldable pub RootFor : ℕ → Record → Type 0
+RootFor v r = r .version ≡ v
+
+-- The record is (v, empty place).
+unfoldable pub isRoot : ℕ → Record → Bool
+isRoot v r = isNode v [] r
+
+-- The root of a version is such a record, if any; the lowest is the one found.
 unfoldable pub rootOf : Store → ℕ → Option Record
-rootOf st v = find v [] (st .slots)
+rootOf st v = lowest (isRoot v) (st .slots)
 
 -- The child on a side.
 abbrev pub childOn : Side → Child → Child → Child

@@ -15,7 +15,8 @@ use Rattle.sha256.specs.declared.Words.{Words}
 use Rattle.sha256.specs.Sha256.{H0, hashValue, padded}
 use Rattle.sha256.specs.Rolling.{folded, blockAt}
 use Rattle.sha256.proofs.Blocks.{block-of-words, value-next}
-use Rattle.nodehash.specs.Words.{message, seamWord, middleWord, secondBlock}
+use Rattle.second_start.specs.Second.{secondBlock}
+use Rattle.nodehash.specs.Words.{message, seamWord, middleWord}
 
 three-bytes : (y x : ℕ) → wordAt (y ∷ big 8 x) 0 ≡ y * 2 ^ 24 + x / 2 ^ 40 % 2 ^ 24
 unfolding wordAt
@@ -100,11 +101,11 @@ second-block t l r = ap secondBlock (last-byte (r .d))
     last-byte x = rw (div-one x) (omega arith)
 
 -- What the two blocks come to.
-pub two-blocks : (t : ℕ) (l r : Hash) (z s v : State) (x y : Words) → z ≡ H0 → x ≡ blockAt (padded (message t l r)) 0 → s ≡ folded z x
-    → y ≡ secondBlock (r .d % 256 * 16777216 + 8388608) → v ≡ folded s y → v ≡ hashValue (padded (message t l r)) 2
-two-blocks t l r z s v x y hz hx hs hy hv = ends (padded (message t l r)) hx (hy ∙ second-block t l r)
+pub two-blocks : (t : ℕ) (l r : Hash) (z s v : State) (x : Words) (w : ℕ) → z ≡ H0 → x ≡ blockAt (padded (message t l r)) 0 → s ≡ folded z x
+    → w ≡ r .d % 256 * 16777216 + 8388608 → v ≡ folded s (secondBlock w) → v ≡ hashValue (padded (message t l r)) 2
+two-blocks t l r z s v x w hz hx hs hw hv = ends (padded (message t l r)) hx (ap secondBlock hw ∙ second-block t l r)
   where
-    ends : (p : Bytes) → x ≡ blockAt p 0 → y ≡ blockAt p 64 → v ≡ hashValue p 2
+    ends : (p : Bytes) → x ≡ blockAt p 0 → secondBlock w ≡ blockAt p 64 → v ≡ hashValue p 2
     ends p e0 e1 =
         let one : s ≡ hashValue p 1 = hs ∙ rw (hz, e0) (sym (value-next p 0)) in
         hv ∙ rw (one, e1) (sym (value-next p 1))

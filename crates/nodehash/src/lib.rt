@@ -6,9 +6,10 @@ ghost use Rattle.hash.specs.Hash.{hashBytes};
 ghost use Rattle.sha256.specs.Sha256.{padded, sha256};
 ghost use Rattle.sha256.specs.Rolling.{blockAt};
 ghost use Rattle.nodehash.specs.Node.{leafHash, innerHash};
-ghost use Rattle.nodehash.specs.Words.{message, seamWord, middleWord, secondBlock};
+ghost use Rattle.nodehash.specs.Words.{message, seamWord, middleWord};
 use hash::Hash;
 use hash::hash_at;
+use second_block::compress_second;
 use sha256::Words;
 use sha256::compress;
 use sha256::start;
@@ -26,7 +27,7 @@ fn middle(x: u64) -> u32
     (x / 256 % 0x1_0000_0000) as u32
 }
 
-fn first_words(t: u64, l: Hash, r: Hash) -> Words
+pub fn first_words(t: u64, l: Hash, r: Hash) -> Words
     requires { ⌜ t < 256 ⌝ }
     ensures { λ v. ⌜ v ≡ blockAt (padded (message t l r)) 0 ⌝ }
 {
@@ -50,27 +51,11 @@ fn first_words(t: u64, l: Hash, r: Hash) -> Words
     }
 }
 
-fn second_words(x: u64) -> Words
-    ensures { λ v. ⌜ v ≡ secondBlock (x % 256 * 16777216 + 8388608) ⌝ }
+// The first word of the second block: the message's last byte, and the byte 128.
+pub fn last_word(x: u64) -> u32
+    ensures { λ v. ⌜ v ≡ x % 256 * 16777216 + 8388608 ⌝ }
 {
-    Words {
-        w0: (x % 256 * 0x100_0000 + 0x80_0000) as u32,
-        w1: 0,
-        w2: 0,
-        w3: 0,
-        w4: 0,
-        w5: 0,
-        w6: 0,
-        w7: 0,
-        w8: 0,
-        w9: 0,
-        w10: 0,
-        w11: 0,
-        w12: 0,
-        w13: 0,
-        w14: 0,
-        w15: 520,
-    }
+    (x % 256 * 0x100_0000 + 0x80_0000) as u32
 }
 
 // SHA-256 of the byte t and the two hashes.
@@ -79,7 +64,7 @@ fn node_hash(t: u64, l: Hash, r: Hash) -> Hash
     ensures { λ v. ⌜ hashBytes v ≡ sha256 (message t l r) ⌝ }
 {
     let s = compress(start(), first_words(t, l, r));
-    to_hash(compress(s, second_words(r.d)))
+    to_hash(compress_second(s, last_word(r.d)))
 }
 
 // The hash of the leaf of a grant, given as its key and its value one after the other, as a slot, a batch and a proof have them.

@@ -2,24 +2,26 @@
 -- an absence proof. Assumes nothing.
 use Prim.Native.Nat.{ℕ, zero, suc, _+_, _*_, _-_, _<_, _≤_}
 use native.Mathlib.Omega.{arith}
-use mathlib.Core.Path.{_≡_, refl, ap, ap₂, sym, _∙_, subst}
-use mathlib.Core.Bool.{not, true, false}
+use mathlib.Core.Path.{_≡_, refl, ap, ap₂, sym, _∙_}
+use mathlib.Core.Bool.{not}
 use mathlib.Core.List.{List, [], _∷_, _++_}
 use lib.ListN.{length, getD, take, drop, length-append, length-take, length-drop}
-use Rattle.terms.specs.Bits.{Bytes, Side, left, Place}
-use Rattle.terms.specs.Fields.{le, slice, flat}
-use Rattle.terms.proofs.Fields.{length-le, length-slice, Sized, length-flat, flat-front, flat-append}
+use Rattle.terms.specs.Bits.{Bytes, left, Place}
+use Rattle.terms.specs.Fields.{le, flat}
+use Rattle.terms.specs.Records.{Child}
+use Rattle.terms.proofs.Fields.{length-le, Sized, length-flat, flat-append}
 use Rattle.fields.specs.Written.{written}
 use Rattle.fields.proofs.Written.{part-written, fields-fill}
 use Rattle.place.specs.Place.{placeOf}
-use Rattle.layout.specs.Sizes.{slotAt}
-use Rattle.layout.specs.Slots.{childIn}
-use Rattle.layout.specs.Stores.{slotIn}
-use Rattle.meaning.specs.Store.{childOn}
-use Rattle.proofrecords.specs.ProofBytes.{stepsBytes, presenceBytes, neighbourBytes, flagsOf, absenceBytes}
+use Rattle.layout.specs.Slots.{keyIn, valueIn, grantIn}
+use Rattle.layout.specs.Stores.{slotIn, SlotWithin}
+use Rattle.slots.proofs.Parts.{grant-parts, key-long, value-long, grant-long, kid-long}
+use Rattle.store.proofs.Slots.{slot-long}
+use Rattle.proofrecords.specs.ProofBytes.{stepsBytes, presenceBytes}
 use Rattle.read_step.specs.Walk.{kidIn}
+use Rattle.read_step.proofs.Seeing.{kid-is}
 use Rattle.paths.specs.Paths.{stepAt, stepsOf, pathSteps, presenceAt, PathIn}
-use Rattle.paths.specs.Neighbours.{wayAt, found, neighbourAt, WayIn, NeighbourIn, wayRoom, roomFor, wayFlag, flagFor, absentOf}
+use Rattle.paths.specs.Neighbours.{WayIn, NeighbourIn, wayRoom, roomFor}
 use Rattle.paths.specs.declared.Path as declared-path
 use Rattle.paths.specs.declared.Way as declared-way
 use Rattle.paths.specs.declared.Way.the-variants.{Lost, Nobody, Somebody}
@@ -37,38 +39,28 @@ pub given-long : (i e : ℕ) (s y : Bytes) → i ≤ e → e ≤ length s → le
 given-long i e s y a b h = simp (length-append, length-take, length-drop) (omega (arith, part-room i e (e - i) s (omega arith) b))
 
 -- lengths
-slot-long : (i : ℕ) (s : Bytes) → slotAt i + 120 ≤ length s → length (slotIn i s) ≡ 120
-unfolding slotIn
-slot-long i s h = length-slice (slotAt i) 120 s h
-
-kid-long : (b : Side) (x : Bytes) → length x ≡ 120 → length (childOn b (childIn 48 x) (childIn 84 x) .hash) ≡ 32
-unfolding childIn
-kid-long false x h = length-slice 52 32 x (omega arith)
-kid-long true x h = length-slice 88 32 x (omega arith)
-
 pub steps-count : (s : Bytes) (slots : List ℕ) (p : Place) (n : ℕ) → length (stepsOf s slots p n) ≡ n
 steps-count s slots p zero = refl
 steps-count s slots p (suc n) = ap suc (steps-count s slots p n)
 
-steps-long : (s : Bytes) (slots : List ℕ) (p : Place) (n : ℕ) → ((j : ℕ) → j < n → slotAt (getD slots j 0) + 120 ≤ length s) →
+steps-long : (s : Bytes) (slots : List ℕ) (p : Place) (n : ℕ) → ((j : ℕ) → j < n → SlotWithin (getD slots j 0) s) →
     length (stepsBytes (stepsOf s slots p n)) ≡ 33 * n
 unfolding stepAt kidIn
 steps-long s slots p zero h = refl
 steps-long s slots p (suc n) h =
-    let k = kid-long (not (getD p n left)) (slotIn (getD slots n 0) s) (slot-long (getD slots n 0) s (h n (omega arith))) in
+    let b = not (getD p n left) in
+    let x = slotIn (getD slots n 0) s in
+    let k : length (kidIn (getD slots n 0) s b .hash) ≡ 32 =
+    ap (λ (c : Child). length (c .hash)) (sym (kid-is b x)) ∙ kid-long x (slot-long (getD slots n 0) s (h n (omega arith))) b
+    in
     let r = steps-long s slots p n (λ j l. h j (omega arith)) in
     simp length-append (omega arith)
 
--- the 64 bytes of a grant are its key and its value
-grant-parts : (x : Bytes) → slice 48 64 x ≡ flat (slice 48 32 x ∷ slice 80 32 x ∷ [])
-unfolding slice
-grant-parts x = sym (flat-front (32 ∷ 32 ∷ []) 48 x)
-
 -- head, key and value, steps
 presence-filled : {a b c g y z : Bytes} {len count : ℕ} (x : Bytes) (n : ℕ) (f part : Bytes) → length part ≡ 72 + 33 * n → len ≡ length part → count ≡ n →
-    length g ≡ 64 → length f ≡ 33 * n → a ≡ written 0 (le 4 len) part → b ≡ written 4 (le 2 16) a → c ≡ written 6 (le 2 count) b → g ≡ slice 48 64 x → y ≡ g → z ≡ f →
+    length g ≡ 64 → length f ≡ 33 * n → a ≡ written 0 (le 4 len) part → b ≡ written 4 (le 2 16) a → c ≡ written 6 (le 2 count) b → g ≡ grantIn x → y ≡ g → z ≡ f →
     given 72 len (given 8 72 c y) z
-    ≡ flat (le 4 (72 + 33 * n) ∷ le 2 16 ∷ le 2 n ∷ slice 48 32 x ∷ slice 80 32 x ∷ f ∷ [])
+    ≡ flat (le 4 (72 + 33 * n) ∷ le 2 16 ∷ le 2 n ∷ keyIn x ∷ valueIn x ∷ f ∷ [])
 unfolding le
 presence-filled {a} {b} {c} {g} {y} {z} {len} {count} x n f part l el ec lg lf ea eb ec2 eg ey ez =
     let m : len ≡ 72 + 33 * n = el ∙ l in
@@ -86,31 +78,31 @@ presence-filled {a} {b} {c} {g} {y} {z} {len} {count} x n f part l el ec lg lf e
     done
     ∙ ap₂ (λ (i j : ℕ). flat (le 4 i ∷ le 2 16 ∷ le 2 j ∷ g ∷ f ∷ [])) m ec
     ∙ ap (λ u. flat (le 4 (72 + 33 * n) ∷ le 2 16 ∷ le 2 n ∷ u ∷ f ∷ [])) (eg ∙ grant-parts x)
-    ∙ ap (λ u. flat (le 4 (72 + 33 * n) ∷ le 2 16 ∷ le 2 n ∷ []) ++ u) (sym (flat-append (slice 48 32 x ∷ slice 80 32 x ∷ []) (f ∷ [])))
+    ∙ ap (λ u. flat (le 4 (72 + 33 * n) ∷ le 2 16 ∷ le 2 n ∷ []) ++ u) (sym (flat-append (keyIn x ∷ valueIn x ∷ []) (f ∷ [])))
 
 pub presence-put : {a b c g x y z : Bytes} (s : Bytes) (p : declared-path.Path) (part : Bytes) → PathIn s p → length part ≡ 72 + 33 * p .place .count →
     a ≡ written 0 (le 4 (length part)) part → b ≡ written 4 (le 2 16) a → c ≡ written 6 (le 2 (p .place .count)) b → x ≡ slotIn (p .at) s →
-    g ≡ slice 48 64 x → y ≡ g → z ≡ stepsBytes (pathSteps s p) → given 72 (length part) (given 8 72 c y) z ≡ presenceBytes (presenceAt s p)
+    g ≡ grantIn x → y ≡ g → z ≡ stepsBytes (pathSteps s p) → given 72 (length part) (given 8 72 c y) z ≡ presenceBytes (presenceAt s p)
 unfolding presenceBytes presenceAt pathSteps
 presence-put {a} {b} {c} {g} {x} s p part w l ea eb ec ex eg ey ez =
     let steps = stepsOf s (p .slots) (placeOf (p .place)) (p .place .count) in
     let n : p .place .count ≡ length steps = sym (steps-count s (p .slots) (placeOf (p .place)) (p .place .count)) in
-    let e : g ≡ slice 48 64 (slotIn (p .at) s) = eg ∙ ap (slice 48 64) ex in
-    let lg : length g ≡ 64 = ap length e ∙ length-slice 48 64 (slotIn (p .at) s) (omega (arith, slot-long (p .at) s (w .end))) in
+    let e : g ≡ grantIn (slotIn (p .at) s) = eg ∙ ap grantIn ex in
+    let lg : length g ≡ 64 = ap length e ∙ grant-long (slotIn (p .at) s) (slot-long (p .at) s (w .end)) in
     presence-filled (slotIn (p .at) s) (length steps) (stepsBytes steps) part (l ∙ ap (λ (k : ℕ). 72 + 33 * k) n) refl n lg
     (steps-long s (p .slots) (placeOf (p .place)) (p .place .count) (w .above) ∙ ap (33 *_) n) ea eb ec e ey ez
 
-presence-long : (s : Bytes) (p : declared-path.Path) → PathIn s p → length (presenceBytes (presenceAt s p)) ≡ 72 + 33 * p .place .count
+pub presence-long : (s : Bytes) (p : declared-path.Path) → PathIn s p → length (presenceBytes (presenceAt s p)) ≡ 72 + 33 * p .place .count
 unfolding presenceBytes presenceAt pathSteps
 presence-long s p w =
     let n = p .place .count in
     let steps = stepsOf s (p .slots) (placeOf (p .place)) n in
     let x = slotIn (p .at) s in
-    let h : length x ≡ 120 = slot-long (p .at) s (w .end) in
-    let fs = le 4 (72 + 33 * length steps) ∷ le 2 16 ∷ le 2 (length steps) ∷ slice 48 32 x ∷ slice 80 32 x ∷ stepsBytes steps ∷ [] in
+    let h = slot-long (p .at) s (w .end) in
+    let fs = le 4 (72 + 33 * length steps) ∷ le 2 16 ∷ le 2 (length steps) ∷ keyIn x ∷ valueIn x ∷ stepsBytes steps ∷ [] in
     let k = steps-long s (p .slots) (placeOf (p .place)) n (w .above) in
     let sized : Sized (4 ∷ 2 ∷ 2 ∷ 32 ∷ 32 ∷ 33 * n ∷ []) fs =
-    (length-le 4 _, (length-le 2 16, (length-le 2 (length steps), (length-slice 48 32 x (omega arith), (length-slice 80 32 x (omega arith), (k, tt))))))
+    (length-le 4 _, (length-le 2 16, (length-le 2 (length steps), (key-long x h, (value-long x h, (k, tt))))))
     in
     length-flat (4 ∷ 2 ∷ 2 ∷ 32 ∷ 32 ∷ 33 * n ∷ []) fs sized ∙ omega arith
 
@@ -131,79 +123,3 @@ way-most Somebody p h = omega arith
 pub room-most : (s : Bytes) (n : declared.Sought) → NeighbourIn s n → roomFor n ≤ 8520
 unfolding roomFor
 room-most s n w = way-most (n .way) (n .path) (neighbour-count s n w)
-
-way-flag : (v : declared-way.Way) (bit : ℕ) → wayFlag v bit ≤ bit
-way-flag Lost bit = omega arith
-way-flag Nobody bit = omega arith
-way-flag Somebody bit = omega arith
-
-pub flag-most : (n : declared.Sought) (bit : ℕ) → flagFor n bit ≤ bit
-unfolding flagFor
-flag-most n bit = way-flag (n .way) bit
-
-way-long : (s : Bytes) (v : declared-way.Way) (p : declared-path.Path) → WayIn s v p → length (neighbourBytes (found (wayAt s v p))) ≡ wayRoom v p
-way-long s Lost p w = refl
-way-long s Nobody p w = refl
-way-long s Somebody p w = presence-long s p w
-
-pub neighbour-long : (s : Bytes) (n : declared.Sought) → NeighbourIn s n → length (neighbourBytes (neighbourAt s n)) ≡ roomFor n
-unfolding neighbourAt roomFor
-neighbour-long s n w = way-long s (n .way) (n .path) w
-
-flags-ways : (s : Bytes) (v w : declared-way.Way) (p q : declared-path.Path) →
-    wayFlag v 1 + wayFlag w 2 ≡ flagsOf (found (wayAt s v p)) (found (wayAt s w q))
-flags-ways s Lost Lost p q = refl
-flags-ways s Lost Nobody p q = refl
-flags-ways s Lost Somebody p q = refl
-flags-ways s Nobody Lost p q = refl
-flags-ways s Nobody Nobody p q = refl
-flags-ways s Nobody Somebody p q = refl
-flags-ways s Somebody Lost p q = refl
-flags-ways s Somebody Nobody p q = refl
-flags-ways s Somebody Somebody p q = refl
-
-flags-are : (s : Bytes) (n m : declared.Sought) → flagFor n 1 + flagFor m 2 ≡ flagsOf (neighbourAt s n) (neighbourAt s m)
-unfolding flagFor neighbourAt
-flags-are s n m = flags-ways s (n .way) (m .way) (n .path) (m .path)
-
--- nobody's record is empty
-empty : (x : Bytes) → length x ≡ 0 → x ≡ []
-empty [] h = refl
-empty (a ∷ x) h = absurd (omega arith)
-
-pub somebody-in : {v : declared-way.Way} (s part : Bytes) (p : declared-path.Path) → v ≡ Somebody → WayIn s v p → length part ≡ wayRoom v p →
-    PathIn s p × (length part ≡ 72 + 33 * p .place .count)
-somebody-in s part p e w l = (subst (λ u. WayIn s u p) e w, l ∙ ap (λ u. wayRoom u p) e)
-
-pub nobody-put : {v : declared-way.Way} (s part : Bytes) (p : declared-path.Path) (u : declared-way.Way) → v ≡ u → wayRoom u p ≡ 0 → neighbourBytes (found (wayAt s u p)) ≡ [] →
-    length part ≡ wayRoom v p → part ≡ neighbourBytes (found (wayAt s v p))
-nobody-put s part p u e z n l = empty part (l ∙ ap (λ t. wayRoom t p) e ∙ z) ∙ sym n ∙ ap (λ t. neighbourBytes (found (wayAt s t p))) (sym e)
-
--- head, key, and the neighbours' records, left first
-pub absence-put : {a b c y l r : Bytes} {flags middle : ℕ} (s : Bytes) (m n : declared.Sought) (k part : Bytes) → NeighbourIn s m → NeighbourIn s n →
-    length part ≡ 40 + roomFor m + roomFor n → length k ≡ 32 → flags ≡ flagFor m 1 + flagFor n 2 → middle ≡ 40 + roomFor m →
-    a ≡ written 0 (le 4 (length part)) part → b ≡ written 4 (le 2 17) a → c ≡ written 6 (le 2 flags) b → y ≡ k → l ≡ neighbourBytes (neighbourAt s m) →
-    r ≡ neighbourBytes (neighbourAt s n) →
-    given middle (length part) (given 40 middle (given 8 40 c y) l) r ≡ absenceBytes (absentOf k (neighbourAt s m) (neighbourAt s n))
-unfolding absenceBytes
-absence-put {a} {b} {c} {y} {l} {r} {flags} {middle} s m n k part hm hn size lk ef em ea eb ec ey el er =
-    let f = neighbourBytes (neighbourAt s m) in
-    let g = neighbourBytes (neighbourAt s n) in
-    let lf : length f ≡ roomFor m = neighbour-long s m hm in
-    let lg : length g ≡ roomFor n = neighbour-long s n hn in
-    let len : length part ≡ 40 + length f + length g = omega arith in
-    let q : middle ≡ 40 + length f = omega arith in
-    let fs = le 4 (length part) ∷ le 2 17 ∷ le 2 flags ∷ k ∷ f ∷ g ∷ [] in
-    let sized : Sized (4 ∷ 2 ∷ 2 ∷ 32 ∷ length f ∷ length g ∷ []) fs = (length-le 4 _, (length-le 2 17, (length-le 2 flags, (lk, (refl, (refl, tt)))))) in
-    let head = given 8 40 c y in
-    let w : head ≡ written 8 k (written 6 (le 2 flags) (written 4 (le 2 17) (written 0 (le 4 (length part)) part))) =
-    rw (ey, part-written 8 40 k c (ap (8 +_) lk), ec, eb, ea)
-    in
-    let u : given 40 middle head l ≡ written 40 f head = ap (given 40 middle head) el ∙ part-written 40 middle f head (sym q) in
-    let done : given middle (length part) (given 40 middle head l) r ≡ flat fs =
-    ap (given middle (length part) (given 40 middle head l)) er
-    ∙ part-written middle (length part) g (given 40 middle head l) (omega arith)
-    ∙ ap₂ (λ (i : ℕ) z. written i g z) q (u ∙ ap (written 40 f) w)
-    ∙ fields-fill (4 ∷ 2 ∷ 2 ∷ 32 ∷ length f ∷ length g ∷ []) fs part sized (omega arith)
-    in
-    done ∙ ap₂ (λ (i j : ℕ). flat (le 4 i ∷ le 2 17 ∷ le 2 j ∷ k ∷ f ∷ g ∷ [])) len (ef ∙ flags-are s m n)

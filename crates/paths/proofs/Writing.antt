@@ -8,24 +8,22 @@ use mathlib.Core.List.{List, [], _∷_, _++_, append-assoc, append-nil}
 use lib.ListN.{length, getD, take, drop, set, drop-of-length-le, length-append, length-take, length-drop}
 use lib.Seq.{take-all, take-at, getD-take}
 use Rattle.terms.specs.Bits.{Bytes, Side, left, bits, bit, digit}
+use Rattle.terms.specs.Records.{Child}
 use Rattle.layout.specs.Stores.{slotIn}
 use Rattle.proofrecords.specs.ProofBytes.{stepsBytes}
-use Rattle.meaning.specs.Store.{childOn}
-use Rattle.layout.specs.Slots.{childIn}
+use Rattle.layout.specs.Slots.{kidOn}
 use Rattle.read_step.specs.Walk.{kidIn}
+use Rattle.read_step.proofs.Seeing.{kid-is}
 use Rattle.paths.specs.Paths.{stepBytes, stepAt, stepsOf}
-
--- what is left of a slice whose part from i to e was lent and came back as y
-abbrev given : ℕ → ℕ → Bytes → Bytes → Bytes
-given i e s y = take i s ++ (y ++ drop (e - i) (drop i s))
+use Rattle.paths.proofs.Records.{given}
 
 -- a side and a hash fill the 33 bytes of a step
-pub step-put : {x h y : Bytes} {d : ℕ} (part s : Bytes) (i : ℕ) (b : Side) → length part ≡ 33 → d ≡ digit b → x ≡ slotIn i s → h ≡ childOn (not b) (childIn 48 x) (childIn 84 x) .hash →
+pub step-put : {x h y : Bytes} {d : ℕ} (part s : Bytes) (i : ℕ) (b : Side) → length part ≡ 33 → d ≡ digit b → x ≡ slotIn i s → h ≡ kidOn (not b) x .hash →
     y ≡ h → set (given 1 33 part y) 0 d ≡ stepBytes (stepAt s i b)
 unfolding stepBytes stepAt kidIn
 step-put [] s i b l e f g k = absurd (omega arith)
 step-put {x} {h} {y} {d} (z ∷ part) s i b l e f g k =
-    ap₂ _∷_ e (ap (y ++_) (drop-of-length-le part {i = 32} (omega arith)) ∙ append-nil y ∙ k ∙ g ∙ ap (λ u. childOn (not b) (childIn 48 u) (childIn 84 u) .hash) f)
+    ap₂ _∷_ e (ap (y ++_) (drop-of-length-le part {i = 32} (omega arith)) ∙ append-nil y ∙ k ∙ g ∙ ap (λ u. kidOn (not b) u .hash) f ∙ ap (λ (c : Child). c .hash) (kid-is (not b) (slotIn i s)))
 
 -- the part of a path's steps, of which those below depth are written, up to start
 pub record Steps (s : Bytes) (slots : List ℕ) (b : Bytes) (n : ℕ) (part : Bytes) (depth start : ℕ) : Type 0 where

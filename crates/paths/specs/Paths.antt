@@ -1,16 +1,15 @@
 -- Document 01, 'Bytes', presence proof, and 'Reading and proving': the steps of a path whose inner nodes are known by their slots. Siblings'
 -- hashes are taken as stored. Assumes nothing.
-use Prim.Native.Nat.{ℕ, zero, suc, _+_, _≤_, _<_}
+use Prim.Native.Nat.{ℕ, zero, suc, _<_}
 use mathlib.Core.Bool.{not}
 use mathlib.Core.List.{List, [], _∷_}
-use lib.ListN.{length, getD}
+use lib.ListN.{getD}
 use Rattle.terms.specs.Bits.{Bytes, Side, left, Place, digit}
-use Rattle.terms.specs.Fields.{slice}
 use Rattle.terms.specs.Records.{Step, Presence}
 use Rattle.meaning.specs.Proving.{step, presenceOf}
 use Rattle.place.specs.Place.{placeOf, Proper}
-use Rattle.layout.specs.Sizes.{slotSize, slotAt, keyAt, valueAt}
-use Rattle.layout.specs.Stores.{slotIn}
+use Rattle.layout.specs.Slots.{keyIn, valueIn}
+use Rattle.layout.specs.Stores.{slotIn, SlotWithin}
 use Rattle.read_step.specs.Walk.{kidIn}
 use Rattle.paths.specs.declared.Path as declared
 
@@ -32,10 +31,10 @@ pathSteps s p = stepsOf s (p .slots) (placeOf (p .place)) (p .place .count)
 
 -- The presence proof of the leaf at the end of a path.
 unfoldable pub presenceAt : Bytes → declared.Path → Presence
-presenceAt s p = presenceOf (slice keyAt 32 (slotIn (p .at) s)) (slice valueAt 32 (slotIn (p .at) s)) (pathSteps s p)
+presenceAt s p = presenceOf (keyIn (slotIn (p .at) s)) (valueIn (slotIn (p .at) s)) (pathSteps s p)
 
 -- A path within a store: each slot on it is one of the store's, and its place is proper.
 pub record PathIn (s : Bytes) (p : declared.Path) : Type 0 where
   pub proper : Proper (p .place)
-  pub above : (j : ℕ) → j < p .place .count → slotAt (getD (p .slots) j 0) + slotSize ≤ length s
-  pub end : slotAt (p .at) + slotSize ≤ length s
+  pub above : (j : ℕ) → j < p .place .count → SlotWithin (getD (p .slots) j 0) s
+  pub end : SlotWithin (p .at) s

@@ -1,29 +1,20 @@
-// Paths in lent memory and the proofs that they are written as, document 01, 'Bytes', presence and absence proof.
+// Paths in lent memory and the proofs that they are written as, document 01, 'Bytes', presence proof.
 use fields::copy;
 use fields::put_u16;
 use fields::put_u32;
-use layout::sizes::RIGHT_AT;
-use layout::sizes::SLOT_SIZE;
 use place::Place;
 use place::key_bit;
+use slots::child_hash;
 use slots::grant_of;
 use store::slot_of;
 ghost use mathlib.Core.Path.{_≡_};
-ghost use mathlib.Core.Bool.{not};
 ghost use Prim.Native.Nat.{_+_, _*_, _≤_};
 ghost use lib.ListN.{length};
 ghost use Rattle.terms.specs.Bits.{digit};
-ghost use Rattle.layout.specs.Sizes.{slotSize, slotAt, leftAt, rightAt};
-ghost use Rattle.layout.specs.Slots.{childIn};
-ghost use Rattle.meaning.specs.Store.{childOn};
-ghost use Rattle.proofrecords.specs.ProofBytes.{stepSize, presenceHead, absenceHead, stepsBytes, presenceBytes, neighbourBytes, absenceBytes};
+ghost use Rattle.layout.specs.Stores.{SlotWithin};
+ghost use Rattle.proofrecords.specs.ProofBytes.{stepSize, presenceHead, stepsBytes, presenceBytes};
 ghost use Rattle.paths.specs.Paths.{stepBytes, stepAt, pathSteps, presenceAt, PathIn};
-ghost use Rattle.paths.specs.Neighbours.{roomFor, flagFor, neighbourAt, NeighbourIn, absentOf};
-
-// Where an inner record has its hashes.
-const LEFT_HASH_AT: usize = 52;
-
-const RIGHT_HASH_AT: usize = 88;
+ghost use Rattle.paths.specs.Neighbours.{roomFor};
 
 // The sizes and kinds of proofs and steps.
 pub const STEP_SIZE: usize = 33;
@@ -33,8 +24,6 @@ pub const PRESENCE_HEAD: usize = 72;
 const PRESENCE_KIND: u16 = 16;
 
 pub const ABSENCE_HEAD: usize = 40;
-
-const ABSENCE_KIND: u16 = 17;
 
 // The way to a node: the slots of the inner nodes above it, the root's first; its place, whose bits are the sides taken; and its own slot.
 pub struct Path {
@@ -53,23 +42,15 @@ fn digit(side: bool) -> u8
     0
 }
 
-// The hash of the sibling of the child on a side, as the inner record has it.
-fn sibling(s: &[u8], side: bool) -> &[u8]
-    requires { ⌜ length (now s) ≡ slotSize ⌝ }
-    ensures { λ r. ⌜ (now r ≡ childOn (not side) (childIn leftAt (now (s .entry))) (childIn rightAt (now (s .entry))) .hash) × (length (now r) ≡ 32) ⌝ }
-{
-    if side {
-        return &s[LEFT_HASH_AT..RIGHT_AT];
-    }
-    &s[RIGHT_HASH_AT..SLOT_SIZE]
-}
-
-// Writes the step up from the child on a side of the inner node in slot i.
+// Writes the step up from the child on a side of the inner node in slot i: the side, and the hash of the sibling as the node has it.
 fn put_step(part: &mut [u8], store: &[u8], i: usize, side: bool)
-    requires { ⌜ (length (now part) ≡ stepSize) × (slotAt i + slotSize ≤ length (now store)) ⌝ }
+    requires { ⌜ (length (now part) ≡ stepSize) × SlotWithin i (now store) ⌝ }
     ensures { λ _. ⌜ now (part .exit) ≡ stepBytes (stepAt (now (store .entry)) i side) ⌝ }
 {
-    copy(&mut part[1..STEP_SIZE], sibling(slot_of(store, i), side));
+    copy(
+        &mut part[1..STEP_SIZE],
+        child_hash(slot_of(store, i), !side),
+    );
     part[0] = digit(side);
 }
 
@@ -135,46 +116,4 @@ pub fn neighbour_length(n: Sought) -> usize
         Way::Nobody => 0,
         Way::Lost => 0,
     }
-}
-
-// The flag where there is somebody, else 0.
-fn flag(n: Sought, bit: u16) -> u16
-    ensures { λ r. ⌜ r ≡ flagFor n bit ⌝ }
-{
-    let way = n.way;
-    match way {
-        Way::Somebody => bit,
-        Way::Nobody => 0,
-        Way::Lost => 0,
-    }
-}
-
-// Writes a neighbour's record where there is somebody.
-fn put_neighbour(part: &mut [u8], store: &[u8], n: Sought)
-    requires { ⌜ NeighbourIn (now store) n × (length (now part) ≡ roomFor n) ⌝ }
-    ensures { λ _. ⌜ now (part .exit) ≡ neighbourBytes (neighbourAt (now (store .entry)) n) ⌝ }
-{
-    let way = n.way;
-    let path = n.path;
-    match way {
-        Way::Somebody => put_presence(part, store, path),
-        Way::Nobody => {}
-        Way::Lost => {}
-    }
-}
-
-// Writes the absence proof of a key with these neighbours.
-pub fn put_absence(part: &mut [u8], store: &[u8], key: &[u8], left: Sought, right: Sought)
-    requires { ⌜ (NeighbourIn (now store) left × NeighbourIn (now store) right) × (length (now key) ≡ 32) × (length (now part) ≡ absenceHead + roomFor left + roomFor right) ⌝ }
-    ensures { λ _. ⌜ now (part .exit) ≡ absenceBytes (absentOf (now (key .entry)) (neighbourAt (now (store .entry)) left) (neighbourAt (now (store .entry)) right)) ⌝ }
-{
-    let flags = flag(left, 1) + flag(right, 2);
-    let middle = ABSENCE_HEAD + neighbour_length(left);
-    let len = part.len();
-    put_u32(part, 0, len as u32);
-    put_u16(part, 4, ABSENCE_KIND);
-    put_u16(part, 6, flags);
-    copy(&mut part[8..ABSENCE_HEAD], key);
-    put_neighbour(&mut part[ABSENCE_HEAD..middle], store, left);
-    put_neighbour(&mut part[middle..len], store, right);
 }

@@ -46,6 +46,17 @@ impl Place {
     }
 }
 
+// The place one bit longer, on the left or the right.
+pub fn child_place(place: Place, right: bool) -> Place
+    requires { ⌜ Proper place × (place .count < 256) ⌝ }
+    ensures { λ r. ⌜ Grown right place r ⌝ }
+{
+    if right {
+        return place.right();
+    }
+    place.left()
+}
+
 // Bit i of a key: bit 0 is the top bit of byte 0.
 pub fn key_bit(key: &[u8], i: usize) -> bool
     requires { ⌜ i < 8 * length (now key) ⌝ }

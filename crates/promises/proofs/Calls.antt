@@ -1,21 +1,20 @@
 -- A call that tests soundness has one outcome: what check refuses it refuses, 0 is given to sound stores alone, and a refusal writes nothing.
 -- Assumes nothing.
-use Prim.Native.Nat.{ℕ, _≤_, _<_}
+use Prim.Native.Nat.{ℕ, _<_}
 use native.Mathlib.Omega.{arith}
 use mathlib.Core.Path.{_≡_, refl, ap, sym, _∙_}
-use mathlib.Core.Bool.{Bool, true, false, cond}
+use mathlib.Core.Logic.{⊎-elim}
 use lib.ListN.{length, getD}
 use Rattle.terms.specs.Bits.{Bytes, Byte, All}
-use Rattle.terms.specs.Fields.{field}
 use Rattle.terms.specs.Records.{Slot, free, used, spoiled, Store}
 use Rattle.terms.proofs.Lists.{all-of}
 use Rattle.meaning.specs.Sound.{At, Sound}
 use Rattle.meaning.specs.Calls.{Answer, refused, accepted, Outcome}
 use Rattle.nodehash.specs.Node.{leafHash, innerHash}
-use Rattle.layout.specs.Headers.{Headed, refusal, header, headerOf, sizeRight, headerRight}
+use Rattle.layout.specs.Headers.{Headed, refusal, header, headerOf}
 use Rattle.layout.specs.Slots.{SlotForm}
-use Rattle.layout.specs.Stores.{storeOf, storeBytes, StoreForm}
-use Rattle.layout.proofs.Headers.{accepted as header-accepted}
+use Rattle.layout.specs.Stores.{storeOf, storeBytes, HeaderWithin, StoreForm}
+use Rattle.layout.proofs.Headers.{header-refused, accepted as header-accepted}
 use Rattle.layout.proofs.Stores.{store-back}
 use Rattle.soundness.specs.Check.{Checked}
 use Rattle.soundness.specs.Check as check
@@ -23,13 +22,7 @@ use Rattle.promises.specs.Calls.{SoundBytes, Does, wrong-header, not-sou
 
 -- a header is not refused with 0
 no-refusal : (s : Bytes) → headerOf s ≡ refusal 0 → ⊥
-unfolding headerOf
-no-refusal s = go (sizeRight (length s)) (headerRight s)
-  where
-    go : (a b : Bool) → cond a (cond b (header (field 8 4 s) (field 12 4 s) (field 16 4 s)) (refusal 2)) (refusal 1) ≡ refusal 0 → ⊥
-    go false b e = let z : _≡_ {A = ℕ} 0 1 = cc in absurd (omega arith)
-    go true false e = let z : _≡_ {A = ℕ} 0 2 = cc in absurd (omega arith)
-    go true true e = let z : _≡_ {A = ℕ} 0 1 = cc in absurd (omega arith)
+no-refusal s e = ⊎-elim (λ z. omega arith) (λ z. omega arith) (header-refused s 0 e)
 
 -- a sound store is in form
 pub sound-form : (st : Store) → Sound leafHash innerHash st → StoreForm st
@@ -54,7 +47,7 @@ module _ {s : Bytes} where
   checked-sound (check.unsound c o l e g) z = absurd (omega arith)
   checked-sound (check.sound c o l e w) z = record { capacity = c; oldest = o; latest = l; headed = e; sound = w }
 
-  pub sound-long : SoundBytes s → 24 ≤ length s
+  pub sound-long : SoundBytes s → HeaderWithin s
   sound-long w = omega (arith, header-accepted s (w .capacity) (w .oldest) (w .latest) (w .headed) .size)
 
   -- the bytes are those of the store

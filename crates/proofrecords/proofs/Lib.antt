@@ -1,3 +1,5 @@
 pub mod Steps
+pub mod Lying
+pub mod Forms
 pub mod Proofs
 pub mod Samples

@@ -232,24 +232,25 @@ right-there p h x ys e =
     rw (length-there p h x ys e) (sym (drop-drop (length (presenceBytes p)) 40 x) ∙ ap (drop (length (presenceBytes p))) e ∙ drop-at (presenceBytes p) ys (length (presenceBytes p)) refl)
 
 -- the flags lead to the neighbours that were written
-neighbours-back : (x : Bytes) (l r : Option Presence) → NeighbourForm l → NeighbourForm r →
+neighbours-back : (x : Bytes) (l r : Option Presence) → NeighbourForm l → NeighbourForm r → 1 ≤ flagsOf l r →
     flags x ≡ flagsOf l r → drop 40 x ≡ neighbourBytes l ++ neighbourBytes r → length x ≡ 40 + length (neighbourBytes l) + length (neighbourBytes r) →
     (neighboursFit x ≡ true) × (absenceIn x ≡ record { key = slice 8 32 x; leftward = l; rightward = r })
 unfolding neighboursFit absenceIn
-neighbours-back x none none hl hr f e n = (rw (f, eq-eqb (length x) 40 (omega arith)), rw f)
-neighbours-back x (some l) none hl hr f e n =
+neighbours-back x none none hl hr one f e n = absurd (omega arith)
+neighbours-back x (some l) none hl hr one f e n =
     let d : drop 40 x ≡ presenceBytes l = e ∙ append-nil (presenceBytes l) in
     (rw (f, d) (presence-is l hl), rw (f, d, presence-back l hl))
-neighbours-back x none (some r) hl hr f e n = (rw (f, e) (presence-is r hr), rw (f, e, presence-back r hr))
-neighbours-back x (some l) (some r) hl hr f e n =
+neighbours-back x none (some r) hl hr one f e n = (rw (f, e) (presence-is r hr), rw (f, e, presence-back r hr))
+neighbours-back x (some l) (some r) hl hr one f e n =
     let p = left-there l hl x (presenceBytes r) e in
     let q = right-there l hl x (presenceBytes r) e in
     (rw (f, p, q, presence-is l hl, presence-is r hr), rw (f, p, q, presence-back l hl, presence-back r hr))
 
-module _ (a : Absence) (k : Whole32 (a .key)) (hl : NeighbourForm (a .leftward)) (hr : NeighbourForm (a .rightward)) where
+module _ (a : Absence) (k : Whole32 (a .key)) (hl : NeighbourForm (a .leftward)) (hr : NeighbourForm (a .rightward))
+    (one : 1 ≤ flagsOf (a .leftward) (a .rightward)) where
   both-back : (neighboursFit (absenceBytes a) ≡ true) × (absenceIn (absenceBytes a) ≡ record { key = slice 8 32 (absenceBytes a); leftward = a .leftward; rightward = a .rightward })
   both-back =
-      neighbours-back (absenceBytes a) (a .leftward) (a .rightward) hl hr (flags-say a k hl hr) (after-head a k hl hr) (length-absence a k hl hr)
+      neighbours-back (absenceBytes a) (a .leftward) (a .rightward) hl hr one (flags-say a k hl hr) (after-head a k hl hr) (length-absence a k hl hr)
 
   absence-is : isAbsence (absenceBytes a) ≡ true
   unfolding isAbsence
@@ -260,7 +261,10 @@ module _ (a : Absence) (k : Whole32 (a .key)) (hl : NeighbourForm (a .leftward))
           eq-eqb _ _ (absence-length-says a k hl hr),
           (
             eq-eqb _ _ (absence-kind-says a k hl hr),
-            (le-leb (flags (absenceBytes a)) 3 (rw (flags-say a k hl hr) (flags-small (a .leftward) (a .rightward))), (both-back .0, tt)),
+            (
+              le-leb 1 (flags (absenceBytes a)) (rw (flags-say a k hl hr) one),
+              (le-leb (flags (absenceBytes a)) 3 (rw (flags-say a k hl hr) (flags-small (a .leftward) (a .rightward))), (both-back .0, tt)),
+            ),
           ),
         ),
       )
@@ -277,7 +281,8 @@ module _ (a : Absence) (k : Whole32 (a .key)) (hl : NeighbourForm (a .leftward))
 pub proof-back : (p : Proof) → ProofForm p → proofIn (proofBytes p) ≡ some p
 unfolding proofIn
 proof-back (presence p) h = rw (presence-is p h, presence-back p h)
-proof-back (absence a) h = rw (absence-no-presence a (h .0) (h .1) (h .2), absence-is a (h .0) (h .1) (h .2), absence-back a (h .0) (h .1) (h .2))
+proof-back (absence a) h =
+    rw (absence-no-presence a (h .0) (h .1) (h .2) (h .3), absence-is a (h .0) (h .1) (h .2) (h .3), absence-back a (h .0) (h .1) (h .2) (h .3))
 
 -- the parts of an absence proof with two neighbours
 parts-whole : (x : Bytes) → leftPart x ++ rightPart x ≡ drop 40 x
@@ -294,20 +299,19 @@ right-bytes x h = all-drop Byte (40 + leftLength x) x h
 
 -- bytes that are an absence proof: by the flags
 data Flagged (x : Bytes) : Type 0 where
-  neither : flags x ≡ 0 → length x ≡ 40 → Flagged x
   leftOnly : flags x ≡ 1 → isPresence (drop 40 x) ≡ true → Flagged x
   rightOnly : flags x ≡ 2 → isPresence (drop 40 x) ≡ true → Flagged x
   both : flags x ≡ 3 → isPresence (leftPart x) ≡ true → isPresence (rightPart x) ≡ true → Flagged x
 
-flagged : (x : Bytes) (n : ℕ) → flags x ≡ n → n ≤ 3 → neighboursFit x ≡ true → Flagged x
+flagged : (x : Bytes) (n : ℕ) → flags x ≡ n → 1 ≤ n → n ≤ 3 → neighboursFit x ≡ true → Flagged x
 unfolding neighboursFit
-flagged x zero f h e = neither f (eqb-true (length x) 40 (rw f at e))
-flagged x (suc zero) f h e = leftOnly f (rw f at e)
-flagged x (suc (suc zero)) f h e = rightOnly f (rw f at e)
-flagged x (suc (suc (suc zero))) f h e =
+flagged x zero f one h e = absurd (omega arith)
+flagged x (suc zero) f one h e = leftOnly f (rw f at e)
+flagged x (suc (suc zero)) f one h e = rightOnly f (rw f at e)
+flagged x (suc (suc (suc zero))) f one h e =
     let b : isPresence (leftPart x) && isPresence (rightPart x) ≡ true = rw f at e in
     both f (and-left (isPresence (leftPart x)) (isPresence (rightPart x)) b) (and-right (isPresence (leftPart x)) (isPresence (rightPart x)) b)
-flagged x (suc (suc (suc (suc n)))) f h e = absurd (omega arith)
+flagged x (suc (suc (suc (suc n)))) f one h e = absurd (omega arith)
 
 -- what an absence proof is read as
 record Parts (x : Bytes) (l r : Option Presence) : Type 0 where
@@ -319,17 +323,6 @@ record Parts (x : Bytes) (l r : Option Presence) : Type 0 where
 
 parts-of : (x : Bytes) → All Byte x → Flagged x → (l : Option Presence) × (r : Option Presence) × Parts x l r
 unfolding absenceIn
-parts-of x h (neither f n) = (
-  none,
-  none,
-  record {
-    read = rw f;
-    flagged-so = sym f;
-    filled = sym (drop-of-length-le x {i = 40} (omega arith));
-    left-form = tt;
-    right-form = tt;
-  },
-)
 parts-of x h (leftOnly f e) =
     let b = all-drop Byte 40 x h in (
       some (presenceIn (drop 40 x)),
@@ -375,15 +368,32 @@ module _ (x : Bytes) (h : All Byte x) (e : isAbsence x ≡ true) where
   absence-long : 40 ≤ length x
   absence-long = leb-true 40 (length x) (absence-tested .0)
 
+  some-flag : 1 ≤ flags x
+  some-flag = leb-true 1 (flags x) (absence-tested .1 .1 .1 .0)
+
   its-parts : (l : Option Presence) × (r : Option Presence) × Parts x l r
   its-parts =
       parts-of x h
-      (flagged x (flags x) refl (leb-true (flags x) 3 (absence-tested .1 .1 .1 .0)) (absence-tested .1 .1 .1 .1 .0))
+      (flagged x (flags x) refl some-flag (leb-true (flags x) 3 (absence-tested .1 .1 .1 .1 .0)) (absence-tested .1 .1 .1 .1 .1 .0))
 
   pub absence-form : ProofForm (absence (absenceIn x))
   absence-form =
       let q = its-parts .2 in
-      rw (q .read) ((length-slice 8 32 x (omega (arith, absence-long)), all-slice 8 32 x h), q .left-form, q .right-form)
+      rw (q .read) (
+        (length-slice 8 32 x (omega (arith, absence-long)), all-slice 8 32 x h),
+        q .left-form,
+        q .right-form,
+        omega (arith, q .flagged-so, some-flag),
+      )
+
+  -- so it has the head and a presence proof without steps at least
+  absence-at-least : 112 ≤ length x
+  absence-at-least = go (its-parts .0) (its-parts .1) (its-parts .2)
+    where
+      go : (l r : Option Presence) → Parts x l r → 112 ≤ length x
+      go none none q = absurd (omega (arith, q .flagged-so, some-flag))
+      go none (some r) q = omega (arith, simp length-append at (ap length (q .filled)), length-presence r (q .right-form), length-drop 40 x)
+      go (some l) r q = omega (arith, simp length-append at (ap length (q .filled)), length-presence l (q .left-form), length-drop 40 x)
 
   pub absence-bytes : absenceBytes (absenceIn x) ≡ x
   unfolding absenceBytes flags
@@ -407,6 +417,17 @@ module _ (x : Bytes) (h : All Byte x) (e : isAbsence x ≡ true) where
         ← append-nil (slice 40 (length x - 40) x),
       )
       (flat-cuts (4 ∷ 2 ∷ 2 ∷ 32 ∷ (length x - 40) ∷ []) 0 x (omega (arith, absence-long)))
+
+-- bytes that are read as an absence proof are at least as long as one with a neighbour without steps
+pub absence-has-112 : (x : Bytes) (a : Absence) → All Byte x → proofIn x ≡ some (absence a) → 112 ≤ length x
+unfolding proofIn
+absence-has-112 x a h = go (isPresence x) (isAbsence x) refl
+  where
+    go : (b c : Bool) → isAbsence x ≡ c →
+        cond b (some (presence (presenceIn x))) (cond c (some (absence (absenceIn x))) none) ≡ some (absence a) → 112 ≤ length x
+    go true c d k = let z : _≡_ {A = ℕ} 0 1 = cc in absurd (omega arith)
+    go false true d k = absence-at-least x h d
+    go false false d k = let z : _≡_ {A = ℕ} 0 1 = cc in absurd (omega arith)
 
 -- bytes that are read as a proof are its bytes, and it is in form
 pub proof-bytes : (x : Bytes) (p : Proof) → All Byte x → proofIn x ≡ some p → (ProofForm p) × (proofBytes p ≡ x)

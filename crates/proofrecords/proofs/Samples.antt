@@ -40,17 +40,17 @@ presences : Is (presence climbing) climbingBytes × Is (presence alone) aloneByt
 unfolding presenceBytes le slice field allOf stepCount isPresence presenceIn proofIn
 presences = ((refl, refl), (refl, refl))
 
--- flags 0, 1, 2, 3
+-- flags 1, 2, 3
 absences :
-    Is (between none none) (headed (40 ∷ 0 ∷ 0 ∷ 0 ∷ 17 ∷ 0 ∷ 0 ∷ 0 ∷ []) [])
-    × Is (between (some climbing) none) (headed (145 ∷ 0 ∷ 0 ∷ 0 ∷ 17 ∷ 0 ∷ 1 ∷ 0 ∷ []) climbingBytes)
+    Is (between (some climbing) none) (headed (145 ∷ 0 ∷ 0 ∷ 0 ∷ 17 ∷ 0 ∷ 1 ∷ 0 ∷ []) climbingBytes)
     × Is (between none (some alone)) (headed (112 ∷ 0 ∷ 0 ∷ 0 ∷ 17 ∷ 0 ∷ 2 ∷ 0 ∷ []) aloneBytes)
     × Is (between (some climbing) (some alone)) (headed (217 ∷ 0 ∷ 0 ∷ 0 ∷ 17 ∷ 0 ∷ 3 ∷ 0 ∷ []) (climbingBytes ++ aloneBytes))
 unfolding presenceBytes absenceBytes le slice field allOf stepCount isPresence presenceIn leftLength leftPart rightPart flags neighboursFit
     isAbsence absenceIn proofIn
-absences = ((refl, refl), (refl, refl), (refl, refl), (refl, refl))
+absences = ((refl, refl), (refl, refl), (refl, refl))
 
--- too short, a side 2, a byte over, a length that is not the bytes', another kind; flags that do not fit, flags 4, a nested absence proof
+-- too short, a side 2, a byte over, a length that is not the bytes', another kind; flags that do not fit, flags 0 with nobody and with
+-- somebody, flags 4, a nested absence proof
 others :
     No [] × No (replicate 8 0)
     × No ((105 ∷ 0 ∷ 0 ∷ 0 ∷ 16 ∷ 0 ∷ 1 ∷ 0 ∷ []) ++ replicate 32 1 ++ replicate 32 2 ++ (2 ∷ replicate 32 3))
@@ -58,8 +58,9 @@ others :
     × No ((104 ∷ 0 ∷ 0 ∷ 0 ∷ 16 ∷ 0 ∷ 1 ∷ 0 ∷ []) ++ replicate 32 1 ++ replicate 32 2 ++ (1 ∷ replicate 32 3))
     × No ((72 ∷ 0 ∷ 0 ∷ 0 ∷ 18 ∷ 0 ∷ 0 ∷ 0 ∷ []) ++ replicate 32 4 ++ replicate 32 5)
     × No (headed (40 ∷ 0 ∷ 0 ∷ 0 ∷ 17 ∷ 0 ∷ 1 ∷ 0 ∷ []) [])
+    × No (headed (40 ∷ 0 ∷ 0 ∷ 0 ∷ 17 ∷ 0 ∷ 0 ∷ 0 ∷ []) [])
     × No (headed (112 ∷ 0 ∷ 0 ∷ 0 ∷ 17 ∷ 0 ∷ 0 ∷ 0 ∷ []) aloneBytes)
     × No (headed (112 ∷ 0 ∷ 0 ∷ 0 ∷ 17 ∷ 0 ∷ 4 ∷ 0 ∷ []) aloneBytes)
     × No (headed (80 ∷ 0 ∷ 0 ∷ 0 ∷ 17 ∷ 0 ∷ 1 ∷ 0 ∷ []) (headed (40 ∷ 0 ∷ 0 ∷ 0 ∷ 17 ∷ 0 ∷ 0 ∷ 0 ∷ []) []))
 unfolding slice field allOf stepCount isPresence leftLength leftPart rightPart flags neighboursFit isAbsence proofIn
-others = (refl, refl, refl, refl, refl, refl, refl, refl, refl, refl)
+others = (refl, refl, refl, refl, refl, refl, refl, refl, refl, refl, refl)

@@ -1,4 +1,4 @@
--- Document 01, 'Bytes': presence and absence proofs. Assumes nothing.
+-- Document 01, 'Bytes': presence and absence proofs; with 2026-03, by which flags 0 is off form. Assumes nothing.
 use Prim.Native.Nat.{ℕ, zero, suc, _+_, _*_, _≤_}
 use mathlib.Core.Bool.{Bool, true, cond, _&&_}
 use mathlib.Core.List.{List, [], _∷_, _++_}
@@ -49,7 +49,7 @@ abbrev pub neighbourBytes : Option Presence → Bytes
 neighbourBytes none = []
 neighbourBytes (some p) = presenceBytes p
 
--- Flags: 1 left neighbour, 2 right, 3 both, 0 neither.
+-- Flags: 1 left neighbour, 2 right, 3 both; 0, neither, is off form.
 abbrev pub flagsOf : Option Presence → Option Presence → ℕ
 flagsOf none none = 0
 flagsOf (some l) none = 1
@@ -80,6 +80,21 @@ stepsIn (suc n) x = record { side = eqb (getD x 0 0) 1; sibling = slice 1 32 x }
 abbrev pub sidesRight : ℕ → Bytes → Bool
 sidesRight zero x = true
 sidesRight (suc n) x = leb (getD x 0 0) 1 && sidesRight n (drop stepSize x)
+
+-- The bytes have room for n steps after the head of a presence proof.
+abbrev pub Room : ℕ → Bytes → Type 0
+Room n x = presenceHead + stepSize * n ≤ length x
+
+-- Step i where it lies, counted from the leaf.
+unfoldable pub stepAt : ℕ → Bytes → Step
+stepAt i x = record {
+  side = eqb (getD x (presenceHead + stepSize * i) 0) 1;
+  sibling = slice (presenceHead + stepSize * i + 1) 32 x;
+}
+
+-- The first n steps after the head.
+abbrev pub firstSteps : ℕ → Bytes → List Step
+firstSteps n x = stepsIn n (drop presenceHead x)
 
 unfoldable pub stepCount : Bytes → ℕ
 stepCount x = field 6 2 x
@@ -118,9 +133,7 @@ flags x = field 6 2 x
 -- Whether the bytes after the head are the neighbours that the flags say.
 unfoldable pub neighboursFit : Bytes → Bool
 neighboursFit x =
-    cond (eqb (flags x) 0)
-    (eqb (length x) absenceHead)
-    (cond (leb (flags x) 2) (isPresence (drop absenceHead x)) (isPresence (leftPart x) && isPresence (rightPart x)))
+    cond (leb (flags x) 2) (isPresence (drop absenceHead x)) (isPresence (leftPart x) && isPresence (rightPart x))
 
 -- Bytes are one whole absence proof in form.
 abbrev pub absenceTests : Bytes → List Bool
@@ -128,6 +141,7 @@ absenceTests x =
     leb absenceHead (length x)
     ∷ eqb (field 0 4 x) (length x)
     ∷ eqb (field 4 2 x) absenceKind
+    ∷ leb 1 (flags x)
     ∷ leb (flags x) 3
     ∷ neighboursFit x
     ∷ []
@@ -167,6 +181,8 @@ abbrev pub NeighbourForm : Option Presence → Type 0
 NeighbourForm none = Unit {0}
 NeighbourForm (some p) = PresenceForm p
 
+-- An absence proof has at least one neighbour.
 abbrev pub ProofForm : Proof → Type 0
 ProofForm (presence p) = PresenceForm p
-ProofForm (absence a) = Whole32 (a .key) × NeighbourForm (a .leftward) × NeighbourForm (a .rightward)
+ProofForm (absence a) =
+    Whole32 (a .key) × NeighbourForm (a .leftward) × NeighbourForm (a .rightward) × (1 ≤ flagsOf (a .leftward) (a .rightward))

@@ -11,15 +11,17 @@ use types.Run.{OneOf}
 use denote.Enum.Declared.{tagOf}
 use borrow.Author.Tests.{eq-eqb, ne-eqb}
 use Rattle.terms.specs.Bits.{Bytes, Side, left, right, sameBytes}
-use Rattle.terms.specs.Fields.{slice}
 use Rattle.terms.specs.Records.{Proof, presence}
 use Rattle.meaning.specs.Calls.{Answer, refused, accepted, isKept}
 use Rattle.meaning.specs.Reading.{seen, atLeaf, atGap, walk}
-use Rattle.meaning.specs.Proving.{presenceOf, stepUp, neighbour, beyond, somebody, fromTrail, absenceFrom, absenceAt, proveEnd, proveSeen, proof, prove, fitted}
+use Rattle.meaning.specs.Proving.{presenceOf, stepUp, neighbour, beyond, somebody, fromTrail, absenceFrom, absenceAt, proveEnd, proveSeen, prove, fitted}
+use Rattle.meaning.proofs.Empty.{proof-by-searches}
 use Rattle.place.specs.Place.{placeOf}
 use Rattle.layout.specs.Headers.{sizeRight, headerOf}
+use Rattle.layout.specs.Slots.{keyIn, valueIn}
 use Rattle.layout.specs.Stores.{slotIn, storeOf}
-use Rattle.read_step.specs.Walk.{opened, openedSays, byHeader, leafAt}
+use Rattle.read_step.specs.Walk.{opened, openedSays, leafAt}
+use Rattle.read_step.specs.Headed.{byHeader}
 use Rattle.read_step.specs.declared.Opened as declared-opened
 use Rattle.read_step.specs.declared.Opened.the-variants as first
 use Rattle.read_step.specs.declared.Seen as declared-seen
@@ -30,17 +32,18 @@ use Rattle.paths.specs.Paths.{presenceAt, pathSteps}
 use Rattle.trails.specs.Trails.{shownAt, shownBy, stepsBy, forkSays, forkOn, Walks}
 use Rattle.trails.specs.Searches.{pathOf, endSays, neighbourSays}
 use Rattle.trails.specs.declared.Walked as declared-walked
-use Rattle.proving.specs.Proving.{Gives, presentAt, absentFrom, provedAt, proveAnswer, lengthOf, roomAfter, provedSays}
+use Rattle.proving.specs.Proving.{proveAnswer, roomAfter}
+use Rattle.proving.specs.Parts.{Gives, presentAt, absentFrom, provedAt, lengthOf, provedSays}
 use Rattle.proving.specs.declared.Proved as declared
 use Rattle.proving.specs.declared.Proved.the-variants.{Refused}
 use Rattle.proving.proofs.Giving.{gives-refusal}
 
 -- by the leaf's key
 pub by-key : {x l : Bytes} {d : Bool} {room after : Bytes} {r : declared.Proved} (n : ℕ) (s k : Bytes) (w : declared-walked.Walked) (i : ℕ) (c : Bool) → x ≡ slotIn i s →
-    l ≡ slice 48 32 x → d ≡ sameBytes k l → d ≡ c → Gives (fitted n (cond c (presentAt s w i) (absentFrom s k w))) room after r →
+    l ≡ keyIn x → d ≡ sameBytes k l → d ≡ c → Gives (fitted n (cond c (presentAt s w i) (absentFrom s k w))) room after r →
     Gives (fitted n (provedAt s k w i)) room after r
 by-key {room = room} {after = after} {r = r} n s k w i c slot its e t g =
-    let same : sameBytes k (slice 48 32 (slotIn i s)) ≡ c = sym (e ∙ ap (sameBytes k) (its ∙ ap (slice 48 32) slot)) ∙ t in
+    let same : sameBytes k (keyIn (slotIn i s)) ≡ c = sym (e ∙ ap (sameBytes k) (its ∙ ap keyIn slot)) ∙ t in
     subst (λ b. Gives (fitted n (cond b (presentAt s w i) (absentFrom s k w))) room after r) (sym same) g
 
 module _ (s : Bytes) (v : ℕ) (k : Bytes) (w : declared-walked.Walked) (h : Walks s v k w) where
@@ -55,15 +58,15 @@ module _ (s : Bytes) (v : ℕ) (k : Bytes) (w : declared-walked.Walked) (h : Wal
   from-fork : (b : Side) → fromTrail b (h .walking .passes) ≡ forkSays s (w .trail .slots) b (forkOn b (w .left) (w .right))
   from-fork b = h .walking .found b
 
-  leaf-presence : (i : ℕ) → presenceOf (slice 48 32 (slotIn i s)) (slice 80 32 (slotIn i s)) (map stepUp (h .walking .passes)) ≡ presenceAt s (pathOf (w .trail) i)
+  leaf-presence : (i : ℕ) → presenceOf (keyIn (slotIn i s)) (valueIn (slotIn i s)) (map stepUp (h .walking .passes)) ≡ presenceAt s (pathOf (w .trail) i)
   unfolding presenceAt pathSteps stepsBy
-  leaf-presence i = ap (presenceOf (slice 48 32 (slotIn i s)) (slice 80 32 (slotIn i s))) (h .walking .steps)
+  leaf-presence i = ap (presenceOf (keyIn (slotIn i s)) (valueIn (slotIn i s))) (h .walking .steps)
 
   leaf-neighbour : (i : ℕ) (b : Side) → w .trail .seen ≡ Leaf i →
-      neighbour b k (atLeaf (slice 48 32 (slotIn i s)) (slice 80 32 (slotIn i s)) (h .walking .passes)) ≡ neighbourSays s k w b
+      neighbour b k (atLeaf (keyIn (slotIn i s)) (valueIn (slotIn i s)) (h .walking .passes)) ≡ neighbourSays s k w b
   unfolding neighbourSays
   leaf-neighbour i b e =
-      ap₂ (λ p x. cond (beyond b (slice 48 32 (slotIn i s)) k) (somebody p) x) (leaf-presence i) (from-fork b)
+      ap₂ (λ p x. cond (beyond b (keyIn (slotIn i s)) k) (somebody p) x) (leaf-presence i) (from-fork b)
       ∙ sym (ap (λ y. endSays s k (w .trail) b y (forkSays s (w .trail .slots) b (forkOn b (w .left) (w .right)))) e)
 
   gap-neighbour : (b : Side) → w .trail .seen ≡ Gap → neighbour b k (atGap (h .walking .passes)) ≡ neighbourSays s k w b
@@ -76,7 +79,7 @@ module _ (s : Bytes) (v : ℕ) (k : Bytes) (w : declared-walked.Walked) (h : Wal
   unfolding leafAt absenceAt
   at-leaf i e =
       prove-at (Leaf i) e
-      ∙ ap₂ (λ p a. cond (sameBytes k (slice 48 32 (slotIn i s))) (accepted (presence p)) a) (leaf-presence i)
+      ∙ ap₂ (λ p a. cond (sameBytes k (keyIn (slotIn i s))) (accepted (presence p)) a) (leaf-presence i)
       (ap₂ (absenceFrom k) (leaf-neighbour i left e) (leaf-neighbour i right e))
 
   at-gap : w .trail .seen ≡ Gap → proveSeen k (seen (storeOf s) v) ≡ absentFrom s k w
@@ -124,9 +127,10 @@ wrong-key s v k room f =
 module _ (s : Bytes) (v : ℕ) (k room : Bytes) (whole : length k ≡ 32) where
   opened-first : proveAnswer s v k (length room)
       ≡ byHeader (headerOf s) (cond (isKept (storeOf s) v) (fitted (length room) (proveSeen k (seen (storeOf s) v))) (refused 8))
-  unfolding proveAnswer prove proof
+  unfolding proveAnswer prove
   opened-first =
       ap (λ b. cond b (byHeader (headerOf s) (prove (storeOf s) v k (length room))) (refused 12)) (eq-eqb (length k) 32 whole)
+      ∙ ap (λ a. byHeader (headerOf s) (fitted (length room) a)) (proof-by-searches (storeOf s) v k)
       ∙ ap (byHeader (headerOf s)) (fitted-kept (length room) (isKept (storeOf s) v) (proveSeen k (seen (storeOf s) v)))
 
   -- 1, 2, 8

@@ -3,7 +3,7 @@ use Prim.Native.Nat.{ℕ, _+_, _*_, _-_, _<_, _≤_}
 use native.Mathlib.Omega.{arith}
 use native.Mathlib.Nat.{zero-add}
 use mathlib.Core.Path.{_≡_, refl, ap, ap₂, sym, _∙_, subst}
-use mathlib.Core.Bool.{Bool, true, false, false≢true, true≢false}
+use mathlib.Core.Bool.{Bool, true, false, _&&_, false≢true, true≢false}
 use mathlib.Core.List.{_++_}
 use lib.ListN.{length, take, drop}
 use borrow.Author.Tests.{lt-ltb, le-ltb}
@@ -22,7 +22,8 @@ use Rattle.paths.specs.declared.Way as declared-way
 use Rattle.paths.specs.declared.Way.the-variants.{Lost, Nobody, Somebody}
 use Rattle.paths.specs.declared.Sought as declared-sought
 use Rattle.paths.proofs.Records.{part-room, steps-count}
-use Rattle.proving.specs.Proving.{lengthOf, roomAfter, provedSays, Gives, wayLost}
+use Rattle.proving.specs.Proving.{roomAfter}
+use Rattle.proving.specs.Parts.{lengthOf, provedSays, Gives, wayLost, wayAlone}
 use Rattle.proving.specs.declared.Proved as declared
 use Rattle.proving.specs.declared.Proved.the-variants.{Refused, Length}
 
@@ -81,15 +82,26 @@ after-left s k Lost p e = absurd (true≢false e)
 after-left s k Nobody p e = refl
 after-left s k Somebody p e = refl
 
+-- neither is lost, and both are nobody
+both-alone : (s k : Bytes) (v w : declared-way.Way) (p q : declared-path.Path) → wayAlone v && wayAlone w ≡ true →
+    absenceFrom k (wayAt s v p) (wayAt s w q) ≡ refused 14
+both-alone s k Lost w p q e = absurd (false≢true e)
+both-alone s k Nobody Lost p q e = absurd (false≢true e)
+both-alone s k Nobody Nobody p q e = refl
+both-alone s k Nobody Somebody p q e = absurd (false≢true e)
+both-alone s k Somebody w p q e = absurd (false≢true e)
+
+-- or there is one
 none-lost : (s k : Bytes) (v w : declared-way.Way) (p q : declared-path.Path) → wayLost v ≡ false → wayLost w ≡ false →
+    wayAlone v && wayAlone w ≡ false →
     absenceFrom k (wayAt s v p) (wayAt s w q) ≡ accepted (absenceOf k (found (wayAt s v p)) (found (wayAt s w q)))
-none-lost s k Lost w p q e f = absurd (true≢false e)
-none-lost s k Nobody Lost p q e f = absurd (true≢false f)
-none-lost s k Nobody Nobody p q e f = refl
-none-lost s k Nobody Somebody p q e f = refl
-none-lost s k Somebody Lost p q e f = absurd (true≢false f)
-none-lost s k Somebody Nobody p q e f = refl
-none-lost s k Somebody Somebody p q e f = refl
+none-lost s k Lost w p q e f n = absurd (true≢false e)
+none-lost s k Nobody Lost p q e f n = absurd (true≢false f)
+none-lost s k Nobody Nobody p q e f n = absurd (true≢false n)
+none-lost s k Nobody Somebody p q e f n = refl
+none-lost s k Somebody Lost p q e f n = absurd (true≢false f)
+none-lost s k Somebody Nobody p q e f n = refl
+none-lost s k Somebody Somebody p q e f n = refl
 
 module _ {x y : Sought} (s k room : Bytes) (l r : declared-sought.Sought) (ex : soughtAt s l ≡ x) (ey : soughtAt s r ≡ y) where
   searched : absenceFrom k x y ≡ absenceFrom k (soughtAt s l) (soughtAt s r)
@@ -107,9 +119,16 @@ module _ {x y : Sought} (s k room : Bytes) (l r : declared-sought.Sought) (ex : 
       (ap (fitted (length room))
       (searched ∙ ap (absenceFrom k (soughtAt s l)) (lost-way s (r .way) (r .path) (sym f ∙ u)) ∙ after-left s k (l .way) (l .path) (sym e ∙ t)))
 
-  pub neither-lost : {d c : Bool} {after : Bytes} {z : declared.Proved} → d ≡ wayLost (l .way) → d ≡ false → c ≡ wayLost (r .way) → c ≡ false →
+  pub nobody-there : {b : Bool} → b ≡ wayAlone (l .way) && wayAlone (r .way) → b ≡ true →
+      Gives (fitted (length room) (absenceFrom k x y)) room room (Refused 14)
+  nobody-there e t =
+      gives-refusal 14 room
+      (ap (fitted (length room)) (searched ∙ both-alone s k (l .way) (r .way) (l .path) (r .path) (sym e ∙ t)))
+
+  pub neither-lost : {d c b : Bool} {after : Bytes} {z : declared.Proved} → d ≡ wayLost (l .way) → d ≡ false → c ≡ wayLost (r .way) → c ≡ false →
+      b ≡ wayAlone (l .way) && wayAlone (r .way) → b ≡ false →
       Gives (fitted (length room) (accepted (absenceOf k (neighbourAt s l) (neighbourAt s r)))) room after z → Gives (fitted (length room) (absenceFrom k x y)) room after z
   unfolding neighbourAt
-  neither-lost {after = after} {z = z} e t f u g =
+  neither-lost {after = after} {z = z} e t f u a n g =
       subst (λ a. Gives (fitted (length room) a) room after z)
-      (sym (searched ∙ none-lost s k (l .way) (r .way) (l .path) (r .path) (sym e ∙ t) (sym f ∙ u))) g
+      (sym (searched ∙ none-lost s k (l .way) (r .way) (l .path) (r .path) (sym e ∙ t) (sym f ∙ u) (sym a ∙ n))) g

@@ -1,1 +1,2 @@
 pub mod Proving
+pub mod Parts

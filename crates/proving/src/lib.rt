@@ -1,4 +1,4 @@
-// Proving over lent bytes, document 01, 'Reading and proving': the proof for a key in a version, for every store, sound or damaged.
+// Proving over lent bytes, document 01, 'Reading and proving', and 2026-03: the proof for a key in a version, for every store, sound or damaged.
 use paths::ABSENCE_HEAD;
 use paths::PRESENCE_HEAD;
 use paths::Path;
@@ -6,8 +6,8 @@ use paths::STEP_SIZE;
 use paths::Sought;
 use paths::Way;
 use paths::neighbour_length;
-use paths::put_absence;
 use paths::put_presence;
+use paths_absence::put_absence;
 use place::same;
 use read_step::NOT_SOUND;
 use read_step::Opened;
@@ -20,7 +20,7 @@ use trails::Walked;
 use trails::neighbour;
 use trails::walk;
 ghost use mathlib.Core.Path.{_≡_};
-ghost use mathlib.Core.Bool.{true};
+ghost use mathlib.Core.Bool.{true, _&&_};
 ghost use lib.ListN.{length};
 ghost use Rattle.terms.specs.Records.{presence};
 ghost use Rattle.meaning.specs.Calls.{accepted};
@@ -32,10 +32,14 @@ ghost use Rattle.read_step.specs.declared.Seen.the-variants.{Leaf};
 ghost use Rattle.paths.specs.Paths.{presenceAt, PathIn};
 ghost use Rattle.paths.specs.Neighbours.{neighbourAt, NeighbourIn};
 ghost use Rattle.trails.specs.Searches.{WalkedIn};
-ghost use Rattle.proving.specs.Proving.{Offers, absentFrom, provedAt, wayLost, proveAnswer, provedSays, lengthOf, roomAfter};
+ghost use Rattle.proving.specs.Proving.{proveAnswer, roomAfter};
+ghost use Rattle.proving.specs.Parts.{Offers, absentFrom, provedAt, wayLost, wayAlone, provedSays, lengthOf};
 
 // 9: the proof is longer than the buffer.
 const NO_ROOM: u32 = 9;
+
+// 14: the version is empty, so there is no neighbour to show.
+const EMPTY: u32 = 14;
 
 // What proving answers.
 pub enum Proved {
@@ -83,7 +87,29 @@ fn lost(n: Sought) -> bool
     }
 }
 
-// Gives the absence proof of a key where its walk has ended: both searches first, then the room.
+// Whether a search found nobody.
+fn alone(n: Sought) -> bool
+    ensures { λ r. ⌜ r ≡ wayAlone (n .way) ⌝ }
+{
+    let way = n.way;
+    match way {
+        Way::Lost => false,
+        Way::Nobody => true,
+        Way::Somebody => false,
+    }
+}
+
+// Whether neither search found somebody.
+fn neither(left: Sought, right: Sought) -> bool
+    ensures { λ r. ⌜ r ≡ wayAlone (left .way) && wayAlone (right .way) ⌝ }
+{
+    if alone(left) {
+        return alone(right);
+    }
+    false
+}
+
+// Gives the absence proof of a key where its walk has ended: both searches first, then the room. Only in an empty version do both find nobody.
 fn absent(store: &[u8], key: &[u8], walked: Walked, room: &mut [u8]) -> Proved
     requires { ⌜ WalkedIn (now store) walked × (length (now key) ≡ 32) ⌝ }
     ensures { λ r. ⌜ Offers (absentFrom (now (store .entry)) (now (key .entry)) walked) (now (room .entry)) (now (room .exit)) r ⌝ }
@@ -95,6 +121,9 @@ fn absent(store: &[u8], key: &[u8], walked: Walked, room: &mut [u8]) -> Proved
     }
     if lost(right) {
         return Proved::Refused(NOT_SOUND);
+    }
+    if neither(left, right) {
+        return Proved::Refused(EMPTY);
     }
     give_absence(store, key, left, right, room)
 }

@@ -12,11 +12,12 @@ use Rattle.fields.specs.Written.{written}
 use Rattle.fields.proofs.Written.{fields-fill}
 use Rattle.meaning.specs.Calls.{Answer, refused, accepted}
 use Rattle.meaning.specs.Proving.{proofLength}
-use Rattle.proving.specs.Proving.{lengthOf, roomAfter, provedSays}
+use Rattle.proving.specs.Proving.{roomAfter}
+use Rattle.proving.specs.Parts.{lengthOf, provedSays}
 use Rattle.proving.specs.declared.Proved as declared
 use Rattle.proving.specs.declared.Proved.the-variants.{Refused, Length}
 use Rattle.meaning.specs.Answers.{numberOf}
-use Rattle.proving_c.specs.Export.{lengthBytes}
+use Rattle.proving_c.specs.Export.{provedInto, lengthBytes, Proves}
 
 -- the number and the four bytes of an answer
 record Told (a : Answer Proof) (n : ℕ) (old new : Bytes) : Type 0 where
@@ -31,15 +32,16 @@ length-told : (a : Answer Proof) (n : ℕ) (old new : Bytes) → accepted n ≡ 
 length-told (refused m) n old new e f = let z : _≡_ {A = ℕ} 0 1 = cc in absurd (omega arith)
 length-told (accepted p) n old new e f = let z : n ≡ proofLength p = cc in record { number = refl; told = f ∙ ap (le 4) z }
 
-module _ {after : Bytes} {r : declared.Proved} (a : Answer Proof) (room : Bytes) (says : provedSays r ≡ lengthOf a) (bytes : after ≡ roomAfter a room) where
-  pub prove-refused : {n : ℕ} (old : Bytes) → r ≡ Refused n → (n ≡ numberOf a) × ((after ≡ roomAfter a room) × (old ≡ lengthBytes a old))
+module _ {s k room after : Bytes} {v : ℕ} {r : declared.Proved} (says : provedSays r ≡ lengthOf (provedInto s v k room)) (bytes : after ≡ roomAfter (provedInto s v k room) room) (old : Bytes) where
+  pub prove-refused : {n : ℕ} → r ≡ Refused n → Proves s v k room old n after old
   unfolding provedSays
-  prove-refused {n} old e = let t = refused-told a n old (sym (ap provedSays e) ∙ says) in (t .number, (bytes, t .told))
+  prove-refused {n} e =
+      let t = refused-told (provedInto s v k room) n old (sym (ap provedSays e) ∙ says) in
+      record { answer = t .number; proof = bytes; told = t .told }
 
-  pub prove-given : {n : ℕ} {new : Bytes} (old : Bytes) → r ≡ Length n → length old ≡ 4 → new ≡ written 0 (le 4 n) old →
-      (0 ≡ numberOf a) × ((after ≡ roomAfter a room) × (new ≡ lengthBytes a old))
+  pub prove-given : {n : ℕ} {new : Bytes} → r ≡ Length n → length old ≡ 4 → new ≡ written 0 (le 4 n) old → Proves s v k room old 0 after new
   unfolding provedSays
-  prove-given {n} {new} old e l w =
+  prove-given {n} {new} e l w =
       let f : new ≡ le 4 n = w ∙ fields-fill (4 ∷ []) (le 4 n ∷ []) old (length-le 4 n, tt) (sym l) ∙ append-nil (le 4 n) in
-      let t = length-told a n old new (sym (ap provedSays e) ∙ says) f in
-      (t .number, (bytes, t .told))
+      let t = length-told (provedInto s v k room) n old new (sym (ap provedSays e) ∙ says) f in
+      record { answer = t .number; proof = bytes; told = t .told }

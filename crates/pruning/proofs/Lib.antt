@@ -1,3 +1,2 @@
-pub mod Freeing
 pub mod Outcomes
 pub mod Theorems

@@ -1,30 +1,16 @@
 -- The outcome of each way through the call: the header and soundness first, then whether the version is kept; freeing the retired records
 -- and setting oldest is pruning. Assumes nothing.
-use Prim.Native.Nat.{ℕ, _≤_, _<_}
+use Prim.Native.Nat.{ℕ}
 use mathlib.Core.Path.{_≡_, ap, sym, _∙_, subst}
 use mathlib.Core.Bool.{true, false}
-use lib.Dec.{leb}
-use borrow.Author.Tests.{le-leb, lt-leb}
 use Rattle.terms.specs.Bits.{Bytes, Byte, All}
-use Rattle.terms.specs.Fields.{le, field}
-use Rattle.fields.specs.Written.{written}
 use Rattle.meaning.specs.Calls.{refused, accepted, refuse, isKept, prune}
-use Rattle.layout.specs.Stores.{storeOf, storeBytes, putBounds}
+use Rattle.layout.specs.Stores.{storeOf, storeBytes, withOldest, putBounds}
 use Rattle.layout.proofs.Stores.{oldest-put-bytes}
 use Rattle.promises.specs.Calls.{SoundBytes, refuses, accepts}
 use Rattle.promises.proofs.Calls.{sound-form, sound-back}
-use Rattle.pruning.specs.Free.{Readable, emptied, Frees}
+use Rattle.freeing.specs.Free.{Readable, emptied, Frees}
 use Rattle.pruning.specs.Prune.{Prunes}
-
--- the version is kept, as the code tests it
-module _ (s : Bytes) (v : ℕ) where
-  pub below-oldest : v < field 12 4 s → false ≡ isKept (storeOf s) v
-  unfolding isKept storeOf
-  below-oldest h = rw (lt-leb (field 12 4 s) v h)
-
-  pub up-to-latest : field 12 4 s ≤ v → leb v (field 16 4 s) ≡ isKept (storeOf s) v
-  unfolding isKept storeOf
-  up-to-latest h = rw (le-leb (field 12 4 s) v h)
 
 module _ {s : Bytes} (w : SoundBytes s) where
   pub sound-readable : All Byte s → Readable s
@@ -35,10 +21,10 @@ module _ {s : Bytes} (w : SoundBytes s) where
   refused-8 n e = refuses {m = 8} w (rw e)
 
   -- the retired records are freed and oldest is set
-  pub pruned-to : (n : ℕ) {k : ℕ} {t u : Bytes} → isKept (storeOf s) n ≡ true → Frees n s k t → u ≡ written 12 (le 4 n) t → Prunes n s (accepted k) u
+  pub pruned-to : (n : ℕ) {k : ℕ} {t u : Bytes} → isKept (storeOf s) n ≡ true → Frees n s k t → u ≡ withOldest n t → Prunes n s (accepted k) u
   unfolding prune putBounds emptied
   pruned-to n {k} {t} {u} e f p =
       let st = storeOf s in
       let answer : prune n st .answer ≡ accepted k = rw (e, f .count) in
       let after : prune n st .store ≡ putBounds n (st .latest) (emptied n st) = rw e in
-      subst (Prunes n s (accepted k)) (ap storeBytes after ∙ oldest-put-bytes (emptied n st) n ∙ ap (written 12 (le 4 n)) (sym (f .bytes)) ∙ sym p) (accepts w answer)
+      subst (Prunes n s (accepted k)) (ap storeBytes after ∙ oldest-put-bytes (emptied n st) n ∙ ap (withOldest n) (sym (f .bytes)) ∙ sym p) (accepts w answer)

@@ -1,14 +1,12 @@
-// Pruning for C and Rust to link. A slice is passed as a pointer and a length, an array as a pointer alone. It answers 0 where it is accepted,
-// else the number of refusal, and then it writes nothing.
+// Pruning at the boundary: the call answers 0 where it is accepted, else the number of refusal, and then it writes nothing. `grants` exports it.
 use fields::put_u32;
 use pruning::Pruned;
 use pruning::prune;
-ghost use Rattle.pruning_c.specs.Export.{Exports};
+ghost use Rattle.pruning_c.specs.Export.{PruneExports};
 
 // Prunes a store to a version; how many records were freed goes out in four bytes.
-#[no_mangle]
-pub extern "C" fn grants_prune(store: &mut [u8], version: u32, freed: &mut [u8; 4]) -> u32
-    ensures { λ r. ⌜ Exports version (now (store .entry)) (now (freed .entry)) r (now (store .exit)) (now (freed .exit)) ⌝ }
+pub fn grants_prune(store: &mut [u8], version: u32, freed: &mut [u8; 4]) -> u32
+    ensures { λ r. ⌜ PruneExports version (now (store .entry)) (now (freed .entry)) r (now (store .exit)) (now (freed .exit)) ⌝ }
 {
     let answer = prune(store, version);
     match answer {

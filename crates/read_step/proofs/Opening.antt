@@ -14,7 +14,8 @@ use Rattle.layout.specs.Answer.{headerSays}
 use Rattle.layout.specs.declared.Header as declared
 use Rattle.layout.specs.declared.Header.the-variants.{Refused, Accepted}
 use Rattle.layout.proofs.Headers as headers
-use Rattle.read_step.specs.Walk.{byHeader, opened}
+use Rattle.read_step.specs.Walk.{opened}
+use Rattle.read_step.specs.Headed.{byHeader}
 
 module _ (s : Bytes) (v : ℕ) {h : declared.Header} (says : headerSays h ≡ headerOf s) where
   pub header-refused : {n : ℕ} → h ≡ Refused n → refused n ≡ opened s v

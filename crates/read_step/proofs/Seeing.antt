@@ -1,47 +1,42 @@
--- What is seen at the root and at a child, by the slot that is found there: a record in form is what its 120 bytes say, and an inner one
+-- What is seen at the root and at a child, by the slot that is found there: a record in form is what its bytes say, and an inner one
 -- has a place shorter than a key. Assumes nothing.
-use Prim.Native.Nat.{ℕ, suc, _+_, _*_, _-_, _<_, _≤_}
+use Prim.Native.Nat.{ℕ, suc, _-_, _<_, _≤_}
 use native.Mathlib.Omega.{arith}
 use mathlib.Core.Path.{_≡_, refl, ap, sym, _∙_, subst}
 use mathlib.Core.Bool.{Bool, true, false, cond}
-use mathlib.Core.List.{List, []}
-use mathlib.Core.Option.{none, some}
-use lib.ListN.{length, drop}
+use mathlib.Core.List.{[]}
+use mathlib.Core.Option.{Option, none, some}
+use lib.ListN.{length}
 use Rattle.terms.specs.Bits.{Bytes, Byte, All, Side, Place, longer, begins}
-use Rattle.terms.specs.Fields.{slice, allZero}
-use Rattle.terms.specs.Records.{Child, leafBody, innerBody, Record, Slot, free, used, spoiled, zeros}
+use Rattle.terms.specs.Fields.{allZero}
+use Rattle.terms.specs.Records.{Child, leafBody, innerBody, Record, free, used, spoiled, zeros}
 use Rattle.terms.specs.Form.{RecordForm, placeLimit}
-use Rattle.terms.proofs.Fields.{length-slice, all-slice}
 use Rattle.terms.proofs.Places.{length-longer}
-use Rattle.meaning.specs.Store.{find, isNode, rootOf, childOn}
+use Rattle.meaning.specs.Store.{find, rootOf, childOn}
 use Rattle.meaning.specs.Reading.{lost, gap, leafSeen, fork, seenAt, seen, bodyHash, rootHash}
-use Rattle.meaning.proofs.Finding.{isNode-eq, Hit, hit, hits, used-eq}
+use Rattle.meaning.proofs.Finding.{found-in, used-eq}
+use Rattle.meaning.proofs.Roots.{root-at}
 use Rattle.shown.proofs.SeenAt.{root-gap, root-leaf, root-fork, child-gap, child-lost, child-leaf, child-fork}
 use Rattle.place.specs.declared.Place as declared-place
 use Rattle.place.specs.Place.{placeOf, Proper, Grown}
 use Rattle.place.proofs.Places.{proper-count}
 use Rattle.layout.specs.Sizes.{roomOf}
 use Rattle.layout.specs.Headers.{sizeRight}
-use Rattle.layout.specs.Slots.{isLeaf, isInner, leafIn, innerIn, childIn, recordIn, slotOf, SlotForm}
-use Rattle.layout.specs.Stores.{slotIn, storeOf}
-use Rattle.layout.proofs.Headers.{size-says}
-use Rattle.layout.proofs.Slots.{slot-form}
-use Rattle.layout.proofs.Stores.{slot-at, length-slots}
-use Rattle.lookup.specs.Lookup.{FoundIn}
+use Rattle.layout.specs.Slots.{keyIn, valueIn, leftIn, rightIn, kidOn, isLeaf, isInner, leafIn, innerIn, recordIn, slotOf, SlotForm}
+use Rattle.layout.specs.Stores.{slotIn, storeOf, Has}
+use Rattle.layout.proofs.Stores.{slot-at}
+use Rattle.store.proofs.Slots.{slots-many, slot-formed}
+use Rattle.lookup.specs.Lookup.{Located}
 use Rattle.lookup.specs.declared.Found as declared-found
 use Rattle.lookup.specs.declared.Found.the-variants.{At, Nothing}
 use Rattle.read_step.specs.Walk.{bodyIn, kidIn, seenBelow, bodySeen, leafAt, forkAt, Sees, Holds}
 use Rattle.read_step.specs.declared.Seen as declared
 use Rattle.read_step.specs.declared.Seen.the-variants.{Lost, Leaf, Inner}
 
--- a slot of a store of the right size
-module _ (s : Bytes) (size : sizeRight (length s) ≡ true) (i : ℕ) (inside : i < roomOf (length s)) where
-  pub slot-fits : 24 + 120 * i + 120 ≤ length s
-  slot-fits = let t = size-says (length s) size in omega arith
-
-  slot-long : length (slotIn i s) ≡ 120
-  unfolding slotIn
-  slot-long = length-slice (24 + 120 * i) 120 s slot-fits
+-- the child on a side of an inner record
+pub kid-is : (b : Side) (x : Bytes) → kidOn b x ≡ childOn b (leftIn x) (rightIn x)
+kid-is false x = refl
+kid-is true x = refl
 
 -- a record in form holds what its bytes say
 body-is : (x : Bytes) (r : Record) → slotOf x ≡ used r → r .body ≡ bodyIn x
@@ -55,11 +50,11 @@ body-is x r = go (allZero x) (isLeaf x) (isInner x)
     go false false true e = ap (λ (q : Record). q .body) (sym (used-eq _ r e))
     go false false false e = let z : _≡_ {A = ℕ} 0 1 = cc in absurd (omega arith)
 
-pub leaf-body : (x : Bytes) → isLeaf x ≡ true → bodyIn x ≡ leafBody (slice 48 32 x) (slice 80 32 x)
+pub leaf-body : (x : Bytes) → isLeaf x ≡ true → bodyIn x ≡ leafBody (keyIn x) (valueIn x)
 unfolding bodyIn leafIn
 leaf-body x e = rw e
 
-pub inner-body : (x : Bytes) → isLeaf x ≡ false → bodyIn x ≡ innerBody (childIn 48 x) (childIn 84 x)
+pub inner-body : (x : Bytes) → isLeaf x ≡ false → bodyIn x ≡ innerBody (leftIn x) (rightIn x)
 unfolding bodyIn innerIn
 inner-body x e = rw e
 
@@ -67,132 +62,138 @@ by-kind : {A : Type 0} (b : Bool) → (b ≡ true → A) → (b ≡ false → A)
 by-kind true f g = f refl
 by-kind false f g = g refl
 
-hit-node : {s : List Slot} {v : ℕ} {p : Place} {r : Record} → Hit s v p (some r) → isNode v p r ≡ true
-hit-node (hit i r l e n) = n
+-- the record sought stands at this place, where there is one
+abbrev pub PlacedAt : Option Record → declared-place.Place → Type 0
+PlacedAt o p = (q : Record) → o ≡ some q → q .place ≡ placeOf p
 
--- what was found of a version and place
-module _ (s : Bytes) (size : sizeRight (length s) ≡ true) (bytes : All Byte s) (v : ℕ) (p : declared-place.Place) (proper : Proper p)
-    {r : declared-found.Found} (found-in : FoundIn (storeOf s .slots) v (placeOf p) r) where
+-- so it is with the node of a version and place, and with a root at the empty place
+pub node-placed : (s : Bytes) (v : ℕ) (p : declared-place.Place) → PlacedAt (find v (placeOf p) (storeOf s .slots)) p
+node-placed s v p q e = found-in (storeOf s .slots) v (placeOf p) q e .3
+
+pub root-placed : (s : Bytes) (v : ℕ) (p : declared-place.Place) → placeOf p ≡ [] → PlacedAt (rootOf (storeOf s) v) p
+root-placed s v p top q e = root-at (storeOf s) v q e .2 ∙ sym top
+
+-- what was found of the record sought
+module _ (s : Bytes) (o : Option Record) {r : declared-found.Found} (located : Located (storeOf s .slots) o r) where
   -- nothing
   module _ (nothing : r ≡ Nothing) where
-    none-found : find v (placeOf p) (storeOf s .slots) ≡ none
-    none-found = subst (FoundIn (storeOf s .slots) v (placeOf p)) nothing found-in
+    none-found : o ≡ none
+    none-found = subst (Located (storeOf s .slots) o) nothing located
 
-    no-root : placeOf p ≡ [] → rootOf (storeOf s) v ≡ none
-    unfolding rootOf
-    no-root top = ap (λ q. find v q (storeOf s .slots)) (sym top) ∙ none-found
+    pub root-nothing : (v : ℕ) → rootOf (storeOf s) v ≡ o → seen (storeOf s) v ≡ gap
+    root-nothing v e = root-gap (storeOf s) v (e ∙ none-found)
 
-    pub root-nothing : placeOf p ≡ [] → seen (storeOf s) v ≡ gap
-    root-nothing top = root-gap (storeOf s) v (no-root top)
-
-    pub no-root-hash : (leafHash innerHash : Bytes → Bytes → Bytes) → placeOf p ≡ [] →
+    pub no-root-hash : (leafHash innerHash : Bytes → Bytes → Bytes) (v : ℕ) → rootOf (storeOf s) v ≡ o →
         zeros ≡ rootHash leafHash innerHash (rootOf (storeOf s) v)
-    no-root-hash leafHash innerHash top = ap (rootHash leafHash innerHash) (sym (no-root top))
+    no-root-hash leafHash innerHash v e = ap (rootHash leafHash innerHash) (sym (e ∙ none-found))
 
-    pub child-nothing : (c : Child) → v ≡ c .version → 1 ≤ v → seenBelow s (placeOf p) c ≡ lost
+    pub child-nothing : (p : Place) (c : Child) → find (c .version) p (storeOf s .slots) ≡ o → 1 ≤ c .version → seenBelow s p c ≡ lost
     unfolding seenBelow
-    child-nothing c w h =
-        child-lost (storeOf s .slots) (placeOf p) c (256 - length (placeOf p)) (omega arith)
-        (ap (λ m. find m (placeOf p) (storeOf s .slots)) (sym w) ∙ none-found)
+    child-nothing p c e h = child-lost (storeOf s .slots) p c (256 - length p) h (e ∙ none-found)
 
   -- a record, in slot i
   module _ {i : ℕ} (at-i : r ≡ At i) where
-    found : FoundIn (storeOf s .slots) v (placeOf p) (At i)
-    found = subst (FoundIn (storeOf s .slots) v (placeOf p)) at-i found-in
-
-    abbrev it : Record
-    it = found .1 .0
-
-    is-found : find v (placeOf p) (storeOf s .slots) ≡ some it
-    is-found = found .1 .2
+    found : Located (storeOf s .slots) o (At i)
+    found = subst (Located (storeOf s .slots) o) at-i located
 
     pub inside : i < roomOf (length s)
-    unfolding storeOf
-    inside = rw (length-slots (roomOf (length s)) (drop 24 s)) at (found .0)
+    inside = rw (slots-many s) at (found .0)
 
-    slot-is : slotOf (slotIn i s) ≡ used it
+    slot-is : slotOf (slotIn i s) ≡ used (found .1 .0)
     slot-is = sym (slot-at s i inside) ∙ found .1 .1
 
-    body : it .body ≡ bodyIn (slotIn i s)
-    body = body-is (slotIn i s) it slot-is
+    body : found .1 .0 .body ≡ bodyIn (slotIn i s)
+    body = body-is (slotIn i s) (found .1 .0) slot-is
 
-    form : RecordForm it
-    unfolding slotIn
-    form = subst SlotForm slot-is (slot-form (slotIn i s) (slot-long s size i inside) (all-slice (24 + 120 * i) 120 s bytes))
+    pub root-hash : (leafHash innerHash : Bytes → Bytes → Bytes) (v : ℕ) → rootOf (storeOf s) v ≡ o →
+        bodyHash leafHash innerHash (bodyIn (slotIn i s)) ≡ rootHash leafHash innerHash (rootOf (storeOf s) v)
+    root-hash leafHash innerHash v e =
+        ap (bodyHash leafHash innerHash) (sym body) ∙ ap (rootHash leafHash innerHash) (sym (e ∙ found .1 .2))
 
-    place : it .place ≡ placeOf p
-    place =
-        let h = subst (Hit (storeOf s .slots) v (placeOf p)) is-found (hits (storeOf s .slots) v (placeOf p)) in
-        isNode-eq v (placeOf p) it (hit-node h) .1
+-- and at its place
+module _ (s : Bytes) (size : sizeRight (length s) ≡ true) (bytes : All Byte s) (p : declared-place.Place) (proper : Proper p)
+    {o : Option Record} (placed : PlacedAt o p) {r : declared-found.Found} (located : Located (storeOf s .slots) o r) {i : ℕ} (at-i : r ≡ At i) where
+  abbrev it : Record
+  it = found s o located at-i .1 .0
 
-    short : isLeaf (slotIn i s) ≡ false → length (placeOf p) ≤ 255
-    short e =
-        let limit : placeLimit (it .body) ≡ 255 = ap placeLimit (body ∙ inner-body (slotIn i s) e) in
-        omega (arith, form .short, ap length place)
+  is-found : o ≡ some it
+  is-found = found s o located at-i .1 .2
 
-    pub holds-found : Holds s i p
-    holds-found = record {
-      slotted = record { size = size; inside = inside; proper = proper };
-      short = λ e. omega (arith, short e, proper-count p proper);
-    }
+  has : Has s i
+  has = record { size = size; inside = inside s o located at-i }
 
-    -- the root
-    module _ (top : placeOf p ≡ []) where
-      root-is : rootOf (storeOf s) v ≡ some it
-      unfolding rootOf
-      root-is = ap (λ q. find v q (storeOf s .slots)) (sym top) ∙ is-found
+  form : RecordForm it
+  form = subst SlotForm (slot-is s o located at-i) (slot-formed has bytes)
 
-      pub root-hash : (leafHash innerHash : Bytes → Bytes → Bytes) →
-          bodyHash leafHash innerHash (bodyIn (slotIn i s)) ≡ rootHash leafHash innerHash (rootOf (storeOf s) v)
-      root-hash leafHash innerHash = ap (bodyHash leafHash innerHash) (sym body) ∙ ap (rootHash leafHash innerHash) (sym root-is)
+  holds : it .body ≡ bodyIn (slotIn i s)
+  holds = body s o located at-i
 
-      root-leaf-is : isLeaf (slotIn i s) ≡ true → seen (storeOf s) v ≡ bodySeen s (placeOf p) (bodyIn (slotIn i s))
-      unfolding begins
-      root-leaf-is e =
-          let k = slice 48 32 (slotIn i s) in
-          let y = slice 80 32 (slotIn i s) in
-          let b = leaf-body (slotIn i s) e in
-          root-leaf (storeOf s) v it k y root-is (body ∙ b)
-          ∙ ap (λ q. cond (begins q k) (leafSeen k y) lost) (sym top)
-          ∙ ap (bodySeen s (placeOf p)) (sym b)
+  place : it .place ≡ placeOf p
+  place = placed it is-found
 
-      root-fork-is : isLeaf (slotIn i s) ≡ false → seen (storeOf s) v ≡ bodySeen s (placeOf p) (bodyIn (slotIn i s))
-      root-fork-is e =
-          let n = 255 - length (placeOf p) in
-          let l = childIn 48 (slotIn i s) in
-          let m = childIn 84 (slotIn i s) in
-          let b = inner-body (slotIn i s) e in
-          let w : 255 - length (placeOf p) ≡ 255 = omega (arith, ap length top) in
-          root-fork (storeOf s) v n it l m w root-is (body ∙ b)
-          ∙ ap (λ q. fork (λ c. childOn c l m .hash) (λ c. seenAt n (storeOf s .slots) (longer c q) (childOn c l m))) (sym top)
-          ∙ ap (bodySeen s (placeOf p)) (sym b)
+  short : isLeaf (slotIn i s) ≡ false → length (placeOf p) ≤ 255
+  short e =
+      let limit : placeLimit (it .body) ≡ 255 = ap placeLimit (holds ∙ inner-body (slotIn i s) e) in
+      omega (arith, form .short, ap length place)
 
-      pub root-sees : (t : declared.Seen) → Sees s (placeOf p) (bodySeen s (placeOf p) (bodyIn (slotIn i s))) t → Sees s [] (seen (storeOf s) v) t
-      root-sees t h =
-          let e = by-kind (isLeaf (slotIn i s)) root-leaf-is root-fork-is in
-          subst (λ q. Sees s q (seen (storeOf s) v) t) top (subst (λ y. Sees s (placeOf p) y t) (sym e) h)
+  pub holds-found : Holds s i p
+  holds-found = record {
+    slotted = record { size = size; inside = has .inside; proper = proper };
+    short = λ e. omega (arith, short e, proper-count p proper);
+  }
 
-    -- a child
-    module _ (c : Child) (version : v ≡ c .version) (present : 1 ≤ v) where
-      child-is : find (c .version) (placeOf p) (storeOf s .slots) ≡ some it
-      child-is = ap (λ m. find m (placeOf p) (storeOf s .slots)) (sym version) ∙ is-found
+  -- the root
+  module _ (v : ℕ) (root : rootOf (storeOf s) v ≡ o) (top : placeOf p ≡ []) where
+    root-is : rootOf (storeOf s) v ≡ some it
+    root-is = root ∙ is-found
 
-      child-leaf-is : isLeaf (slotIn i s) ≡ true → seenBelow s (placeOf p) c ≡ bodySeen s (placeOf p) (bodyIn (slotIn i s))
-      unfolding seenBelow
-      child-leaf-is e =
-          let b = leaf-body (slotIn i s) e in
-          rw b (child-leaf (storeOf s .slots) (placeOf p) c (256 - length (placeOf p)) it _ _ (omega arith) child-is (body ∙ b))
+    root-leaf-is : isLeaf (slotIn i s) ≡ true → seen (storeOf s) v ≡ bodySeen s (placeOf p) (bodyIn (slotIn i s))
+    unfolding begins
+    root-leaf-is e =
+        let k = keyIn (slotIn i s) in
+        let y = valueIn (slotIn i s) in
+        let b = leaf-body (slotIn i s) e in
+        root-leaf (storeOf s) v it k y root-is (holds ∙ b)
+        ∙ ap (λ q. cond (begins q k) (leafSeen k y) lost) (sym top)
+        ∙ ap (bodySeen s (placeOf p)) (sym b)
 
-      child-fork-is : isLeaf (slotIn i s) ≡ false → seenBelow s (placeOf p) c ≡ bodySeen s (placeOf p) (bodyIn (slotIn i s))
-      unfolding seenBelow
-      child-fork-is e =
-          let b = inner-body (slotIn i s) e in
-          let n : 256 - length (placeOf p) ≡ suc (255 - length (placeOf p)) = omega (arith, short e) in
-          rw (b, n) (child-fork (storeOf s .slots) (placeOf p) c (255 - length (placeOf p)) it _ _ (omega arith) child-is (body ∙ b))
+    root-fork-is : isLeaf (slotIn i s) ≡ false → seen (storeOf s) v ≡ bodySeen s (placeOf p) (bodyIn (slotIn i s))
+    root-fork-is e =
+        let n = 255 - length (placeOf p) in
+        let l = leftIn (slotIn i s) in
+        let m = rightIn (slotIn i s) in
+        let b = inner-body (slotIn i s) e in
+        let w : 255 - length (placeOf p) ≡ 255 = omega (arith, ap length top) in
+        root-fork (storeOf s) v n it l m w root-is (holds ∙ b)
+        ∙ ap (λ q. fork (λ c. childOn c l m .hash) (λ c. seenAt n (storeOf s .slots) (longer c q) (childOn c l m))) (sym top)
+        ∙ ap (bodySeen s (placeOf p)) (sym b)
 
-      pub child-sees : (t : declared.Seen) → Sees s (placeOf p) (bodySeen s (placeOf p) (bodyIn (slotIn i s))) t →
-          Sees s (placeOf p) (seenBelow s (placeOf p) c) t
-      child-sees t h = subst (λ y. Sees s (placeOf p) y t) (sym (by-kind (isLeaf (slotIn i s)) child-leaf-is child-fork-is)) h
+    pub root-sees : (t : declared.Seen) → Sees s (placeOf p) (bodySeen s (placeOf p) (bodyIn (slotIn i s))) t → Sees s [] (seen (storeOf s) v) t
+    root-sees t h =
+        let e = by-kind (isLeaf (slotIn i s)) root-leaf-is root-fork-is in
+        subst (λ q. Sees s q (seen (storeOf s) v) t) top (subst (λ y. Sees s (placeOf p) y t) (sym e) h)
+
+  -- a child
+  module _ (c : Child) (child : find (c .version) (placeOf p) (storeOf s .slots) ≡ o) (present : 1 ≤ c .version) where
+    child-is : find (c .version) (placeOf p) (storeOf s .slots) ≡ some it
+    child-is = child ∙ is-found
+
+    child-leaf-is : isLeaf (slotIn i s) ≡ true → seenBelow s (placeOf p) c ≡ bodySeen s (placeOf p) (bodyIn (slotIn i s))
+    unfolding seenBelow
+    child-leaf-is e =
+        let b = leaf-body (slotIn i s) e in
+        rw b (child-leaf (storeOf s .slots) (placeOf p) c (256 - length (placeOf p)) it _ _ present child-is (holds ∙ b))
+
+    child-fork-is : isLeaf (slotIn i s) ≡ false → seenBelow s (placeOf p) c ≡ bodySeen s (placeOf p) (bodyIn (slotIn i s))
+    unfolding seenBelow
+    child-fork-is e =
+        let b = inner-body (slotIn i s) e in
+        let n : 256 - length (placeOf p) ≡ suc (255 - length (placeOf p)) = omega (arith, short e) in
+        rw (b, n) (child-fork (storeOf s .slots) (placeOf p) c (255 - length (placeOf p)) it _ _ present child-is (holds ∙ b))
+
+    pub child-sees : (t : declared.Seen) → Sees s (placeOf p) (bodySeen s (placeOf p) (bodyIn (slotIn i s))) t →
+        Sees s (placeOf p) (seenBelow s (placeOf p) c) t
+    child-sees t h = subst (λ y. Sees s (placeOf p) y t) (sym (by-kind (isLeaf (slotIn i s)) child-leaf-is child-fork-is)) h
 
 -- what an inner node has on a side is what is seen at the child's place
 pub kid-seen : {b : Side} {p q : declared-place.Place} (s : Bytes) (c : Child) → Grown b p q →
@@ -222,12 +223,12 @@ module _ {s : Bytes} {i : ℕ} {p : declared-place.Place} (h : Holds s i p) wher
         ap (bodySeen s (placeOf p)) (inner-body (slotIn i s) f),
       )
 
-  module _ {x k : Bytes} {b : Bool} (q : x ≡ slotIn i s) (d : b ≡ isLeaf x) (e : b ≡ true) (key : k ≡ slice 48 32 x) where
-    its-body : bodyIn (slotIn i s) ≡ leafBody (slice 48 32 (slotIn i s)) (slice 80 32 (slotIn i s))
+  module _ {x k : Bytes} {b : Bool} (q : x ≡ slotIn i s) (d : b ≡ isLeaf x) (e : b ≡ true) (key : k ≡ keyIn x) where
+    its-body : bodyIn (slotIn i s) ≡ leafBody (keyIn (slotIn i s)) (valueIn (slotIn i s))
     its-body = leaf-body (slotIn i s) (ap isLeaf (sym q) ∙ sym d ∙ e)
 
-    its-key : {a : Bool} → a ≡ begins (placeOf p) k → begins (placeOf p) (slice 48 32 (slotIn i s)) ≡ a
-    its-key f = ap (λ y. begins (placeOf p) (slice 48 32 y)) (sym q) ∙ ap (begins (placeOf p)) (sym key) ∙ sym f
+    its-key : {a : Bool} → a ≡ begins (placeOf p) k → begins (placeOf p) (keyIn (slotIn i s)) ≡ a
+    its-key f = ap (λ y. begins (placeOf p) (keyIn y)) (sym q) ∙ ap (begins (placeOf p)) (sym key) ∙ sym f
 
     pub leaf-lost : {a : Bool} → a ≡ begins (placeOf p) k → a ≡ false → Here Lost
     leaf-lost f g = rw (its-body, its-key f, g)

@@ -5,26 +5,21 @@ use mathlib.Core.Path.{_≡_}
 use mathlib.Core.Bool.{true, false, cond}
 use lib.ListN.{length}
 use Rattle.terms.specs.Bits.{Bytes, Side, Place, longer}
-use Rattle.terms.specs.Fields.{slice}
 use Rattle.terms.specs.Records.{Child, Body}
 use Rattle.meaning.specs.Store.{childOn}
 use Rattle.meaning.specs.Calls.{Answer, refused, accepted, isKept}
 use Rattle.meaning.specs.Reading.{Seen, lost, gap, leafSeen, fork, seenBody, seenAt}
-use Rattle.layout.specs.Sizes.{keyAt, valueAt, leftAt, rightAt, roomOf}
-use Rattle.layout.specs.Headers.{Headed, refusal, header, sizeRight, headerOf}
-use Rattle.layout.specs.Slots.{isLeaf, leafIn, innerIn, childIn}
+use Rattle.layout.specs.Sizes.{roomOf}
+use Rattle.layout.specs.Headers.{sizeRight, headerOf}
+use Rattle.layout.specs.Slots.{keyIn, valueIn, leftIn, rightIn, isLeaf, leafIn, innerIn}
 use Rattle.layout.specs.Stores.{slotIn, storeOf}
 use Rattle.place.specs.declared.Place as declared-place
 use Rattle.place.specs.Place.{Proper}
+use Rattle.read_step.specs.Headed.{byHeader}
 use Rattle.read_step.specs.declared.Opened as declared-opened
 use Rattle.read_step.specs.declared.Opened.the-variants.{Refused, Kept}
 use Rattle.read_step.specs.declared.Seen as declared
 use Rattle.read_step.specs.declared.Seen.the-variants.{Gap, Lost, Leaf, Inner}
-
--- A read tests the header: 1 or 2, else what it answers of the store.
-abbrev pub byHeader : {A : Type 0} → Headed → Answer A → Answer A
-byHeader (refusal n) a = refused n
-byHeader (header n oldest latest) a = a
 
 -- What a read tests before it looks at a slot: 1, 2, and 8 where the version isn't kept.
 unfoldable pub opened : Bytes → ℕ → Answer (Unit {0})
@@ -34,13 +29,13 @@ abbrev pub openedSays : declared-opened.Opened → Answer (Unit {0})
 openedSays (Refused n) = refused n
 openedSays Kept = accepted tt
 
--- What 120 bytes hold that are a record in form.
+-- What a slot's bytes hold that are a record in form.
 unfoldable pub bodyIn : Bytes → Body
 bodyIn x = cond (isLeaf x) (leafIn x) (innerIn x)
 
 -- What the inner record in slot i says of its child on a side.
 unfoldable pub kidIn : ℕ → Bytes → Side → Child
-kidIn i s b = childOn b (childIn leftAt (slotIn i s)) (childIn rightAt (slotIn i s))
+kidIn i s b = childOn b (leftIn (slotIn i s)) (rightIn (slotIn i s))
 
 -- What is seen at a child that stands at a place.
 unfoldable pub seenBelow : Bytes → Place → Child → Seen
@@ -52,7 +47,7 @@ bodySeen s p b = seenBody p b (λ c d. seenAt (255 - length p) (storeOf s .slots
 
 -- The leaf in slot i; the inner node in slot i, which stands at a place.
 unfoldable pub leafAt : ℕ → Bytes → Seen
-leafAt i s = leafSeen (slice keyAt 32 (slotIn i s)) (slice valueAt 32 (slotIn i s))
+leafAt i s = leafSeen (keyIn (slotIn i s)) (valueIn (slotIn i s))
 
 unfoldable pub forkAt : ℕ → Bytes → Place → Seen
 forkAt i s p = fork (λ b. kidIn i s b .hash) (λ b. seenAt (255 - length p) (storeOf s .slots) (longer b p) (kidIn i s b))

@@ -1,21 +1,21 @@
 // The steps of a walk down a store in lent memory, document 01, 'Reading and proving': is the version kept, what is seen at the root, what
 // at a child. Only the header and the records on the way are looked at.
-use fields::get_u32;
 use hash::Hash;
 use hash::hash_at;
 use layout::Header;
 use layout::read_header;
-use layout::sizes::LEFT_AT;
-use layout::sizes::RIGHT_AT;
 use lookup::Found;
 use lookup::find;
+use lookup::find_root;
 use nodehash::inner_hash;
 use nodehash::leaf_hash;
 use place::Place;
 use place::begins;
+use slots::child_hash;
 use slots::grant_of;
 use slots::is_leaf;
 use slots::key_of;
+use store::child_version_at;
 use store::slot_of;
 ghost use mathlib.Core.Path.{_≡_};
 ghost use mathlib.Core.Bool.{true};
@@ -25,7 +25,7 @@ ghost use lib.ListN.{length};
 ghost use Rattle.meaning.specs.Reading.{seen, bodyHash};
 ghost use Rattle.hash.specs.Hash.{hashBytes};
 ghost use Rattle.nodehash.specs.Node.{leafHash, innerHash};
-ghost use Rattle.place.specs.Place.{placeOf, Proper, Grown};
+ghost use Rattle.place.specs.Place.{placeOf};
 ghost use Rattle.layout.specs.Sizes.{slotSize, roomOf};
 ghost use Rattle.layout.specs.Headers.{sizeRight};
 ghost use Rattle.layout.specs.Stores.{slotIn, storeOf};
@@ -87,8 +87,8 @@ pub fn record_hash(slot: &[u8]) -> Hash
     if is_leaf(slot) {
         return leaf_hash(grant_of(slot));
     }
-    let left = hash_at(slot, LEFT_AT + 4);
-    let right = hash_at(slot, RIGHT_AT + 4);
+    let left = hash_at(child_hash(slot, false), 0);
+    let right = hash_at(child_hash(slot, true), 0);
     inner_hash(left, right)
 }
 
@@ -113,7 +113,7 @@ pub fn root(store: &[u8], version: u32) -> Seen
     ensures { λ r. ⌜ Sees (now (store .entry)) [] (seen (storeOf (now (store .entry))) version) r ⌝ }
 {
     let top = Place::top();
-    let found = find(store, version, top);
+    let found = find_root(store, version);
     let Found::At(i) = found else {
         return Seen::Gap;
     };
@@ -125,22 +125,7 @@ pub fn child_version(store: &[u8], i: usize, right: bool) -> u32
     requires { ⌜ (sizeRight (length (now store)) ≡ true) × (i < roomOf (length (now store))) ⌝ }
     ensures { λ r. ⌜ r ≡ kidIn i (now (store .entry)) right .version ⌝ }
 {
-    let slot = slot_of(store, i);
-    if right {
-        return get_u32(slot, RIGHT_AT);
-    }
-    get_u32(slot, LEFT_AT)
-}
-
-// The place of the child on a side.
-pub fn child_place(place: Place, right: bool) -> Place
-    requires { ⌜ Proper place × (place .count < 256) ⌝ }
-    ensures { λ r. ⌜ Grown right place r ⌝ }
-{
-    if right {
-        return place.right();
-    }
-    place.left()
+    child_version_at(store, i, right)
 }
 
 // What is seen on a side of the inner node in slot i; the place is the child's, one bit longer than the node's.

@@ -15,12 +15,14 @@ use Rattle.hash.specs.declared.Hash.{Hash}
 use Rattle.hash.specs.Hash.{hashBytes}
 use Rattle.nodehash.specs.Node.{leafHash, innerHash}
 use Rattle.layout.specs.Headers.{sizeRight}
+use Rattle.layout.specs.Slots.{keyIn, valueIn}
 use Rattle.layout.specs.Stores.{slotIn, storeOf}
 use Rattle.read_step.specs.Walk.{opened, openedSays, leafAt}
 use Rattle.read_step.specs.declared.Opened as declared-opened
 use Rattle.read_step.specs.declared.Opened.the-variants.{Refused, Kept}
 use Rattle.read_step.proofs.Opening as opening
-use Rattle.reads.specs.Reads.{rootAnswer, keyAnswer, rootSays, readSays, leafRead, walkRead}
+use Rattle.reads.specs.Reads.{rootAnswer, keyAnswer}
+use Rattle.reads.specs.Parts.{rootSays, readSays, leafRead, walkRead}
 use Rattle.reads.specs.declared.KeyRead as declared
 use Rattle.reads.specs.declared.KeyRead.the-variants as read
 use Rattle.reads.specs.declared.RootRead.the-variants as root
@@ -60,19 +62,22 @@ unfolding readSays keyAnswer
 key-wrong s v k f = rw (ne-eqb (length k) 32 f)
 
 -- a leaf's value as 32 bytes, and its key, which is the one asked for or another
-value-whole : (x : Bytes) → take 32 (slice 80 32 x) ≡ slice 80 32 x
+slice-whole : (i n : ℕ) (x : Bytes) → take n (slice i n x) ≡ slice i n x
 unfolding slice
-value-whole x = take-take 32 32 (drop 80 x) (omega arith)
+slice-whole i n x = take-take n n (drop i x) (omega arith)
 
-module _ (i : ℕ) (s k : Bytes) {x l : Bytes} (slot : x ≡ slotIn i s) (its : l ≡ slice 48 32 x) where
-  key-is : {b : Bool} → b ≡ sameBytes k l → sameBytes k (slice 48 32 (slotIn i s)) ≡ b
-  key-is e = ap (λ y. sameBytes k (slice 48 32 y)) (sym slot) ∙ ap (sameBytes k) (sym its) ∙ sym e
+value-whole : (x : Bytes) → take 32 (valueIn x) ≡ valueIn x
+value-whole x = slice-whole _ 32 x
 
-  pub leaf-present : {b : Bool} {y : Bytes} (h : Hash) → b ≡ sameBytes k l → b ≡ true → y ≡ slice 80 32 x →
+module _ (i : ℕ) (s k : Bytes) {x l : Bytes} (slot : x ≡ slotIn i s) (its : l ≡ keyIn x) where
+  key-is : {b : Bool} → b ≡ sameBytes k l → sameBytes k (keyIn (slotIn i s)) ≡ b
+  key-is e = ap (λ y. sameBytes k (keyIn y)) (sym slot) ∙ ap (sameBytes k) (sym its) ∙ sym e
+
+  pub leaf-present : {b : Bool} {y : Bytes} (h : Hash) → b ≡ sameBytes k l → b ≡ true → y ≡ valueIn x →
       hashBytes h ≡ take 32 (drop 0 y) → readSays (read.Present h) ≡ leafRead i s k
   unfolding readSays leafRead leafAt
   leaf-present h e t f g =
-      let value = g ∙ ap (take 32) f ∙ value-whole x ∙ ap (slice 80 32) slot in
+      let value = g ∙ ap (take 32) f ∙ value-whole x ∙ ap valueIn slot in
       rw (key-is e, t) (ap (λ z. accepted (present z)) value)
 
   pub leaf-absent : {b : Bool} → b ≡ sameBytes k l → b ≡ false → readSays read.Absent ≡ leafRead i s k

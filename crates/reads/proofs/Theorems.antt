@@ -3,20 +3,17 @@
 use Prim.Native.Nat.{ℕ}
 use native.Mathlib.Omega.{arith}
 use mathlib.Core.Path.{_≡_, refl, ap, sym, _∙_}
-use mathlib.Core.Logic.{_↔_, _⊎_, inl, inr}
-use mathlib.Core.Bool.{Bool, true, false, cond}
-use mathlib.Core.List.{List, [], _∷_}
+use mathlib.Core.Logic.{_↔_}
+use mathlib.Core.List.{[]}
 use lib.ListN.{length}
-use lib.Dec.{eqb}
 use borrow.Author.Tests.{eq-eqb}
 use Rattle.terms.specs.Bits.{Bytes, Whole32}
-use Rattle.terms.specs.Fields.{field}
 use Rattle.terms.specs.Records.{grant}
 use Rattle.meaning.specs.Tree.{grants, hash, unversioned, grantsIn}
 use Rattle.meaning.specs.Store.{treeAtVersion}
 use Rattle.meaning.specs.Sound.{Sound, Kept}
-use Rattle.meaning.specs.Calls.{Answer, refused, accepted, isKept}
-use Rattle.meaning.specs.Reading.{seen, End, broken, atLeaf, atGap, walk, present, readEnd, answerOf, readRoot, readKey}
+use Rattle.meaning.specs.Calls.{accepted}
+use Rattle.meaning.specs.Reading.{present, answerOf}
 use Rattle.shown.proofs.Standing.{version-seated}
 use Rattle.shown.proofs.Verdicts.{accepted-same}
 use Rattle.shown.proofs.Theorems.{root-read-is-hash, key-read-is-answer}
@@ -24,10 +21,10 @@ use Rattle.hash.specs.declared.Hash.{Hash}
 use Rattle.hash.specs.Hash.{hashBytes, Fits}
 use Rattle.hash.proofs.Laws.{hash-bytes-injective}
 use Rattle.nodehash.specs.Node.{leafHash, innerHash}
-use Rattle.layout.specs.Headers.{Headed, refusal, header, sizeRight, headerRight, headerOf}
+use Rattle.layout.specs.Headers.{header, headerOf}
 use Rattle.layout.specs.Stores.{storeOf}
-use Rattle.read_step.specs.Walk.{byHeader}
-use Rattle.reads.specs.Reads.{rootAnswer, keyAnswer, rootSays, readSays}
+use Rattle.reads.specs.Reads.{rootAnswer, keyAnswer}
+use Rattle.reads.specs.Parts.{rootSays, readSays}
 use Rattle.reads.proofs.Granted.{Among, answered-among, among-answered}
 use Rattle.reads.specs.declared.RootRead as declared-root
 use Rattle.reads.specs.declared.RootRead.the-variants as root
@@ -98,47 +95,3 @@ module _ (s : Bytes) {n o l : ℕ} (right : headerOf s ≡ header n o l) (ok : S
         λ e. answered-among k x (grants t) (accepted-same _ _ (sym (key-read-of-sound k whole) ∙ e)),
         λ m. key-read-of-sound k whole ∙ ap accepted (among-answered k x [] t seated m),
       )
-
--- One of the numbers in a list.
-abbrev pub OneOf : List ℕ → ℕ → Type 0
-OneOf [] n = ⊥
-OneOf (m ∷ ms) n = (n ≡ m) ⊎ OneOf ms n
-
-refused-with : {A : Type 0} {m n : ℕ} → _≡_ {A = Answer A} (refused m) (refused n) → n ≡ m
-refused-with e = cc
-
-accepted-refused : {A B : Type 0} {a : A} {n : ℕ} → _≡_ {A = Answer A} (accepted a) (refused n) → B
-accepted-refused e = clash (cc)
-
--- A header by its two tests.
-abbrev headerBy : Bool → Bool → Bytes → Headed
-headerBy a b s = cond a (cond b (header (field 8 4 s) (field 12 4 s) (field 16 4 s)) (refusal 2)) (refusal 1)
-
--- A root read refuses with 1, 2 or 8.
-pub root-refusals : (s : Bytes) (v n : ℕ) → rootAnswer s v ≡ refused n → OneOf (1 ∷ 2 ∷ 8 ∷ []) n
-unfolding rootAnswer readRoot headerOf
-root-refusals s v n = go (sizeRight (length s)) (headerRight s) (isKept (storeOf s) v) _
-  where
-    go : (a b c : Bool) (root : Bytes) →
-        byHeader (headerBy a b s) (cond c (accepted root) (refused 8)) ≡ refused n →
-        OneOf (1 ∷ 2 ∷ 8 ∷ []) n
-    go false b c root e = inl (refused-with e)
-    go true false c root e = inr (inl (refused-with e))
-    go true true false root e = inr (inr (inl (refused-with e)))
-    go true true true root e = accepted-refused e
-
--- A key read refuses with 12, 1, 2, 8 or 3.
-pub key-refusals : (s : Bytes) (v : ℕ) (k : Bytes) (n : ℕ) → keyAnswer s v k ≡ refused n → OneOf (12 ∷ 1 ∷ 2 ∷ 8 ∷ 3 ∷ []) n
-unfolding keyAnswer readKey headerOf
-key-refusals s v k n = go (eqb (length k) 32) (sizeRight (length s)) (headerRight s) (isKept (storeOf s) v) (walk k 0 [] (seen (storeOf s) v))
-  where
-    go : (w a b c : Bool) (end : End) →
-        cond w (byHeader (headerBy a b s) (cond c (readEnd k end) (refused 8))) (refused 12) ≡ refused n →
-        OneOf (12 ∷ 1 ∷ 2 ∷ 8 ∷ 3 ∷ []) n
-    go false a b c end e = inl (refused-with e)
-    go true false b c end e = inr (inl (refused-with e))
-    go true true false c end e = inr (inr (inl (refused-with e)))
-    go true true true false end e = inr (inr (inr (inl (refused-with e))))
-    go true true true true broken e = inr (inr (inr (inr (inl (refused-with e)))))
-    go true true true true (atLeaf l x trail) e = accepted-refused e
-    go true true true true (atGap trail) e = accepted-refused e

@@ -20,7 +20,7 @@ use Rattle.read_step.specs.Walk.{kidIn, seenBelow, leafAt, forkAt, Sees, Slotte
 use Rattle.read_step.specs.declared.Seen as declared
 use Rattle.read_step.specs.declared.Seen.the-variants.{Gap, Lost, Leaf, Inner}
 use Rattle.read_step.proofs.Seeing.{kid-seen}
-use Rattle.reads.specs.Reads.{readSays, leafRead, walkRead}
+use Rattle.reads.specs.Parts.{readSays, leafRead, walkRead}
 use Rattle.reads.specs.declared.KeyRead.the-variants as read
 
 -- What a walk says of a key from bit i on, where x is seen.

@@ -4,8 +4,9 @@ use hash::Hash;
 use hash::hash_at;
 use hash::no_hash;
 use lookup::Found;
-use lookup::find;
+use lookup::find_root;
 use place::Place;
+use place::child_place;
 use place::key_bit;
 use place::same;
 use read_step::NOT_SOUND;
@@ -13,7 +14,6 @@ use read_step::Opened;
 use read_step::Seen;
 use read_step::WRONG_KEY;
 use read_step::child;
-use read_step::child_place;
 use read_step::open;
 use read_step::record_hash;
 use slots::key_of;
@@ -30,7 +30,8 @@ ghost use Rattle.nodehash.specs.Node.{leafHash, innerHash};
 ghost use Rattle.layout.specs.Sizes.{roomOf};
 ghost use Rattle.layout.specs.Headers.{sizeRight};
 ghost use Rattle.layout.specs.Stores.{storeOf};
-ghost use Rattle.reads.specs.Reads.{rootAnswer, keyAnswer, rootSays, readSays, leafRead, walkRead};
+ghost use Rattle.reads.specs.Reads.{rootAnswer, keyAnswer};
+ghost use Rattle.reads.specs.Parts.{rootSays, readSays, leafRead, walkRead};
 
 // What a root read answers.
 pub enum RootRead {
@@ -51,7 +52,7 @@ fn root_hash(store: &[u8], version: u32) -> Hash
     requires { ⌜ sizeRight (length (now store)) ≡ true ⌝ }
     ensures { λ r. ⌜ hashBytes r ≡ rootHash leafHash innerHash (rootOf (storeOf (now (store .entry))) version) ⌝ }
 {
-    let found = find(store, version, Place::top());
+    let found = find_root(store, version);
     let Found::At(i) = found else {
         return no_hash();
     };

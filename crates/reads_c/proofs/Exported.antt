@@ -1,53 +1,48 @@
--- The number and the array of an answer, by its case; and 33 bytes written as one byte and a hash. Assumes nothing.
+-- What a read leaves, by the case of its answer; and 33 bytes written as one byte and a hash. Assumes nothing.
 use Prim.Native.Nat.{ℕ, _-_}
 use native.Mathlib.Omega.{arith}
-use mathlib.Core.Path.{_≡_, refl, ap, ap₂, sym, _∙_}
+use mathlib.Core.Path.{_≡_, ap, ap₂, sym, _∙_}
 use mathlib.Core.List.{[], _∷_, _++_, append-nil}
 use lib.ListN.{length, take, drop, set, drop-of-length-le, length-take}
 use Rattle.terms.specs.Bits.{Bytes}
 use Rattle.terms.specs.Records.{zeros}
-use Rattle.meaning.specs.Calls.{Answer, refused, accepted}
-use Rattle.meaning.specs.Reading.{Verdict}
+use Rattle.meaning.specs.Calls.{refused, accepted}
+use Rattle.meaning.specs.Reading.{present, absent}
 use Rattle.hash.specs.declared.Hash.{Hash}
 use Rattle.hash.specs.Hash.{hashBytes}
 use Rattle.hash.proofs.Laws.{put-over}
-use Rattle.reads.specs.Reads.{rootSays, readSays}
+use Rattle.reads.specs.Reads.{rootAnswer, keyAnswer}
+use Rattle.reads.specs.Parts.{rootSays, readSays}
 use Rattle.reads.specs.declared.RootRead as declared-root
 use Rattle.reads.specs.declared.RootRead.the-variants as root
 use Rattle.reads.specs.declared.KeyRead as declared-read
 use Rattle.reads.specs.declared.KeyRead.the-variants as read
-use Rattle.meaning.specs.Answers.{numberOf, foundAfter}
-use Rattle.reads_c.specs.Export.{rootBytes}
+use Rattle.reads_c.specs.Export.{ReadsRoot, ReadsKey}
 
--- What a call leaves: its number, and its answer's array.
-abbrev RootLeft : Answer Bytes → Bytes → ℕ → Bytes → Type 0
-RootLeft a old n new = (n ≡ numberOf a) × (new ≡ rootBytes a old)
-
-abbrev FoundLeft : Answer Verdict → Bytes → ℕ → Bytes → Type 0
-FoundLeft a old n new = (n ≡ numberOf a) × (new ≡ foundAfter a old)
-
-module _ {a : Answer Bytes} {r : declared-root.RootRead} (says : rootSays r ≡ a) (old : Bytes) where
-  pub root-refused : {n : ℕ} → r ≡ root.Refused n → RootLeft a old n old
+module _ {s : Bytes} {v : ℕ} {r : declared-root.RootRead} (says : rootSays r ≡ rootAnswer s v) (old : Bytes) where
+  pub root-refused : {n : ℕ} → r ≡ root.Refused n → ReadsRoot s v old n old
   unfolding rootSays
-  root-refused e = let z : a ≡ refused _ = sym says ∙ ap rootSays e in rw (z) (refl, refl)
+  root-refused {n} e = let z : rootAnswer s v ≡ refused n = sym says ∙ ap rootSays e in record { answer = rw z; root = rw z }
 
-  pub root-written : {h : Hash} {new : Bytes} → r ≡ root.Hash h → length old ≡ 32 → new ≡ hashBytes h ++ drop 32 old →
-      RootLeft a old 0 new
+  pub root-written : {h : Hash} {new : Bytes} → r ≡ root.Hash h → length old ≡ 32 → new ≡ hashBytes h ++ drop 32 old → ReadsRoot s v old 0 new
   unfolding rootSays
-  root-written {h} {new} e l w = let z : a ≡ accepted (hashBytes h) = sym says ∙ ap rootSays e in rw (z) (refl, put-over h old new l w)
+  root-written {h} {new} e l w =
+      let z : rootAnswer s v ≡ accepted (hashBytes h) = sym says ∙ ap rootSays e in record { answer = rw z; root = rw z (put-over h old new l w) }
 
-module _ {a : Answer Verdict} {r : declared-read.KeyRead} (says : readSays r ≡ a) (old : Bytes) where
-  pub key-refused : {n : ℕ} → r ≡ read.Refused n → FoundLeft a old n old
+module _ {s : Bytes} {v : ℕ} {k : Bytes} {r : declared-read.KeyRead} (says : readSays r ≡ keyAnswer s v k) (old : Bytes) where
+  pub key-refused : {n : ℕ} → r ≡ read.Refused n → ReadsKey s v k old n old
   unfolding readSays
-  key-refused e = let z : a ≡ refused _ = sym says ∙ ap readSays e in rw (z) (refl, refl)
+  key-refused {n} e = let z : keyAnswer s v k ≡ refused n = sym says ∙ ap readSays e in record { answer = rw z; found = rw z }
 
-  pub key-present : {h : Hash} {new : Bytes} → r ≡ read.Present h → new ≡ 1 ∷ hashBytes h → FoundLeft a old 0 new
+  pub key-present : {h : Hash} {new : Bytes} → r ≡ read.Present h → new ≡ 1 ∷ hashBytes h → ReadsKey s v k old 0 new
   unfolding readSays
-  key-present {h} e w = let z = sym says ∙ ap readSays e in rw (z) (refl, w)
+  key-present {h} e w =
+      let z : keyAnswer s v k ≡ accepted (present (hashBytes h)) = sym says ∙ ap readSays e in record { answer = rw z; found = rw z w }
 
-  pub key-absent : (h : Hash) {new : Bytes} → r ≡ read.Absent → hashBytes h ≡ zeros → new ≡ 0 ∷ hashBytes h → FoundLeft a old 0 new
+  pub key-absent : (h : Hash) {new : Bytes} → r ≡ read.Absent → hashBytes h ≡ zeros → new ≡ 0 ∷ hashBytes h → ReadsKey s v k old 0 new
   unfolding readSays
-  key-absent h e z w = let q = sym says ∙ ap readSays e in rw (q) (refl, w ∙ ap (0 ∷_) z)
+  key-absent h e q w =
+      let z : keyAnswer s v k ≡ accepted absent = sym says ∙ ap readSays e in record { answer = rw z; found = rw z (w ∙ ap (0 ∷_) q) }
 
 -- one byte in front, then a hash
 pub found-put : (h : Hash) (p : ℕ) (f : Bytes) {y : Bytes} → length f ≡ 33 →

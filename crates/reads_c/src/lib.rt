@@ -1,5 +1,4 @@
-// The reads for C and Rust to link. A slice is passed as a pointer and a length, an array as a pointer alone. Each call answers 0 where it is
-// accepted, else the number of refusal, and then it writes nothing.
+// The reads at the boundary: each answers 0 where it is accepted, else the number of refusal, and then it writes nothing. `grants` exports them.
 use hash::Hash;
 use hash::no_hash;
 use hash::put_hash;
@@ -9,15 +8,11 @@ ghost use mathlib.Core.Path.{_≡_};
 ghost use mathlib.Core.List.{_∷_};
 ghost use lib.ListN.{length};
 ghost use Rattle.hash.specs.Hash.{hashBytes};
-ghost use Rattle.reads.specs.Reads.{rootAnswer, keyAnswer};
-ghost use Rattle.meaning.specs.Answers.{numberOf, foundAfter};
-ghost use Rattle.reads_c.specs.Export.{rootBytes};
+ghost use Rattle.reads_c.specs.Export.{ReadsRoot, ReadsKey};
 
 // The root of a version.
-#[no_mangle]
-pub extern "C" fn grants_root(store: &[u8], version: u32, root: &mut [u8; 32]) -> u32
-    ensures answer { λ r. ⌜ r ≡ numberOf (rootAnswer (now (store .entry)) version) ⌝ }
-    ensures bytes { λ _. ⌜ now (root .exit) ≡ rootBytes (rootAnswer (now (store .entry)) version) (now (root .entry)) ⌝ }
+pub fn grants_root(store: &[u8], version: u32, root: &mut [u8; 32]) -> u32
+    ensures { λ r. ⌜ ReadsRoot (now (store .entry)) version (now (root .entry)) r (now (root .exit)) ⌝ }
 {
     let read = reads::root(store, version);
     match read {
@@ -39,10 +34,8 @@ fn put_found(found: &mut [u8], present: u8, value: Hash)
 }
 
 // A key in a version: 1 and its value, or 0 and 32 zero bytes where it is absent.
-#[no_mangle]
-pub extern "C" fn grants_get(store: &[u8], version: u32, key: &[u8], found: &mut [u8; 33]) -> u32
-    ensures answer { λ r. ⌜ r ≡ numberOf (keyAnswer (now (store .entry)) version (now (key .entry))) ⌝ }
-    ensures bytes { λ _. ⌜ now (found .exit) ≡ foundAfter (keyAnswer (now (store .entry)) version (now (key .entry))) (now (found .entry)) ⌝ }
+pub fn grants_get(store: &[u8], version: u32, key: &[u8], found: &mut [u8; 33]) -> u32
+    ensures { λ r. ⌜ ReadsKey (now (store .entry)) version (now (key .entry)) (now (found .entry)) r (now (found .exit)) ⌝ }
 {
     let read = reads::get(store, version, key);
     match read {

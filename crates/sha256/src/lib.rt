@@ -40,12 +40,12 @@ pub struct Words {
 }
 
 // The working variables, and the words that the last rounds used.
-struct Rolled {
-    s: State,
-    x: Words,
+pub struct Rolled {
+    pub s: State,
+    pub x: Words,
 }
 
-fn add(x: u32, y: u32) -> u32
+pub fn add(x: u32, y: u32) -> u32
     ensures { λ r. ⌜ r ≡ x ⊞ y ⌝ }
 {
     ((x as u64 + y as u64) % 0x1_0000_0000) as u32
@@ -58,50 +58,51 @@ fn rotr(n: u32, x: u32) -> u32
     (x >> n) | (x << (32 - n))
 }
 
-fn ch(x: u32, y: u32, z: u32) -> u32
+pub fn ch(x: u32, y: u32, z: u32) -> u32
     ensures { λ r. ⌜ r ≡ Ch x y z ⌝ }
 {
     (x & y) ^ (!x & z)
 }
 
-fn maj(x: u32, y: u32, z: u32) -> u32
+// By differences: of three words in a row, the first two's difference is the next round's second.
+pub fn maj(x: u32, y: u32, z: u32) -> u32
     ensures { λ r. ⌜ r ≡ Maj x y z ⌝ }
 {
-    (x & y) ^ (x & z) ^ (y & z)
+    y ^ ((x ^ y) & (y ^ z))
 }
 
-fn big_sigma0(x: u32) -> u32
+pub fn big_sigma0(x: u32) -> u32
     ensures { λ r. ⌜ r ≡ Σ₀ x ⌝ }
 {
     rotr(2, x) ^ rotr(13, x) ^ rotr(22, x)
 }
 
-fn big_sigma1(x: u32) -> u32
+pub fn big_sigma1(x: u32) -> u32
     ensures { λ r. ⌜ r ≡ Σ₁ x ⌝ }
 {
     rotr(6, x) ^ rotr(11, x) ^ rotr(25, x)
 }
 
-fn sigma0(x: u32) -> u32
+pub fn sigma0(x: u32) -> u32
     ensures { λ r. ⌜ r ≡ σ₀ x ⌝ }
 {
     rotr(7, x) ^ rotr(18, x) ^ (x >> 3)
 }
 
-fn sigma1(x: u32) -> u32
+pub fn sigma1(x: u32) -> u32
     ensures { λ r. ⌜ r ≡ σ₁ x ⌝ }
 {
     rotr(17, x) ^ rotr(19, x) ^ (x >> 10)
 }
 
 // The next word of the message schedule, from those 2, 7, 15 and 16 before it.
-fn schedule(p: u32, q: u32, r: u32, s: u32) -> u32
+pub fn schedule(p: u32, q: u32, r: u32, s: u32) -> u32
     ensures { λ v. ⌜ v ≡ scheduled p q r s ⌝ }
 {
     add(add(add(sigma1(p), q), sigma0(r)), s)
 }
 
-fn step(s: State, k: u32, w: u32) -> State
+pub fn step(s: State, k: u32, w: u32) -> State
     ensures { λ r. ⌜ r ≡ round s k w ⌝ }
 {
     let t1 = add(add(add(add(s.h, big_sigma1(s.e)), ch(s.e, s.f, s.g)), k), w);
@@ -326,7 +327,7 @@ fn rounds(s: State, x: Words) -> State
     r.s
 }
 
-fn add_state(x: State, s: State) -> State
+pub fn add_state(x: State, s: State) -> State
     ensures { λ r. ⌜ r ≡ added x s ⌝ }
 {
     State {

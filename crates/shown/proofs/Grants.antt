@@ -16,7 +16,7 @@ use Rattle.meaning.specs.Reading.{answerOf}
 use Rattle.meaning.specs.Proving.{proveSeen}
 use Rattle.meaning.proofs.Sides.{goes, side, treeBy, treeBy-none, treeAt-by, Radix, Long, Begun, Above, Sorted, sorted-radix, grants-treeOf}
 use Rattle.meaning.proofs.Runs.{Ahead, Ascending}
-use Rattle.shown.proofs.Views.{occupied, Seat, Seated, viewed}
+use Rattle.shown.proofs.Views.{occupied, granted-occupied, Seat, Seated, viewed}
 use Rattle.shown.proofs.Trees.{Shows, tree-shown}
 
 abbrev HasSeat : Place → Grant → Type 0
@@ -93,11 +93,14 @@ module _ (gs : List Grant) (w : All WholeKey gs) (a : Ascending gs) where
       subst (Seated []) (sym (treeAt-by 256 [] gs refl (long gs w) ∙ ap (treeBy 256 0) (filter-all _ gs (all-begin gs))))
       (treeBy-seated 256 [] gs refl seats (sorted-radix 256 [] gs refl sorted (long gs w) (all-begin gs)))
 
-  -- The proof of a key that the tree of the grants gives is accepted against the tree's hash, and says what the grants say.
-  pub grants-shown : (leafHash innerHash : Bytes → Bytes → Bytes) (k : Bytes) → Whole32 k →
+  -- Where there is a grant, the proof of a key that the tree of the grants gives is accepted against the tree's hash, and says what the
+  -- grants say.
+  pub grants-shown : (gs ≡ [] → ⊥) → (leafHash innerHash : Bytes → Bytes → Bytes) (k : Bytes) → Whole32 k →
       Shows leafHash innerHash (hash leafHash innerHash (treeOf gs)) k (answerOf k gs)
       (proveSeen k (viewed leafHash innerHash (treeOf gs)))
-  grants-shown leafHash innerHash k whole =
+  grants-shown some leafHash innerHash k whole =
       subst (λ hs. Shows leafHash innerHash (hash leafHash innerHash (treeOf gs)) k (answerOf k hs)
       (proveSeen k (viewed leafHash innerHash (treeOf gs))))
-      (grants-treeOf gs (ascending-sorted gs w a) (long gs w)) (tree-shown leafHash innerHash k (treeOf gs) whole treeOf-seated)
+      (grants-treeOf gs (ascending-sorted gs w a) (long gs w))
+      (tree-shown leafHash innerHash k (treeOf gs) whole treeOf-seated
+      (granted-occupied (treeOf gs) (λ e. some (sym (grants-treeOf gs (ascending-sorted gs w a) (long gs w)) ∙ e))))

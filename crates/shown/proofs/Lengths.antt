@@ -2,7 +2,7 @@
 -- Assumes nothing.
 use Prim.Native.Nat.{ℕ, zero, suc, _+_, _<_, _≤_}
 use native.Mathlib.Omega.{arith}
-use mathlib.Core.Path.{_≡_, subst}
+use mathlib.Core.Path.{_≡_, sym, subst}
 use mathlib.Core.Bool.{Bool, true, false, cond, not}
 use mathlib.Core.List.{List, [], _∷_, _++_, map}
 use mathlib.Core.Option.{Option, none, some}
@@ -15,6 +15,7 @@ use Rattle.meaning.specs.Store.{find, rootOf, childOn}
 use Rattle.meaning.specs.Calls.{Answer, refused, accepted, isKept}
 use Rattle.meaning.specs.Reading.{Seen, lost, gap, leafSeen, fork, seenBody, seenChild, seenAt, seenRoot, seen, Pass, End, broken, atLeaf, atGap, walk}
 use Rattle.meaning.specs.Proving.{step, presenceOf, stepUp, isGap, raisedBy, descend, Sought, lostWay, nobody, somebody, sought, turnsAway, fromTrail, beyond, neighbour, absenceFrom, absenceAt, proveEnd, proveSeen, proof, presenceLength, neighbourLength, proofLength}
+use Rattle.meaning.proofs.Empty.{proof-by-searches}
 use Rattle.shown.proofs.Searches.{orElse, soughtBelow, neighbourBelow, neighbour-from-trail}
 
 -- Each leaf that is seen is less than n steps down.
@@ -186,8 +187,8 @@ seen-short n k s h =
     (λ b. neighbour-short n b k 0 s h)
 
 given-short : (st : Store) (v : ℕ) (k : Bytes) → ShortGiven 257 (proof st v k)
-unfolding proof seen
-given-short st v k = go (isKept st v)
+unfolding seen
+given-short st v k = subst (ShortGiven 257) (sym (proof-by-searches st v k)) (go (isKept st v))
   where
     go : (b : Bool) → ShortGiven 257
         (cond b (proveSeen k (seenRoot (rootOf st v) (λ c d. seenAt 255 (st .slots) (c ∷ []) d))) (refused 8))

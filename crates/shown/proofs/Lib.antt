@@ -9,6 +9,7 @@ pub mod Standing
 pub mod Lengths
 pub mod Verdicts
 pub mod Neighbours
+pub mod Fourteen
 pub mod Theorems
 pub mod SeenAt
 pub mod Loops

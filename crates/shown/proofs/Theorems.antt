@@ -4,20 +4,23 @@ use Prim.Native.Nat.{ℕ, _<_, _≤_}
 use native.Mathlib.Omega.{arith}
 use mathlib.Core.Path.{_≡_, refl, ap, sym, _∙_, subst}
 use mathlib.Core.Bool.{Bool, true, false, cond, _&&_}
-use mathlib.Core.List.{[]}
+use mathlib.Core.Logic.{_↔_}
+use mathlib.Core.List.{List, [], _∷_, nil≢cons}
 use lib.ListN.{length}
 use borrow.Author.Tests.{le-leb, lt-ltb, le-ltb}
 use Rattle.terms.specs.Bits.{Bytes, Whole32, left, right, All, sameBytes}
-use Rattle.terms.specs.Records.{Presence, Absence, Proof, presence, absence, Store}
+use Rattle.terms.specs.Records.{Grant, Presence, Absence, Proof, presence, absence, Store, zeros}
 use Rattle.terms.proofs.Tests.{same-bytes, and-left, and-right}
 use Rattle.terms.proofs.Lists.{all-map}
-use Rattle.meaning.specs.Tree.{smaller, greater, hash, unversioned, grantsIn}
+use Rattle.meaning.specs.Tree.{none, smaller, greater, hash, unversioned, grantsIn}
 use Rattle.meaning.specs.Store.{treeAtVersion}
 use Rattle.meaning.specs.Sound.{Sound, Kept}
 use Rattle.meaning.specs.Calls.{refused, accepted, isKept}
 use Rattle.meaning.specs.Reading.{seen, walk, readEnd, readKey, readRoot, present, absent, answerOf}
-use Rattle.meaning.specs.Proving.{neighbour, absenceAt, proveEnd, proveSeen, proof, presenceLength, proofLength, prove}
+use Rattle.meaning.specs.Proving.{neighbour, absenceAt, proveEnd, proveSeen, HoldsGrant, proof, presenceLength, proofLength, prove}
 use Rattle.meaning.specs.Checking.{leadsTo, absenceHolds, checked}
+use Rattle.meaning.proofs.Empty.{gap-refused, proof-by-searches}
+use Rattle.shown.proofs.Views.{granted-occupied, no-grant-no-node, viewed}
 use Rattle.shown.proofs.Walks.{present-absent, start, walk-answers}
 use Rattle.shown.proofs.Trees.{tree-shown}
 use Rattle.shown.proofs.Standing.{version-seen, version-hash, version-seated}
@@ -31,8 +34,8 @@ kept-test st v kept = rw (le-leb (st .oldest) v (kept .0), le-leb v (st .latest)
 
 -- On any store: a proof that is given is of the key asked for, and it says what the key read answers.
 pub proof-agrees-with-read : (st : Store) (v : ℕ) (k : Bytes) (p : Proof) → proof st v k ≡ accepted p → Agrees k (readKey st v k) p
-unfolding proof readKey proveSeen
-proof-agrees-with-read st v k p = go (isKept st v)
+unfolding readKey proveSeen
+proof-agrees-with-read st v k p e = go (isKept st v) (sym (proof-by-searches st v k) ∙ e)
   where
     go : (b : Bool) → cond b (proveEnd k (walk k 0 [] (seen st v))) (refused 8) ≡ accepted p →
         Agrees k (cond b (readEnd k (walk k 0 [] (seen st v))) (refused 8)) p
@@ -103,19 +106,48 @@ module _ (leafHash innerHash : Bytes → Bytes → Bytes) where
           (walk-answers leafHash innerHash k 0 [] (unversioned (treeAtVersion st v)) [] (start k whole)
           (version-seated leafHash innerHash st ok v kept))
 
-      -- There is a proof, and the checker's answer to it against the version's root is what the version's grants say of the key.
-      pub shown : (root : Bytes) → readRoot leafHash innerHash st v ≡ accepted root →
-          (p : Proof) × (proof st v k ≡ accepted p) ×
-          (checked leafHash innerHash root k p ≡ accepted (answerOf k (grantsIn (treeAtVersion st v))))
-      unfolding proof
-      shown root e =
+      abbrev gs : List Grant
+      gs = grantsIn (treeAtVersion st v)
+
+      by-searches : proof st v k ≡ proveSeen k (viewed leafHash innerHash (unversioned (treeAtVersion st v)))
+      by-searches =
+          proof-by-searches st v k ∙ rw (kept-test st v kept, version-seen leafHash innerHash st ok v kept)
+
+      -- Where the version holds a grant there is a proof, and the checker's answer to it against the version's root is what the version's
+      -- grants say of the key.
+      pub shown : HoldsGrant st v → (root : Bytes) → readRoot leafHash innerHash st v ≡ accepted root →
+          (p : Proof) × (proof st v k ≡ accepted p) × (checked leafHash innerHash root k p ≡ accepted (answerOf k gs))
+      shown some root e =
           let same : hash leafHash innerHash (unversioned (treeAtVersion st v)) ≡ root = accepted-same _ _ (sym root-read-is-hash ∙ e) in
           let p = tree-shown leafHash innerHash k (unversioned (treeAtVersion st v)) whole
-          (version-seated leafHash innerHash st ok v kept) in (
+          (version-seated leafHash innerHash st ok v kept) (granted-occupied (unversioned (treeAtVersion st v)) some) in (
             p .0,
-            rw (kept-test st v kept, version-seen leafHash innerHash st ok v kept) (p .1),
-            subst (λ h. checked leafHash innerHash h k (p .0) ≡ accepted (answerOf k (grantsIn (treeAtVersion st v)))) same (p .2),
+            by-searches ∙ p .1,
+            subst (λ h. checked leafHash innerHash h k (p .0) ≡ accepted (answerOf k gs)) same (p .2),
           )
+
+      -- Where it holds none, the root read answers zeros, the key read absent, and there is no proof: 14.
+      no-grant : gs ≡ [] → unversioned (treeAtVersion st v) ≡ none
+      no-grant e = no-grant-no-node [] (unversioned (treeAtVersion st v)) (version-seated leafHash innerHash st ok v kept) e
+
+      pub empty-root-is-zeros : gs ≡ [] → readRoot leafHash innerHash st v ≡ accepted zeros
+      empty-root-is-zeros e = root-read-is-hash ∙ ap (λ t. accepted (hash leafHash innerHash t)) (no-grant e)
+
+      pub empty-key-is-absent : gs ≡ [] → readKey st v k ≡ accepted absent
+      empty-key-is-absent e = key-read-is-answer ∙ ap (λ hs. accepted (answerOf k hs)) e
+
+      pub empty-is-fourteen : gs ≡ [] → proof st v k ≡ refused 14
+      empty-is-fourteen e = by-searches ∙ gap-refused k _ (ap (viewed leafHash innerHash) (no-grant e))
+
+      -- And 14 is given exactly there.
+      pub fourteen-exactly-without-grant : (proof st v k ≡ refused 14) ↔ (gs ≡ [])
+      fourteen-exactly-without-grant = (λ e. go gs refl e, empty-is-fourteen)
+        where
+          go : (hs : List Grant) → gs ≡ hs → proof st v k ≡ refused 14 → gs ≡ []
+          go [] f e = f
+          go (g ∷ hs) f e =
+              let p = shown (λ n. nil≢cons (sym n ∙ f)) _ root-read-is-hash in
+              let z : _≡_ {A = ℕ} 0 1 = let both : refused 14 ≡ accepted (p .0) = sym e ∙ p .1 in cc in absurd (omega arith)
 
       -- So a key with a value in the version is proved present with that value,
       pub granted-is-proved-present : (root x : Bytes) → readRoot leafHash innerHash st v ≡ accepted root →
@@ -123,17 +155,17 @@ module _ (leafHash innerHash : Bytes → Bytes → Bytes) where
           (q : Presence) × (proof st v k ≡ accepted (presence q)) × (q .key ≡ k) × (q .value ≡ x) ×
           (leadsTo leafHash innerHash root q ≡ true)
       granted-is-proved-present root x e a =
-          let p = shown root e in
+          let p = shown (λ n. present-absent x (sym a ∙ ap (answerOf k) n)) root e in
           let w = checked-present root k x (p .0) (p .2 ∙ ap accepted a) in
           (w .0, p .1 ∙ ap accepted (w .1), w .2, w .3, w .4)
 
-      -- any other key is proved absent,
-      pub other-is-proved-absent : (root : Bytes) → readRoot leafHash innerHash st v ≡ accepted root →
+      -- any other key is proved absent, where the version holds a grant,
+      pub other-is-proved-absent : HoldsGrant st v → (root : Bytes) → readRoot leafHash innerHash st v ≡ accepted root →
           answerOf k (grantsIn (treeAtVersion st v)) ≡ absent →
           (a : Absence) × (proof st v k ≡ accepted (absence a)) × (a .key ≡ k) ×
           (absenceHolds leafHash innerHash root k (a .leftward) (a .rightward) ≡ true)
-      other-is-proved-absent root e a =
-          let p = shown root e in
+      other-is-proved-absent some root e a =
+          let p = shown some root e in
           let w = checked-absent root k (p .0) (p .2 ∙ ap accepted a) in
           (w .0, p .1 ∙ ap accepted (w .1), w .2, w .3)
 
@@ -166,7 +198,7 @@ module _ (leafHash innerHash : Bytes → Bytes → Bytes) where
       pub absence-has-nearest : (a : Absence) → proof st v k ≡ accepted (absence a) →
           (grantIf (a .leftward) ≡ lastOf (smaller k (grantsIn (treeAtVersion st v))))
           × (grantIf (a .rightward) ≡ firstOf (greater k (grantsIn (treeAtVersion st v))))
-      unfolding proof proveSeen absenceAt
+      unfolding proveSeen absenceAt
       absence-has-nearest a e =
           absence-names k _ _ _ _ a left-neighbour-is-last-smaller right-neighbour-is-first-greater
-          (end-absence k (walk k 0 [] (seen st v)) a (rw (kept-test st v kept) at e))
+          (end-absence k (walk k 0 [] (seen st v)) a (rw (kept-test st v kept) at (sym (proof-by-searches st v k) ∙ e)))

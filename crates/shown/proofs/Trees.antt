@@ -1,18 +1,18 @@
--- For a seated tree and any key the prover gives a proof, and the checker's answer to it against the tree's hash is what the tree's grants
+-- For a seated tree that has a node, and any key, the prover gives a proof, and the checker's answer to it against the tree's hash is what the tree's grants
 -- say of the key: a walk that ends at the key has a trail that leads up, and any other has neighbours that hold. Assumes nothing.
-use mathlib.Core.Path.{_≡_, refl, sym, subst}
-use mathlib.Core.Bool.{Bool, true, false, cond}
+use mathlib.Core.Path.{_≡_, refl, sym, _∙_, subst}
+use mathlib.Core.Bool.{Bool, true, false, cond, true≢false}
 use mathlib.Core.List.{List, [], map}
 use mathlib.Core.Option.{none, some}
 use Rattle.terms.specs.Bits.{Bytes, Whole32, Side, left, right, sameBytes}
-use Rattle.terms.specs.Records.{Presence, Proof, presence, zeros}
+use Rattle.terms.specs.Records.{Presence, Proof, presence}
 use Rattle.terms.proofs.Tests.{bytes-same}
 use Rattle.meaning.specs.Tree.{Tree, grants, hash}
 use Rattle.meaning.specs.Calls.{Answer, accepted}
 use Rattle.meaning.specs.Reading.{Pass, End, broken, atLeaf, atGap, walk, readEnd, Verdict, present, absent, answerOf}
 use Rattle.meaning.specs.Proving.{presenceOf, absenceOf, stepUp, Sought, neighbour, absenceFrom, absenceAt, proveEnd, proveSeen}
 use Rattle.meaning.specs.Checking.{leadsTo, neighbourHolds, checked}
-use Rattle.shown.proofs.Views.{occupied, Seated, viewed, missing-is-zeros}
+use Rattle.shown.proofs.Views.{occupied, Seated, viewed}
 use Rattle.shown.proofs.Walks.{start, walk-answers, Climbs, walk-climbs}
 use Rattle.shown.proofs.Verdicts.{accepted-same}
 use Rattle.shown.proofs.Flanks.{Flank, Flanked, neither, only, both, flanked}
@@ -27,12 +27,11 @@ module _ (leafHash innerHash : Bytes → Bytes → Bytes) where
   unfolding neighbourHolds leadsTo
   flank-holds b h k p w = rw (w .leads, bytes-same h, w .order)
 
-  -- neighbours that flank the key make a proof of absence
-  absence-shown : (h k : Bytes) (there : Bool) (found : Side → Sought) → (there ≡ false → h ≡ zeros) →
+  -- neighbours that flank the key make a proof of absence; where there is a node, there is one
+  absence-shown : (h k : Bytes) (there : Bool) (found : Side → Sought) → there ≡ true →
       Flanked leafHash innerHash h k there found →
       Shows h k absent (absenceFrom k (found left) (found right))
-  absence-shown h k there found z (neither e f) =
-      (absenceOf k none none, rw (f left, f right), rw (z e, bytes-same k, bytes-same zeros))
+  absence-shown h k there found z (neither e f) = absurd (true≢false (sym z ∙ e))
   absence-shown h k there found z (only false p f g w o) =
       (absenceOf k (some p) none, rw (f, g), rw (bytes-same k, flank-holds left h k p w, o))
   absence-shown h k there found z (only true p f g w o) =
@@ -42,7 +41,7 @@ module _ (leafHash innerHash : Bytes → Bytes → Bytes) where
   absence-shown h k there found z (both true p q f g w w′ o) =
       (absenceOf k (some q) (some p), rw (f, g), rw (bytes-same k, flank-holds left h k q w′, flank-holds right h k p w, o))
 
-  module _ (k : Bytes) (t : Tree) (w : Whole32 k) (s : Seated [] t) where
+  module _ (k : Bytes) (t : Tree) (w : Whole32 k) (s : Seated [] t) (there : occupied t ≡ true) where
     abbrev root : Bytes
     root = hash leafHash innerHash t
 
@@ -60,7 +59,7 @@ module _ (leafHash innerHash : Bytes → Bytes → Bytes) where
     unfolding absenceAt
     shown-absent e came a =
         rw a
-        (absence-shown root k (occupied t) (λ b. neighbour b k e) (missing-is-zeros leafHash innerHash t)
+        (absence-shown root k (occupied t) (λ b. neighbour b k e) there
         (subst (λ x. Flanked leafHash innerHash root k (occupied t) (λ b. neighbour b k x)) came
         (flanked leafHash innerHash k 0 [] t (start k w) s a)))
 

@@ -22,15 +22,15 @@ passed false v w e = let z : _≡_ {A = ℕ} 0 1 = cc in absurd (omega arith)
 
 -- What the searches make is a proof of absence of the key, or no proof.
 data Absent (k : Bytes) : Answer Proof → Type 0 where
-  no-proof : Absent k (refused 3)
+  no-proof : (n : ℕ) → Absent k (refused n)
   a-proof : (a : Absence) → a .key ≡ k → Absent k (accepted (absence a))
 
 from-searches : (k : Bytes) (x y : Sought) → Absent k (absenceFrom k x y)
-from-searches k lostWay y = no-proof
-from-searches k nobody lostWay = no-proof
-from-searches k nobody nobody = a-proof _ refl
+from-searches k lostWay y = no-proof 3
+from-searches k nobody lostWay = no-proof 3
+from-searches k nobody nobody = no-proof 14
 from-searches k nobody (somebody q) = a-proof _ refl
-from-searches k (somebody p) lostWay = no-proof
+from-searches k (somebody p) lostWay = no-proof 3
 from-searches k (somebody p) nobody = a-proof _ refl
 from-searches k (somebody p) (somebody q) = a-proof _ refl
 
@@ -45,7 +45,7 @@ Agrees k read (absence a) = (a .key ≡ k) × (read ≡ accepted absent)
 
 absence-agrees : (k : Bytes) (read : Answer Verdict) (given : Answer Proof) (p : Proof) → Absent k given → read ≡ accepted absent →
     given ≡ accepted p → Agrees k read p
-absence-agrees k read given p no-proof r e = let z : _≡_ {A = ℕ} 0 1 = cc in absurd (omega arith)
+absence-agrees k read given p (no-proof n) r e = let z : _≡_ {A = ℕ} 0 1 = cc in absurd (omega arith)
 absence-agrees k read given (presence q) (a-proof a f) r e = let z : _≡_ {A = ℕ} 0 1 = cc in absurd (omega arith)
 absence-agrees k read given (absence c) (a-proof a f) r e = let same : a ≡ c = cc in (ap (λ x. x .key) (sym same) ∙ f, r)
 

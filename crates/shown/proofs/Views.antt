@@ -2,9 +2,9 @@
 -- side of a child. Assumes nothing.
 use Prim.Native.Nat.{_<_}
 use native.Mathlib.Omega.{arith}
-use mathlib.Core.Path.{_≡_, refl, ap, sym, _∙_, fun-ext}
+use mathlib.Core.Path.{_≡_, refl, ap, ap₂, sym, _∙_, fun-ext}
 use mathlib.Core.Bool.{Bool, true, false, _||_, not, true≢false}
-use mathlib.Core.List.{List}
+use mathlib.Core.List.{List, [], _∷_, _++_, nil≢cons}
 use lib.ListN.{length}
 use Rattle.terms.specs.Bits.{Bytes, Whole32, Side, left, right, Place, longer, All, begins}
 use Rattle.terms.specs.Records.{Grant, zeros}
@@ -47,6 +47,12 @@ occupied none = false
 occupied (leaf g) = true
 occupied (inner l r) = true
 
+-- A tree with a grant has a node,
+pub granted-occupied : (t : Tree) → (grants t ≡ [] → ⊥) → occupied t ≡ true
+granted-occupied none h = absurd (h refl)
+granted-occupied (leaf g) h = refl
+granted-occupied (inner l r) h = refl
+
 -- A key's seat is at a place if it begins with it.
 abbrev pub Seat : Place → Bytes → Type 0
 Seat p k = (begins p k ≡ true) × Whole32 k
@@ -85,6 +91,18 @@ grants-seated p (inner l r) s =
   where
     up : (b : Side) (gs : List Grant) → All (λ g. Seat (longer b p) (g .key)) gs → All (λ g. Seat p (g .key)) gs
     up b gs h = all-map (λ g. Seat (longer b p) (g .key)) (λ g. Seat p (g .key)) gs (λ g e. seat-above b p (g .key) (s .0) e) h
+
+neither-list : (xs ys : List Grant) → xs ++ ys ≡ [] → (xs ≡ []) × (ys ≡ [])
+neither-list [] ys e = (refl, e)
+neither-list (x ∷ xs) ys e = absurd (nil≢cons (sym e))
+
+-- and a seated tree with a node has a grant.
+pub no-grant-no-node : (p : Place) (t : Tree) → Seated p t → grants t ≡ [] → t ≡ none
+no-grant-no-node p none s e = refl
+no-grant-no-node p (leaf g) s e = absurd (nil≢cons (sym e))
+no-grant-no-node p (inner l r) s e =
+    let none-each = neither-list (grants l) (grants r) e in
+    absurd (true≢false (sym (s .1) ∙ ap₂ (λ x y. occupied x || occupied y) (no-grant-no-node _ l (s .2) (none-each .0)) (no-grant-no-node _ r (s .3) (none-each .1))))
 
 module _ (leafHash innerHash : Bytes → Bytes → Bytes) where
   -- What a read sees of a tree.

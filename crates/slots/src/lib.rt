@@ -1,14 +1,9 @@
-// Slots in lent memory, document 01, 'Bytes': reading any 120 bytes, and writing a record. A leaf and an inner record share their head.
+// Slots in lent memory, document 01, 'Bytes': reading any 120 bytes, and their parts. A leaf and an inner record share their head.
 use fields::all_zero;
-use fields::clear;
-use fields::copy;
 use fields::get_u16;
 use fields::get_u32;
-use fields::put_u16;
-use fields::put_u32;
 use hash::Hash;
 use hash::hash_at;
-use hash::put_hash;
 use layout::sizes;
 use place::Place;
 use place::place_at;
@@ -18,13 +13,10 @@ ghost use mathlib.Core.Bool.{true};
 ghost use Prim.Native.Nat.{_+_, _≤_};
 ghost use lib.ListN.{length, drop};
 ghost use Rattle.terms.specs.Bits.{bits, noneSet};
-ghost use Rattle.terms.specs.Fields.{slice, flat, allOf};
-ghost use Rattle.terms.specs.Records.{used, free, innerBody};
-ghost use Rattle.fields.specs.Written.{written};
-ghost use Rattle.place.specs.Place.{placeOf, Proper};
-ghost use Rattle.layout.specs.Sizes.{slotSize, grantSize, childSize, bitsAt, keyAt, valueAt};
-ghost use Rattle.layout.specs.Slots.{countIn, childIn, recordOf, headTests, isLeaf, childRight, isInner, headFields, childFields, slotBytes};
-ghost use Rattle.slots.specs.Answer.{childSays, Made, Held, Read, grantBody};
+ghost use Rattle.terms.specs.Fields.{allOf};
+ghost use Rattle.layout.specs.Sizes.{slotSize, grantSize, childSize};
+ghost use Rattle.layout.specs.Slots.{bitsIn, countIn, keyIn, valueIn, grantIn, childIn, kidOn, headTests, isLeaf, childRight, isInner};
+ghost use Rattle.slots.specs.Answer.{childSays, Made, Held, Read};
 
 // What an inner record says of a child; version 0: there is no child.
 pub struct Child {
@@ -137,7 +129,7 @@ fn bare(kind: Kind) -> Slot
 
 // A slot of a kind with place, version and retired-since as the bytes have them.
 fn held(s: &[u8], kind: Kind) -> Slot
-    requires { ⌜ (length (now s) ≡ slotSize) × (countIn (now s) ≤ 256) × (noneSet (drop (countIn (now s)) (bits (slice bitsAt 32 (now s)))) ≡ true) ⌝ }
+    requires { ⌜ (length (now s) ≡ slotSize) × (countIn (now s) ≤ 256) × (noneSet (drop (countIn (now s)) (bits (bitsIn (now s)))) ≡ true) ⌝ }
     ensures { λ r. ⌜ Held kind (now (s .entry)) r ⌝ }
 {
     let count = get_u16(s, sizes::COUNT_AT);
@@ -171,77 +163,10 @@ pub fn read_slot(s: &[u8]) -> Slot
     bare(Kind::Spoiled)
 }
 
-// Writes the head of a record: length, kind, bit count, bits, version, retired-since.
-fn put_head(s: &mut [u8], len: u32, kind: u16, place: Place, version: u32, retired: u32)
-    requires { ⌜ (length (now s) ≡ slotSize) × Proper place ⌝ }
-    ensures { λ _. ⌜ now (s .exit) ≡ written 0 (flat (headFields len kind (placeOf place) version retired)) (now (s .entry)) ⌝ }
-{
-    let count = place.count as u16;
-    let bits = place.bits;
-    put_u32(s, 0, len);
-    put_u16(s, sizes::KIND_AT, kind);
-    put_u16(s, sizes::COUNT_AT, count);
-    copy(&mut s[sizes::BITS_AT..sizes::VERSION_AT], &bits);
-    put_u32(s, sizes::VERSION_AT, version);
-    put_u32(s, sizes::RETIRED_AT, retired);
-}
-
-fn put_child(s: &mut [u8], at: usize, c: Child)
-    requires { ⌜ at + childSize ≤ length (now s) ⌝ }
-    ensures { λ _. ⌜ now (s .exit) ≡ written at (flat (childFields (childSays c))) (now (s .entry)) ⌝ }
-{
-    let hash = at + 4;
-    let end = hash + 32;
-    put_u32(s, at, c.version);
-    put_hash(&mut s[hash..end], c.hash);
-}
-
-// Writes a leaf over the 120 bytes of a slot; the grant is key and value.
-pub fn put_leaf(s: &mut [u8], place: Place, version: u32, retired: u32, grant: &[u8])
-    requires { ⌜ (length (now s) ≡ slotSize) × Proper place × (length (now grant) ≡ grantSize) ⌝ }
-    ensures { λ _. ⌜ now (s .exit) ≡ slotBytes (used (recordOf (placeOf place) version retired (grantBody (now (grant .entry))))) ⌝ }
-{
-    put_head(
-        s,
-        sizes::LEAF_LENGTH,
-        sizes::LEAF_KIND,
-        place,
-        version,
-        retired,
-    );
-    copy(&mut s[sizes::KEY_AT..sizes::TAIL_AT], grant);
-    clear(&mut s[sizes::TAIL_AT..sizes::SLOT_SIZE]);
-}
-
-// Writes an inner record over the 120 bytes of a slot.
-pub fn put_inner(s: &mut [u8], place: Place, version: u32, retired: u32, left: Child, right: Child)
-    requires { ⌜ (length (now s) ≡ slotSize) × Proper place ⌝ }
-    ensures { λ _. ⌜ now (s .exit) ≡ slotBytes (used (recordOf (placeOf place) version retired (innerBody (childSays left) (childSays right)))) ⌝ }
-{
-    put_head(
-        s,
-        sizes::INNER_LENGTH,
-        sizes::INNER_KIND,
-        place,
-        version,
-        retired,
-    );
-    put_child(s, sizes::LEFT_AT, left);
-    put_child(s, sizes::RIGHT_AT, right);
-}
-
-// Frees the 120 bytes of a slot.
-pub fn clear_slot(s: &mut [u8])
-    requires { ⌜ length (now s) ≡ slotSize ⌝ }
-    ensures { λ _. ⌜ now (s .exit) ≡ slotBytes free ⌝ }
-{
-    clear(s);
-}
-
 // The grant of a leaf, in the slot's own bytes: key and value.
 pub fn grant_of(s: &[u8]) -> &[u8]
     requires { ⌜ length (now s) ≡ slotSize ⌝ }
-    ensures { λ r. ⌜ (now r ≡ slice keyAt grantSize (now (s .entry))) × (length (now r) ≡ grantSize) ⌝ }
+    ensures { λ r. ⌜ (now r ≡ grantIn (now (s .entry))) × (length (now r) ≡ grantSize) ⌝ }
 {
     &s[sizes::KEY_AT..sizes::TAIL_AT]
 }
@@ -249,7 +174,7 @@ pub fn grant_of(s: &[u8]) -> &[u8]
 // Its key alone.
 pub fn key_of(s: &[u8]) -> &[u8]
     requires { ⌜ length (now s) ≡ slotSize ⌝ }
-    ensures { λ r. ⌜ (now r ≡ slice keyAt 32 (now (s .entry))) × (length (now r) ≡ 32) ⌝ }
+    ensures { λ r. ⌜ (now r ≡ keyIn (now (s .entry))) × (length (now r) ≡ 32) ⌝ }
 {
     &s[sizes::KEY_AT..sizes::VALUE_AT]
 }
@@ -257,7 +182,26 @@ pub fn key_of(s: &[u8]) -> &[u8]
 // Its value alone.
 pub fn value_of(s: &[u8]) -> &[u8]
     requires { ⌜ length (now s) ≡ slotSize ⌝ }
-    ensures { λ r. ⌜ (now r ≡ slice valueAt 32 (now (s .entry))) × (length (now r) ≡ 32) ⌝ }
+    ensures { λ r. ⌜ (now r ≡ valueIn (now (s .entry))) × (length (now r) ≡ 32) ⌝ }
 {
     &s[sizes::VALUE_AT..sizes::TAIL_AT]
+}
+
+// The bits of a record's place, in 32 bytes.
+pub fn bits_of(s: &[u8]) -> &[u8]
+    requires { ⌜ length (now s) ≡ slotSize ⌝ }
+    ensures { λ r. ⌜ (now r ≡ bitsIn (now (s .entry))) × (length (now r) ≡ 32) ⌝ }
+{
+    &s[sizes::BITS_AT..sizes::VERSION_AT]
+}
+
+// The hash that an inner record has of its left or right child.
+pub fn child_hash(s: &[u8], right: bool) -> &[u8]
+    requires { ⌜ length (now s) ≡ slotSize ⌝ }
+    ensures { λ r. ⌜ (now r ≡ kidOn right (now (s .entry)) .hash) × (length (now r) ≡ 32) ⌝ }
+{
+    if right {
+        return &s[sizes::RIGHT_HASH_AT..sizes::SLOT_SIZE];
+    }
+    &s[sizes::LEFT_HASH_AT..sizes::RIGHT_AT]
 }

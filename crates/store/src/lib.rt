@@ -1,28 +1,66 @@
-// The slots of a store by their number, document 01, 'Bytes': slot i is the 120 bytes from 24 + 120 i on.
+// A store in lent memory by what it holds, document 01, 'Bytes': its slots by their number, slot i the 120 bytes from 24 + 120 i on, and the
+// kept versions of its header. Above this room nobody knows a size or an offset; proofs/Scans has the law of a loop over the slots.
 use fields::get_u16;
 use fields::get_u32;
 use fields::put_u32;
 use layout::sizes;
 use place::Place;
 use slots::Child;
-use slots::clear_slot;
-use slots::put_inner;
-use slots::put_leaf;
+use slots_put::clear_slot;
+use slots_put::put_inner;
+use slots_put::put_leaf;
 ghost use mathlib.Core.Path.{_≡_};
-ghost use Prim.Native.Nat.{_+_, _*_, _≤_};
+ghost use mathlib.Core.Bool.{true};
 ghost use lib.ListN.{length};
-ghost use Rattle.terms.specs.Fields.{le, field};
+ghost use Rattle.terms.specs.Fields.{field};
 ghost use Rattle.terms.specs.Records.{used, free, innerBody};
-ghost use Rattle.fields.specs.Written.{written};
 ghost use Rattle.place.specs.Place.{placeOf, Proper};
-ghost use Rattle.layout.specs.Sizes.{slotSize, grantSize, versionAt, retiredAt, slotAt};
-ghost use Rattle.layout.specs.Slots.{countIn, recordOf, slotBytes};
-ghost use Rattle.layout.specs.Stores.{slotIn};
+ghost use Rattle.layout.specs.Sizes.{slotSize, grantSize, kindAt, roomOf};
+ghost use Rattle.layout.specs.Headers.{sizeRight};
+ghost use Rattle.layout.specs.Slots.{countIn, versionIn, sinceIn, kidOn, recordOf};
+ghost use Rattle.layout.specs.Stores.{slotIn, storeOf, HeaderWithin, SlotWithin, withSlot, withSince, withOldest, withLatest};
 ghost use Rattle.slots.specs.Answer.{childSays, grantBody};
+
+// How many slots a store of the right size has.
+pub fn slot_count(store: &[u8]) -> usize
+    requires { ⌜ sizeRight (length (now store)) ≡ true ⌝ }
+    ensures { λ r. ⌜ r ≡ roomOf (length (now (store .entry))) ⌝ }
+{
+    (store.len() - sizes::HEADER_SIZE) / sizes::SLOT_SIZE
+}
+
+// The first and the last version kept.
+pub fn oldest_of(store: &[u8]) -> u32
+    requires { ⌜ HeaderWithin (now store) ⌝ }
+    ensures { λ r. ⌜ r ≡ storeOf (now (store .entry)) .oldest ⌝ }
+{
+    get_u32(store, sizes::OLDEST_AT)
+}
+
+pub fn latest_of(store: &[u8]) -> u32
+    requires { ⌜ HeaderWithin (now store) ⌝ }
+    ensures { λ r. ⌜ r ≡ storeOf (now (store .entry)) .latest ⌝ }
+{
+    get_u32(store, sizes::LATEST_AT)
+}
+
+pub fn put_oldest(store: &mut [u8], version: u32)
+    requires { ⌜ HeaderWithin (now store) ⌝ }
+    ensures { λ _. ⌜ now (store .exit) ≡ withOldest version (now (store .entry)) ⌝ }
+{
+    put_u32(store, sizes::OLDEST_AT, version);
+}
+
+pub fn put_latest(store: &mut [u8], version: u32)
+    requires { ⌜ HeaderWithin (now store) ⌝ }
+    ensures { λ _. ⌜ now (store .exit) ≡ withLatest version (now (store .entry)) ⌝ }
+{
+    put_u32(store, sizes::LATEST_AT, version);
+}
 
 // The 120 bytes of slot i of a store.
 pub fn slot_of(store: &[u8], i: usize) -> &[u8]
-    requires { ⌜ slotAt i + slotSize ≤ length (now store) ⌝ }
+    requires { ⌜ SlotWithin i (now store) ⌝ }
     ensures { λ r. ⌜ (now r ≡ slotIn i (now (store .entry))) × (length (now r) ≡ slotSize) ⌝ }
 {
     let start = sizes::HEADER_SIZE + sizes::SLOT_SIZE * i;
@@ -32,27 +70,47 @@ pub fn slot_of(store: &[u8], i: usize) -> &[u8]
 
 // Single fields of slot i, for searches.
 pub fn version_at(store: &[u8], i: usize) -> u32
-    requires { ⌜ slotAt i + slotSize ≤ length (now store) ⌝ }
-    ensures { λ r. ⌜ r ≡ field versionAt 4 (slotIn i (now (store .entry))) ⌝ }
+    requires { ⌜ SlotWithin i (now store) ⌝ }
+    ensures { λ r. ⌜ r ≡ versionIn (slotIn i (now (store .entry))) ⌝ }
 {
     let at = sizes::HEADER_SIZE + sizes::SLOT_SIZE * i + sizes::VERSION_AT;
     get_u32(store, at)
 }
 
 pub fn retired_at(store: &[u8], i: usize) -> u32
-    requires { ⌜ slotAt i + slotSize ≤ length (now store) ⌝ }
-    ensures { λ r. ⌜ r ≡ field retiredAt 4 (slotIn i (now (store .entry))) ⌝ }
+    requires { ⌜ SlotWithin i (now store) ⌝ }
+    ensures { λ r. ⌜ r ≡ sinceIn (slotIn i (now (store .entry))) ⌝ }
 {
     let at = sizes::HEADER_SIZE + sizes::SLOT_SIZE * i + sizes::RETIRED_AT;
     get_u32(store, at)
 }
 
 pub fn count_at(store: &[u8], i: usize) -> u16
-    requires { ⌜ slotAt i + slotSize ≤ length (now store) ⌝ }
+    requires { ⌜ SlotWithin i (now store) ⌝ }
     ensures { λ r. ⌜ r ≡ countIn (slotIn i (now (store .entry))) ⌝ }
 {
     let at = sizes::HEADER_SIZE + sizes::SLOT_SIZE * i + sizes::COUNT_AT;
     get_u16(store, at)
+}
+
+pub fn kind_at(store: &[u8], i: usize) -> u16
+    requires { ⌜ SlotWithin i (now store) ⌝ }
+    ensures { λ r. ⌜ r ≡ field kindAt 2 (slotIn i (now (store .entry))) ⌝ }
+{
+    let at = sizes::HEADER_SIZE + sizes::SLOT_SIZE * i + sizes::KIND_AT;
+    get_u16(store, at)
+}
+
+// The version that slot i has at its left or right child, were it an inner record.
+pub fn child_version_at(store: &[u8], i: usize, right: bool) -> u32
+    requires { ⌜ SlotWithin i (now store) ⌝ }
+    ensures { λ r. ⌜ r ≡ kidOn right (slotIn i (now (store .entry))) .version ⌝ }
+{
+    let at = sizes::HEADER_SIZE + sizes::SLOT_SIZE * i;
+    if right {
+        return get_u32(store, at + sizes::RIGHT_AT);
+    }
+    get_u32(store, at + sizes::LEFT_AT)
 }
 
 // Writing slot i of a store writes its 120 bytes and nothing else.
@@ -64,8 +122,8 @@ pub fn put_leaf_at(
     retired: u32,
     grant: &[u8],
 )
-    requires { ⌜ (slotAt i + slotSize ≤ length (now store)) × Proper place × (length (now grant) ≡ grantSize) ⌝ }
-    ensures { λ _. ⌜ now (store .exit) ≡ written (slotAt i) (slotBytes (used (recordOf (placeOf place) version retired (grantBody (now (grant .entry)))))) (now (store .entry)) ⌝ }
+    requires { ⌜ (SlotWithin i (now store)) × Proper place × (length (now grant) ≡ grantSize) ⌝ }
+    ensures { λ _. ⌜ now (store .exit) ≡ withSlot i (used (recordOf (placeOf place) version retired (grantBody (now (grant .entry))))) (now (store .entry)) ⌝ }
 {
     let start = sizes::HEADER_SIZE + sizes::SLOT_SIZE * i;
     let end = start + sizes::SLOT_SIZE;
@@ -81,8 +139,8 @@ pub fn put_inner_at(
     left: Child,
     right: Child,
 )
-    requires { ⌜ (slotAt i + slotSize ≤ length (now store)) × Proper place ⌝ }
-    ensures { λ _. ⌜ now (store .exit) ≡ written (slotAt i) (slotBytes (used (recordOf (placeOf place) version retired (innerBody (childSays left) (childSays right))))) (now (store .entry)) ⌝ }
+    requires { ⌜ (SlotWithin i (now store)) × Proper place ⌝ }
+    ensures { λ _. ⌜ now (store .exit) ≡ withSlot i (used (recordOf (placeOf place) version retired (innerBody (childSays left) (childSays right)))) (now (store .entry)) ⌝ }
 {
     let start = sizes::HEADER_SIZE + sizes::SLOT_SIZE * i;
     let end = start + sizes::SLOT_SIZE;
@@ -90,8 +148,8 @@ pub fn put_inner_at(
 }
 
 pub fn clear_slot_at(store: &mut [u8], i: usize)
-    requires { ⌜ slotAt i + slotSize ≤ length (now store) ⌝ }
-    ensures { λ _. ⌜ now (store .exit) ≡ written (slotAt i) (slotBytes free) (now (store .entry)) ⌝ }
+    requires { ⌜ SlotWithin i (now store) ⌝ }
+    ensures { λ _. ⌜ now (store .exit) ≡ withSlot i free (now (store .entry)) ⌝ }
 {
     let start = sizes::HEADER_SIZE + sizes::SLOT_SIZE * i;
     let end = start + sizes::SLOT_SIZE;
@@ -99,8 +157,8 @@ pub fn clear_slot_at(store: &mut [u8], i: usize)
 }
 
 pub fn put_retired_at(store: &mut [u8], i: usize, since: u32)
-    requires { ⌜ slotAt i + slotSize ≤ length (now store) ⌝ }
-    ensures { λ _. ⌜ now (store .exit) ≡ written (slotAt i + retiredAt) (le 4 since) (now (store .entry)) ⌝ }
+    requires { ⌜ SlotWithin i (now store) ⌝ }
+    ensures { λ _. ⌜ now (store .exit) ≡ withSince i since (now (store .entry)) ⌝ }
 {
     let at = sizes::HEADER_SIZE + sizes::SLOT_SIZE * i + sizes::RETIRED_AT;
     put_u32(store, at, since);

@@ -29,11 +29,6 @@ unfolding le
 length-le zero x = refl
 length-le (suc n) x = ap suc (length-le n (x / 256))
 
-pub le-bytes : (n x : ℕ) → All Byte (le n x)
-unfolding le
-le-bytes zero x = tt
-le-bytes (suc n) x = (omega arith, le-bytes n (x / 256))
-
 pub num-below : (bs : Bytes) → All Byte bs → num bs < 256 ^ length bs
 num-below [] h = omega arith
 num-below (b ∷ bs) h = let k : b < 256 = h .0 in let l = num-below bs (h .1) in omega (arith, pow-suc 256 (length bs))

@@ -81,12 +81,6 @@ pub begins-longer : (b : Side) (p : Place) (k : Bytes) → length p < 8 * length
 unfolding begins longer bit
 begins-longer b p k h = prefix-snoc p b (bits k) (rw (length-bits k) h)
 
--- a string of bits begins with a place exactly if its front is the place
-pub prefix-take : (p : Place) (bs : List Side) → prefix p bs ≡ samePlace p (take (length p) bs)
-prefix-take [] bs = refl
-prefix-take (b ∷ p) [] = refl
-prefix-take (b ∷ p) (c ∷ bs) = ap (Bool·beq b c &&_) (prefix-take p bs)
-
 digit-odd : (n : ℕ) → digit (odd n) ≡ n % 2
 unfolding odd
 digit-odd n = go (n % 2) (omega arith)

@@ -10,6 +10,10 @@ use Rattle.terms.specs.Records.{Grant, Ask, insert, delete, Child, Body,
 abbrev pub top32 : ℕ
 top32 = 4294967295
 
+-- A store has 1 to 16,384 slots.
+abbrev pub mostSlots : ℕ
+mostSlots = 16384
+
 -- A leaf's place has at most 256 bits, an inner node's at most 255.
 abbrev pub placeLimit : Body → ℕ
 placeLimit (leafBody k x) = 256

@@ -12,19 +12,18 @@ use types.Run.{OneOf}
 use denote.Enum.Declared.{tagOf}
 use lib.Dec.{eqb}
 use Rattle.terms.specs.Bits.{Bytes, Side, longer}
-use Rattle.terms.specs.Fields.{slice}
 use Rattle.terms.specs.Records.{Step}
 use Rattle.meaning.specs.Reading as reading
 use Rattle.meaning.specs.Proving.{step, isGap, raisedBy, descend, Sought, lostWay, nobody, somebody, sought, beyond}
 use Rattle.shown.proofs.Loops.{descendBelow, descend-below}
 use Rattle.place.specs.Place.{placeOf}
-use Rattle.layout.specs.Sizes.{slotAt}
-use Rattle.layout.specs.Stores.{slotIn, storeOf}
+use Rattle.layout.specs.Slots.{keyIn}
+use Rattle.layout.specs.Stores.{slotIn, storeOf, SlotWithin}
 use Rattle.read_step.specs.Walk.{kidIn, leafAt, forkAt}
 use Rattle.read_step.specs.declared.Seen as declared-seen
 use Rattle.read_step.specs.declared.Seen.the-variants.{Gap, Lost, Leaf, Inner}
 use Rattle.read_step.proofs.Seen as Seen
-use Rattle.read_step.proofs.Seeing.{slot-fits}
+use Rattle.store.proofs.Slots.{slot-fits}
 use Rattle.paths.specs.Paths.{stepAt, pathSteps, presenceAt, PathIn}
 use Rattle.paths.specs.declared.Way.the-variants as way
 use Rattle.paths.specs.declared.Sought as declared-sought
@@ -153,12 +152,12 @@ module _ (s k : Bytes) (w : declared-walked.Walked) (b : Side) where
   end-elsewhere {f} {r} o e d =
       subst (λ x. Finds s x r) (ap (forkSays s (w .trail .slots) b) e ∙ sym (not-leaf s k (w .trail) b (w .trail .seen) fromFork o)) d
 
-  module _ {x y : Bytes} {d : Bool} (i : ℕ) (here : w .trail .seen ≡ Leaf i) (ex : x ≡ slotIn i s) (ey : y ≡ slice 48 32 x) (ed : d ≡ beyond b y k) where
+  module _ {x y : Bytes} {d : Bool} (i : ℕ) (here : w .trail .seen ≡ Leaf i) (ex : x ≡ slotIn i s) (ey : y ≡ keyIn x) (ed : d ≡ beyond b y k) where
     leaf-says : neighbourSays s k w b ≡ cond d (somebody (presenceAt s (pathOf (w .trail) i))) fromFork
     unfolding neighbourSays
     leaf-says =
         ap (λ z. endSays s k (w .trail) b z fromFork) here
-        ∙ ap (λ c. cond c (somebody (presenceAt s (pathOf (w .trail) i))) fromFork) (sym (ed ∙ ap (λ z. beyond b z k) (ey ∙ ap (slice 48 32) ex)))
+        ∙ ap (λ c. cond c (somebody (presenceAt s (pathOf (w .trail) i))) fromFork) (sym (ed ∙ ap (λ z. beyond b z k) (ey ∙ ap keyIn ex)))
 
     pub end-beyond : {r : declared-sought.Sought} → d ≡ true → TrailIn s (w .trail) → r ≡ soughtOf (w .trail) way.Somebody i → Finds s (neighbourSays s k w b) r
     end-beyond t h q =
@@ -175,5 +174,5 @@ module _ (s k : Bytes) (w : declared-walked.Walked) (b : Side) where
         (ap (forkSays s (w .trail .slots) b) e ∙ sym (leaf-says ∙ ap (λ c. cond c (somebody (presenceAt s (pathOf (w .trail) i))) fromFork) t)) n
 
 -- the leaf's slot is one of the store's
-pub leaf-fits : (s : Bytes) (t : declared.Trail) (i : ℕ) → TrailIn s t → t .seen ≡ Leaf i → slotAt i + 120 ≤ length s
+pub leaf-fits : (s : Bytes) (t : declared.Trail) (i : ℕ) → TrailIn s t → t .seen ≡ Leaf i → SlotWithin i s
 leaf-fits s t i w e = path-in s t i w e .end

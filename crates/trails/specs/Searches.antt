@@ -3,9 +3,8 @@ use Prim.Native.Nat.{ℕ}
 use mathlib.Core.Path.{_≡_}
 use mathlib.Core.Bool.{cond}
 use Rattle.terms.specs.Bits.{Bytes, Side}
-use Rattle.terms.specs.Fields.{slice}
 use Rattle.meaning.specs.Proving.{raisedBy, descend, Sought, somebody, sought, beyond}
-use Rattle.layout.specs.Sizes.{keyAt}
+use Rattle.layout.specs.Slots.{keyIn}
 use Rattle.layout.specs.Stores.{slotIn}
 use Rattle.read_step.specs.declared.Seen as declared-seen
 use Rattle.read_step.specs.declared.Seen.the-variants.{Gap, Lost, Leaf, Inner}
@@ -43,7 +42,7 @@ pub record WalkedIn (s : Bytes) (w : declared-walked.Walked) : Type 0 where
 abbrev pub endSays : Bytes → Bytes → declared.Trail → Side → declared-seen.Seen → Sought → Sought
 endSays s k t b Gap x = x
 endSays s k t b Lost x = x
-endSays s k t b (Leaf i) x = cond (beyond b (slice keyAt 32 (slotIn i s)) k) (somebody (presenceAt s (pathOf t i))) x
+endSays s k t b (Leaf i) x = cond (beyond b (keyIn (slotIn i s)) k) (somebody (presenceAt s (pathOf t i))) x
 endSays s k t b (Inner i) x = x
 
 -- The neighbour of key k on side b where a walk has ended.

@@ -20,7 +20,8 @@ use Rattle.proofrecords.specs.ProofBytes.{proofIn, proofBytes}
 use Rattle.proofrecords.proofs.Proofs.{proof-bytes}
 use Rattle.verify.specs.declared.Checked.{Checked}
 use Rattle.verify.specs.declared.Checked.the-variants.{Refused, Present, Absent}
-use Rattle.verify.specs.Verify.{judged, verified, says}
+use Rattle.verify.specs.Verify.{judged, verified}
+use Rattle.verify.specs.Says.{says}
 use Rattle.meaning.specs.Answers.{numberOf, foundAfter}
 
 -- An answer of the machine's: its numbers are in range.

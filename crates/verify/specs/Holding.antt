@@ -1,41 +1,12 @@
--- Document 01, 'Checking', of proofs where they lie in bytes: each part of when a proof holds. Assumes nothing.
-use Prim.Native.Nat.{ℕ}
-use mathlib.Core.Bool.{Bool, not, _&&_}
-use mathlib.Core.Option.{some}
-use Rattle.terms.specs.Bits.{Bytes, Side, sameBytes}
-use Rattle.terms.specs.Fields.{slice}
-use Rattle.meaning.specs.Checking.{outermost, climb, leadsTo, neighbourHolds, absenceHolds}
-use Rattle.nodehash.specs.Node.{leafHash, innerHash}
+-- Document 01, 'Checking', of a proof where it lies in bytes: when it holds. Assumes nothing.
+use mathlib.Core.Bool.{Bool, _&&_}
+use Rattle.terms.specs.Bits.{Bytes, sameBytes}
 use Rattle.proofrecords.specs.ProofBytes.{presenceIn, absenceIn}
-use Rattle.verify.specs.Paths.{firstSteps}
-
--- The hash that the first n steps lead to from the leaf hash.
-abbrev pub topAfter : ℕ → Bytes → Bytes
-topAfter n x = climb leafHash innerHash (leafHash (slice 8 32 x) (slice 40 32 x)) (firstSteps n x)
-
--- The steps of the presence proof x lead from the leaf hash to the root.
-abbrev pub leads : Bytes → Bytes → Bool
-leads root x = leadsTo leafHash innerHash root (presenceIn x)
+use Rattle.verify_neighbours.specs.Neighbours.{leads, neighbours}
 
 -- The presence proof x holds: its key is the one asked for, and its steps lead to the root.
 abbrev pub presenceHolds : Bytes → Bytes → Bytes → Bool
 presenceHolds root k x = sameBytes k (presenceIn x .key) && leads root x
-
--- The neighbour x on side b leads to the root, and its key is on that side.
-abbrev pub neighbour : Side → Bytes → Bytes → Bytes → Bool
-neighbour b root k x = neighbourHolds leafHash innerHash b root k (presenceIn x)
-
--- The neighbour x on side b is the only one: its path is outermost on the other side, where the key is.
-abbrev pub loneNeighbour : Side → Bytes → Bytes → Bytes → Bool
-loneNeighbour b root k x = neighbour b root k x && outermost (not b) (presenceIn x .steps)
-
--- The neighbours l and r hold, and their paths part around the key.
-abbrev pub bothNeighbours : Bytes → Bytes → Bytes → Bytes → Bool
-bothNeighbours root k l r = absenceHolds leafHash innerHash root k (some (presenceIn l)) (some (presenceIn r))
-
--- The neighbours of the absence proof x, as its flags say, show that the key is absent.
-abbrev pub neighbours : Bytes → Bytes → Bytes → Bool
-neighbours root k x = absenceHolds leafHash innerHash root k (absenceIn x .leftward) (absenceIn x .rightward)
 
 -- The absence proof x holds: its key is the one asked for, and its neighbours show that it is absent.
 abbrev pub absenceProofHolds : Bytes → Bytes → Bytes → Bool

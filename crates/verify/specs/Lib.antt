@@ -1,3 +1,3 @@
-pub mod Paths
 pub mod Holding
 pub mod Verify
+pub mod Says

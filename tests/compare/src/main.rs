@@ -131,10 +131,50 @@ fn edges(tally: &mut Tally) {
         ("a nested length near 2^32", huge),
         ("nested lengths off by 33", plus_minus),
         ("flags without neighbours", around(3, &[])),
+        ("neither flags nor neighbours", around(0, &[])),
         ("neighbours without flags", around(0, &steps(0, 0))),
         ("flags 4", around(4, &steps(0, 0))),
     ] {
-        tally.same(what, 0, ours::verify(&root, &key, &proof), second::verify(&root, &key, &proof));
+        // A random root, and the zero root of an empty version; the key of the proof, and another.
+        for root in [root, [0; 32]] {
+            for key in [key, [3; 32]] {
+                tally.same(what, 0, ours::verify(&root, &key, &proof), second::verify(&root, &key, &proof));
+            }
+        }
+    }
+    // 2026-03: flags 0 is off form whatever root and key; a neighbour under the zero root doesn't hold.
+    let none = around(0, &[]);
+    for (proof, wanted) in [(none, 10), (around(1, &steps(0, 0)), 11), (around(2, &steps(0, 0)), 11)] {
+        tally.equal("under the zero root", 0, ours::verify(&[0; 32], &key, &proof), Err(wanted));
+    }
+}
+
+/// Proving in an empty version, with room for any proof and with none: 14 between 8 and 3, also where the root's record is lost.
+fn empty(tally: &mut Tally, s: &[u8], damaged: &[u8], latest: u32, key: &[u8; 32]) {
+    let mut rootless = s.to_vec();
+    for at in (24..s.len()).step_by(120) {
+        let version = u32::from_le_bytes(s[at + 40..at + 44].try_into().unwrap());
+        if version == latest && s[at + 6..at + 8] == [0, 0] {
+            rootless[at..at + 120].fill(0);
+        }
+    }
+    // Nothing but the header is in form; the versions up to latest are kept.
+    for (what, store, version, wanted) in [
+        ("14 with the root lost", &rootless[..], latest, 14),
+        ("14 before 3", damaged, latest, 14),
+        ("8 before 14", damaged, latest + 1, 8),
+    ] {
+        for room in [0, 17_080] {
+            let (mut x, mut y) = (vec![7; room], vec![7; room]);
+            let answers = (ours::prove(store, version, key, &mut x), second::prove(store, version, key, &mut y));
+            tally.equal(what, 0, answers.0, answers.1);
+            tally.equal(what, 0, answers.0, Err(wanted));
+            assert!(x == vec![7; room] && y == x, "{what}: a refusal wrote");
+        }
+        if wanted == 14 {
+            tally.equal("get in an empty version", 0, ours::get(store, version, key), Ok(None));
+            tally.equal("the root of an empty version", 0, ours::root(store, version), Ok([0; 32]));
+        }
     }
 }
 
@@ -169,6 +209,7 @@ fn pairs(tally: &mut Tally) {
     case("1 before 2", &bad_header[..s.len() - 1], 1, &key, 1);
     case("2 before 8", &bad_header, out, &key, 2);
     case("8 before 3", &damaged, out, &key, 8);
+    empty(tally, &s, &damaged, out - 1, &key);
     tally.same("2 before 3", 0, ours::check(&bad_header), second::check(&bad_header));
     for (what, store, version, wanted) in [
         ("1 before 2", &bad_header[..s.len() - 1], 1, 1),

@@ -1,4 +1,4 @@
-//! 01, 'Checking': a proof against a root.
+//! 01, 'Checking': a proof against a root; 02, 2026-03: without a neighbour a proof is off form.
 
 use crate::bytes::{b32_at, u16_at, u32_at};
 use crate::proof::{Presence, Step};
@@ -39,7 +39,7 @@ fn decode(s: &[u8]) -> Option<Proof> {
         return rest.is_empty().then_some(Proof::Present(p));
     }
     let flags = u16_at(s, 6);
-    if u16_at(s, 4) != 17 || flags > 3 || s.len() < 40 {
+    if u16_at(s, 4) != 17 || !(1..=3).contains(&flags) || s.len() < 40 {
         return None;
     }
     let mut rest = &s[40..];
@@ -95,7 +95,7 @@ pub fn verify(root: &[u8], key: &[u8], proof: &[u8]) -> Result<Option<Bytes32>, 
             let led = [&left, &right].into_iter().flatten().all(|p| leads(p, &root));
             let ordered = left.as_ref().map_or(true, |p| p.key < key) && right.as_ref().map_or(true, |p| key < p.key);
             let shape = match (&left, &right) {
-                (None, None) => root == ZEROS,
+                (None, None) => false,
                 (Some(l), None) => outermost(true, &l.steps),
                 (None, Some(r)) => outermost(false, &r.steps),
                 (Some(l), Some(r)) => part(&l.steps, &r.steps),

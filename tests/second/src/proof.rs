@@ -1,4 +1,4 @@
-//! 01, 'Reading and proving': the walk, the neighbours, the proof.
+//! 01, 'Reading and proving': the walk, the neighbours, the proof; 02, 2026-03.
 
 use crate::bytes::{self, bit, Body, Child, Place, Record, Store};
 use crate::tree::Index;
@@ -126,12 +126,15 @@ pub fn absence_bytes(key: &Bytes32, left: Option<&Presence>, right: Option<&Pres
     out
 }
 
-/// The proof for a key in a version.
+/// The proof for a key in a version. By 2026-03 there is none in an empty version, one whose root is not found: 14, tested after 8.
 pub fn proof(s: &[u8], version: u32, key: &[u8]) -> Result<Vec<u8>, Refusal> {
     let key: Bytes32 = key.try_into().map_err(|_| 12u32)?;
     let store = bytes::store(s)?;
     kept(&store, version)?;
     let index = Index::of(&store);
+    if index.find(&store, version, Place::EMPTY).is_none() {
+        return Err(14);
+    }
     let walk = walk(&store, &index, version, &key)?;
     if let Some((k, v)) = walk.end {
         if k == key {

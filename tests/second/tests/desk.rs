@@ -62,6 +62,17 @@ fn desk() {
     assert_eq!((v, n, retired_since(&s, 5)), (5, 1, 3));
     let (v, r, n) = apply(&mut s, &batch(&[delete(c)])).unwrap();
     assert_eq!((v, n, r, retired_since(&s, 6)), (6, 0, ZEROS, 1));
+    // 2026-03: versions 0 and 6 are empty, so there is no proof; the shortest absence proof has 112 bytes, in version 5, which holds C alone.
+    let mut room = [7; 200];
+    for v in [0, 6] {
+        assert_eq!((root(&s, v), get(&s, v, &c), prove(&s, v, &c, &mut room)), (Ok(ZEROS), Ok(None), Err(14)));
+    }
+    assert_eq!((prove(&s, 7, &c, &mut room), room), (Err(8), [7; 200]));
+    assert_eq!(prove(&s, 5, &d, &mut room), Ok(112));
+    assert_eq!(verify(&root(&s, 5).unwrap(), &d, &room[..112]), Ok(None));
+    assert_eq!(verify(&ZEROS, &d, &room[..112]), Err(11));
+    let none = second::proof::absence_bytes(&d, None, None);
+    assert_eq!((verify(&ZEROS, &d, &none), verify(&ZEROS, &c, &none)), (Err(10), Err(10)));
     assert_eq!(prune(&mut s, 4), Ok(10));
     let stay: Vec<usize> = places(&s).iter().enumerate().filter(|(_, p)| *p != "-").map(|(i, _)| i).collect();
     assert_eq!(stay, [5, 11, 12, 13]);

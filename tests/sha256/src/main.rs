@@ -99,6 +99,32 @@ fn against_plain(tally: &mut Tally) {
             &plain::inner_hash(&left, &right),
         );
     }
+    // Each last byte: what is known of the second block is folded into the node hashes, so they are held to the general hash.
+    for last in 0..=255 {
+        let (left, mut right) = (random.hash(), random.hash());
+        right[31] = last;
+        for kind in [0, 1] {
+            let mut message = vec![kind];
+            message.extend(left);
+            message.extend(right);
+            let mut grant = [0; 64];
+            grant.copy_from_slice(&message[1..]);
+            let found = match kind {
+                0 => proved::inner_hash(&left, &right),
+                _ => proved::leaf_hash(&grant),
+            };
+            tally.same(
+                format_args!("node of kind {kind} that ends with {last}, by the plain general hash"),
+                &found,
+                &plain::sha256(&message),
+            );
+            tally.same(
+                format_args!("node of kind {kind} that ends with {last}, by the proved general hash"),
+                &found,
+                &proved::sha256(&message),
+            );
+        }
+    }
 }
 
 /// The examples of FIPS 180-4: what it says, and what the proved code gives.

@@ -2,9 +2,8 @@
 use Prim.Native.Nat.{_-_}
 use native.Mathlib.Omega.{arith}
 use Rattle.place.specs.Place.{placeOf}
-use Rattle.layout.specs.Sizes.{roomOf}
-use Rattle.layout.proofs.Headers.{size-least}
-use Rattle.kin.proofs.Holding.{Counted, count-start, count-slot, count-few, count-next, count-end}
+use Rattle.store.proofs.Scans.{scan-slot}
+use Rattle.kin.proofs.Holding.{Counted, count-start, count-few, count-next, count-end}
 use Rattle.kin.proofs.holders.Statement.{statement}
 use Rattle.kin.proofs.holders.Tie as tie
 
@@ -14,29 +13,36 @@ Inv-loop store version place n count₀ j₀ count j = Counted store version (pl
 abbrev μ-loop : tie.MeasureT-loop
 μ-loop store version place n count₀ j₀ count j = n - j
 
-sub-n : tie.Need-sub-n Inv-loop μ-loop
-sub-n c = omega (arith, size-least _ (c .before .pre .0))
+slot-count-requires : tie.Need-slot-count-requires Inv-loop μ-loop
+slot-count-requires c κs = c .before .pre .0
 
 loop-holds : tie.Need-loop-holds Inv-loop μ-loop
-unfolding roomOf
-loop-holds c = count-start (c .before .args .store .now) (c .before .args .version) (placeOf (c .before .args .place)) (c .before .pre .0)
+loop-holds c =
+    let c2 = c .before .before in
+    count-start (c2 .args .store .now) (c2 .args .version) (placeOf (c2 .args .place)) (c2 .pre .0) (c .slot-count .ensures)
 
 holder-requires : tie.Need-holder-requires Inv-loop μ-loop
-holder-requires c κs = (count-slot (c .before .loop .inv) (c .loop-test .taken), c .before .before .before .pre .1)
+holder-requires c κs =
+    let c4 = c .before .before .before .before in
+    (scan-slot (c .before .loop .inv .scan) (c .loop-test .taken), c4 .pre .1)
 
 add-count : tie.Need-add-count Inv-loop μ-loop
 add-count c =
-    omega
-    (arith, count-few (c .before .before .loop .inv) (c .holder .ensures), c .before .before .loop .inv .few, c .before .before .loop .inv .small)
+    let c2 = c .before .before in
+    omega (arith, count-few (c2 .loop .inv) (c .holder .ensures), c2 .loop .inv .few, c2 .loop .inv .scan .small)
 
 add-j : tie.Need-add-j Inv-loop μ-loop
-add-j c = omega (arith, c .before .before .loop .inv .small)
+add-j c =
+    let c2 = c .before .before in
+    omega (arith, c2 .loop .inv .scan .small)
 
 loop-less : tie.Need-loop-less Inv-loop μ-loop
 loop-less c = omega arith
 
 loop-again : tie.Need-loop-again Inv-loop μ-loop
-loop-again c = count-next (c .before .before .loop .inv) (c .before .loop-test .taken) (c .holder .ensures)
+loop-again c =
+    let c2 = c .before .before in
+    count-next (c2 .loop .inv) (c .before .loop-test .taken) (c .holder .ensures)
 
 returns : tie.Need-returns Inv-loop μ-loop
 returns c = count-end (c .before .loop .inv) (c .loop-test .left)
@@ -47,7 +53,7 @@ holders-spec =
     (tie.spec
     Inv-loop
     μ-loop
-    sub-n
+    slot-count-requires
     loop-holds
     holder-requires
     add-count

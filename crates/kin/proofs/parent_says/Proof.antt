@@ -7,7 +7,7 @@ use borrow.Author.Needs.{needs}
 use Rattle.terms.specs.Bits.{Byte}
 use Rattle.terms.proofs.Lists.{all-of}
 use Rattle.slots.specs.Answer.{Read}
-use Rattle.kin.proofs.Holding.{slot-fits}
+use Rattle.store.proofs.Slots.{slot-within}
 use Rattle.kin.proofs.Naming.{no-parent, no-inner, parent-said}
 use Rattle.kin.proofs.parent_says.Statement.{statement}
 use Rattle.kin.proofs.parent_says.Tie as tie
@@ -25,7 +25,7 @@ returns c =
     )
 
 slot-of-requires : tie.Need-slot-of-requires
-slot-of-requires c κs = slot-fits (c .before .before .before .pre .0)
+slot-of-requires c κs = slot-within (c .before .before .before .pre .0)
 
 read-slot-requires : tie.Need-read-slot-requires
 read-slot-requires c κs = search needs

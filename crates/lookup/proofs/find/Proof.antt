@@ -4,8 +4,6 @@ use mathlib.Core.Path.{refl, sym, _∙_}
 use native.Mathlib.Omega.{arith}
 use borrow.Author.Needs.{needs}
 use Rattle.place.specs.Place.{placeOf}
-use Rattle.layout.specs.Sizes.{roomOf}
-use Rattle.layout.proofs.Headers.{size-least}
 use Rattle.lookup.proofs.Searching.{Slots, Agrees, from-start, other-version, other-count, none-left, byte-more, byte-off, found-here, spoiled-here}
 use Rattle.lookup.proofs.find.Statement.{statement}
 use Rattle.lookup.proofs.find.Tie as tie
@@ -27,16 +25,16 @@ Inv-slots store version b count n i₀ i = Slots store version b count n i
 abbrev μ-slots : tie.MeasureT-slots
 μ-slots store version b count n i₀ i = n - i
 
--- src/lib.rt:40:14
-sub-n : tie.Need-sub-n Inv-loop μ-loop Inv-slots μ-slots
-sub-n c = omega (arith, size-least _ (c .before .before .pre .0))
+slot-count-requires : tie.Need-slot-count-requires Inv-loop μ-loop Inv-slots μ-slots
+slot-count-requires c κs = c .before .before .pre .0
 
 -- src/lib.rt:42:5
 slots-holds : tie.Need-slots-holds Inv-loop μ-loop Inv-slots μ-slots
-unfolding placeOf roomOf
+unfolding placeOf
 slots-holds c =
-    let a = c .before .before in
-    from-start (a .args .store .now) (a .args .version) (a .args .place .bits) (a .args .place .count) (a .pre .0) (λ i. omega (arith, c .before .shared-slice-known .given i))
+    let a = c .before .before .before in
+    from-start (a .args .store .now) (a .args .version) (a .args .place .bits) (a .args .place .count) (a .pre .0) (c .slot-count .ensures)
+    (λ i. omega (arith, c .before .before .shared-slice-known .given i))
     (a .pre .1 .short) (search needs) (a .pre .1 .trimmed)
 
 -- src/lib.rt:46:23
@@ -199,7 +197,7 @@ find-spec =
     μ-loop
     Inv-slots
     μ-slots
-    sub-n
+    slot-count-requires
     slots-holds
     mul-at
     add-at

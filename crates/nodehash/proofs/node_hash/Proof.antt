@@ -17,11 +17,11 @@ first-words-requires c κs = search needs
 compress-requires : tie.Need-compress-requires
 compress-requires c κs = search needs
 
-second-words-requires : tie.Need-second-words-requires
-second-words-requires c κs = search needs
+last-word-requires : tie.Need-last-word-requires
+last-word-requires c κs = search needs
 
-compress-requires-2 : tie.Need-compress-requires-2
-compress-requires-2 c κs = search needs
+compress-second-requires : tie.Need-compress-second-requires
+compress-second-requires c κs = search needs
 
 to-hash-requires : tie.Need-to-hash-requires
 to-hash-requires c κs = search needs
@@ -29,10 +29,16 @@ to-hash-requires c κs = search needs
 returns : tie.Need-returns
 unfolding sha256 padded hashBytes
 returns c =
-    let a = c .before .before .before .before .before .before .args in
+    let c1 = c .before in
+    let c2 = c1 .before in
+    let c3 = c2 .before in
+    let c4 = c3 .before in
+    let c5 = c4 .before in
+    let a = c5 .before .args in
     c .to-hash .ensures
-    ∙ ap stateBytes (two-blocks (a .t) (a .l) (a .r) _ _ _ _ _ (c .before .before .before .before .before .start .ensures) (c .before .before .before .before .first-words .ensures) (c .before .before .before .compress .ensures)
-    (c .before .before .second-words .ensures) (c .before .compress2 .ensures))
+    ∙ ap stateBytes
+    (two-blocks (a .t) (a .l) (a .r) _ _ _ _ _ (c5 .start .ensures) (c4 .first-words .ensures) (c3 .compress .ensures) (c2 .last-word .ensures)
+    (c1 .compress-second .ensures))
 
 pub node-hash-spec : {M : Type 1} → statement M
 node-hash-spec =
@@ -41,7 +47,7 @@ node-hash-spec =
     start-requires
     first-words-requires
     compress-requires
-    second-words-requires
-    compress-requires-2
+    last-word-requires
+    compress-second-requires
     to-hash-requires
     returns)

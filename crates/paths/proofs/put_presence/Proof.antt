@@ -1,8 +1,6 @@
 -- `paths::put_presence` meets its contract: head, key, value and steps fill the part. Assumes nothing.
 use native.Mathlib.Omega.{arith}
-use mathlib.Core.Path.{_≡_, ap, _∙_}
-use lib.ListN.{length, length-take, length-drop}
-use Rattle.terms.proofs.Fields.{length-slice}
+use lib.ListN.{length-take, length-drop}
 use Rattle.paths.proofs.Records.{presence-put}
 use borrow.Author.Needs.{needs}
 use Rattle.paths.proofs.put_presence.Statement.{statement}
@@ -40,8 +38,7 @@ grant-of-requires c κs = search needs
 
 copy-requires : tie.Need-copy-requires
 copy-requires c κs =
-    let g : length (c .grant-of .result .now) ≡ 64 = ap length (c .grant-of .ensures .0) ∙ length-slice 48 64 (c .before .slot-of .result .now) (omega (arith, c .before .slot-of .ensures .1)) in
-    simp (length-take, length-drop) (omega arith)
+    simp (length-take, length-drop) (omega (arith, c .grant-of .ensures .1))
 
 sub-put-steps : tie.Need-sub-put-steps
 sub-put-steps c = search needs

@@ -16,8 +16,8 @@ part-copy-end c = search needs
 slot-of-requires : tie.Need-slot-of-requires
 slot-of-requires c κs = search needs
 
-sibling-requires : tie.Need-sibling-requires
-sibling-requires c κs = search needs
+child-hash-requires : tie.Need-child-hash-requires
+child-hash-requires c κs = search needs
 
 copy-requires : tie.Need-copy-requires
 copy-requires c κs = search needs
@@ -34,7 +34,7 @@ same-length c = search needs
 returns : tie.Need-returns
 returns c =
     let a = c .before .before .before .before .before .before .before .before .before .args in
-    step-put (a .part .now) (a .store .now) (a .i) (a .side) (c .before .before .before .before .before .before .before .before .before .pre .0) (c .digit .ensures) (c .before .before .before .before .before .slot-of .ensures .0) (c .before .before .before .before .sibling .ensures .0) (c .before .before .before .copy .ensures)
+    step-put (a .part .now) (a .store .now) (a .i) (a .side) (c .before .before .before .before .before .before .before .before .before .pre .0) (c .digit .ensures) (c .before .before .before .before .before .slot-of .ensures .0) (c .before .before .before .before .child-hash .ensures .0) (c .before .before .before .copy .ensures)
 
 pub put-step-spec : {M : Type 1} → statement M
 put-step-spec =
@@ -44,7 +44,7 @@ put-step-spec =
     part-copy-start
     part-copy-end
     slot-of-requires
-    sibling-requires
+    child-hash-requires
     copy-requires
     digit-requires
     slice-write-part

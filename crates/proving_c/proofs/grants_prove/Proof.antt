@@ -1,5 +1,4 @@
 -- `proving_c::grants_prove` meets its contract: the case of the answer decides the number, the room and the four bytes. Assumes nothing.
-use Rattle.proving_c.specs.Export.{provedInto}
 use Rattle.proving_c.proofs.Exported.{prove-refused, prove-given}
 use borrow.Author.Needs.{needs}
 use Rattle.proving_c.proofs.grants_prove.Statement.{statement}
@@ -24,7 +23,7 @@ returns : tie.Need-returns
 returns c =
     let a = c .before .before .before .before .before .before .before .before .before .before .args in
     let d = c .before .before .before .before .before .prove .ensures in
-    prove-refused (provedInto (a .store .now) (a .version) (a .key .now) (a .room .now)) (a .room .now) (d .0) (d .1) (a .length .now) (c .before .proved .given .1)
+    prove-refused (d .0) (d .1) (a .length .now) (c .before .proved .given .1)
 
 same-length-2 : tie.Need-same-length-2
 same-length-2 c = search needs
@@ -33,8 +32,7 @@ returns-2 : tie.Need-returns-2
 returns-2 c =
     let a = c .before .before .before .before .before .before .before .before .before .before .before .before .args in
     let d = c .before .before .before .before .before .before .before .prove .ensures in
-    prove-given (provedInto (a .store .now) (a .version) (a .key .now) (a .room .now)) (a .room .now) (d .0) (d .1) (a .length .now) (c .before .before .before .proved2 .given .1) (search needs)
-    (c .put-u32 .ensures)
+    prove-given (d .0) (d .1) (a .length .now) (c .before .before .before .proved2 .given .1) (search needs) (c .put-u32 .ensures)
 
 pub grants-prove-spec : {M : Type 1} → statement M
 grants-prove-spec =

@@ -27,8 +27,8 @@ free-retired-requires c κs =
     let d = c .before .before .before .before in
     sound-readable (d .before .pre) (all-of Byte (d .before .args .store .now) 0 (λ i _. omega (arith, d .slice-known .given i)))
 
-put-u32-requires : tie.Need-put-u32-requires
-put-u32-requires c κs =
+put-oldest-requires : tie.Need-put-oldest-requires
+put-oldest-requires c κs =
     let d = c .before .before .before in
     omega (arith, d .free-retired .kept .0, sound-long (d .before .before .before .before .before .before .pre))
 
@@ -42,7 +42,7 @@ returns-2 c =
     let k = d .before .before in
     let a = k .before .before .before .before in
     pruned-to (a .pre) (a .args .version) (sym (k .before .is-kept .ensures) ∙ not-false _ (k .if1 .left)) (d .free-retired .ensures)
-    (c .before .before .put-u32 .ensures)
+    (c .before .before .put-oldest .ensures)
 
 pub prune-sound-spec : {M : Type 1} → statement M
 prune-sound-spec =
@@ -52,6 +52,6 @@ prune-sound-spec =
     same-length
     returns
     free-retired-requires
-    put-u32-requires
+    put-oldest-requires
     same-length-2
     returns-2)

@@ -1,11 +1,13 @@
 -- `read_step::child` meets its contract: version 0 is no child, else the child is sought at its version and place. Assumes nothing.
 use native.Mathlib.Omega.{arith}
-use mathlib.Core.Path.{sym, _∙_}
+use mathlib.Core.Path.{ap, sym, _∙_}
 use Rattle.terms.specs.Bits.{Byte}
 use Rattle.terms.proofs.Lists.{all-of}
+use Rattle.meaning.specs.Store.{find}
 use Rattle.place.specs.Place.{placeOf}
+use Rattle.layout.specs.Stores.{storeOf}
 use Rattle.read_step.specs.Walk.{kidIn}
-use Rattle.read_step.proofs.Seeing.{holds-found, child-none, child-nothing, child-sees}
+use Rattle.read_step.proofs.Seeing.{node-placed, holds-found, child-none, child-nothing, child-sees}
 use borrow.Author.Needs.{needs}
 use Rattle.read_step.proofs.child.Statement.{statement}
 use Rattle.read_step.proofs.child.Tie as tie
@@ -33,11 +35,9 @@ returns-2 c =
     let d = c .before .before .before in
     let w = d .before .child-version in
     let a = d .before .before .before .args in
-    let h = d .before .before .before .pre in
     let s = a .store .now in
-    let b = all-of Byte s 0 (λ i _. omega (arith, d .before .before .shared-slice-known .given i)) in
-    child-nothing s (h .size) b (w .result) (a .place) (h .proper) (c .before .before .find .ensures) (c .enum-told .given .1)
-    (kidIn (a .i) s (a .right)) (w .ensures) (omega (arith, d .if1 .left))
+    child-nothing s (find (w .result) (placeOf (a .place)) (storeOf s .slots)) (c .before .before .find .ensures) (c .enum-told .given .1) (placeOf (a .place)) (kidIn (a .i) s (a .right))
+    (ap (λ v. find v (placeOf (a .place)) (storeOf s .slots)) (sym (w .ensures))) (omega (arith, w .ensures, d .if1 .left))
 
 seen-in-requires : tie.Need-seen-in-requires
 seen-in-requires c κs =
@@ -46,8 +46,8 @@ seen-in-requires c κs =
     let h = d .before .before .before .pre in
     let s = a .store .now in
     let b = all-of Byte s 0 (λ i _. omega (arith, d .before .before .shared-slice-known .given i)) in
-    holds-found s (h .size) b (d .before .child-version .result) (a .place) (h .proper) (c .before .before .before .find .ensures)
-    (c .before .found .given .1)
+    holds-found s (h .size) b (a .place) (h .proper) (node-placed s (d .before .child-version .result) (a .place))
+    (c .before .before .before .find .ensures) (c .before .found .given .1)
 
 returns-3 : tie.Need-returns-3
 returns-3 c =
@@ -57,8 +57,9 @@ returns-3 c =
     let h = d .before .before .before .pre in
     let s = a .store .now in
     let b = all-of Byte s 0 (λ i _. omega (arith, d .before .before .shared-slice-known .given i)) in
-    child-sees s (h .size) b (w .result) (a .place) (h .proper) (c .before .before .before .before .find .ensures)
-    (c .before .before .found .given .1) (kidIn (a .i) s (a .right)) (w .ensures) (omega (arith, d .if1 .left))
+    child-sees s (h .size) b (a .place) (h .proper) (node-placed s (w .result) (a .place)) (c .before .before .before .before .find .ensures)
+    (c .before .before .found .given .1) (kidIn (a .i) s (a .right))
+    (ap (λ v. find v (placeOf (a .place)) (storeOf s .slots)) (sym (w .ensures))) (omega (arith, w .ensures, d .if1 .left))
     (c .seen-in .result) (c .seen-in .ensures)
 
 pub child-spec : {M : Type 1} → statement M

@@ -1,7 +1,6 @@
 -- `read_step::record_hash` meets its contract: a leaf's grant and an inner record's two hashes are hashed where they lie. Assumes nothing.
-use mathlib.Core.Path.{ap, sym, _∙_}
-use lib.ListN.{length}
-use Rattle.terms.proofs.Fields.{length-slice}
+use native.Mathlib.Omega.{arith}
+use mathlib.Core.Path.{sym, _∙_}
 use Rattle.read_step.proofs.Hashing.{leaf-hashed, inner-hashed}
 use borrow.Author.Needs.{needs}
 use Rattle.read_step.proofs.record_hash.Statement.{statement}
@@ -14,33 +13,35 @@ grant-of-requires : tie.Need-grant-of-requires
 grant-of-requires c κs = search needs
 
 leaf-hash-requires : tie.Need-leaf-hash-requires
-leaf-hash-requires c κs = ap length (c .grant-of .ensures .0) ∙ length-slice 48 64 _ (search needs)
+leaf-hash-requires c κs = c .grant-of .ensures .1
 
 returns : tie.Need-returns
 returns c =
     let d = c .before .before in
     leaf-hashed _ (sym (d .before .is-leaf .ensures) ∙ d .if1 .taken) (c .before .grant-of .ensures .0) (c .leaf-hash .ensures)
 
-add-hash-at : tie.Need-add-hash-at
-add-hash-at c = search needs
+child-hash-requires : tie.Need-child-hash-requires
+child-hash-requires c κs = search needs
 
 hash-at-requires : tie.Need-hash-at-requires
-hash-at-requires c κs = search needs
+hash-at-requires c κs = omega (arith, c .child-hash .ensures .1)
 
-add-hash-at-2 : tie.Need-add-hash-at-2
-add-hash-at-2 c = search needs
+child-hash-requires-2 : tie.Need-child-hash-requires-2
+child-hash-requires-2 c κs = search needs
 
 hash-at-requires-2 : tie.Need-hash-at-requires-2
-hash-at-requires-2 c κs = search needs
+hash-at-requires-2 c κs = omega (arith, c .child-hash2 .ensures .1)
 
 inner-hash-requires : tie.Need-inner-hash-requires
 inner-hash-requires c κs = search needs
 
 returns-2 : tie.Need-returns-2
 returns-2 c =
-    let l = c .before .before in
-    inner-hashed _ (sym (l .before .before .is-leaf .ensures) ∙ l .before .if1 .left) (l .hash-at .ensures .1) (c .before .hash-at2 .ensures .1)
-    (c .inner-hash .ensures)
+    let second = c .before in
+    let first = second .before .before in
+    let no-leaf = first .before .before in
+    inner-hashed _ (sym (no-leaf .before .is-leaf .ensures) ∙ no-leaf .if1 .left) (search needs) (first .before .child-hash .ensures .0) (second .before .child-hash2 .ensures .0)
+    (first .hash-at .ensures .1) (second .hash-at2 .ensures .1) (c .inner-hash .ensures)
 
 pub record-hash-spec : {M : Type 1} → statement M
 record-hash-spec =
@@ -50,9 +51,9 @@ record-hash-spec =
     grant-of-requires
     leaf-hash-requires
     returns
-    add-hash-at
+    child-hash-requires
     hash-at-requires
-    add-hash-at-2
+    child-hash-requires-2
     hash-at-requires-2
     inner-hash-requires
     returns-2)

@@ -1,8 +1,11 @@
--- `read_step::root` meets its contract: the root is sought at the empty place, and none is an empty version. Assumes nothing.
+-- `read_step::root` meets its contract: the root of the version is sought, and none is an empty version. Assumes nothing.
 use native.Mathlib.Omega.{arith}
+use mathlib.Core.Path.{refl}
 use Rattle.terms.specs.Bits.{Byte}
 use Rattle.terms.proofs.Lists.{all-of}
-use Rattle.read_step.proofs.Seeing.{holds-found, root-nothing, root-sees}
+use Rattle.meaning.specs.Store.{rootOf}
+use Rattle.layout.specs.Stores.{storeOf}
+use Rattle.read_step.proofs.Seeing.{root-placed, holds-found, root-nothing, root-sees}
 use borrow.Author.Needs.{needs}
 use Rattle.read_step.proofs.root.Statement.{statement}
 use Rattle.read_step.proofs.root.Tie as tie
@@ -10,8 +13,8 @@ use Rattle.read_step.proofs.root.Tie as tie
 top-requires : tie.Need-top-requires
 top-requires c κs = search needs
 
-find-requires : tie.Need-find-requires
-find-requires c κs = search needs
+find-root-requires : tie.Need-find-root-requires
+find-root-requires c κs = search needs
 
 enum-known-found : tie.Need-enum-known-found
 enum-known-found c = search needs
@@ -21,13 +24,8 @@ enum-told c = search needs
 
 returns : tie.Need-returns
 returns c =
-    let d = c .before .before .before in
-    let a = d .before .before .args in
-    let s = a .store .now in
-    let b = all-of Byte s 0 (λ i _. omega (arith, d .before .shared-slice-known .given i)) in
-    let top = d .top .ensures in
-    root-nothing s (d .before .before .pre) b (a .version) (d .top .result) (top .proper) (c .before .before .find .ensures)
-    (c .enum-told .given .1) (top .place)
+    let a = c .before .before .before .before .before .args in
+    root-nothing (a .store .now) (rootOf (storeOf (a .store .now)) (a .version)) (c .before .before .find-root .ensures) (c .enum-told .given .1) (a .version) refl
 
 seen-in-requires : tie.Need-seen-in-requires
 seen-in-requires c κs =
@@ -35,8 +33,9 @@ seen-in-requires c κs =
     let a = d .before .before .args in
     let s = a .store .now in
     let b = all-of Byte s 0 (λ i _. omega (arith, d .before .shared-slice-known .given i)) in
-    holds-found s (d .before .before .pre) b (a .version) (d .top .result) (d .top .ensures .proper) (c .before .before .before .find .ensures)
-    (c .before .found .given .1)
+    let top = d .top .ensures in
+    holds-found s (d .before .before .pre) b (d .top .result) (top .proper) (root-placed s (a .version) (d .top .result) (top .place))
+    (c .before .before .before .find-root .ensures) (c .before .found .given .1)
 
 returns-2 : tie.Need-returns-2
 returns-2 c =
@@ -45,15 +44,16 @@ returns-2 c =
     let s = a .store .now in
     let b = all-of Byte s 0 (λ i _. omega (arith, d .before .shared-slice-known .given i)) in
     let top = d .top .ensures in
-    root-sees s (d .before .before .pre) b (a .version) (d .top .result) (top .proper) (c .before .before .before .before .find .ensures)
-    (c .before .before .found .given .1) (top .place) (c .seen-in .result) (c .seen-in .ensures)
+    root-sees s (d .before .before .pre) b (d .top .result) (top .proper) (root-placed s (a .version) (d .top .result) (top .place))
+    (c .before .before .before .before .find-root .ensures) (c .before .before .found .given .1) (a .version) refl (top .place)
+    (c .seen-in .result) (c .seen-in .ensures)
 
 pub root-spec : {M : Type 1} → statement M
 root-spec =
     tie.close
     (tie.spec
     top-requires
-    find-requires
+    find-root-requires
     enum-known-found
     enum-told
     returns

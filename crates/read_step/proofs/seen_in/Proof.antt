@@ -1,9 +1,7 @@
 -- `read_step::seen_in` meets its contract: a record that is no leaf is an inner node; a leaf's key is compared with its place. Assumes nothing.
-use mathlib.Core.Path.{ap, _∙_}
-use lib.ListN.{length}
 use borrow.Author.Tests.{not-true, not-false}
-use Rattle.terms.proofs.Fields.{length-slice}
-use Rattle.read_step.proofs.Seeing.{slot-fits, inner-seen, leaf-lost, leaf-seen}
+use Rattle.store.proofs.Slots.{slot-fits}
+use Rattle.read_step.proofs.Seeing.{inner-seen, leaf-lost, leaf-seen}
 use borrow.Author.Needs.{needs}
 use Rattle.read_step.proofs.seen_in.Statement.{statement}
 use Rattle.read_step.proofs.seen_in.Tie as tie
@@ -28,7 +26,7 @@ key-of-requires c κs = search needs
 begins-requires : tie.Need-begins-requires
 begins-requires c κs =
     let d = c .before .before .before in
-    (ap length (c .key-of .ensures .0) ∙ length-slice 48 32 _ (search needs), d .before .before .pre .slotted .proper)
+    (c .key-of .ensures .1, d .before .before .pre .slotted .proper)
 
 returns-2 : tie.Need-returns-2
 returns-2 c =

@@ -1,9 +1,6 @@
 -- `reads::leaf_read` meets its contract: key and value are read where they lie in the slot. Assumes nothing.
 use native.Mathlib.Omega.{arith}
-use mathlib.Core.Path.{ap, _∙_}
-use lib.ListN.{length}
-use Rattle.terms.proofs.Fields.{length-slice}
-use Rattle.read_step.proofs.Seeing.{slot-fits}
+use Rattle.store.proofs.Slots.{slot-fits}
 use Rattle.reads.proofs.Answers.{leaf-present, leaf-absent}
 use borrow.Author.Needs.{needs}
 use Rattle.reads.proofs.leaf_read.Statement.{statement}
@@ -24,7 +21,7 @@ value-of-requires : tie.Need-value-of-requires
 value-of-requires c κs = search needs
 
 hash-at-requires : tie.Need-hash-at-requires
-hash-at-requires c κs = omega (arith, ap length (c .value-of .ensures .0) ∙ length-slice 80 32 _ (search needs))
+hash-at-requires c κs = omega (arith, c .value-of .ensures .1)
 
 returns : tie.Need-returns
 returns c =

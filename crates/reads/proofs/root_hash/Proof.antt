@@ -1,21 +1,18 @@
--- `reads::root_hash` meets its contract: the record found at the empty place is the root record. Assumes nothing.
-use native.Mathlib.Omega.{arith}
-use mathlib.Core.Path.{ap, _∙_}
-use Rattle.terms.specs.Bits.{Byte}
-use Rattle.terms.proofs.Lists.{all-of}
+-- `reads::root_hash` meets its contract: the record found is the root record. Assumes nothing.
+use mathlib.Core.Path.{refl, ap, _∙_}
 use Rattle.meaning.specs.Reading.{bodyHash}
+use Rattle.meaning.specs.Store.{rootOf}
+use Rattle.layout.specs.Stores.{storeOf}
 use Rattle.nodehash.specs.Node.{leafHash, innerHash}
 use Rattle.read_step.specs.Walk.{bodyIn}
-use Rattle.read_step.proofs.Seeing.{slot-fits, inside, root-hash, no-root-hash}
+use Rattle.store.proofs.Slots.{slot-fits}
+use Rattle.read_step.proofs.Seeing.{inside, root-hash, no-root-hash}
 use borrow.Author.Needs.{needs}
 use Rattle.reads.proofs.root_hash.Statement.{statement}
 use Rattle.reads.proofs.root_hash.Tie as tie
 
-top-requires : tie.Need-top-requires
-top-requires c κs = search needs
-
-find-requires : tie.Need-find-requires
-find-requires c κs = search needs
+find-root-requires : tie.Need-find-root-requires
+find-root-requires c κs = search needs
 
 enum-known-found : tie.Need-enum-known-found
 enum-known-found c = search needs
@@ -28,48 +25,35 @@ no-hash-requires c κs = search needs
 
 returns : tie.Need-returns
 returns c =
-    let d = c .before .before .before .before in
-    let a = d .before .before .args in
-    let s = a .store .now in
-    let b = all-of Byte s 0 (λ i _. omega (arith, d .before .shared-slice-known .given i)) in
-    let top = d .top .ensures in
+    let f = c .before .before .before in
+    let a = f .before .before .args in
     c .no-hash .ensures
-    ∙ no-root-hash s (d .before .before .pre) b (a .version) (d .top .result) (top .proper) (c .before .before .before .find .ensures)
-    (c .before .enum-told .given .1) leafHash innerHash (top .place)
+    ∙ no-root-hash (a .store .now) (rootOf (storeOf (a .store .now)) (a .version)) (f .find-root .ensures) (c .before .enum-told .given .1) leafHash innerHash (a .version) refl
 
 slot-of-requires : tie.Need-slot-of-requires
 slot-of-requires c κs =
-    let d = c .before .before .before .before in
-    let a = d .before .before .args in
-    let s = a .store .now in
-    let b = all-of Byte s 0 (λ i _. omega (arith, d .before .shared-slice-known .given i)) in
-    let top = d .top .ensures in
-    slot-fits s (d .before .before .pre) _
-    (inside s (d .before .before .pre) b (a .version) (d .top .result) (top .proper) (c .before .before .before .find .ensures)
-    (c .before .found .given .1))
+    let f = c .before .before .before in
+    let a = f .before .before in
+    let s = a .args .store .now in
+    slot-fits s (a .pre) _ (inside s (rootOf (storeOf s) (a .args .version)) (f .find-root .ensures) (c .before .found .given .1))
 
 record-hash-requires : tie.Need-record-hash-requires
 record-hash-requires c κs = search needs
 
 returns-2 : tie.Need-returns-2
 returns-2 c =
-    let f = c .before .before .before in
-    let d = f .before .before .before in
-    let a = d .before .before .args in
-    let s = a .store .now in
-    let b = all-of Byte s 0 (λ i _. omega (arith, d .before .shared-slice-known .given i)) in
-    let top = d .top .ensures in
+    let g = c .before .before .before in
+    let f = g .before .before in
+    let a = f .before .before .args in
     c .record-hash .ensures
     ∙ ap (λ x. bodyHash leafHash innerHash (bodyIn x)) (c .before .slot-of .ensures .0)
-    ∙ root-hash s (d .before .before .pre) b (a .version) (d .top .result) (top .proper) (f .before .before .find .ensures) (f .found .given .1)
-    (top .place) leafHash innerHash
+    ∙ root-hash (a .store .now) (rootOf (storeOf (a .store .now)) (a .version)) (f .find-root .ensures) (g .found .given .1) leafHash innerHash (a .version) refl
 
 pub root-hash-spec : {M : Type 1} → statement M
 root-hash-spec =
     tie.close
     (tie.spec
-    top-requires
-    find-requires
+    find-root-requires
     enum-known-found
     enum-told
     no-hash-requires

@@ -1,59 +1,29 @@
--- `soundness::slots_pass` meets its contract: the slots before i pass. Assumes nothing.
-use Prim.Native.Nat.{_-_}
-use native.Mathlib.Omega.{arith}
-use borrow.Author.Tests.{not-true, not-false}
-use Rattle.layout.specs.Sizes.{roomOf}
-use Rattle.layout.proofs.Headers.{size-least}
-use Rattle.soundness.proofs.Passing.{Passed, pass-start, pass-slot, pass-next, pass-off, pass-end}
+-- `soundness::slots_pass` meets its contract: by the passes, or by the exact test of a suspect. Assumes nothing.
+use mathlib.Core.Path.{sym}
+use Rattle.check_quick.proofs.Fine.{sure-is}
+use borrow.Author.Needs.{needs}
 use Rattle.soundness.proofs.slots_pass.Statement.{statement}
 use Rattle.soundness.proofs.slots_pass.Tie as tie
 
-abbrev Inv-loop : tie.InvT-loop
-Inv-loop store kept n i₀ i = Passed store n i
+quick-requires : tie.Need-quick-requires
+quick-requires c κs = search needs
 
-abbrev μ-loop : tie.MeasureT-loop
-μ-loop store kept n i₀ i = n - i
+enum-told : tie.Need-enum-told
+enum-told c = search needs
 
-sub-n : tie.Need-sub-n Inv-loop μ-loop
-sub-n c = omega (arith, size-least _ (c .before .pre .size))
+enum-known-seen : tie.Need-enum-known-seen
+enum-known-seen c = search needs
 
-loop-holds : tie.Need-loop-holds Inv-loop μ-loop
-unfolding roomOf
-loop-holds c = pass-start (c .before .args .store .now) (c .before .pre .size)
+suspect-passes-requires : tie.Need-suspect-passes-requires
+suspect-passes-requires c κs = search needs
 
-slot-passes-requires : tie.Need-slot-passes-requires Inv-loop μ-loop
-slot-passes-requires c κs = (pass-slot (c .before .loop .inv) (c .loop-test .taken), c .before .before .before .pre)
+returns : tie.Need-returns
+returns c = sym (sure-is (c .enum-told .given .1) (c .before .before .quick .ensures))
 
-returns : tie.Need-returns Inv-loop μ-loop
-returns c =
-    pass-off (c .before .before .before .loop .inv) (c .before .before .loop-test .taken) (c .before .slot-passes .ensures)
-    (not-true _ (c .if1 .taken))
-
-add-i : tie.Need-add-i Inv-loop μ-loop
-add-i c = omega (arith, c .before .before .before .loop .inv .small)
-
-loop-less : tie.Need-loop-less Inv-loop μ-loop
-loop-less c = omega arith
-
-loop-again : tie.Need-loop-again Inv-loop μ-loop
-loop-again c =
-    pass-next (c .before .before .before .loop .inv) (c .before .before .loop-test .taken) (c .before .slot-passes .ensures)
-    (not-false _ (c .if1 .left))
-
-returns-2 : tie.Need-returns-2 Inv-loop μ-loop
-returns-2 c = pass-end (c .before .loop .inv) (c .loop-test .left)
+returns-2 : tie.Need-returns-2
+returns-2 c = search needs
 
 pub slots-pass-spec : {M : Type 1} → statement M
 slots-pass-spec =
     tie.close
-    (tie.spec
-    Inv-loop
-    μ-loop
-    sub-n
-    loop-holds
-    slot-passes-requires
-    returns
-    add-i
-    loop-less
-    loop-again
-    returns-2)
+    (tie.spec quick-requires enum-told enum-known-seen suspect-passes-requires returns returns-2)

@@ -5,7 +5,7 @@ use mathlib.Core.Path.{sym, _∙_}
 use borrow.Author.Tests.{not-true, not-false}
 use Rattle.terms.specs.Fields.{slice}
 use Rattle.proofrecords.specs.ProofBytes.{absenceIn}
-use Rattle.verify.proofs.Forms.{absence-head}
+use Rattle.proofrecords.proofs.Forms.{absence-head}
 use borrow.Author.Needs.{needs}
 use Rattle.verify.proofs.absence_holds.Statement.{statement}
 use Rattle.verify.proofs.absence_holds.Tie as tie

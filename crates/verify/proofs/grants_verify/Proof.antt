@@ -3,7 +3,7 @@
 use mathlib.Core.Path.{ap, sym, _∙_}
 use Rattle.meaning.specs.Calls.{Answer}
 use Rattle.meaning.specs.Reading.{Verdict}
-use Rattle.verify.specs.Verify.{says}
+use Rattle.verify.specs.Says.{says}
 use Rattle.meaning.specs.Answers.{numberOf, foundAfter}
 use Rattle.verify.proofs.Boundary.{zeros-found}
 use borrow.Author.Needs.{needs}
@@ -31,18 +31,27 @@ clear-requires c κs = search needs
 returns : tie.Need-returns
 returns c =
     let e = ap says (sym (c .before .answer .given .1)) ∙ c .before .before .before .verify .ensures in
-    (ap numberOf e, ap (λ (v : Answer Verdict). foundAfter v (c .before .before .before .before .before .before .before .args .found .now)) e)
+    record {
+      answer = ap numberOf e;
+      found = ap (λ (v : Answer Verdict). foundAfter v (c .before .before .before .before .before .before .before .args .found .now)) e;
+    }
 
 returns-2 : tie.Need-returns-2
 returns-2 c =
     let e = ap says (sym (c .before .before .before .answer2 .given .1)) ∙ c .before .before .before .before .before .verify .ensures in
-    (ap numberOf e, c .put-present .ensures ∙ ap (λ (v : Answer Verdict). foundAfter v (c .before .before .before .before .before .before .before .before .before .args .found .now)) e)
+    record {
+      answer = ap numberOf e;
+      found = c .put-present .ensures ∙ ap (λ (v : Answer Verdict). foundAfter v (c .before .before .before .before .before .before .before .before .before .args .found .now)) e;
+    }
 
 returns-3 : tie.Need-returns-3
 returns-3 c =
     let e = ap says (sym (c .before .before .enum-told .given .1)) ∙ c .before .before .before .before .verify .ensures in
     let f = c .before .before .before .before .before .before .before .before .args .found .now in
-    (ap numberOf e, c .clear .ensures ∙ zeros-found f (search needs) ∙ ap (λ (v : Answer Verdict). foundAfter v f) e)
+    record {
+      answer = ap numberOf e;
+      found = c .clear .ensures ∙ zeros-found f (search needs) ∙ ap (λ (v : Answer Verdict). foundAfter v f) e;
+    }
 
 pub grants-verify-spec : {M : Type 1} → statement M
 grants-verify-spec =

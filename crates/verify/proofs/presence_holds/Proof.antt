@@ -5,7 +5,7 @@ use mathlib.Core.Path.{sym, _∙_}
 use borrow.Author.Tests.{not-true, not-false}
 use Rattle.terms.specs.Fields.{slice}
 use Rattle.proofrecords.specs.ProofBytes.{presenceIn}
-use Rattle.verify.proofs.Forms.{presence-whole}
+use Rattle.proofrecords.proofs.Forms.{presence-whole}
 use borrow.Author.Needs.{needs}
 use Rattle.verify.proofs.presence_holds.Statement.{statement}
 use Rattle.verify.proofs.presence_holds.Tie as tie

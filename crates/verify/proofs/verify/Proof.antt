@@ -4,7 +4,7 @@ use native.Mathlib.Omega.{arith}
 use mathlib.Core.Path.{sym, _∙_}
 use lib.Seq.{take-all}
 use Rattle.terms.specs.Fields.{slice}
-use Rattle.verify.proofs.Forms.{presence-whole}
+use Rattle.proofrecords.proofs.Forms.{presence-whole}
 use Rattle.verify.proofs.Checks.{presence-answer, absence-answer, root-off, key-off, as-presence, as-absence, off-form}
 use borrow.Author.Needs.{needs}
 use Rattle.verify.proofs.verify.Statement.{statement}

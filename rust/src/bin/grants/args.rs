@@ -3,6 +3,7 @@
 use crate::fail::Fail;
 use crate::table::Command;
 use std::ffi::{OsStr, OsString};
+use std::os::unix::ffi::OsStrExt;
 use std::path::Path;
 
 /// An option, and what its value is called if it takes one.
@@ -17,6 +18,12 @@ pub struct Args {
     chosen: Vec<(&'static str, OsString)>,
 }
 
+/// Whether a word is an option that all commands take, wherever it stands before `--`.
+pub fn everywhere(given: &[OsString], name: &str) -> bool {
+    let before = given.iter().take_while(|word| *word != "--");
+    before.into_iter().any(|word| word == name)
+}
+
 /// None where help was asked for.
 pub fn parse(command: &Command, given: &[OsString]) -> Result<Option<Args>, Fail> {
     let mut args = Args {
@@ -26,33 +33,34 @@ pub fn parse(command: &Command, given: &[OsString]) -> Result<Option<Args>, Fail
     let mut rest = given.iter();
     let mut only_words = false;
     while let Some(word) = rest.next() {
-        let text = word.to_string_lossy();
-        if only_words || !text.starts_with('-') || text == "-" {
+        let bytes = word.as_bytes();
+        if only_words || !bytes.starts_with(b"-") || bytes == b"-" {
             args.words.push(word.clone());
-        } else if text == "--" {
+        } else if bytes == b"--" {
             only_words = true;
-        } else if text == "--help" || text == "-h" {
+        } else if bytes == b"--help" || bytes == b"-h" {
             return Ok(None);
         } else {
-            let (name, joined) = match text.split_once('=') {
-                Some((name, value)) => (name, Some(OsString::from(value))),
-                None => (&*text, None),
+            let (name, joined) = match bytes.iter().position(|b| *b == b'=') {
+                Some(at) => (&bytes[..at], Some(OsStr::from_bytes(&bytes[at + 1..]))),
+                None => (bytes, None),
             };
+            let shown = String::from_utf8_lossy(name);
             let choice = command
                 .choices
                 .iter()
-                .find(|choice| choice.name == name)
-                .ok_or_else(|| wrong(command, format!("there is no option {name}")))?;
+                .find(|choice| choice.name.as_bytes() == name)
+                .ok_or_else(|| wrong(command, format!("there is no option {shown}")))?;
             let value = match (choice.value, joined) {
                 (None, None) => OsString::new(),
                 (None, Some(_)) => {
-                    return Err(wrong(command, format!("{name} takes no value")));
+                    return Err(wrong(command, format!("{shown} takes no value")));
                 }
-                (Some(_), Some(value)) => value,
+                (Some(_), Some(value)) => value.to_os_string(),
                 (Some(what), None) => rest
                     .next()
                     .cloned()
-                    .ok_or_else(|| wrong(command, format!("{name} wants {what} after it")))?,
+                    .ok_or_else(|| wrong(command, format!("{shown} wants {what} after it")))?,
             };
             args.chosen.push((choice.name, value));
         }
@@ -103,12 +111,23 @@ impl Args {
         let chosen = self.chosen.iter().rev().find(|(chosen, _)| *chosen == name);
         chosen.map(|(_, value)| value.as_os_str())
     }
+
+    /// The value of an option, which must be text.
+    pub fn said(&self, name: &str) -> Result<Option<String>, Fail> {
+        let Some(value) = self.value(name) else {
+            return Ok(None);
+        };
+        let text = value.to_str().map(str::to_string);
+        text.map(Some)
+            .ok_or_else(|| Fail::Usage(format!("what follows {name} is no text in UTF-8")))
+    }
 }
 
 /// A number that fits 32 bits.
 pub fn number(what: &str, word: &OsStr) -> Result<u32, Fail> {
     let text = word.to_string_lossy();
-    text.parse().map_err(|_| {
+    let digits = text.bytes().all(|b| b.is_ascii_digit());
+    text.parse().ok().filter(|_| digits).ok_or_else(|| {
         Fail::Usage(format!(
             "{what} is a number from 0 to 4294967295, and {text:?} is not"
         ))

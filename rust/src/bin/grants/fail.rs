@@ -1,5 +1,6 @@
 //! Why a command did not do what was asked, and the exit status that says so.
 
+use crate::plain::shown;
 use grants::Error;
 use std::fmt;
 use std::io;
@@ -11,6 +12,8 @@ pub enum Fail {
     Usage(String),
     /// A file, or standard input or output, could not be read or written: 3.
     File(String),
+    /// The book beside the store can't say it, or a signed root is past its date: 4.
+    Book(String),
     /// The library refused, or would have: 10 and the number. The sentence says what to do.
     Refused(Error, String),
 }
@@ -20,6 +23,7 @@ impl Fail {
         match self {
             Fail::Usage(_) => 2,
             Fail::File(_) => 3,
+            Fail::Book(_) => 4,
             Fail::Refused(error, _) => 10 + error.number() as u8,
         }
     }
@@ -35,7 +39,9 @@ impl Fail {
 impl fmt::Display for Fail {
     fn fmt(&self, f: &mut fmt::Formatter<'_>) -> fmt::Result {
         match self {
-            Fail::Usage(sentence) | Fail::File(sentence) => f.write_str(sentence),
+            Fail::Usage(sentence) | Fail::File(sentence) | Fail::Book(sentence) => {
+                f.write_str(sentence)
+            }
             Fail::Refused(error, advice) => {
                 write!(f, "refused with {}: {error}. {advice}", error.number())
             }
@@ -43,16 +49,22 @@ impl fmt::Display for Fail {
     }
 }
 
-/// 'cannot read STORE: it is a directory', and so on.
-pub fn file(verb: &str, path: &Path, error: &io::Error) -> Fail {
-    let why = match error.kind() {
+/// What a person would say of an error of the system.
+pub fn why(error: &io::Error) -> String {
+    match error.kind() {
         io::ErrorKind::NotFound => "there is no such file".to_string(),
         io::ErrorKind::IsADirectory => "it is a directory".to_string(),
+        io::ErrorKind::NotADirectory => "a part of the path is no directory".to_string(),
         io::ErrorKind::PermissionDenied => "permission denied".to_string(),
         io::ErrorKind::StorageFull => "the disk is full".to_string(),
         io::ErrorKind::FileTooLarge => "it would be larger than files may be here".to_string(),
         io::ErrorKind::ReadOnlyFilesystem => "the file system is read-only".to_string(),
+        io::ErrorKind::InvalidFilename => "the name is longer than names may be here".to_string(),
         _ => error.to_string(),
-    };
-    Fail::File(format!("cannot {verb} {}: {why}", path.display()))
+    }
+}
+
+/// 'cannot read STORE: it is a directory', and so on.
+pub fn file(verb: &str, path: &Path, error: &io::Error) -> Fail {
+    Fail::File(format!("cannot {verb} {}: {}", shown(path), why(error)))
 }

@@ -1,28 +1,47 @@
-//! A batch as text: a line `+ KEY VALUE` inserts, a line `- KEY` deletes. Empty lines and what follows '#' say nothing.
+//! A batch as text: a line `+ KEY VALUE` inserts, a line `- KEY` deletes. A key or a value is 64 hex digits, or a name in double quotes. Empty
+//! lines and what follows '#' say nothing.
 
+use crate::book::Book;
 use crate::fail::Fail;
-use grants::{Batch, Error, HexError, Key};
+use crate::plain::{words, Word};
+use grants::{Batch, Error, Key};
 use std::collections::HashMap;
-use std::str::FromStr;
 
-pub fn batch(text: &str) -> Result<Batch, Fail> {
+/// The batch, and the names that it uses with what they stand for.
+pub struct Lines {
+    pub batch: Batch,
+    pub names: Vec<([u8; 32], String)>,
+}
+
+pub fn batch(text: &str, book: &Book) -> Result<Lines, Fail> {
     let mut batch = Batch::new();
+    let mut names = vec![];
     let mut lines: HashMap<Key, usize> = HashMap::new();
+    let text = text.strip_prefix('\u{feff}').unwrap_or(text);
     for (i, line) in text.lines().enumerate() {
         let at = i + 1;
-        let line = line.split('#').next().unwrap_or_default();
-        let words: Vec<&str> = line.split_whitespace().collect();
-        let (key, asked) = match words[..] {
-            [] => continue,
-            ["+", key, value] => {
-                let key = word(at, "key", key)?;
-                (
-                    key,
-                    batch.insert(key, word::<grants::Value>(at, "value", value)?),
+        let words = words(line).map_err(|why| off_form(at, why.to_string()))?;
+        let mut bytes = |what: &str, word: &Word| match word {
+            Word::Plain(digits) => digits.parse::<Key>().map(<[u8; 32]>::from).map_err(|e| {
+                off_form(
+                    at,
+                    format!("the {what} is wrong ({e}); a name stands in double quotes"),
                 )
+            }),
+            Word::Quoted(name) => {
+                let bytes = book.meaning(name)?;
+                names.push((bytes, name.clone()));
+                Ok(bytes)
             }
-            ["-", key] => {
-                let key = word(at, "key", key)?;
+        };
+        let (key, asked) = match &words[..] {
+            [] => continue,
+            [Word::Plain(sign), key, value] if sign == "+" => {
+                let (key, value) = (bytes("key", key)?, bytes("value", value)?);
+                (key, batch.insert(key, value))
+            }
+            [Word::Plain(sign), key] if sign == "-" => {
+                let key = bytes("key", key)?;
                 (key, batch.delete(key))
             }
             _ => {
@@ -32,6 +51,7 @@ pub fn batch(text: &str) -> Result<Batch, Fail> {
                 ));
             }
         };
+        let key = Key::from(key);
         if asked.is_err() {
             return Err(Fail::Refused(
                 Error::BatchOrder,
@@ -43,12 +63,7 @@ pub fn batch(text: &str) -> Result<Batch, Fail> {
         }
         lines.insert(key, at);
     }
-    Ok(batch)
-}
-
-fn word<T: FromStr<Err = HexError>>(line: usize, what: &str, text: &str) -> Result<T, Fail> {
-    text.parse()
-        .map_err(|e| off_form(line, format!("the {what} is wrong ({e})")))
+    Ok(Lines { batch, names })
 }
 
 fn off_form(line: usize, why: String) -> Fail {

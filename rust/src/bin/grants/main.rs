@@ -2,13 +2,25 @@
 #![deny(unsafe_code)]
 
 mod args;
+mod asked;
+mod book;
 mod commands;
+mod dates;
 mod fail;
 mod files;
+mod grow;
+mod held;
+mod help;
 mod json;
 mod lines;
+mod listing;
+mod names;
 mod out;
+mod plain;
+mod publish;
 mod show;
+mod signals;
+mod statement;
 mod table;
 
 use fail::Fail;
@@ -20,52 +32,60 @@ use std::process::ExitCode;
 use table::{Command, COMMANDS};
 
 fn main() -> ExitCode {
+    signals::outlive_file_limits();
     let given: Vec<OsString> = std::env::args_os().skip(1).collect();
-    let json = given.iter().any(|word| word == "--json");
+    let json = args::everywhere(&given, "--json");
     let mut out = Out::new(json);
-    let done = run(&given, &mut out).and_then(|status| out.flush().map(|()| status));
-    let fail = match done {
+    let fail = match run(&given, &mut out) {
         Ok(status) => return ExitCode::from(status),
         Err(fail) => fail,
     };
+    let status = fail.status();
+    let sentence = plain::escaped(&fail.to_string());
     // There is nowhere left to say that this could not be written.
-    let _ = writeln!(std::io::stderr(), "grants: {fail}");
+    let _ = writeln!(std::io::stderr(), "grants: {sentence}");
     if json {
         let object = Json::Object(vec![
             ("refused", fail.number().into()),
-            ("status", u32::from(fail.status()).into()),
-            ("message", fail.to_string().into()),
+            ("status", u32::from(status).into()),
+            ("message", sentence.into()),
         ]);
         // The sentence is on standard error already.
-        let _ = out.line(object).and_then(|()| out.flush());
+        let _ = out.answer(status, object, "");
     }
-    ExitCode::from(fail.status())
+    ExitCode::from(status)
 }
 
 fn run(given: &[OsString], out: &mut Out) -> Result<u8, Fail> {
-    let Some((first, rest)) = given.split_first() else {
+    // --json may stand before the command too.
+    let skipped = given.iter().take_while(|word| *word == "--json").count();
+    let Some((first, rest)) = given[skipped..].split_first() else {
         return Err(Fail::Usage(
             "which command? `grants --help` lists them".to_string(),
         ));
     };
     let first = first.to_string_lossy();
-    match (&*first, rest) {
-        ("--help" | "-h", _) | ("help", []) => return out.line(overview()).map(|()| 0),
-        ("--version", _) => {
-            return out
-                .line(concat!("grants ", env!("CARGO_PKG_VERSION")))
-                .map(|()| 0);
-        }
+    let words: Vec<&OsString> = rest.iter().filter(|word| *word != "--json").collect();
+    match (&*first, &words[..]) {
+        ("--help" | "-h", _) | ("help", []) => return told("help", help::overview(), out),
+        ("--version", _) => return told("version", help::version(), out),
+        ("help", [name]) if *name == "--man" => return told("man", help::man(), out),
+        ("help", [name]) if *name == "--bash" => return told("bash", help::bash(), out),
+        ("help", [name]) if *name == "--zsh" => return told("zsh", help::zsh(), out),
         ("help", [name, ..]) => {
-            return out.line(help(named(&name.to_string_lossy())?)).map(|()| 0);
+            return told("help", help::of(named(&name.to_string_lossy())?), out)
         }
         _ => {}
     }
     let command = named(&first)?;
     match args::parse(command, rest)? {
         Some(args) => (command.run)(&args, out),
-        None => out.line(help(command)).map(|()| 0),
+        None => told("help", help::of(command), out),
     }
+}
+
+fn told(what: &'static str, text: String, out: &mut Out) -> Result<u8, Fail> {
+    out.answer(0, Json::Object(vec![(what, text.as_str().into())]), &text)
 }
 
 fn named(name: &str) -> Result<&'static Command, Fail> {
@@ -75,36 +95,4 @@ fn named(name: &str) -> Result<&'static Command, Fail> {
             "there is no command {name:?}; `grants --help` lists them"
         ))
     })
-}
-
-fn overview() -> String {
-    let mut text = String::from(
-        "grants: a versioned, authenticated key-value store in a file\n\nusage: grants COMMAND WORDS .. [OPTIONS]\n\n",
-    );
-    for command in COMMANDS {
-        let call = format!("{} {}", command.name, command.usage);
-        text += &format!("  {call:<28}  {}\n", command.what);
-    }
-    text += "\n`grants COMMAND --help` says more of each. Keys, values and roots are 64 hex digits; where a file is read, - is\nstandard input; --json answers in JSON.\n\n";
-    text += STATUS;
-    text
-}
-
-const STATUS: &str = "exit status: 0 accepted; 1 the key is absent (get, verify); 2 the command line is wrong; 3 a file can't be read or\nwritten; 10 + N refused with number N of document 01: 11 to 22. A command that fails leaves the store as it was.";
-
-fn help(command: &Command) -> String {
-    let mut text = format!(
-        "{}\n\nusage: grants {} {}\n\n{}\n\noptions:\n",
-        command.what, command.name, command.usage, command.help
-    );
-    for choice in command.choices {
-        let call = match choice.value {
-            Some(value) => format!("{} {value}", choice.name),
-            None => choice.name.to_string(),
-        };
-        text += &format!("  {call:<12}  {}\n", choice.help);
-    }
-    text += "\n";
-    text += STATUS;
-    text
 }

@@ -1,4 +1,4 @@
-//! Standard output, where failing to write is an error like any other.
+//! Standard output. The exit status is decided before the first byte goes there, and what goes wrong with the output never makes it 0.
 
 use crate::fail::Fail;
 use crate::json::Json;
@@ -12,6 +12,12 @@ pub struct Out {
     pub changed: bool,
 }
 
+/// What writes, once the exit status is decided.
+pub struct Answer<'a> {
+    out: &'a mut Out,
+    status: u8,
+}
+
 impl Out {
     pub fn new(json: bool) -> Out {
         Out {
@@ -21,36 +27,49 @@ impl Out {
         }
     }
 
+    pub fn decided(&mut self, status: u8) -> Answer<'_> {
+        Answer { out: self, status }
+    }
+
+    /// The one or the other, as was asked.
+    pub fn answer(&mut self, status: u8, json: Json, line: impl fmt::Display) -> Result<u8, Fail> {
+        let json_asked = self.json;
+        let mut answer = self.decided(status);
+        if json_asked {
+            answer.line(json)?;
+        } else {
+            answer.line(line)?;
+        }
+        answer.end()
+    }
+}
+
+impl Answer<'_> {
     pub fn line(&mut self, line: impl fmt::Display) -> Result<(), Fail> {
-        let wrote = writeln!(self.to, "{line}");
+        let wrote = writeln!(self.out.to, "{line}");
         self.judged(wrote)
     }
 
     pub fn raw(&mut self, bytes: &[u8]) -> Result<(), Fail> {
-        let wrote = self.to.write_all(bytes);
+        let wrote = self.out.to.write_all(bytes);
         self.judged(wrote)
     }
 
-    /// The one or the other, as was asked.
-    pub fn answer(&mut self, json: Json, line: impl fmt::Display) -> Result<(), Fail> {
-        if self.json {
-            self.line(json)
-        } else {
-            self.line(line)
-        }
+    /// All of it is written; the status is the one that was decided.
+    pub fn end(mut self) -> Result<u8, Fail> {
+        let wrote = self.out.to.flush();
+        self.judged(wrote)?;
+        Ok(self.status)
     }
 
-    pub fn flush(&mut self) -> Result<(), Fail> {
-        let wrote = self.to.flush();
-        self.judged(wrote)
-    }
-
-    fn judged(&self, wrote: io::Result<()>) -> Result<(), Fail> {
+    fn judged(&mut self, wrote: io::Result<()>) -> Result<(), Fail> {
         match wrote {
-            // The reader has seen enough, as `head` does.
-            Err(e) if e.kind() == ErrorKind::BrokenPipe => std::process::exit(0),
+            // The reader has seen enough, as `head` does. What was decided stands.
+            Err(e) if e.kind() == ErrorKind::BrokenPipe => {
+                std::process::exit(i32::from(self.status))
+            }
             Err(e) => {
-                let changed = match self.changed {
+                let changed = match self.out.changed {
                     true => "; the store is changed all the same",
                     false => "",
                 };

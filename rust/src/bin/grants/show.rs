@@ -2,11 +2,13 @@
 //! stands below the one whose place is a bit shorter.
 
 use crate::args::{number, Args};
-use crate::commands::{counted, read_store, refused, Bytes};
+use crate::asked::{read_store, refused, version, Bytes};
 use crate::fail::Fail;
 use crate::files;
 use crate::json::Json;
+use crate::listing::ends;
 use crate::out::Out;
+use crate::plain::{counted, shown};
 use grants::{to_hex, Body, Child, Error, Key, Place, Record, Root, Value};
 use std::collections::{BTreeMap, BTreeSet};
 use std::fmt::Write as _;
@@ -39,9 +41,8 @@ pub fn show(args: &Args, out: &mut Out) -> Result<u8, Fail> {
     let store = read_store(path)?;
     let refused = refused(&store, path);
     let slots = store.slots().map_err(&refused)?;
-    let latest = store.header().map_err(&refused)?.latest;
     let mut trees = vec![];
-    for version in versions(args, latest)? {
+    for version in versions(args, &store, path)? {
         trees.push(tree(&store, &slots, version).map_err(&refused)?);
     }
     let full = args.has("--full");
@@ -51,28 +52,33 @@ pub fn show(args: &Args, out: &mut Out) -> Result<u8, Fail> {
             "--json is one form of the tree, --dot and --svg are others: choose one".to_string(),
         ));
     }
-    if let Some(to) = picture {
-        let picture = svg(&dot(&trees, full))?;
-        if to.as_os_str() == "-" {
-            out.raw(&picture)?;
-        } else {
-            files::write(to, &picture, &[path])?;
-            out.line(format_args!("{}: {} bytes", to.display(), picture.len()))?;
+    let text = match picture {
+        Some(to) => {
+            let picture = svg(&dot(&trees, full))?;
+            if to.as_os_str() != "-" {
+                files::write(args, to, &picture, &[path])?;
+                format!("{}: {} bytes\n", shown(to), picture.len()).into_bytes()
+            } else {
+                picture
+            }
         }
-    } else if args.has("--dot") {
-        out.raw(dot(&trees, full).as_bytes())?;
-    } else if out.json {
-        out.line(Json::List(trees.iter().map(object).collect()))?;
-    } else {
-        for tree in &trees {
-            out.raw(text(tree, full).as_bytes())?;
+        None if args.has("--dot") => dot(&trees, full).into_bytes(),
+        None if out.json => {
+            let trees = Json::List(trees.iter().map(object).collect());
+            format!("{trees}\n").into_bytes()
         }
-    }
-    Ok(0)
+        None => {
+            let trees: String = trees.iter().map(|tree| text(tree, full)).collect();
+            trees.into_bytes()
+        }
+    };
+    let mut answer = out.decided(0);
+    answer.raw(&text)?;
+    answer.end()
 }
 
-/// The versions that are asked for, else the latest.
-fn versions(args: &Args, latest: u32) -> Result<Vec<u32>, Fail> {
+/// The versions that are asked for, else the latest, or that of a day.
+fn versions(args: &Args, store: &Bytes, path: &Path) -> Result<Vec<u32>, Fail> {
     let mut versions = vec![];
     for word in args.rest(1) {
         let version = number("VERSION", word)?;
@@ -81,8 +87,8 @@ fn versions(args: &Args, latest: u32) -> Result<Vec<u32>, Fail> {
         }
         versions.push(version);
     }
-    if versions.is_empty() {
-        versions.push(latest);
+    if versions.is_empty() || args.has("--at") {
+        versions = vec![version(args, 1, store, path)?];
     }
     Ok(versions)
 }
@@ -112,15 +118,6 @@ fn tree(store: &Bytes, slots: &[Option<Record>], version: u32) -> Result<Tree, E
         root,
         nodes,
     })
-}
-
-/// 64 hex digits, or their two ends.
-fn word(bytes: &[u8], full: bool) -> String {
-    let digits = to_hex(bytes);
-    if full {
-        return digits;
-    }
-    format!("{}..{}", &digits[..8], &digits[60..])
 }
 
 /// The nodes below a place, left then right, each with its bit.
@@ -154,8 +151,8 @@ fn draw(tree: &Tree, place: Place, margin: &str, full: bool, text: &mut String) 
         Some((key, value)) => write!(
             text,
             "leaf {} = {}",
-            word(key.as_ref(), full),
-            word(value.as_ref(), full)
+            ends(key.as_ref(), full),
+            ends(value.as_ref(), full)
         ),
         None => write!(text, "inner"),
     };
@@ -217,7 +214,7 @@ fn dot(trees: &[Tree], full: bool) -> String {
             "  v{} [shape=plaintext, style=\"\", label=\"version {}\\nroot {}\"];",
             tree.version,
             tree.version,
-            word(tree.root.as_ref(), full)
+            ends(tree.root.as_ref(), full)
         );
         for (place, node) in &tree.nodes {
             let slot = node.slot;
@@ -268,8 +265,8 @@ fn shape(node: &Node, trees: &[Tree], full: bool) -> String {
     match node.grant {
         Some((key, value)) => format!(
             "s{slot} [shape=box, label=\"{head}\\n{}\\n= {}\", {look}];",
-            word(key.as_ref(), full),
-            word(value.as_ref(), full)
+            ends(key.as_ref(), full),
+            ends(value.as_ref(), full)
         ),
         None => format!("s{slot} [shape=ellipse, label=\"{head}\", {look}];"),
     }

@@ -1,9 +1,9 @@
-//! The commands, with what each takes and what its help says.
+//! The commands, with what each takes and what its help says. A new command is one more row here; help, the manual page and the completions follow.
 
 use crate::args::{Args, Choice};
 use crate::fail::Fail;
 use crate::out::Out;
-use crate::{commands, show};
+use crate::{commands, grow, listing, names, publish, show, statement};
 
 pub struct Command {
     pub name: &'static str,
@@ -17,11 +17,51 @@ pub struct Command {
     pub run: fn(&Args, &mut Out) -> Result<u8, Fail>,
 }
 
-const JSON: Choice = Choice {
-    name: "--json",
-    value: None,
-    help: "answer in JSON",
-};
+const fn flag(name: &'static str, help: &'static str) -> Choice {
+    let value = None;
+    Choice { name, value, help }
+}
+
+const fn valued(name: &'static str, value: &'static str, help: &'static str) -> Choice {
+    let value = Some(value);
+    Choice { name, value, help }
+}
+
+const JSON: Choice = flag("--json", "answer in JSON");
+const WAIT: Choice = valued(
+    "--wait",
+    "SECONDS",
+    "wait no longer than that for another writer (0: not at all)",
+);
+const BOOK: Choice = valued(
+    "--book",
+    "FILE",
+    "the book with names and dates, where it is not STORE.book",
+);
+const NO_BOOK: Choice = flag("--no-book", "read and write no book");
+const AT: Choice = valued(
+    "--at",
+    "DATE",
+    "the version that was the latest at the end of that day (UTC), by the book",
+);
+const FULL: Choice = flag("--full", "hex digits in full");
+const FORCE: Choice = flag("--force", "replace a file that is there");
+const MESSAGE: Choice = valued("--message", "TEXT", "why, for the book");
+const AUTHOR: Choice = valued(
+    "--author",
+    "NAME",
+    "by whom, for the book; else GRANTS_AUTHOR, else the user's name",
+);
+const DATE: Choice = valued("--date", "DATE", "when, for the book; else now");
+const DRY_RUN: Choice = flag(
+    "--dry-run",
+    "say what would be published and how much room is left, and change nothing",
+);
+const MATCH: Choice = valued(
+    "--match",
+    "TEXT",
+    "only grants whose key has a name with TEXT in it",
+);
 
 pub const COMMANDS: &[Command] = &[
     Command {
@@ -34,11 +74,10 @@ at what it changes. The file has 24 + 120 CAPACITY bytes. A file that is already
         words: (2, 2),
         choices: &[
             JSON,
-            Choice {
-                name: "--force",
-                value: None,
-                help: "make a fresh store of a file that is there; what it holds is lost",
-            },
+            flag("--force", "make a fresh store of a file that is there; what it holds is lost"),
+            WAIT,
+            BOOK,
+            NO_BOOK,
         ],
         run: commands::format,
     },
@@ -63,26 +102,39 @@ BATCH is text, a line for each key in any order:
   + KEY VALUE    the key gets this value
   - KEY          the key has no value from now on
 
-Empty lines and what follows # are passed over. Or BATCH is document 01's binary records of 72 bytes, keys ascending; a file
-with a zero byte in it is taken as binary. An empty batch publishes a version with the same grants. A batch has at most
-1,024 records.
+A key or a value is 64 hex digits, or a name in double quotes: what the book gives that name, else its SHA-256; the book
+gets the names that it doesn't have. Empty lines and what follows # are passed over. Or BATCH is binary records of 72 bytes
+(docs/FORMAT.md), keys ascending; a file with a zero byte in it is taken as binary. An empty batch publishes a version with
+the same grants. A batch has at most 1,024 records.
 
-The store's file is replaced as a whole: it is written beside, synced and renamed, under a lock. BATCH may be -.",
+The store's file is replaced as a whole: it is written beside, synced and renamed, under a lock. Then STORE.book gets a line
+with the version, its root, date, author and message. BATCH may be -.",
         words: (2, 2),
         choices: &[
             JSON,
-            Choice {
-                name: "--binary",
-                value: None,
-                help: "BATCH is binary records, whatever it looks like",
-            },
-            Choice {
-                name: "--split",
-                value: None,
-                help: "publish more than 1,024 records as several versions: all of them or none",
-            },
+            MESSAGE,
+            AUTHOR,
+            DATE,
+            DRY_RUN,
+            flag("--split", "publish more than 1,024 records as several versions: all of them or none"),
+            flag("--binary", "BATCH is binary records, whatever it looks like"),
+            WAIT,
+            BOOK,
+            NO_BOOK,
         ],
-        run: commands::apply,
+        run: publish::apply,
+    },
+    Command {
+        name: "import",
+        usage: "STORE BATCH",
+        what: "publish what makes the store hold exactly the grants of BATCH",
+        help: "\
+BATCH is text with '+' lines alone, as `grants export` prints it: its grants are inserted, and those that it doesn't have
+are deleted. Where that takes more than 1,024 records, several versions are published, all of them or none; where it takes
+none, no version is. BATCH may be -.",
+        words: (2, 2),
+        choices: &[JSON, MESSAGE, AUTHOR, DATE, DRY_RUN, WAIT, BOOK, NO_BOOK],
+        run: publish::import,
     },
     Command {
         name: "prune",
@@ -90,17 +142,39 @@ The store's file is replaced as a whole: it is written beside, synced and rename
         what: "keep no version older than VERSION",
         help: "Frees every record retired since VERSION or earlier; its slots are used again.",
         words: (2, 2),
-        choices: &[JSON],
+        choices: &[JSON, WAIT],
         run: commands::prune,
+    },
+    Command {
+        name: "grow",
+        usage: "STORE CAPACITY",
+        what: "the same versions in a store with CAPACITY slots",
+        help: "\
+Publishes every kept version again, under its own number, into a fresh store, compares each root with the old one, and
+puts that store in STORE's place. Nothing is lost; slots and the versions of single records may be others. CAPACITY may be
+smaller, if all of it fits. A store past version 100,000 is left alone.",
+        words: (2, 2),
+        choices: &[JSON, WAIT],
+        run: grow::grow,
     },
     Command {
         name: "root",
         usage: "STORE [VERSION]",
         what: "the root of a version",
-        help: "64 zeros where the version holds no grant. Without VERSION, the latest. STORE may be -.",
+        help: "\
+64 zeros where the version holds no grant. Without VERSION, the latest. With --out the root is written to a file with its
+version and dates, to be signed (docs/SIGNING.md); `grants verify` takes that file for ROOT. STORE may be -.",
         words: (1, 2),
-        choices: &[JSON],
-        run: commands::root,
+        choices: &[
+            JSON,
+            AT,
+            valued("--out", "FILE", "write a statement to be signed to FILE (- for standard output)"),
+            valued("--not-after", "DATE", "until when the statement is good"),
+            DATE,
+            FORCE,
+            BOOK,
+        ],
+        run: statement::root,
     },
     Command {
         name: "get",
@@ -108,22 +182,23 @@ The store's file is replaced as a whole: it is written beside, synced and rename
         what: "the value of a key in a version",
         help: "Prints the value, or 'absent' with exit status 1. Without VERSION, the latest. STORE may be -.",
         words: (2, 3),
-        choices: &[JSON],
+        choices: &[JSON, AT, BOOK],
         run: commands::get,
     },
     Command {
         name: "prove",
         usage: "STORE KEY [VERSION]",
         what: "the proof that a key is in a version, or that it isn't",
-        help: "Prints the proof in hex, or writes its bytes to a file with --out. Without VERSION, the latest. STORE may be -.",
+        help: "\
+Prints the proof in hex, or writes its bytes to a file with --out. Without VERSION, the latest. STORE may be -. In a version
+without a grant there is no proof (refused with 14): its root, 32 zero bytes, itself shows that nothing is granted.",
         words: (2, 3),
         choices: &[
             JSON,
-            Choice {
-                name: "--out",
-                value: Some("FILE"),
-                help: "write the proof's bytes to FILE (- for standard output)",
-            },
+            AT,
+            valued("--out", "FILE", "write the proof's bytes to FILE (- for standard output)"),
+            FORCE,
+            BOOK,
         ],
         run: commands::prove,
     },
@@ -132,29 +207,81 @@ The store's file is replaced as a whole: it is written beside, synced and rename
         usage: "ROOT KEY PROOF",
         what: "what a proof shows of a key against a root",
         help: "\
-Prints 'present' and the value, or 'absent' with exit status 1. PROOF is a file with the proof's bytes, or with their hex
-digits; it may be -. No store is needed.",
+Prints 'present' and the value, or 'absent' with exit status 1. ROOT is 64 hex digits, or a file that `grants root --out`
+wrote and whose signature you have checked; one that is past its date is refused. PROOF is a file with the proof's bytes, or
+with their hex digits; it may be -. No store is needed.",
         words: (3, 3),
-        choices: &[JSON],
+        choices: &[
+            JSON,
+            valued(
+                "--least",
+                "VERSION",
+                "refuse a ROOT file of an older version than this, the highest that was seen",
+            ),
+            BOOK,
+        ],
         run: commands::verify,
+    },
+    Command {
+        name: "list",
+        usage: "STORE [VERSION]",
+        what: "all grants of a version, with names where they are known",
+        help: "\
+Exit status 1 where there is none. Without VERSION, the latest. The store is checked first. STORE may be -.",
+        words: (1, 2),
+        choices: &[
+            JSON,
+            AT,
+            MATCH,
+            FULL,
+            flag("--csv", "a line 'key,value,key_name,value_name', then one for each grant"),
+            BOOK,
+        ],
+        run: listing::list,
+    },
+    Command {
+        name: "history",
+        usage: "STORE KEY",
+        what: "every kept version in which a key's value changed",
+        help: "\
+The oldest kept version first, whatever it holds. Exit status 1 where no kept version has the key. The store is checked
+first. STORE may be -.",
+        words: (2, 2),
+        choices: &[JSON, FULL, BOOK],
+        run: listing::history,
     },
     Command {
         name: "log",
         usage: "STORE",
-        what: "each kept version: its grants, its records, its root",
+        what: "each kept version: when, by whom and why, what it changed, its root",
         help: "\
-'new' are the records that the version's publishing made and that are still kept. The store is checked first. STORE may
-be -.",
+'new' are the records that the version's publishing made and that are still kept. What the oldest kept version changed is
+not known any more. Date, author and message are the book's; where its line has another root than the store, the book
+disagrees and isn't used. The store is checked first. STORE may be -.",
         words: (1, 1),
-        choices: &[
-            JSON,
-            Choice {
-                name: "--last",
-                value: Some("N"),
-                help: "the last N versions only",
-            },
-        ],
-        run: commands::log,
+        choices: &[JSON, valued("--last", "N", "the last N versions only"), FULL, BOOK],
+        run: listing::log,
+    },
+    Command {
+        name: "export",
+        usage: "STORE [VERSION]",
+        what: "the grants of a version as a batch in text",
+        help: "\
+`grants import` takes it, and makes a version with the same root. Names stand for themselves where SHA-256 gives their
+bytes. Without VERSION, the latest. The store is checked first. STORE may be -.",
+        words: (1, 2),
+        choices: &[JSON, AT, BOOK],
+        run: listing::export,
+    },
+    Command {
+        name: "name",
+        usage: "STORE [NAME [KEY]]",
+        what: "the names in the book, or one more",
+        help: "\
+NAME stands for KEY, else for its SHA-256. A name that is there already keeps what it stands for: lines are only ever added.",
+        words: (1, 3),
+        choices: &[JSON, WAIT, BOOK],
+        run: names::name,
     },
     Command {
         name: "show",
@@ -166,29 +293,22 @@ each record once, so that it shows what they share. Without VERSION, the latest.
         words: (1, usize::MAX),
         choices: &[
             JSON,
-            Choice {
-                name: "--full",
-                value: None,
-                help: "keys and values in full",
-            },
-            Choice {
-                name: "--dot",
-                value: None,
-                help: "print a Graphviz graph",
-            },
-            Choice {
-                name: "--svg",
-                value: Some("FILE"),
-                help: "write a picture to FILE (- for standard output); `dot` must be installed",
-            },
+            AT,
+            FULL,
+            flag("--dot", "print a Graphviz graph"),
+            valued("--svg", "FILE", "write a picture to FILE (- for standard output); `dot` must be installed"),
+            FORCE,
+            BOOK,
         ],
         run: show::show,
     },
     Command {
         name: "stat",
         usage: "STORE",
-        what: "capacity, free slots, kept versions, bytes",
-        help: "Tests the header, not soundness. STORE may be -.",
+        what: "capacity, free slots, kept versions, bytes, publishings left",
+        help: "\
+Tests the header, not soundness. How many more publishings there is room for is a guess: free slots over the records that
+each kept version made; none is made of a store that isn't sound. STORE may be -.",
         words: (1, 1),
         choices: &[JSON],
         run: commands::stat,

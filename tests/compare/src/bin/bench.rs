@@ -153,6 +153,13 @@ fn applies(random: &mut Random) {
             some.iter().map(|k| call(s, latest, k, &mut room).unwrap()).sum::<u32>()
         };
         compare_on(&format!("prove-50-keys-{capacity}"), turns, &s, |s| prove(&ours::prove, s), |s| prove(&second::prove, s));
+        // 2026-03: version 0 is empty. It is kept where the header says so; the records have no say in it.
+        let mut empty = s.clone();
+        empty[12..16].fill(0);
+        let refused = |call: &dyn Fn(&[u8], u32, &[u8], &mut [u8]) -> Result<u32, u32>, s: &[u8]| {
+            some.iter().filter(|k| call(s, 0, &k[..], &mut []) == Err(14)).count()
+        };
+        compare_on(&format!("prove-50-keys-in-an-empty-version-{capacity}"), turns, &empty, |s| refused(&ours::prove, s), |s| refused(&second::prove, s));
     }
 }
 

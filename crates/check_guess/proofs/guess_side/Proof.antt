@@ -1,0 +1,127 @@
+-- `check_guess::guess_side` is safe and ends. Assumes nothing.
+use native.Mathlib.Omega.{arith}
+use Rattle.check_pass.proofs.Records.{room-within}
+use borrow.Author.Needs.{needs}
+use Rattle.check_guess.proofs.guess_side.Statement.{statement}
+use Rattle.check_guess.proofs.guess_side.Tie as tie
+
+returns : tie.Need-returns
+returns c =
+    let c2 = c .before .before in
+    c2 .pre .1
+
+kind-at-requires : tie.Need-kind-at-requires
+kind-at-requires c κs =
+    let c2 = c .before .before in
+    room-within (c2 .args .store .now) (c2 .pre .0) (omega (arith, c .if1 .left))
+
+count-at-requires : tie.Need-count-at-requires
+count-at-requires c κs =
+    let c3 = c .before .before .before in
+    room-within (c3 .args .store .now) (c3 .pre .0) (omega (arith, c .before .if1 .left))
+
+child-version-at-requires : tie.Need-child-version-at-requires
+child-version-at-requires c κs =
+    let c2 = c .before .before in
+    let c4 = c2 .before .before in
+    room-within (c4 .args .store .now) (c4 .pre .0) (omega (arith, c2 .if1 .left))
+
+returns-2 : tie.Need-returns-2
+returns-2 c =
+    let c6 = c .before .before .before .before .before .before in
+    c6 .pre .1
+
+returns-3 : tie.Need-returns-3
+returns-3 c =
+    let c7 = c .before .before .before .before .before .before .before in
+    c7 .pre .1
+
+returns-4 : tie.Need-returns-4
+returns-4 c =
+    let c8 = c .before .before .before .before .before .before .before .before in
+    c8 .pre .1
+
+slot-of-requires : tie.Need-slot-of-requires
+slot-of-requires c κs =
+    let c6 = c .before .before .before .before .before .before in
+    let c8 = c6 .before .before in
+    room-within (c8 .args .store .now) (c8 .pre .0) (omega (arith, c6 .if1 .left))
+
+bits-of-requires : tie.Need-bits-of-requires
+bits-of-requires c κs = search needs
+
+hash-at-requires : tie.Need-hash-at-requires
+hash-at-requires c κs = omega (arith, c .bits-of .ensures .1)
+
+longer-requires : tie.Need-longer-requires
+longer-requires c κs = search needs
+
+add-t20 : tie.Need-add-t20
+add-t20 c = omega arith
+
+searched-requires : tie.Need-searched-requires
+searched-requires c κs =
+    let c12 = c .before .before .before .before .before .before .before .before .before .before .before .before in
+    (c12 .pre .0, c12 .pre .1, c12 .pre .2)
+
+guess-at-requires : tie.Need-guess-at-requires
+guess-at-requires c κs =
+    let c13 = c .before .before .before .before .before .before .before .before .before .before .before .before .before in
+    c13 .pre .3
+
+mul-guess : tie.Need-mul-guess
+mul-guess c =
+    let c16 = c .before .before .before .before .before .before .before .before .before .before .before .before .before .before .before .before in
+    omega (arith, c16 .pre .2, c .before .if5 .taken)
+
+element-copy-out-guess : tie.Need-element-copy-out-guess
+element-copy-out-guess c =
+    let c16 = c .before .before .before .before .before .before .before .before .before .before .before .before .before .before .before .before in
+    omega (arith, c16 .pre .2, c .before .if5 .taken)
+
+mul-guess-2 : tie.Need-mul-guess-2
+mul-guess-2 c = omega arith
+
+element-write-guess : tie.Need-element-write-guess
+element-write-guess c = omega arith
+
+returns-5 : tie.Need-returns-5
+returns-5 c =
+    let c4 = c .before .before .before .before in
+    c4 .searched .ensures
+
+returns-6 : tie.Need-returns-6
+returns-6 c =
+    let c3 = c .before .before .before in
+    c3 .searched .ensures
+
+returns-7 : tie.Need-returns-7
+returns-7 c =
+    let c2 = c .before .before in
+    c2 .searched .ensures
+
+pub guess-side-spec : {M : Type 1} → statement M
+guess-side-spec =
+    tie.close
+    (tie.spec
+    returns
+    kind-at-requires
+    count-at-requires
+    child-version-at-requires
+    returns-2
+    returns-3
+    returns-4
+    slot-of-requires
+    bits-of-requires
+    hash-at-requires
+    longer-requires
+    add-t20
+    searched-requires
+    guess-at-requires
+    mul-guess
+    element-copy-out-guess
+    mul-guess-2
+    element-write-guess
+    returns-5
+    returns-6
+    returns-7)

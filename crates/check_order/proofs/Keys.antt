@@ -1,0 +1,95 @@
+-- The keys of two slots are compared field by field, and a table goes on entry by entry. Assumes nothing.
+use Prim.Native.Nat.{ℕ, suc, _+_, _-_, _<_, _≤_}
+use native.Mathlib.Omega.{arith}
+use mathlib.Core.Path.{_≡_, refl, ap, ap₂, sym, _∙_, subst}
+use mathlib.Core.Bool.{Bool, true, false, _&&_, _||_}
+use mathlib.Core.List.{List, [], _∷_, _++_}
+use lib.ListN.{length, getD}
+use lib.Dec.{ltb, leb, eqb}
+use borrow.Author.Tests.{le-ltb, eq-eqb, ne-eqb, eqb-true, leb-true, leb-false}
+use Rattle.terms.specs.Bits.{Bytes, before, sameBytes}
+use Rattle.terms.proofs.Fields.{length-slice}
+use Rattle.terms.proofs.Order.{before-irrefl}
+use Rattle.terms.proofs.Tests.{is-false, same-bytes}
+use Rattle.layout.specs.Sizes.{slotSize, bitsAt}
+use Rattle.layout.specs.Slots.{countIn, bitsIn, versionIn}
+use Rattle.layout.specs.Stores.{slotIn, Has}
+use Rattle.check_pass.specs.Passes.{Passed}
+use Rattle.check_pass.proofs.Records.{version-of, read-as}
+use Rattle.check_order.specs.Order.{nodeKey, keyNo, Ascending, Named, NamedAt}
+
+shuffled : (a b c d e : Bool) → a || (b && (c || (d && e))) ≡ (a || (b && c)) || ((b && d) && e)
+shuffled true b c d e = refl
+shuffled false true c d e = refl
+shuffled false false c d e = refl
+
+before-joined : (xs ys us ws : Bytes) → length xs ≡ length ys → before (xs ++ us) (ys ++ ws) ≡ before xs ys || (sameBytes xs ys && before us ws)
+before-joined [] [] us ws e = refl
+before-joined [] (y ∷ ys) us ws e = absurd (omega arith)
+before-joined (x ∷ xs) [] us ws e = absurd (omega arith)
+before-joined (x ∷ xs) (y ∷ ys) us ws e =
+    ap (λ z. ltb x y || (eqb x y && z)) (before-joined xs ys us ws (omega arith))
+    ∙ shuffled (ltb x y) (eqb x y) (before xs ys) (sameBytes xs ys) (before us ws)
+
+or-false : (a b : Bool) → a || (b && false) ≡ a
+or-false true b = refl
+or-false false true = refl
+or-false false false = refl
+
+-- two slots' bytes, by the fields that were read of them
+module _ (x y : Bytes) {c d : ℕ} (e : c ≡ countIn x) (f : d ≡ countIn y) where
+  pub by-count : (c ≡ d → ⊥) → ltb c d ≡ before (nodeKey x) (nodeKey y)
+  unfolding nodeKey
+  by-count n = sym (rw (← e, ← f, ne-eqb c d n) (or-false (ltb c d) false))
+
+  module _ (same : c ≡ d) (l : length x ≡ slotSize) (m : length y ≡ slotSize) where
+    bits-first : before (nodeKey x) (nodeKey y)
+        ≡ before (bitsIn x) (bitsIn y)
+        || (sameBytes (bitsIn x) (bitsIn y) && before (versionIn x ∷ []) (versionIn y ∷ []))
+    unfolding nodeKey
+    bits-first =
+        rw (← e, ← f, le-ltb c d (omega (arith, same)), eq-eqb c d same)
+        (before-joined (bitsIn x) (bitsIn y) (versionIn x ∷ []) (versionIn y ∷ []) (bits-long x l ∙ sym (bits-long y m)))
+      where
+        bits-long : (z : Bytes) → length z ≡ slotSize → length (bitsIn z) ≡ 32
+        bits-long z k = length-slice bitsAt 32 z (omega arith)
+
+    module _ {a b : Bytes} (ae : a ≡ bitsIn x) (be : b ≡ bitsIn y) {t : Bool} (te : t ≡ sameBytes a b) where
+      pub by-version : t ≡ true → {v z : ℕ} → v ≡ versionIn x → z ≡ versionIn y → ltb v z ≡ before (nodeKey x) (nodeKey y)
+      by-version g {v} {z} k h =
+          let alike : sameBytes (bitsIn x) (bitsIn y) ≡ true = sym (te ∙ ap₂ sameBytes ae be) ∙ g in
+          let equal = same-bytes (bitsIn x) (bitsIn y) alike in
+          let level : before (bitsIn x) (bitsIn y) ≡ false =
+          is-false _ (λ w. before-irrefl (bitsIn x) (subst (λ q. before (bitsIn x) q ≡ true) (sym equal) w)) in
+          sym (bits-first ∙ rw (level, alike, ← k, ← h) (or-false (ltb v z) (eqb v z)))
+
+      pub by-bits : t ≡ false → {p q : Bytes} → p ≡ bitsIn x → q ≡ bitsIn y → {r : Bool} → r ≡ before p q → r ≡ before (nodeKey x) (nodeKey y)
+      by-bits g pe qe h =
+          let other : sameBytes (bitsIn x) (bitsIn y) ≡ false = sym (te ∙ ap₂ sameBytes ae be) ∙ g in
+          h ∙ ap₂ before pe qe ∙ sym (bits-first ∙ rw other (or-false (before (bitsIn x) (bitsIn y)) false))
+
+pub pass-named : (b : Bool) (t : List ℕ) (i : ℕ) {m : ℕ} (k : ℕ) → k < m → {w : ℕ} → w ≡ getD t k 0 → b ≡ eqb w i → Passed b (Named t m i)
+pass-named true t i {m} k h {w} f e = (k, h, sym f ∙ eqb-true w i (sym e))
+pass-named false t i k h f e = tt
+
+module _ (key : Bytes → Bytes) (s : Bytes) where
+  -- one entry more
+  pub next-up : (t : List ℕ) (k : ℕ) → 1 ≤ k → Ascending key s t k → {a b : ℕ} → a ≡ getD t (k - 1) 0 → b ≡ getD t k 0 →
+      before (keyNo key s a) (keyNo key s b) ≡ true → Ascending key s t (k + 1)
+  next-up t k h up {a} {b} e f g n l = go (leb (suc (suc n)) k) refl
+    where
+      go : (c : Bool) → leb (suc (suc n)) k ≡ c → before (keyNo key s (getD t n 0)) (keyNo key s (getD t (suc n) 0)) ≡ true
+      go true d = up n (leb-true (suc (suc n)) k d)
+      go false d =
+          let w = leb-false (suc (suc n)) k d in
+          let p : n ≡ k - 1 = omega arith in
+          let q : suc n ≡ k = omega arith in
+          subst (λ z. before (keyNo key s (getD t n 0)) (keyNo key s (getD t z 0)) ≡ true) (sym q)
+          (subst (λ z. before (keyNo key s (getD t z 0)) (keyNo key s (getD t k 0)) ≡ true) (sym p) (rw (← e, ← f) g))
+
+-- a slot of version 0 holds no record
+pub no-version : (s : Bytes) (i : ℕ) (t : List ℕ) (m : ℕ) → Has s i → {v : ℕ} → v ≡ versionIn (slotIn i s) → v ≡ 0 → NamedAt s t m i
+no-version s i t m h e z r a some = absurd (omega (arith, version-of (slotIn i s) r (read-as h refl r a)))
+
+pub record-named : (s : Bytes) (t : List ℕ) (m i : ℕ) → Named t m i → NamedAt s t m i
+record-named s t m i n r a some = n

@@ -1,0 +1,97 @@
+-- `check_order::ascending` meets its contract: the entries before k ascend. Assumes nothing.
+use native.Mathlib.Omega.{arith}
+use Prim.Native.Nat.{_-_, _≤_}
+use borrow.Author.Tests.{not-false}
+use Rattle.check_pass.proofs.Passes.{passed-is}
+use Rattle.check_order.specs.Order.{nodeKey, Ascending}
+use Rattle.check_order.proofs.Keys.{next-up}
+use borrow.Author.Needs.{needs}
+use Rattle.check_order.proofs.ascending.Statement.{statement}
+use Rattle.check_order.proofs.ascending.Tie as tie
+
+abbrev Inv-loop : tie.InvT-loop
+Inv-loop store table many n k₀ k = (1 ≤ k) × Ascending nodeKey store table k
+
+abbrev μ-loop : tie.MeasureT-loop
+μ-loop store table many n k₀ k = many - k
+
+slot-count-requires : tie.Need-slot-count-requires Inv-loop μ-loop
+slot-count-requires c κs = c .before .pre .0
+
+loop-holds : tie.Need-loop-holds Inv-loop μ-loop
+loop-holds c = (omega arith, λ k h. absurd (omega arith))
+
+sub-wide : tie.Need-sub-wide Inv-loop μ-loop
+sub-wide c = omega arith
+
+mul-wide : tie.Need-mul-wide Inv-loop μ-loop
+mul-wide c = omega arith
+
+element-copy-out-wide : tie.Need-element-copy-out-wide Inv-loop μ-loop
+element-copy-out-wide c = omega arith
+
+wide-requires : tie.Need-wide-requires Inv-loop μ-loop
+wide-requires c κs = search needs
+
+mul-wide-2 : tie.Need-mul-wide-2 Inv-loop μ-loop
+mul-wide-2 c = omega arith
+
+element-copy-out-wide-2 : tie.Need-element-copy-out-wide-2 Inv-loop μ-loop
+element-copy-out-wide-2 c = omega arith
+
+wide-requires-2 : tie.Need-wide-requires-2 Inv-loop μ-loop
+wide-requires-2 c κs = search needs
+
+in-order-requires : tie.Need-in-order-requires Inv-loop μ-loop
+in-order-requires c κs =
+    let c6 = c .before .before .before .before .before .before in
+    let c8 = c6 .before .before in
+    record { size = c8 .pre .0; many = c6 .slot-count .ensures }
+
+returns : tie.Need-returns Inv-loop μ-loop
+returns c =
+    let c7 = c .before .before .before .before .before .before .before in
+    c7 .loop .inv .1
+
+add-k : tie.Need-add-k Inv-loop μ-loop
+add-k c = omega arith
+
+loop-less : tie.Need-loop-less Inv-loop μ-loop
+loop-less c = omega arith
+
+loop-again : tie.Need-loop-again Inv-loop μ-loop
+loop-again c =
+    let c2 = c .before .before in
+    let c4 = c2 .before .before in
+    let c7 = c4 .before .before .before in
+    let c10 = c7 .before .before .before in
+    let i = c7 .loop .inv in (
+      omega (arith, i .0),
+      next-up nodeKey (c10 .args .store .now) (c10 .args .table .now) _ (i .0) (i .1) (c4 .wide .ensures)
+          (c2 .wide2 .ensures) (passed-is (not-false (c .before .in-order .result) (c .if1 .left)) (c .before .in-order .ensures)),
+    )
+
+returns-2 : tie.Need-returns-2 Inv-loop μ-loop
+returns-2 c = c .before .loop .inv .1
+
+pub ascending-spec : {M : Type 1} → statement M
+ascending-spec =
+    tie.close
+    (tie.spec
+    Inv-loop
+    μ-loop
+    slot-count-requires
+    loop-holds
+    sub-wide
+    mul-wide
+    element-copy-out-wide
+    wide-requires
+    mul-wide-2
+    element-copy-out-wide-2
+    wide-requires-2
+    in-order-requires
+    returns
+    add-k
+    loop-less
+    loop-again
+    returns-2)

@@ -1,0 +1,112 @@
+// The order of a store's records by bit count, bits and version: whether one slot stands before another, whether a table's entries ascend,
+// and whether they name each record.
+use hash::hash_at;
+use hash::same_hash;
+use place::before;
+use slots::bits_of;
+use store::count_at;
+use store::slot_count;
+use store::slot_of;
+use store::version_at;
+ghost use mathlib.Core.Path.{_≡_};
+ghost use mathlib.Core.Bool.{true};
+ghost use Prim.Native.Nat.{_≤_};
+ghost use lib.ListN.{length};
+ghost use Rattle.terms.specs.Bits.{before};
+ghost use Rattle.layout.specs.Headers.{sizeRight};
+ghost use Rattle.layout.specs.Stores.{Has};
+ghost use Rattle.check_pass.specs.Passes.{Room, Passed, Each};
+ghost use Rattle.check_order.specs.Order.{nodeKey, keyNo, Ascending, Named, NamedAt};
+
+fn wide(x: u16) -> usize
+    ensures { λ r. ⌜ r ≡ x ⌝ }
+{
+    x as usize
+}
+
+// Whether slot i stands before slot j: by the bit count, then by the bits, then by the version.
+fn ahead(store: &[u8], i: usize, j: usize) -> bool
+    requires { ⌜ Has (now store) i × Has (now store) j ⌝ }
+    ensures { λ r. ⌜ r ≡ before (keyNo nodeKey (now (store .entry)) i) (keyNo nodeKey (now (store .entry)) j) ⌝ }
+{
+    let c = count_at(store, i);
+    let d = count_at(store, j);
+    if c != d {
+        return c < d;
+    }
+    let x = bits_of(slot_of(store, i));
+    let y = bits_of(slot_of(store, j));
+    if same_hash(hash_at(x, 0), hash_at(y, 0)) {
+        return version_at(store, i) < version_at(store, j);
+    }
+    before(x, y)
+}
+
+// Whether two entries name slots in order.
+fn in_order(store: &[u8], n: usize, a: usize, b: usize) -> bool
+    requires { ⌜ Room (now store) n ⌝ }
+    ensures { λ r. ⌜ Passed r (before (keyNo nodeKey (now (store .entry)) a) (keyNo nodeKey (now (store .entry)) b) ≡ true) ⌝ }
+{
+    if n <= a {
+        return false;
+    }
+    if n <= b {
+        return false;
+    }
+    ahead(store, a, b)
+}
+
+// How many of the first `many` entries of a table, from the first on, name slots in ascending order.
+pub fn ascending(store: &[u8], table: &[u16; 16384], many: usize) -> usize
+    requires { ⌜ (sizeRight (length (now store)) ≡ true) × (many ≤ 16384) ⌝ }
+    ensures { λ r. ⌜ Ascending nodeKey (now (store .entry)) (now (table .entry)) r ⌝ }
+{
+    let n = slot_count(store);
+    let mut k = 1;
+    while k < many {
+        if !in_order(store, n, wide(table[k - 1]), wide(table[k])) {
+            return k;
+        }
+        k += 1;
+    }
+    k
+}
+
+// Whether a slot is named where its rank says.
+fn is_named(table: &[u16; 16384], many: usize, rank: u16, i: usize) -> bool
+    requires { ⌜ many ≤ 16384 ⌝ }
+    ensures { λ r. ⌜ Passed r (Named (now (table .entry)) many i) ⌝ }
+{
+    let k = wide(rank);
+    if many <= k {
+        return false;
+    }
+    wide(table[k]) == i
+}
+
+// The same of slot i, unless its version says that it is free.
+fn slot_named(store: &[u8], table: &[u16; 16384], many: usize, rank: u16, i: usize) -> bool
+    requires { ⌜ Has (now store) i × (many ≤ 16384) ⌝ }
+    ensures { λ r. ⌜ Passed r (NamedAt (now (store .entry)) (now (table .entry)) many i) ⌝ }
+{
+    if version_at(store, i) == 0 {
+        return true;
+    }
+    is_named(table, many, rank, i)
+}
+
+// How many slots, from the first on, are free or named where their rank says.
+pub fn named(store: &[u8], table: &[u16; 16384], many: usize, ranks: &[u16; 16384]) -> usize
+    requires { ⌜ (sizeRight (length (now store)) ≡ true) × (many ≤ 16384) ⌝ }
+    ensures { λ r. ⌜ Each (NamedAt (now (store .entry)) (now (table .entry)) many) r ⌝ }
+{
+    let n = slot_count(store);
+    let mut i = 0;
+    while i < n {
+        if !slot_named(store, table, many, ranks[i], i) {
+            return i;
+        }
+        i += 1;
+    }
+    i
+}

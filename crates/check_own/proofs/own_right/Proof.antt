@@ -1,0 +1,66 @@
+-- `check_own::own_right` meets its contract: the own fields of the slots before i are right. Assumes nothing.
+use native.Mathlib.Omega.{arith}
+use Prim.Native.Nat.{_-_}
+use borrow.Author.Tests.{not-false}
+use Rattle.layout.specs.Stores.{storeOf}
+use Rattle.check_seen.specs.Seen.{OwnAt}
+use Rattle.check_pass.proofs.Passes.{passed-is}
+use Rattle.check_pass.proofs.Walks.{Walk, walk-start, walk-slot, walk-next}
+use Rattle.check_own.proofs.own_right.Statement.{statement}
+use Rattle.check_own.proofs.own_right.Tie as tie
+
+abbrev Inv-loop : tie.InvT-loop
+Inv-loop store kept n i₀ i = Walk store (OwnAt (storeOf store)) n i
+
+abbrev μ-loop : tie.MeasureT-loop
+μ-loop store kept n i₀ i = n - i
+
+slot-count-requires : tie.Need-slot-count-requires Inv-loop μ-loop
+slot-count-requires c κs = c .before .pre .size
+
+loop-holds : tie.Need-loop-holds Inv-loop μ-loop
+loop-holds c =
+    let c2 = c .before .before in
+    walk-start (c2 .args .store .now) (OwnAt (storeOf (c2 .args .store .now))) (c2 .pre .size) (c .slot-count .ensures)
+
+slot-right-requires : tie.Need-slot-right-requires Inv-loop μ-loop
+slot-right-requires c κs =
+    let c4 = c .before .before .before .before in
+    (walk-slot (c .before .loop .inv) (c .loop-test .taken), c4 .pre)
+
+returns : tie.Need-returns Inv-loop μ-loop
+returns c =
+    let c3 = c .before .before .before in
+    c3 .loop .inv .each
+
+add-i : tie.Need-add-i Inv-loop μ-loop
+add-i c =
+    let c3 = c .before .before .before in
+    omega (arith, c3 .loop .inv .scan .small)
+
+loop-less : tie.Need-loop-less Inv-loop μ-loop
+loop-less c = omega arith
+
+loop-again : tie.Need-loop-again Inv-loop μ-loop
+loop-again c =
+    let c2 = c .before .before in
+    walk-next (c2 .before .loop .inv) (c2 .loop-test .taken)
+    (passed-is (not-false (c .before .slot-right .result) (c .if1 .left)) (c .before .slot-right .ensures))
+
+returns-2 : tie.Need-returns-2 Inv-loop μ-loop
+returns-2 c = c .before .loop .inv .each
+
+pub own-right-spec : {M : Type 1} → statement M
+own-right-spec =
+    tie.close
+    (tie.spec
+    Inv-loop
+    μ-loop
+    slot-count-requires
+    loop-holds
+    slot-right-requires
+    returns
+    add-i
+    loop-less
+    loop-again
+    returns-2)

@@ -1,0 +1,92 @@
+// The first pass of the check: whether the own fields of each slot's record are right, by its bytes alone.
+use check_slot::life_right;
+use check_slot::root_right;
+use fields::all_zero;
+use kin::Kept;
+use kin::ends_before;
+use place::begins;
+use place::place_at;
+use slots::bits_of;
+use slots::is_inner;
+use slots::is_leaf;
+use slots::key_of;
+use store::count_at;
+use store::retired_at;
+use store::slot_count;
+use store::slot_of;
+use store::version_at;
+ghost use mathlib.Core.Path.{_≡_};
+ghost use mathlib.Core.Bool.{true};
+ghost use Rattle.layout.specs.Slots.{isLeaf};
+ghost use Rattle.layout.specs.Stores.{slotIn, storeOf, Has};
+ghost use Rattle.kin.specs.Kin.{Keeps};
+ghost use Rattle.check_pass.specs.Passes.{Passed, Each};
+ghost use Rattle.check_seen.specs.Seen.{OwnAt};
+ghost use Rattle.check_own.specs.Own.{HeadOwn, LeafOwn};
+
+// Whether version and life of slot i's record are right, and a root lives at its own version alone.
+fn head_right(store: &[u8], kept: Kept, i: usize) -> bool
+    requires { ⌜ Has (now store) i ⌝ }
+    ensures { λ r. ⌜ Passed r (HeadOwn kept (slotIn i (now (store .entry)))) ⌝ }
+{
+    let version = version_at(store, i);
+    let retired = retired_at(store, i);
+    if kept.latest < version {
+        return false;
+    }
+    if !life_right(kept, version, retired) {
+        return false;
+    }
+    if count_at(store, i) != 0 {
+        return true;
+    }
+    root_right(version, ends_before(kept.latest, retired))
+}
+
+// The same of a leaf, and whether its key begins with its place.
+fn leaf_right(store: &[u8], kept: Kept, i: usize) -> bool
+    requires { ⌜ Has (now store) i × (isLeaf (slotIn i (now store)) ≡ true) ⌝ }
+    ensures { λ r. ⌜ Passed r (LeafOwn kept (slotIn i (now (store .entry)))) ⌝ }
+{
+    let s = slot_of(store, i);
+    let count = count_at(store, i);
+    let place = place_at(bits_of(s), count as usize);
+    if !begins(key_of(s), place) {
+        return false;
+    }
+    head_right(store, kept, i)
+}
+
+// Whether slot i is free, or holds a record whose own fields are right.
+fn slot_right(store: &[u8], kept: Kept, i: usize) -> bool
+    requires { ⌜ Has (now store) i × Keeps (now store) kept ⌝ }
+    ensures { λ r. ⌜ Passed r (OwnAt (storeOf (now (store .entry))) i) ⌝ }
+{
+    let s = slot_of(store, i);
+    if all_zero(s) {
+        return true;
+    }
+    if is_leaf(s) {
+        return leaf_right(store, kept, i);
+    }
+    if is_inner(s) {
+        return head_right(store, kept, i);
+    }
+    false
+}
+
+// How many slots, from the first on, are free or hold a record whose own fields are right.
+pub fn own_right(store: &[u8], kept: Kept) -> usize
+    requires { ⌜ Keeps (now store) kept ⌝ }
+    ensures { λ r. ⌜ Each (OwnAt (storeOf (now (store .entry)))) r ⌝ }
+{
+    let n = slot_count(store);
+    let mut i = 0;
+    while i < n {
+        if !slot_right(store, kept, i) {
+            return i;
+        }
+        i += 1;
+    }
+    i
+}

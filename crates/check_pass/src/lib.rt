@@ -1,0 +1,1 @@
+// Laws alone: a pass over the slots of a store, and what it leaves.

@@ -1,0 +1,124 @@
+// The check in few passes over the slots: own fields, order, links, lives. It says that all is fine, or which slot to look at. Only that all
+// is fine is promised; a slot that it names is a suspect, and the exact test decides.
+use check_cover::covered;
+use check_guess::guessed;
+use check_order::ascending;
+use check_order::named;
+use check_own::own_right;
+use check_slot::slot_passes;
+use check_sort::rank;
+use check_sort::sort;
+use check_tie::tie_all;
+use kin::Kept;
+use store::slot_count;
+ghost use mathlib.Core.Path.{_≡_};
+ghost use mathlib.Core.Bool.{true};
+ghost use Prim.Native.Nat.{_≤_, _<_};
+ghost use lib.ListN.{length};
+ghost use Rattle.local.specs.Test.{slotsTest};
+ghost use Rattle.nodehash.specs.Node.{leafHash, innerHash};
+ghost use Rattle.layout.specs.Sizes.{roomOf};
+ghost use Rattle.layout.specs.Headers.{sizeRight};
+ghost use Rattle.layout.specs.Stores.{storeOf, Has};
+ghost use Rattle.kin.specs.Kin.{Keeps};
+ghost use Rattle.check_pass.specs.Passes.{Each};
+ghost use Rattle.check_seen.specs.Seen.{OwnAt};
+ghost use Rattle.check_tie.specs.Side.{Ready};
+ghost use Rattle.check_quick.specs.Look.{Sure, Alone, Linked};
+
+pub enum Look {
+    // Each slot passes.
+    Fine,
+    // The slot with this number may fail.
+    Suspect(usize),
+}
+
+fn wide(x: u16) -> usize {
+    x as usize
+}
+
+// The slots in order: whether no two records share their node.
+fn in_order(store: &[u8], many: usize, table: &[u16; 16384], ranks: &[u16; 16384]) -> Look
+    requires { ⌜ (sizeRight (length (now store)) ≡ true) × (many ≤ 16384) × Each (OwnAt (storeOf (now store))) (roomOf (length (now store))) ⌝ }
+    ensures { λ r. ⌜ Sure r (Alone (storeOf (now (store .entry)))) ⌝ }
+{
+    let n = slot_count(store);
+    let up = ascending(store, table, many);
+    if up < many {
+        return Look::Suspect(wide(table[up]));
+    }
+    let i = named(store, table, many, ranks);
+    if i < n {
+        return Look::Suspect(i);
+    }
+    Look::Fine
+}
+
+// Whether no two records share their node; and a guess at the slots of the children that they name.
+fn alone(store: &[u8], guess: &mut [u16; 32768]) -> Look
+    requires { ⌜ (sizeRight (length (now store)) ≡ true) × Each (OwnAt (storeOf (now store))) (roomOf (length (now store))) ⌝ }
+    ensures { λ r. ⌜ Sure r (Alone (storeOf (now (store .entry)))) ⌝ }
+{
+    let n = slot_count(store);
+    let mut table = [0u16; 16384];
+    let mut ranks = [0u16; 16384];
+    let many = sort(store, n, &mut table, &mut ranks);
+    rank(&table, many, &mut ranks);
+    guessed(store, n, &table, many, guess);
+    in_order(store, many, &table, &ranks)
+}
+
+// Of a slot whose links are not right, the slot that fails the exact test: itself, or what was guessed for its children.
+fn suspect(store: &[u8], kept: Kept, j: usize, a: usize, b: usize) -> usize
+    requires { ⌜ Has (now store) j × Keeps (now store) kept ⌝ }
+{
+    let n = slot_count(store);
+    if !slot_passes(store, j, kept) {
+        return j;
+    }
+    if a < n {
+        if !slot_passes(store, a, kept) {
+            return a;
+        }
+    }
+    b
+}
+
+// Whether each record is tied to the children that it names, and its life covered by its parents.
+fn linked(store: &[u8], kept: Kept, guess: &[u16; 32768]) -> Look
+    requires { ⌜ Ready (now store) kept ⌝ }
+    ensures { λ r. ⌜ Sure r (Linked leafHash innerHash (storeOf (now (store .entry)))) ⌝ }
+{
+    let n = slot_count(store);
+    let mut known = [0u16; 16384];
+    let mut sums = [0u32; 16384];
+    let j = tie_all(store, kept, guess, &mut known, &mut sums);
+    if j < n {
+        let a = wide(guess[2 * j]);
+        let b = wide(guess[2 * j + 1]);
+        return Look::Suspect(suspect(store, kept, j, a, b));
+    }
+    let i = covered(store, kept, &sums);
+    if i < n {
+        return Look::Suspect(i);
+    }
+    Look::Fine
+}
+
+// Whether each slot passes; own fields first, so that no spoiled slot stands beside a right one in the order.
+pub fn quick(store: &[u8], kept: Kept) -> Look
+    requires { ⌜ Keeps (now store) kept ⌝ }
+    ensures { λ r. ⌜ Sure r (slotsTest leafHash innerHash (storeOf (now (store .entry))) ≡ true) ⌝ }
+{
+    let n = slot_count(store);
+    let i = own_right(store, kept);
+    if i < n {
+        return Look::Suspect(i);
+    }
+    let mut guess = [0u16; 32768];
+    let first = alone(store, &mut guess);
+    match first {
+        Look::Fine => linked(store, kept, &guess),
+        Look::Suspect(i) => Look::Suspect(i),
+    }
+}

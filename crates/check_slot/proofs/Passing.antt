@@ -1,0 +1,101 @@
+-- Slot by slot: what a slot that was read says decides its test, and the test of all goes from slot to slot. Assumes nothing.
+use Prim.Native.Nat.{ℕ, _+_, _<_, _≤_}
+use native.Mathlib.Omega.{arith}
+use mathlib.Core.Path.{_≡_, refl, ap, sym, _∙_, subst}
+use mathlib.Core.Bool.{Bool, true, false}
+use mathlib.Core.List.{List, _∷_}
+use lib.ListN.{length, drop}
+use Rattle.terms.specs.Bits.{Bytes, Byte, All}
+use Rattle.terms.specs.Records.{innerBody, Slot}
+use Rattle.local.specs.Test.{every, recordTest, slotTest, slotsTest}
+use Rattle.nodehash.specs.Node.{leafHash, innerHash}
+use Rattle.place.proofs.Places.{proper-count}
+use Rattle.layout.specs.Sizes.{roomOf}
+use Rattle.layout.specs.Headers.{sizeRight}
+use Rattle.layout.specs.Slots.{leafIn, slotOf, SlotForm}
+use Rattle.layout.specs.Stores.{slotIn, storeOf, slotNo, Has}
+use Rattle.layout.proofs.Slots.{slot-form}
+use Rattle.slots.specs.declared.Child as declared-child
+use Rattle.slots.specs.declared.Kind as declared-kind
+use Rattle.slots.specs.declared.Kind.the-variants.{Free, Leaf, Inner, Spoiled}
+use Rattle.slots.specs.declared.Slot as declared-slot
+use Rattle.slots.specs.Answer.{childSays, recordSays, kindSays, slotSays, Read}
+use Rattle.kin.specs.declared.Kept as declared-kept
+use Rattle.kin.specs.Kin.{Keeps}
+use Rattle.store.proofs.Slots.{slot-long, slot-bytes, slot-within, slot-is}
+use Rattle.store.proofs.Scans.{Scan, scan-start, scan-here, scan-next, scan-end}
+use Rattle.check_slot.specs.declared.Head as declared
+use Rattle.check_slot.specs.Parts.{recordOn, Headed}
+
+-- the head of a slot
+abbrev headOf : declared-slot.Slot → declared.Head
+headOf t = record { place = t .place; version = t .version; retired = t .retired }
+
+module _ {s : Bytes} {i : ℕ} (h : Has s i) {x : Bytes} (here : x ≡ slotIn i s) {t : declared-slot.Slot} (read : Read x t) where
+  its-slot : {k : declared-kind.Kind} → t .kind ≡ k → slotNo i s ≡ kindSays k t x
+  unfolding slotSays
+  its-slot e = slot-is h ∙ ap slotOf (sym here) ∙ sym (read .says) ∙ ap (λ m. kindSays m t x) e
+
+  pub free-slot : t .kind ≡ Free → true ≡ slotTest leafHash innerHash (storeOf s) (slotNo i s)
+  unfolding kindSays
+  free-slot e = sym (ap (slotTest leafHash innerHash (storeOf s)) (its-slot e))
+
+  pub spoiled-slot : t .kind ≡ Spoiled → false ≡ slotTest leafHash innerHash (storeOf s) (slotNo i s)
+  unfolding kindSays
+  spoiled-slot e = sym (ap (slotTest leafHash innerHash (storeOf s)) (its-slot e))
+
+  pub leaf-slot : t .kind ≡ Leaf → {u : Bool} → u ≡ recordTest leafHash innerHash (storeOf s) (recordOn (headOf t) (leafIn x)) →
+      u ≡ slotTest leafHash innerHash (storeOf s) (slotNo i s)
+  unfolding kindSays recordSays
+  leaf-slot e f = f ∙ sym (ap (slotTest leafHash innerHash (storeOf s)) (its-slot e))
+
+  pub inner-slot : (a b : declared-child.Child) → t .kind ≡ Inner a b → {u : Bool} →
+      u ≡ recordTest leafHash innerHash (storeOf s) (recordOn (headOf t) (innerBody (childSays a) (childSays b))) →
+      u ≡ slotTest leafHash innerHash (storeOf s) (slotNo i s)
+  unfolding kindSays recordSays
+  inner-slot a b e f = f ∙ sym (ap (slotTest leafHash innerHash (storeOf s)) (its-slot e))
+
+  -- a record that was read is in form
+  module _ (bytes : All Byte s) {k : declared-kept.Kept} (keeps : Keeps s k) where
+    form : {m : declared-kind.Kind} → t .kind ≡ m → SlotForm (kindSays m t x)
+    form e = subst SlotForm (sym (slot-is h) ∙ its-slot e) (slot-form (slotIn i s) (slot-long i s (slot-within h)) (slot-bytes i s bytes))
+
+    pub leaf-head : t .kind ≡ Leaf → Headed s k (headOf t)
+    unfolding kindSays recordSays
+    leaf-head e = record { keeps = keeps; proper = read .proper; version = form e .versioned .0 }
+
+    pub inner-head : (a b : declared-child.Child) → t .kind ≡ Inner a b → Headed s k (headOf t)
+    unfolding kindSays recordSays
+    inner-head a b e = record { keeps = keeps; proper = read .proper; version = form e .versioned .0 }
+
+    pub inner-short : (a b : declared-child.Child) → t .kind ≡ Inner a b → t .place .count < 256
+    unfolding kindSays recordSays
+    inner-short a b e = omega (arith, form e .short, proper-count (t .place) (read .proper))
+
+-- the slots before i pass, so those to come decide
+abbrev Rest : Bytes → List Slot → List Slot → Type 0
+Rest s xs ys = slotsTest leafHash innerHash (storeOf s) ≡ every (slotTest leafHash innerHash (storeOf s)) ys
+
+abbrev pub Passed : Bytes → ℕ → ℕ → Type 0
+Passed s n i = Scan s (Rest s) n i
+
+pub pass-start : (s : Bytes) → sizeRight (length s) ≡ true → {n : ℕ} → n ≡ roomOf (length s) → Passed s n 0
+unfolding slotsTest
+pass-start s e m = scan-start s (Rest s) e m refl
+
+module _ {s : Bytes} {n i : ℕ} (w : Passed s n i) (h : i < n) {t : Bool} (e : t ≡ slotTest leafHash innerHash (storeOf s) (slotNo i s)) where
+  pub pass-next : t ≡ true → Passed s n (i + 1)
+  pass-next f =
+      let here : slotTest leafHash innerHash (storeOf s) (slotNo i s) ≡ true = sym e ∙ f in
+      let on : every (slotTest leafHash innerHash (storeOf s)) (slotNo i s ∷ drop (i + 1) (storeOf s .slots))
+      ≡ every (slotTest leafHash innerHash (storeOf s)) (drop (i + 1) (storeOf s .slots)) = rw here in
+      scan-next w h (Rest s) (scan-here w h ∙ on)
+
+  pub pass-off : t ≡ false → false ≡ slotsTest leafHash innerHash (storeOf s)
+  pass-off f =
+      let here : slotTest leafHash innerHash (storeOf s) (slotNo i s) ≡ false = sym e ∙ f in
+      let off : every (slotTest leafHash innerHash (storeOf s)) (slotNo i s ∷ drop (i + 1) (storeOf s .slots)) ≡ false = rw here in
+      sym (scan-here w h ∙ off)
+
+pub pass-end : {s : Bytes} {n i : ℕ} → Passed s n i → n ≤ i → true ≡ slotsTest leafHash innerHash (storeOf s)
+pass-end w h = sym (scan-end w h)

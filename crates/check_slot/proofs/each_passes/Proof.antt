@@ -1,0 +1,63 @@
+-- `check_slot::each_passes` meets its contract: the slots before i pass. Assumes nothing.
+use Prim.Native.Nat.{_-_}
+use native.Mathlib.Omega.{arith}
+use borrow.Author.Tests.{not-true, not-false}
+use Rattle.store.proofs.Scans.{scan-slot}
+use Rattle.check_slot.proofs.Passing.{Passed, pass-start, pass-next, pass-off, pass-end}
+use Rattle.check_slot.proofs.each_passes.Statement.{statement}
+use Rattle.check_slot.proofs.each_passes.Tie as tie
+
+abbrev Inv-loop : tie.InvT-loop
+Inv-loop store kept n i₀ i = Passed store n i
+
+abbrev μ-loop : tie.MeasureT-loop
+μ-loop store kept n i₀ i = n - i
+
+slot-count-requires : tie.Need-slot-count-requires Inv-loop μ-loop
+slot-count-requires c κs = c .before .pre .size
+
+loop-holds : tie.Need-loop-holds Inv-loop μ-loop
+loop-holds c =
+    let c2 = c .before .before in
+    pass-start (c2 .args .store .now) (c2 .pre .size) (c .slot-count .ensures)
+
+slot-passes-requires : tie.Need-slot-passes-requires Inv-loop μ-loop
+slot-passes-requires c κs =
+    let c4 = c .before .before .before .before in
+    (scan-slot (c .before .loop .inv) (c .loop-test .taken), c4 .pre)
+
+returns : tie.Need-returns Inv-loop μ-loop
+returns c =
+    let c2 = c .before .before in
+    pass-off (c2 .before .loop .inv) (c2 .loop-test .taken) (c .before .slot-passes .ensures) (not-true _ (c .if1 .taken))
+
+add-i : tie.Need-add-i Inv-loop μ-loop
+add-i c =
+    let c3 = c .before .before .before in
+    omega (arith, c3 .loop .inv .small)
+
+loop-less : tie.Need-loop-less Inv-loop μ-loop
+loop-less c = omega arith
+
+loop-again : tie.Need-loop-again Inv-loop μ-loop
+loop-again c =
+    let c2 = c .before .before in
+    pass-next (c2 .before .loop .inv) (c2 .loop-test .taken) (c .before .slot-passes .ensures) (not-false _ (c .if1 .left))
+
+returns-2 : tie.Need-returns-2 Inv-loop μ-loop
+returns-2 c = pass-end (c .before .loop .inv) (c .loop-test .left)
+
+pub each-passes-spec : {M : Type 1} → statement M
+each-passes-spec =
+    tie.close
+    (tie.spec
+    Inv-loop
+    μ-loop
+    slot-count-requires
+    loop-holds
+    slot-passes-requires
+    returns
+    add-i
+    loop-less
+    loop-again
+    returns-2)

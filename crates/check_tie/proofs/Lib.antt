@@ -1,0 +1,3 @@
+pub mod Children
+pub mod Sides
+pub mod Loops

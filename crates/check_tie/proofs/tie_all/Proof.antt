@@ -1,0 +1,116 @@
+-- `check_tie::tie_all` meets its contract slot by slot. Assumes nothing.
+use native.Mathlib.Omega.{arith}
+use Prim.Native.Nat.{_-_}
+use borrow.Author.Tests.{not-false}
+use Rattle.check_pass.proofs.Passes.{passed-is}
+use Rattle.check_pass.proofs.Walks.{walk-slot}
+use Rattle.check_tie.proofs.Loops.{Going, go-start, go-next, go-end, go-off}
+use borrow.Author.Needs.{needs}
+use Rattle.check_tie.proofs.tie_all.Statement.{statement}
+use Rattle.check_tie.proofs.tie_all.Tie as tie
+
+abbrev Inv-loop : tie.InvT-loop
+Inv-loop store kept guess known₀ sums₀ n j₀ known sums j = Going store n sums₀ sums known j
+
+abbrev μ-loop : tie.MeasureT-loop
+μ-loop store kept guess known₀ sums₀ n j₀ known sums j = n - j
+
+slot-count-requires : tie.Need-slot-count-requires Inv-loop μ-loop
+slot-count-requires c κs = c .before .pre .0 .keeps .size
+
+loop-holds : tie.Need-loop-holds Inv-loop μ-loop
+loop-holds c =
+    let c2 = c .before .before in
+    go-start (c2 .args .store .now) (c2 .args .sums .now) (c2 .args .known .now) (c2 .pre .0 .keeps .size) (c .slot-count .ensures)
+    (c2 .pre .1)
+
+mul-wide : tie.Need-mul-wide Inv-loop μ-loop
+mul-wide c = omega (arith, c .before .loop .inv .walk .scan .small)
+
+mul-wide-2 : tie.Need-mul-wide-2 Inv-loop μ-loop
+mul-wide-2 c = omega (arith, c .before .loop .inv .walk .scan .small)
+
+element-copy-out-wide : tie.Need-element-copy-out-wide Inv-loop μ-loop
+element-copy-out-wide c = omega (arith, c .before .loop .inv .walk .scan .small)
+
+wide-requires : tie.Need-wide-requires Inv-loop μ-loop
+wide-requires c κs = search needs
+
+mul-wide-3 : tie.Need-mul-wide-3 Inv-loop μ-loop
+mul-wide-3 c =
+    let c3 = c .before .before .before in
+    omega (arith, c3 .loop .inv .walk .scan .small)
+
+add-wide : tie.Need-add-wide Inv-loop μ-loop
+add-wide c =
+    let c3 = c .before .before .before in
+    omega (arith, c3 .loop .inv .walk .scan .small)
+
+mul-wide-4 : tie.Need-mul-wide-4 Inv-loop μ-loop
+mul-wide-4 c =
+    let c3 = c .before .before .before in
+    omega (arith, c3 .loop .inv .walk .scan .small)
+
+element-copy-out-wide-2 : tie.Need-element-copy-out-wide-2 Inv-loop μ-loop
+element-copy-out-wide-2 c =
+    let c3 = c .before .before .before in
+    omega (arith, c3 .loop .inv .walk .scan .small)
+
+wide-requires-2 : tie.Need-wide-requires-2 Inv-loop μ-loop
+wide-requires-2 c κs = search needs
+
+tie-slot-requires : tie.Need-tie-slot-requires Inv-loop μ-loop
+tie-slot-requires c κs =
+    let c6 = c .before .before .before .before .before .before in
+    let c7 = c6 .before in
+    let c10 = c7 .before .before .before in
+    (walk-slot (c7 .loop .inv .walk) (c6 .loop-test .taken), c10 .pre .0, c7 .loop .inv .known)
+
+returns : tie.Need-returns Inv-loop μ-loop
+returns c =
+    let c8 = c .before .before .before .before .before .before .before .before in
+    go-off (c8 .before .loop .inv) (c8 .loop-test .taken) _
+
+add-j : tie.Need-add-j Inv-loop μ-loop
+add-j c =
+    let c9 = c .before .before .before .before .before .before .before .before .before in
+    omega (arith, c9 .loop .inv .walk .scan .small)
+
+loop-less : tie.Need-loop-less Inv-loop μ-loop
+loop-less c =
+    let c9 = c .before .before .before .before .before .before .before .before .before in
+    omega (arith, c9 .loop .inv .walk .scan .small)
+
+loop-again : tie.Need-loop-again Inv-loop μ-loop
+loop-again c =
+    let c8 = c .before .before .before .before .before .before .before .before in
+    go-next (c8 .before .loop .inv) (c8 .loop-test .taken) (c .before .tie-slot .last .1 .1 .1 .1 .1 .1 .0)
+    (c .before .tie-slot .last .1 .1 .1 .1 .1 .0) (c .before .tie-slot .ensures .0)
+    (passed-is (not-false (c .before .tie-slot .result) (c .if1 .left)) (c .before .tie-slot .ensures .1))
+
+returns-2 : tie.Need-returns-2 Inv-loop μ-loop
+returns-2 c = go-end (c .before .loop .inv) (c .loop-test .left)
+
+pub tie-all-spec : {M : Type 1} → statement M
+tie-all-spec =
+    tie.close
+    (tie.spec
+    Inv-loop
+    μ-loop
+    slot-count-requires
+    loop-holds
+    mul-wide
+    mul-wide-2
+    element-copy-out-wide
+    wide-requires
+    mul-wide-3
+    add-wide
+    mul-wide-4
+    element-copy-out-wide-2
+    wide-requires-2
+    tie-slot-requires
+    returns
+    add-j
+    loop-less
+    loop-again
+    returns-2)

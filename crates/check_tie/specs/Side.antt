@@ -1,0 +1,97 @@
+-- What is known once a slot was looked at as a parent. Assumes nothing.
+use Prim.Native.Nat.{ℕ, _+_, _-_, _<_, _≤_, max}
+use mathlib.Core.Path.{_≡_}
+use mathlib.Core.Bool.{false, not, cond}
+use mathlib.Core.List.{List}
+use lib.ListN.{length}
+use lib.Dec.{eqb}
+use Rattle.terms.specs.Bits.{Bytes, Side, Place}
+use Rattle.terms.specs.Records.{Child, innerBody, Record, Store}
+use Rattle.meaning.specs.Store.{childOn}
+use Rattle.meaning.specs.Sound.{At}
+use Rattle.meaning.specs.Local.{endsBefore}
+use Rattle.local.specs.Test.{firstKept, keptLife}
+use Rattle.hash.specs.Hash.{hashBytes}
+use Rattle.nodehash.specs.Node.{leafHash, innerHash}
+use Rattle.place.specs.Place.{placeOf, Proper}
+use Rattle.layout.specs.Sizes.{roomOf}
+use Rattle.layout.specs.Slots.{placeIn, versionIn, sinceIn}
+use Rattle.layout.specs.Stores.{storeOf}
+use Rattle.kin.specs.declared.Kept as declared-kept
+use Rattle.kin.specs.Kin.{Keeps, endsAt, isLeafBody}
+use Rattle.check_pass.specs.Passes.{Each}
+use Rattle.check_seen.specs.Seen.{OwnAt, Tied}
+use Rattle.check_sums.specs.Sums.{SideAdded, Under}
+use Rattle.check_tie.specs.declared.Parent as declared
+use Rattle.check_tie.specs.declared.Link as declared-link
+
+-- The passes before this one found nothing wrong.
+pub record Ready (s : Bytes) (k : declared-kept.Kept) : Type 0 where
+  pub keeps : Keeps s k
+  pub own : Each (OwnAt (storeOf s)) (roomOf (length s))
+
+-- A parent that can have children, with a life that is no longer than there are versions.
+pub record Fit (p : declared.Parent) : Type 0 where
+  pub proper : Proper (p .up)
+  pub short : p .up .count < 256
+  pub life : p .life ≤ 4294967296
+
+-- The parent that the bytes of an inner record are.
+pub record ParentIn (k : declared-kept.Kept) (x : Bytes) (p : declared.Parent) : Type 0 where
+  pub fit : Fit p
+  pub place : placeOf (p .up) ≡ placeIn x
+  pub first : p .first ≡ max (k .oldest) (versionIn x)
+  pub ends : p .ends ≡ endsAt (k .latest) (sinceIn x)
+  pub life : p .life ≡ p .ends - max (k .oldest) (versionIn x)
+
+-- A record as a parent: its place, its first kept version, the end of its life, and how many kept versions it lives at.
+pub record IsParent (st : Store) (p : declared.Parent) (q : Record) : Type 0 where
+  pub place : q .place ≡ placeOf (p .up)
+  pub first : firstKept st q ≡ p .first
+  pub ends : endsBefore st q ≡ p .ends
+  pub life : keptLife st q ≡ p .life
+
+-- The child that it names on a side: its version and stored hash, and the version of the other child.
+pub record IsLink (d : declared-link.Link) (q : Record) : Type 0 where
+  pub l : Child
+  pub m : Child
+  pub body : q .body ≡ innerBody l m
+  pub version : childOn (d .right) l m .version ≡ d .version
+  pub hash : childOn (d .right) l m .hash ≡ hashBytes (d .hash)
+  pub other : childOn (not (d .right)) l m .version ≡ d .other
+
+-- Slot c holds a record that is the node of a version at a place.
+pub record Node (s : Bytes) (c v : ℕ) (p : Place) : Type 0 where
+  pub it : Record
+  pub here : At (storeOf s) c it
+  pub version : it .version ≡ v
+  pub place : it .place ≡ p
+
+-- The record in slot c lives to an end at least, and beside a child of this version it is no lone leaf.
+abbrev pub Outlives : Bytes → ℕ → ℕ → ℕ → Type 0
+Outlives s c ends other =
+    (r : Record) → At (storeOf s) c r → (ends ≤ endsBefore (storeOf s) r) × (cond (isLeafBody (r .body)) (eqb other 0) false ≡ false)
+
+-- Of each record that is this parent with this child: it is tied to the child, and no more than its life was added.
+abbrev pub SideTied : Bytes → declared.Parent → declared-link.Link → List ℕ → List ℕ → Type 0
+SideTied s p d xs ys =
+    (q : Record) → IsParent (storeOf s) p q → IsLink d q →
+    Tied leafHash innerHash (storeOf s) q (d .right) × SideAdded (storeOf s) (d .right) q xs ys
+
+-- The record in slot j is tied on both sides.
+abbrev pub TiedAt : Bytes → ℕ → Type 0
+TiedAt s j = (q : Record) → At (storeOf s) j q → (b : Side) → Tied leafHash innerHash (storeOf s) q b
+
+-- What a look at slot j leaves.
+pub record SlotTied (s : Bytes) (j : ℕ) (xs ys : List ℕ) : Type 0 where
+  pub tied : TiedAt s j
+  pub under : Under (storeOf s) xs j → Under (storeOf s) ys (j + 1)
+
+-- What a look at the first n slots leaves.
+pub record AllTied (s : Bytes) (n : ℕ) (xs ys : List ℕ) : Type 0 where
+  pub tied : (j : ℕ) → j < n → TiedAt s j
+  pub under : Under (storeOf s) xs 0 → Under (storeOf s) ys n
+
+-- A look that ended at slot j leaves this where j is past the last slot.
+abbrev pub TiedTo : Bytes → ℕ → List ℕ → List ℕ → Type 0
+TiedTo s j xs ys = roomOf (length s) ≤ j → AllTied s (roomOf (length s)) xs ys

@@ -1,0 +1,216 @@
+-- The desk's table over the bytes: its stores are sound, one after the other, so the contracts admit what the table says, and nothing else.
+-- Assumes nothing.
+use Prim.Native.Nat.{ℕ}
+use native.Mathlib.Omega.{arith}
+use mathlib.Core.Path.{_≡_, refl, ap, sym, _∙_, subst}
+use mathlib.Core.Logic.{_↔_}
+use mathlib.Core.Bool.{Bool, true, _&&_}
+use mathlib.Core.List.{List, [], _∷_}
+use mathlib.Core.Option.{some}
+use lib.ListN.{length, getD}
+use lib.Dec.{eqb, ltb, leb}
+use borrow.Author.Tests.{eqb-true, ltb-true, leb-true}
+use Rattle.terms.specs.Bits.{Bytes, Byte, Whole32, All}
+use Rattle.terms.specs.Fields.{le}
+use Rattle.terms.specs.Records.{Ask, insert, delete, Store}
+use Rattle.terms.specs.Form.{AskForm}
+use Rattle.terms.proofs.Tests.{and-left, and-right}
+use Rattle.meaning.specs.Store.{formatted}
+use Rattle.meaning.specs.Sound.{Sound}
+use Rattle.meaning.specs.Calls.{Answer, refused, accepted, Outcome, Applied, apply, prune}
+use Rattle.meaning.specs.Answers.{numberOf}
+use Rattle.meaning.specs.Desk.{Row, applies, prunes, RowHolds, table, A, B, C, D, a, b, c, d, s₁}
+use Rattle.meaning.proofs.Desk.{desk}
+use Rattle.histories.proofs.Theorems.{formatted-is-sound, prune-keeps-sound, apply-keeps-sound, refused-apply-writes-nothing, refused-prune-writes-nothing}
+use Rattle.nodehash.specs.Node.{leafHash, innerHash}
+use Rattle.layout.specs.Stores.{storeOf, storeBytes}
+use Rattle.batch.specs.Batch.{asksBytes}
+use Rattle.batch.proofs.Batches.{batch-of-bytes}
+use Rattle.promises.specs.Calls.{refuses, accepts, Exports, exports-refusal, exports-answer}
+use Rattle.promises.proofs.Calls.{one-export}
+use Rattle.applying_c.specs.Export.{told}
+use Rattle.grants.specs.Contracts.{Applies}
+use Rattle.demands.specs.Desk.{toldOf, RowOverBytes, DeskOverBytes}
+use Rattle.demands.proofs.Hashes.{leaf-hash-whole, inner-hash-whole}
+use Rattle.demands.proofs.Stored.{stored-is, stored-sound}
+
+-- asks in form, by computing
+abbrev bytesTest : Bytes → Bool
+bytesTest [] = true
+bytesTest (x ∷ xs) = ltb x 256 && bytesTest xs
+
+bytes-by : (x : Bytes) → bytesTest x ≡ true → All Byte x
+bytes-by [] h = tt
+bytes-by (x ∷ xs) h = (ltb-true x 256 (and-left (ltb x 256) (bytesTest xs) h), bytes-by xs (and-right (ltb x 256) (bytesTest xs) h))
+
+abbrev wholeTest : Bytes → Bool
+wholeTest x = eqb (length x) 32 && bytesTest x
+
+whole-by : (x : Bytes) → wholeTest x ≡ true → Whole32 x
+whole-by x h =
+    (eqb-true (length x) 32 (and-left (eqb (length x) 32) (bytesTest x) h), bytes-by x (and-right (eqb (length x) 32) (bytesTest x) h))
+
+abbrev askTest : Ask → Bool
+askTest (insert k x) = wholeTest k && wholeTest x
+askTest (delete k) = wholeTest k
+
+ask-by : (a : Ask) → askTest a ≡ true → AskForm a
+ask-by (insert k x) h = (whole-by k (and-left (wholeTest k) (wholeTest x) h), whole-by x (and-right (wholeTest k) (wholeTest x) h))
+ask-by (delete k) h = whole-by k h
+
+abbrev asksTest : List Ask → Bool
+asksTest [] = true
+asksTest (a ∷ asks) = askTest a && asksTest asks
+
+asks-by : (asks : List Ask) → asksTest asks ≡ true → All AskForm asks
+asks-by [] h = tt
+asks-by (a ∷ asks) h = (ask-by a (and-left (askTest a) (asksTest asks) h), asks-by asks (and-right (askTest a) (asksTest asks) h))
+
+-- a call on the bytes of a sound store, for C, by its outcome on the store
+module _ {R : Type 0} (call : Store → Outcome R) (told : R → Bytes) (st : Store) (s : Sound leafHash innerHash st) where
+  exported : (answer : Answer R) (end : Store) (f : Bytes) → call st ≡ record { answer = answer; store = end } →
+      ((n : ℕ) → answer ≡ refused n → end ≡ st) → Exports call told (storeBytes st) f (numberOf answer) (storeBytes end) (toldOf told answer f)
+  exported (refused n) end f e same =
+      let at = ap call (stored-is st s) ∙ e in
+      subst (λ x. Exports call told (storeBytes st) f n (storeBytes x) f) (sym (same n refl))
+      (exports-refusal (refuses (stored-sound st s) (ap (λ o. o .answer) at)))
+  exported (accepted a) end f e same =
+      let at = ap call (stored-is st s) ∙ e in
+      subst (λ x. Exports call told (storeBytes st) f 0 (storeBytes x) (told a)) (ap (λ o. o .store) at)
+      (exports-answer (accepts (stored-sound st s) (ap (λ o. o .answer) at)))
+
+  exports-exactly : (answer : Answer R) (end : Store) → call st ≡ record { answer = answer; store = end } →
+      ((n : ℕ) → answer ≡ refused n → end ≡ st) → (f : Bytes) (r : ℕ) (t g : Bytes) →
+      Exports call told (storeBytes st) f r t g ↔ ((r ≡ numberOf answer) × (t ≡ storeBytes end) × (g ≡ toldOf told answer f))
+  exports-exactly answer end e same f r t g = (there, back)
+    where
+      there : Exports call told (storeBytes st) f r t g → (r ≡ numberOf answer) × (t ≡ storeBytes end) × (g ≡ toldOf told answer f)
+      there w = one-export w (exported answer end f e same)
+
+      back : (r ≡ numberOf answer) × (t ≡ storeBytes end) × (g ≡ toldOf told answer f) → Exports call told (storeBytes st) f r t g
+      back w = rw (w .0, w .1, w .2) (exported answer end f e same)
+
+-- a row on a sound store, with a batch in form
+abbrev RowReady : Row → Type 0
+RowReady (applies st batch answer end) = Sound leafHash innerHash st × (asksTest batch ≡ true) × (leb (length batch) 1024 ≡ true)
+RowReady (prunes st n answer end) = Sound leafHash innerHash st
+
+row-over-bytes : (row : Row) → RowHolds leafHash innerHash row → RowReady row → RowOverBytes row
+row-over-bytes (applies st batch answer end) e w = λ f r t g.
+    let is = batch-of-bytes batch (asks-by batch (w .1)) (leb-true (length batch) 1024 (w .2)) in
+    subst (λ o. Exports (apply leafHash innerHash o) told (storeBytes st) f r t g
+    ↔ ((r ≡ numberOf answer) × (t ≡ storeBytes end) × (g ≡ toldOf told answer f))) (sym is)
+    (exports-exactly (apply leafHash innerHash (some batch)) told st (w .0) answer end e
+    (λ n h. sym (ap (λ o. o .store) e) ∙ refused-apply-writes-nothing leafHash innerHash (some batch) st n (ap (λ o. o .answer) e ∙ h)) f r t g)
+row-over-bytes (prunes st n answer end) e w = λ f r t g.
+    exports-exactly (prune n) (le 4) st w answer end e
+    (λ m h. sym (ap (λ o. o .store) e) ∙ refused-prune-writes-nothing leafHash innerHash n st m (ap (λ o. o .answer) e ∙ h)) f r t g
+
+rows-over-bytes : (rows : List Row) → All (RowHolds leafHash innerHash) rows → All RowReady rows → All RowOverBytes rows
+rows-over-bytes [] h w = tt
+rows-over-bytes (row ∷ rows) h w = (row-over-bytes row (h .0) (w .0), rows-over-bytes rows (h .1) (w .1))
+
+-- the store after a row is sound
+abbrev SoundAfter : Row → Type 0
+SoundAfter (applies st batch answer end) = Sound leafHash innerHash end
+SoundAfter (prunes st n answer end) = Sound leafHash innerHash end
+
+sound-after : (row : Row) → RowHolds leafHash innerHash row → RowReady row → SoundAfter row
+sound-after (applies st batch answer end) e w = go answer e
+  where
+    go : (a : Answer Applied) → apply leafHash innerHash (some batch) st ≡ record { answer = a; store = end } → Sound leafHash innerHash end
+    go (refused n) e =
+        subst (Sound leafHash innerHash)
+        (sym (refused-apply-writes-nothing leafHash innerHash (some batch) st n (ap (λ o. o .answer) e)) ∙ ap (λ o. o .store) e) (w .0)
+    go (accepted a) e =
+        subst (Sound leafHash innerHash) (ap (λ o. o .store) e)
+        (apply-keeps-sound leafHash innerHash leaf-hash-whole inner-hash-whole batch st a (w .0) (asks-by batch (w .1)) (ap (λ o. o .answer) e) .sound)
+sound-after (prunes st n answer end) e w = go answer e
+  where
+    go : (a : Answer ℕ) → prune n st ≡ record { answer = a; store = end } → Sound leafHash innerHash end
+    go (refused m) e =
+        subst (Sound leafHash innerHash)
+        (sym (refused-prune-writes-nothing leafHash innerHash n st m (ap (λ o. o .answer) e)) ∙ ap (λ o. o .store) e) w
+    go (accepted a) e =
+        subst (Sound leafHash innerHash) (ap (λ o. o .store) e) (prune-keeps-sound leafHash innerHash n st a w (ap (λ o. o .answer) e) .sound)
+
+-- the rows by number; those past the table are of no use
+abbrev rowAt : ℕ → Row
+rowAt i = getD (table leafHash innerHash) i (prunes (formatted 20) 0 (refused 0) (formatted 20))
+
+s20 : Sound leafHash innerHash (formatted 20)
+s20 = formatted-is-sound leafHash innerHash 20 (omega arith) (omega arith)
+
+m1 : Sound leafHash innerHash (s₁ leafHash innerHash)
+m1 = sound-after (rowAt 0) (desk leafHash innerHash .0) (s20, refl, refl)
+
+-- Each row of the desk's table is what the contracts say of the bytes.
+pub desk-over-bytes : DeskOverBytes
+desk-over-bytes =
+    let h = desk leafHash innerHash in
+    let fresh = formatted-is-sound leafHash innerHash in
+    let s7 = fresh 7 (omega arith) (omega arith) in
+    let m2 = sound-after (rowAt 1) (h .1 .0) (m1, refl, refl) in
+    let m3 = sound-after (rowAt 2) (h .1 .1 .0) (m2, refl, refl) in
+    let m4 = sound-after (rowAt 3) (h .1 .1 .1 .0) (m3, refl, refl) in
+    let m5 = sound-after (rowAt 4) (h .1 .1 .1 .1 .0) (m4, refl, refl) in
+    let m6 = sound-after (rowAt 5) (h .1 .1 .1 .1 .1 .0) (m5, refl, refl) in
+    let m7 = sound-after (rowAt 6) (h .1 .1 .1 .1 .1 .1 .0) m6 in
+    let m8 = sound-after (rowAt 7) (h .1 .1 .1 .1 .1 .1 .1 .0) (m7, refl, refl) in
+    let full = sound-after (rowAt 12) (h .1 .1 .1 .1 .1 .1 .1 .1 .1 .1 .1 .1 .0) (s7, refl, refl) in
+    rows-over-bytes (table leafHash innerHash) h (
+      (s20, refl, refl),
+      (
+        (m1, refl, refl),
+        (
+          (m2, refl, refl),
+          (
+            (m3, refl, refl),
+            (
+              (m4, refl, refl),
+              (
+                (m5, refl, refl),
+                (
+                  m6,
+                  (
+                    (m7, refl, refl),
+                    (
+                      (s20, refl, refl),
+                      (
+                        (fresh 5 (omega arith) (omega arith), refl, refl),
+                        (
+                          m8,
+                          (
+                            m8,
+                            (
+                              (s7, refl, refl),
+                              (
+                                (full, refl, refl),
+                                (
+                                  (full, refl, refl),
+                                  tt,
+                                ),
+                              ),
+                            ),
+                          ),
+                        ),
+                      ),
+                    ),
+                  ),
+                ),
+              ),
+            ),
+          ),
+        ),
+      ),
+    )
+
+-- So writing nothing fails at M1: the bytes that the contract leaves are not those that were lent.
+pub writing-nothing-fails-at-M1 : {f t g : Bytes} {r : ℕ} →
+    Applies (asksBytes (insert A a ∷ insert B b ∷ insert C c ∷ insert D d ∷ [])) (storeBytes (formatted 20)) f r t g →
+    t ≡ storeBytes (formatted 20) → ⊥
+unfolding formatted
+writing-nothing-fails-at-M1 {f} {t} {g} {r} w e =
+    let left = desk-over-bytes .0 f r t g .0 w .1 in
+    let same = sym (stored-is (s₁ leafHash innerHash) m1) ∙ ap storeOf (sym left ∙ e) ∙ stored-is (formatted 20) s20 in
+    let z : _≡_ {A = ℕ} 1 0 = ap (λ st. st .latest) same in omega arith

@@ -1,0 +1,150 @@
+-- Demand 1: a public call answers each number of document 01 exactly if its row deserves it and no earlier row of the call's order does, and
+-- 0 exactly if none does. By the cases of each contract, row by row. Assumes nothing.
+use Prim.Native.Nat.{ℕ}
+use mathlib.Core.Path.{_≡_, refl, sym, subst}
+use mathlib.Core.Logic.{inl, inr}
+use mathlib.Core.Bool.{Bool, true, false, cond, _&&_}
+use mathlib.Core.List.{[], _∷_, _++_}
+use mathlib.Core.Option.{Option, none, some}
+use lib.ListN.{length}
+use lib.Dec.{eqb}
+use borrow.Author.Tests.{eqb-true, eqb-false}
+use Rattle.terms.specs.Bits.{Bytes, Byte, All}
+use Rattle.terms.specs.Records.{Store, Proof}
+use Rattle.meaning.specs.Calls.{Answer, refused, accepted, Outcome, apply, prune}
+use Rattle.meaning.specs.Reading.{readKey, readRoot}
+use Rattle.meaning.specs.Proving.{prove}
+use Rattle.meaning.specs.Answers.{numberOf}
+use Rattle.nodehash.specs.Node.{leafHash, innerHash}
+use Rattle.proofrecords.specs.ProofBytes.{proofIn}
+use Rattle.layout.specs.Headers.{Headed, refusal, header, sizeRight, headerOf}
+use Rattle.layout.specs.Stores.{storeOf}
+use Rattle.batch.specs.Batch.{batchOf}
+use Rattle.format.specs.Format.{formatAnswer}
+use Rattle.soundness.specs.Check as check
+use Rattle.promises.specs.Calls.{Does, wrong-header, not-sound, refuses, accepts, Exports, exports-refusal, exports-answer}
+use Rattle.read_step.specs.Headed.{byHeader}
+use Rattle.reads.specs.Reads.{rootAnswer, keyAnswer}
+use Rattle.proving.specs.Proving.{proveAnswer}
+use Rattle.verify.specs.Verify.{judged, verified}
+use Rattle.refusals.specs.Exactly.{Table, Exactly}
+use Rattle.refusals.specs.Rows.{NotSound, Not32}
+use Rattle.refusals.specs.Orders.{headerRows, batchRows, versionRows, keyRows, proofRows, holdingRows}
+use Rattle.refusals.proofs.Exactly.{First, past, within, exactly}
+use Rattle.refusals.proofs.Headers.{length-wrong, length-right, after-header, header-row, records-formed}
+use Rattle.refusals.proofs.Batches.{batch-first}
+use Rattle.refusals.proofs.Walks.{prune-first, root-first, get-first, prove-first}
+use Rattle.refusals.proofs.Proofs.{off-form, form-first}
+use Rattle.demands.specs.Tables.{formatRows, checkRows, applyRows, pruneRows, rootRows, getRows, proveRows, verifyRows, sha256Rows}
+use Rattle.grants.specs.Contracts.{Formats, Checks, Applies, Prunes, ReadsRoot, ReadsKey, Proves, Verifies, Hashes}
+
+-- Format: 1.
+pub format-exactly : {s t : Bytes} {r : ℕ} → Formats s r t → Exactly (formatRows s) r
+unfolding formatAnswer
+format-exactly {s} {r = r} w = exactly (formatRows s) r refl (go (sizeRight (length s)) refl (w .answer))
+  where
+    go : (b : Bool) → sizeRight (length s) ≡ b → r ≡ cond b 0 1 → First (formatRows s) r
+    go true e f = inr (length-right s e, f)
+    go false e f = inl (length-wrong s e, f)
+
+-- Check: 1, 2, 3.
+pub check-exactly : {s : Bytes} {r : ℕ} → Checks s r → Exactly (checkRows s) r
+check-exactly {s} {r} w = exactly (checkRows s) r refl (go w)
+  where
+    go : {n : ℕ} → check.Checked s n → First (checkRows s) n
+    go (check.refused n e) = let h = header-row s e in within (headerRows s) ((3, NotSound s) ∷ []) n (h .0) (h .1)
+    go (check.unsound c o l e f) = past (headerRows s) ((3, NotSound s) ∷ []) 3 (after-header s e) (inl (f, refl))
+    go (check.sound c o l e f) = past (headerRows s) ((3, NotSound s) ∷ []) 0 (after-header s e) (inr (λ n. n f, refl))
+
+-- A call that tests soundness: 1, 2, 3; then its own.
+does-first : {A : Type 0} (call : Store → Outcome A) (s : Bytes) (more : Table) (a : Answer A) {t : Bytes} →
+    First more (numberOf (call (storeOf s) .answer)) → Does call s a t → First (headerRows s ++ (3, NotSound s) ∷ more) (numberOf a)
+does-first call s more a f (wrong-header {m} e) = let h = header-row s e in within (headerRows s) ((3, NotSound s) ∷ more) m (h .0) (h .1)
+does-first call s more a f (not-sound e n) = past (headerRows s) ((3, NotSound s) ∷ more) 3 (after-header s e) (inl (n, refl))
+does-first call s more a f (refuses w e) =
+    past (headerRows s) ((3, NotSound s) ∷ more) (numberOf a) (after-header s (w .headed))
+    (inr (λ n. n (w .sound), subst (λ x. First more (numberOf x)) e f))
+does-first call s more a f (accepts w e) =
+    past (headerRows s) ((3, NotSound s) ∷ more) (numberOf a) (after-header s (w .headed))
+    (inr (λ n. n (w .sound), subst (λ x. First more (numberOf x)) e f))
+
+export-first : {A : Type 0} (call : Store → Outcome A) {told : A → Bytes} (s : Bytes) (more : Table) {f t g : Bytes} {r : ℕ} →
+    First more (numberOf (call (storeOf s) .answer)) → Exports call told s f r t g → First (headerRows s ++ (3, NotSound s) ∷ more) r
+export-first call s more f (exports-refusal {m} d) = does-first call s more (refused m) f d
+export-first call s more f (exports-answer {a} d) = does-first call s more (accepted a) f d
+
+-- Apply: 1, 2, 3, 4, 5, 6, 7.
+pub apply-exactly : (batch : Bytes) {s f t g : Bytes} {r : ℕ} → All Byte batch → Applies batch s f r t g → Exactly (applyRows batch s) r
+apply-exactly batch {s} {r = r} h w =
+    exactly (applyRows batch s) r refl
+    (export-first (apply leafHash innerHash (batchOf batch)) s (batchRows batch s) (batch-first batch h s) w)
+
+-- Prune: 1, 2, 3, 8.
+pub prune-exactly : (n : ℕ) {s f t g : Bytes} {r : ℕ} → Prunes n s f r t g → Exactly (pruneRows n s) r
+prune-exactly n {s} {r = r} w = exactly (pruneRows n s) r refl (export-first (prune n) s (versionRows s n) (prune-first n s) w)
+
+-- A read: 1, 2; then its own.
+read-first : {A : Type 0} (s : Bytes) (a : Answer A) (more : Table) →
+    ((c o l : ℕ) → headerOf s ≡ header c o l → First more (numberOf a)) → First (headerRows s ++ more) (numberOf (byHeader (headerOf s) a))
+read-first s a more f = go (headerOf s) refl
+  where
+    go : (h : Headed) → headerOf s ≡ h → First (headerRows s ++ more) (numberOf (byHeader h a))
+    go (refusal m) e = let h = header-row s e in within (headerRows s) more m (h .0) (h .1)
+    go (header c o l) e = past (headerRows s) more (numberOf a) (after-header s e) (f c o l e)
+
+-- A key: 12; then the rest.
+key-first : {A : Type 0} (k : Bytes) (a : Answer A) (more : Table) → First more (numberOf a) →
+    First ((12, Not32 (k ∷ [])) ∷ more) (numberOf (cond (eqb (length k) 32) a (refused 12)))
+key-first k a more f = go (eqb (length k) 32) refl
+  where
+    go : (b : Bool) → eqb (length k) 32 ≡ b → First ((12, Not32 (k ∷ [])) ∷ more) (numberOf (cond b a (refused 12)))
+    go true e = inr (λ n. n (eqb-true (length k) 32 e, tt), f)
+    go false e = inl (λ h. eqb-false (length k) 32 e (h .0), refl)
+
+-- A root read: 1, 2, 8.
+pub root-exactly : {s : Bytes} {v : ℕ} {f : Bytes} {r : ℕ} {g : Bytes} → ReadsRoot s v f r g → Exactly (rootRows s v) r
+unfolding rootAnswer
+root-exactly {s} {v} {r = r} w =
+    exactly (rootRows s v) r refl
+    (subst (First (rootRows s v)) (sym (w .answer))
+    (read-first s (readRoot leafHash innerHash (storeOf s) v) (versionRows s v) (λ c o l e. root-first leafHash innerHash s v)))
+
+-- A key read: 12, 1, 2, 8, 3.
+pub get-exactly : {s : Bytes} {v : ℕ} {k f : Bytes} {r : ℕ} {g : Bytes} → All Byte s → ReadsKey s v k f r g → Exactly (getRows s v k) r
+unfolding keyAnswer
+get-exactly {s} {v} {k} {r = r} h w =
+    exactly (getRows s v k) r refl
+    (subst (First (getRows s v k)) (sym (w .answer))
+    (key-first k (byHeader (headerOf s) (readKey (storeOf s) v k)) (headerRows s ++ keyRows s v k)
+    (read-first s (readKey (storeOf s) v k) (keyRows s v k) (λ c o l e. get-first s (records-formed s h e) v k))))
+
+-- Proving: 12, 1, 2, 8, 14, 3, 9.
+pub prove-exactly : {s : Bytes} {v : ℕ} {k room f : Bytes} {r : ℕ} {t g : Bytes} → All Byte s → Proves s v k room f r t g →
+    Exactly (proveRows s v k room) r
+unfolding proveAnswer
+prove-exactly {s} {v} {k} {room} {r = r} h w =
+    exactly (proveRows s v k room) r refl
+    (subst (First (proveRows s v k room)) (sym (w .answer))
+    (key-first k (byHeader (headerOf s) (prove (storeOf s) v k (length room))) (headerRows s ++ proofRows s v k room)
+    (read-first s (prove (storeOf s) v k (length room)) (proofRows s v k room) (λ c o l e. prove-first s (records-formed s h e) v k room))))
+
+-- The proof check: 12, 10, 11.
+pub verify-exactly : {root k x f : Bytes} {r : ℕ} {g : Bytes} → All Byte x → Verifies root k x f r g → Exactly (verifyRows root k x) r
+unfolding verified
+verify-exactly {root} {k} {x} {r = r} h w =
+    exactly (verifyRows root k x) r refl
+    (subst (First (verifyRows root k x)) (sym (w .answer)) (sizes (eqb (length root) 32) (eqb (length k) 32) refl refl))
+  where
+    form : (o : Option Proof) → proofIn x ≡ o → First (holdingRows root k x) (numberOf (judged root k o))
+    form none e = inl (off-form x h e, refl)
+    form (some p) e = form-first x h root k p e
+
+    sizes : (a b : Bool) → eqb (length root) 32 ≡ a → eqb (length k) 32 ≡ b →
+        First (verifyRows root k x) (numberOf (cond (a && b) (judged root k (proofIn x)) (refused 12)))
+    sizes false b e f = inl (λ z. eqb-false (length root) 32 e (z .0), refl)
+    sizes true false e f = inl (λ z. eqb-false (length k) 32 f (z .1 .0), refl)
+    sizes true true e f = inr (λ n. n (eqb-true (length root) 32 e, (eqb-true (length k) 32 f, tt)), form (proofIn x) refl)
+
+-- A hash is never refused.
+pub sha256-exactly : {x g : Bytes} {r : ℕ} → Hashes x r g → Exactly sha256Rows r
+sha256-exactly {r = r} w = exactly sha256Rows r refl (w .answer)

@@ -1,0 +1,48 @@
+-- Document 01, 'Numbers of refusal': the table of each public call. 'Order: 12; then 1, 2; apply 3, 4, 5, 6, 7; prune 3, 8; reads 8, 3, 9;
+-- the proof check 10, 11. Format gives only 1.' By 2026-03 proving tests for 14 after 8. Assumes nothing.
+use Prim.Native.Nat.{ℕ}
+use mathlib.Core.List.{[], _∷_, _++_}
+use Rattle.terms.specs.Bits.{Bytes}
+use Rattle.refusals.specs.Exactly.{Table}
+use Rattle.refusals.specs.Rows.{WrongLength, NotSound, Not32}
+use Rattle.refusals.specs.Orders.{headerRows, batchRows, versionRows, keyRows, proofRows, holdingRows}
+
+-- 1, 2; then 3 by full soundness.
+abbrev pub soundRows : Bytes → Table
+soundRows s = headerRows s ++ (3, NotSound s) ∷ []
+
+-- Format: 1.
+abbrev pub formatRows : Bytes → Table
+formatRows s = (1, WrongLength s) ∷ []
+
+-- Check: 1, 2, 3.
+abbrev pub checkRows : Bytes → Table
+checkRows s = soundRows s
+
+-- Apply: 1, 2, 3; then 4, 5, 6, 7.
+abbrev pub applyRows : Bytes → Bytes → Table
+applyRows batch s = soundRows s ++ batchRows batch s
+
+-- Prune: 1, 2, 3; then 8.
+abbrev pub pruneRows : ℕ → Bytes → Table
+pruneRows n s = soundRows s ++ versionRows s n
+
+-- A root read: 1, 2, 8.
+abbrev pub rootRows : Bytes → ℕ → Table
+rootRows s v = headerRows s ++ versionRows s v
+
+-- A key read: 12; then 1, 2; then 8, 3.
+abbrev pub getRows : Bytes → ℕ → Bytes → Table
+getRows s v k = (12, Not32 (k ∷ [])) ∷ headerRows s ++ keyRows s v k
+
+-- Proving: 12; then 1, 2; then 8, 3, 9.
+abbrev pub proveRows : Bytes → ℕ → Bytes → Bytes → Table
+proveRows s v k room = (12, Not32 (k ∷ [])) ∷ headerRows s ++ proofRows s v k room
+
+-- The proof check: 12; then 10, 11.
+abbrev pub verifyRows : Bytes → Bytes → Bytes → Table
+verifyRows root k x = (12, Not32 (root ∷ k ∷ [])) ∷ holdingRows root k x
+
+-- A hash is never refused.
+abbrev pub sha256Rows : Table
+sha256Rows = []

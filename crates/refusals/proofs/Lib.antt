@@ -1,0 +1,5 @@
+pub mod Exactly
+pub mod Headers
+pub mod Batches
+pub mod Walks
+pub mod Proofs

@@ -1,0 +1,23 @@
+-- What it is for a call to answer exactly by a table of refusals. Assumes nothing.
+use Prim.Native.Nat.{ℕ}
+use mathlib.Core.Path.{_≡_}
+use mathlib.Core.Logic.{_↔_, _⊎_}
+use mathlib.Core.List.{List, [], _∷_}
+
+-- A table: numbers of refusal, each with what deserves it, in the order of the checks.
+abbrev pub Table : Type 1
+Table = List (ℕ × Type 0)
+
+-- The answer is 0 or a number of the table.
+abbrev pub Listed : Table → ℕ → Type 0
+Listed [] r = r ≡ 0
+Listed (row ∷ rows) r = (r ≡ row .0) ⊎ Listed rows r
+
+-- It is n exactly if row n holds and no row before it does, and 0 exactly if none does; `none` says that no row so far does.
+abbrev pub EachAfter : Type 0 → Table → ℕ → Type 0
+EachAfter none [] r = (r ≡ 0) ↔ none
+EachAfter none (row ∷ rows) r = ((r ≡ row .0) ↔ (none × row .1)) × EachAfter (none × (row .1 → ⊥)) rows r
+
+pub record Exactly (rows : Table) (r : ℕ) : Type 0 where
+  pub listed : Listed rows r
+  pub each : EachAfter (Unit {0}) rows r

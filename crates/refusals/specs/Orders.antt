@@ -1,0 +1,31 @@
+-- Document 01, 'Numbers of refusal', and 14 of 2026-03: rows in the order in which they are tested, as far as the calls share them or the definitions of
+-- `meaning` test them. Assumes nothing.
+use Prim.Native.Nat.{ℕ}
+use mathlib.Core.List.{[], _∷_}
+use Rattle.terms.specs.Bits.{Bytes}
+use Rattle.refusals.specs.Exactly.{Table}
+use Rattle.refusals.specs.Rows.{WrongLength, WrongHeader, LostToGet, LostToProve, BatchOffForm, NotAscending, NoVersionLeft, TooFewFree, NotKept, TooLong, ProofOffForm, DoesNotHold, EmptyVersion}
+
+-- 1, 2.
+abbrev pub headerRows : Bytes → Table
+headerRows s = (1, WrongLength s) ∷ (2, WrongHeader s) ∷ []
+
+-- Apply's own: 4, 5, 6, 7.
+abbrev pub batchRows : Bytes → Bytes → Table
+batchRows batch s = (4, BatchOffForm batch) ∷ (5, NotAscending batch) ∷ (6, NoVersionLeft s) ∷ (7, TooFewFree batch s) ∷ []
+
+-- 8, of prune and of the reads.
+abbrev pub versionRows : Bytes → ℕ → Table
+versionRows s v = (8, NotKept s v) ∷ []
+
+-- A key read's own: 8, 3.
+abbrev pub keyRows : Bytes → ℕ → Bytes → Table
+keyRows s v k = (8, NotKept s v) ∷ (3, LostToGet s v k) ∷ []
+
+-- Proving's own: 8, 14, 3, 9.
+abbrev pub proofRows : Bytes → ℕ → Bytes → Bytes → Table
+proofRows s v k room = (8, NotKept s v) ∷ (14, EmptyVersion s v) ∷ (3, LostToProve s v k) ∷ (9, TooLong s v k room) ∷ []
+
+-- The proof check's own: 10, 11.
+abbrev pub holdingRows : Bytes → Bytes → Bytes → Table
+holdingRows root k x = (10, ProofOffForm x) ∷ (11, DoesNotHold root k x) ∷ []

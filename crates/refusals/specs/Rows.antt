@@ -1,0 +1,109 @@
+-- Document 01, 'Numbers of refusal', and 14 of 2026-03: the rows, each a proposition in its words. Assumes nothing.
+use Prim.Native.Nat.{ℕ, _+_, _*_, _≤_, _<_}
+use mathlib.Core.Path.{_≡_}
+use mathlib.Core.Bool.{false}
+use mathlib.Core.List.{List}
+use mathlib.Core.Option.{none}
+use lib.ListN.{length}
+use Rattle.terms.specs.Bits.{Bytes, All}
+use Rattle.terms.specs.Fields.{field, slice, zeroBytes}
+use Rattle.terms.specs.Records.{Ask, Proof}
+use Rattle.terms.specs.Form.{AskForm, top32}
+use Rattle.meaning.specs.Tree.{nextTree}
+use Rattle.meaning.specs.Store.{rootOf, treeAtVersion, freeSlots, newRecords}
+use Rattle.meaning.specs.Sound.{Kept, Sound}
+use Rattle.meaning.specs.Calls.{accepted, ascending}
+use Rattle.meaning.specs.Reading.{Verdict}
+use Rattle.meaning.specs.Proving.{proof, proofLength}
+use Rattle.checker.specs.Holding.{Holds}
+use Rattle.ways.specs.Ways.{KeyLost, ProofLost}
+use Rattle.nodehash.specs.Node.{leafHash, innerHash}
+use Rattle.proofrecords.specs.ProofBytes.{proofBytes, ProofForm}
+use Rattle.layout.specs.Sizes.{headerSize, headerKind, mostSlots, kindAt, capacityAt, oldestAt, latestAt, slotSize}
+use Rattle.layout.specs.Stores.{storeOf}
+use Rattle.batch.specs.Sizes.{mostRecords}
+use Rattle.batch.specs.Batch.{asks, asksBytes}
+
+-- 1: the store's length isn't 24 + 120n, n in 1 to 16,384.
+abbrev pub WrongLength : Bytes → Type 0
+WrongLength s = (n : ℕ) → 1 ≤ n → n ≤ mostSlots → length s ≡ headerSize + slotSize * n → ⊥
+
+-- 2: a header field isn't as 'Bytes' says, its capacity isn't n, or oldest is above latest.
+pub record RightHeader (s : Bytes) : Type 0 where
+  pub says-24 : field 0 4 s ≡ headerSize
+  pub kind : field kindAt 2 s ≡ headerKind
+  pub two-zero : slice 6 2 s ≡ zeroBytes 2
+  pub capacity : length s ≡ headerSize + slotSize * field capacityAt 4 s
+  pub ordered : field oldestAt 4 s ≤ field latestAt 4 s
+  pub four-zero : slice 20 4 s ≡ zeroBytes 4
+
+abbrev pub WrongHeader : Bytes → Type 0
+WrongHeader s = RightHeader s → ⊥
+
+-- 3 of check, apply and prune: not sound.
+abbrev pub NotSound : Bytes → Type 0
+NotSound s = Sound leafHash innerHash (storeOf s) → ⊥
+
+-- 3 of the reads: the walk says so, in proving also the descent to a neighbour.
+abbrev pub LostToGet : Bytes → ℕ → Bytes → Type 0
+LostToGet s v k = KeyLost (storeOf s) v k
+
+abbrev pub LostToProve : Bytes → ℕ → Bytes → Type 0
+LostToProve s v k = ProofLost (storeOf s) v k
+
+-- The bytes of a batch are whole records in form, at most 1,024, and ask for this.
+pub record AskedBy (batch : Bytes) (as′ : List Ask) : Type 0 where
+  pub bytes : batch ≡ asksBytes as′
+  pub form : All AskForm as′
+  pub few : length as′ ≤ mostRecords
+
+-- 4: the batch isn't whole records in form, or has over 1,024.
+abbrev pub BatchOffForm : Bytes → Type 0
+BatchOffForm batch = (as′ : List Ask) → AskedBy batch as′ → ⊥
+
+-- 5: keys not strictly ascending, those of the whole records, in form or not.
+abbrev pub NotAscending : Bytes → Type 0
+NotAscending batch = ascending (asks batch) ≡ false
+
+-- 6: latest is 4,294,967,295.
+abbrev pub NoVersionLeft : Bytes → Type 0
+NoVersionLeft s = storeOf s .latest ≡ top32
+
+-- How many new records a batch makes of the latest tree.
+unfoldable pub newCount : Bytes → List Ask → ℕ
+newCount s as′ =
+    let st = storeOf s in
+    let new = st .latest + 1 in length (newRecords leafHash innerHash new (nextTree new (treeAtVersion st (st .latest)) as′))
+
+-- 7: fewer free slots than new records.
+abbrev pub TooFewFree : Bytes → Bytes → Type 0
+TooFewFree batch s = (as′ : List Ask) × AskedBy batch as′ × (freeSlots (storeOf s .slots) < newCount s as′)
+
+-- 8: the version isn't in oldest to latest.
+abbrev pub NotKept : Bytes → ℕ → Type 0
+NotKept s v = Kept (storeOf s) v → ⊥
+
+-- 9: the proof is longer than the buffer.
+abbrev pub TooLong : Bytes → ℕ → Bytes → Bytes → Type 0
+TooLong s v k room = (p : Proof) × (proof (storeOf s) v k ≡ accepted p) × (length room < proofLength p)
+
+-- The bytes are one whole proof in form, no byte over.
+pub record ProofIs (x : Bytes) (p : Proof) : Type 0 where
+  pub bytes : x ≡ proofBytes p
+  pub form : ProofForm p
+
+-- 10: the proof isn't one whole record in form, no byte over.
+abbrev pub ProofOffForm : Bytes → Type 0
+ProofOffForm x = (p : Proof) → ProofIs x p → ⊥
+
+-- 11: in form, but doesn't hold.
+abbrev pub DoesNotHold : Bytes → Bytes → Bytes → Type 0
+DoesNotHold root k x = (p : Proof) × ProofIs x p × ((answer : Verdict) → Holds leafHash innerHash root k p answer → ⊥)
+
+-- 12: a key or root handed in isn't 32 bytes.
+abbrev pub Not32 : List Bytes → Type 0
+Not32 handed = All (λ x. length x ≡ 32) handed → ⊥
+
+-- 14: proving in an empty version, one whose root is not found (2026-03).
+abbrev pub EmptyVersion : Bytes → ℕ → Type 0
+EmptyVersion s v = rootOf (storeOf s) v ≡ none

@@ -1,0 +1,36 @@
+-- The neighbours of a proof in form as the code checks them: one test after the other, each of them the definition's.
+-- Assumes nothing.
+use Prim.Native.Nat.{ℕ}
+use mathlib.Core.Path.{_≡_}
+use lib.ListN.{drop}
+use Rattle.terms.specs.Bits.{Bytes, left, right, sameBytes}
+use Rattle.terms.specs.Fields.{field}
+use Rattle.meaning.specs.Checking.{leadsTo}
+use Rattle.proofrecords.specs.ProofBytes.{firstSteps, stepCount, presenceIn, leftPart, rightPart, flags, absenceIn}
+use Rattle.verify_path.specs.Paths.{topAfter}
+use Rattle.verify_neighbours.specs.Neighbours.{leads, loneNeighbour, bothNeighbours, neighbours}
+
+-- the steps of the count in the head are all steps
+pub all-steps : (n : ℕ) (x : Bytes) → n ≡ field 6 2 x → firstSteps n x ≡ presenceIn x .steps
+unfolding presenceIn stepCount
+all-steps n x e = rw e
+
+-- the hash that n steps lead to is compared with the root
+pub top-leads : (n : ℕ) (h root x : Bytes) → n ≡ field 6 2 x → h ≡ topAfter n x →
+    sameBytes h root ≡ leads root x
+unfolding leadsTo presenceIn
+top-leads n h root x e d = rw (d, all-steps n x e)
+
+module _ (root k x : Bytes) where
+  -- the neighbours by the flags
+  pub left-shown : flags x ≡ 1 → neighbours root k x ≡ loneNeighbour left root k (drop 40 x)
+  unfolding absenceIn
+  left-shown f = rw f
+
+  pub right-shown : flags x ≡ 2 → neighbours root k x ≡ loneNeighbour right root k (drop 40 x)
+  unfolding absenceIn
+  right-shown f = rw f
+
+  pub both-shown : flags x ≡ 3 → neighbours root k x ≡ bothNeighbours root k (leftPart x) (rightPart x)
+  unfolding absenceIn
+  both-shown f = rw f

@@ -1,0 +1,179 @@
+//! What the words of a command stand for: its store, a key by digits or by name, a version by number or by day.
+
+use crate::args::{number, Args};
+use crate::book::{self, Book, Said};
+use crate::fail::Fail;
+use crate::files::{self, STORE_LIMIT};
+use crate::plain::{counted, quoted, shown, words, Word};
+use grants::{from_hex, to_hex, Error, HexError, Key, Store};
+use std::collections::BTreeMap;
+use std::io::Write;
+use std::path::Path;
+
+pub type Bytes = Store<Vec<u8>>;
+
+/// What an editor does without a proof.
+const EMPTY_ADVICE: &str = "The version's root is 32 zero bytes: signed, it is itself the proof that nothing is granted.";
+
+pub const LENGTH_ADVICE: &str = "Write it as 64 hex digits.";
+
+pub fn read_store(path: &Path) -> Result<Bytes, Fail> {
+    files::read(path, STORE_LIMIT).map(Store::over)
+}
+
+/// What to do about a refusal of a call over this store.
+pub fn refused(store: &Bytes, path: &Path) -> impl Fn(Error) -> Fail {
+    let name = shown(path);
+    let length = store.as_bytes().len();
+    let header = store.header().ok();
+    move |error| {
+        let advice = match error {
+            Error::Size => format!("{name} has {}: is it the right file, and whole?", bytes(length)),
+            Error::Header => format!("{name} is no grant store, or its first 24 bytes are damaged: take another copy."),
+            Error::Unsound => format!("{name} is damaged: take another copy. Nothing was changed."),
+            Error::LastVersion => format!("No version can follow: format a new store and publish its grants there (grants export, grants import). {name} is as it was."),
+            Error::NoRoom => format!("Prune versions that no one asks for any more (grants prune), or give the store more slots (grants grow). {name} is as it was."),
+            Error::VersionNotKept => match header {
+                Some(h) => format!("{name} keeps versions {} to {}.", h.oldest, h.latest),
+                None => String::new(),
+            },
+            Error::NotThirtyTwoBytes => LENGTH_ADVICE.to_string(),
+            Error::EmptyVersion => EMPTY_ADVICE.to_string(),
+            _ => String::new(),
+        };
+        Fail::Refused(error, advice)
+    }
+}
+
+fn bytes(length: usize) -> String {
+    match length as u64 {
+        STORE_LIMIT => format!("more than {} bytes", STORE_LIMIT - 1),
+        length => format!("{length} bytes"),
+    }
+}
+
+/// The bytes of a key or root, however many they are: the library judges that.
+pub fn hex(what: &str, text: &str) -> Result<Vec<u8>, Fail> {
+    from_hex(text).map_err(|e| match e {
+        HexError::Digit(_) => Fail::Usage(format!("the {what} is wrong: {e}")),
+        HexError::Count { digits, .. } => Fail::Refused(
+            Error::NotThirtyTwoBytes,
+            format!(
+                "The {what} has {}. {LENGTH_ADVICE}",
+                counted(digits, "hex digit")
+            ),
+        ),
+    })
+}
+
+/// A key: 64 hex digits, a name that the book has, or a name in double quotes, which need not be in the book. So a slip in a digit is never
+/// taken for a name.
+pub fn key(args: &Args, i: usize, store: Option<&Path>) -> Result<Vec<u8>, Fail> {
+    let text = args.text(i);
+    if text.starts_with('"') {
+        return match words(&text).as_deref() {
+            Ok([Word::Quoted(name)]) => by_name(&Book::of(args, store)?, name),
+            _ => Err(Fail::Usage(
+                "the key is wrong: a name stands between two double quotes".to_string(),
+            )),
+        };
+    }
+    if let Ok(key) = text.parse::<Key>() {
+        return Ok(key.as_bytes().to_vec());
+    }
+    let book = Book::of(args, store)?;
+    if book.knows(&text) {
+        return by_name(&book, &text);
+    }
+    hex("key", &text).map_err(|fail| match fail {
+        Fail::Usage(wrong) => Fail::Usage(format!(
+            "{wrong}, and {} has no name {}; a name between double quotes stands for its SHA-256",
+            book.shown(),
+            quoted(&text)
+        )),
+        fail => fail,
+    })
+}
+
+/// What a name stands for; where that is the book's word alone, it is said.
+fn by_name(book: &Book, name: &str) -> Result<Vec<u8>, Fail> {
+    let key = book.meaning(name)?;
+    if key != grants::sha256(name.as_bytes()) {
+        note(book, &format!("{} is {}", quoted(name), to_hex(&key)));
+    }
+    Ok(key.to_vec())
+}
+
+/// Says beside the answer what it takes from the book.
+fn note(book: &Book, what: &str) {
+    // Where this can't be written the answer stands all the same.
+    let _ = writeln!(std::io::stderr(), "grants: by {}, {what}", book.shown());
+}
+
+/// The version that is asked for, else the latest; 0 where the header is wrong, which the call that follows will say.
+pub fn version(args: &Args, i: usize, store: &Bytes, path: &Path) -> Result<u32, Fail> {
+    match (args.word(i), args.said("--at")?) {
+        (Some(_), Some(_)) => Err(Fail::Usage(
+            "VERSION and --at both say which version: name one of them".to_string(),
+        )),
+        (Some(word), None) => number("VERSION", word),
+        (None, Some(day)) => on_day(args, store, path, &day),
+        (None, None) => Ok(store.header().map_or(0, |header| header.latest)),
+    }
+}
+
+/// The version that was the latest at the end of a day, by the book's dates of versions whose roots the library confirms.
+fn on_day(args: &Args, store: &Bytes, path: &Path, day: &str) -> Result<u32, Fail> {
+    let (_, end) = book::date("--at", day)?;
+    let book = Book::of(args, Some(path))?;
+    let refused = refused(store, path);
+    let header = store.header().map_err(&refused)?;
+    let mut dated: BTreeMap<u32, i64> = BTreeMap::new();
+    for version in book.versions() {
+        if version >= header.oldest.max(1) && version <= header.latest {
+            let root = store.root(version).map_err(&refused)?;
+            if let Said::This(entry) = book.said(version, root) {
+                dated.insert(version, entry.time);
+            }
+        }
+    }
+    let by_then = dated.iter().rev().find(|(_, time)| **time <= end);
+    let found = by_then.map(|(version, _)| *version);
+    let cannot = |why: String| {
+        Fail::Book(format!(
+            "cannot tell which version was the latest on {day}: {why}"
+        ))
+    };
+    if dated
+        .range(..found.unwrap_or(0))
+        .any(|(_, time)| *time > end)
+    {
+        return Err(cannot(format!(
+            "the dates in {} don't ascend",
+            book.shown()
+        )));
+    }
+    if found.is_none() && header.oldest > 0 {
+        return Err(cannot(match dated.first_key_value() {
+            Some((first, _)) if *first == header.oldest => format!(
+                "it was older than version {}, the oldest that {} keeps",
+                header.oldest,
+                shown(path)
+            ),
+            _ => no_date(&book, header.oldest),
+        }));
+    }
+    let version = found.unwrap_or(0);
+    if version < header.latest && !dated.contains_key(&(version + 1)) {
+        return Err(cannot(no_date(&book, version + 1)));
+    }
+    note(&book, &format!("version {version} was the latest on {day}"));
+    Ok(version)
+}
+
+fn no_date(book: &Book, version: u32) -> String {
+    format!(
+        "{} has no date for version {version} that agrees with its root",
+        book.shown()
+    )
+}

@@ -1,0 +1,132 @@
+//! The same versions in a store of another capacity: each is published again under its own number, and its root compared.
+
+use crate::args::{number, Args};
+use crate::asked::{refused, Bytes};
+use crate::commands::{object, writable};
+use crate::fail::Fail;
+use crate::files::Locked;
+use crate::held;
+use crate::out::Out;
+use crate::plain::{counted, shown};
+use grants::{Batch, Error, Store};
+
+/// Each number up to the latest takes a publishing: more would take too long.
+const MOST_VERSIONS: u32 = 100_000;
+
+pub fn grow(args: &Args, out: &mut Out) -> Result<u8, Fail> {
+    let path = writable(args)?;
+    let capacity = number("CAPACITY", args.word(1).unwrap_or_default())?;
+    let mut locked = Locked::take(args, path)?;
+    let store = Store::over(locked.read()?);
+    let name = shown(path);
+    let header = store.header().map_err(refused(&store, path))?;
+    let larger = Store::with_capacity(capacity).map_err(|e| {
+        Fail::Refused(
+            e,
+            format!("{capacity} slots were asked for: a store has 1 to 16,384."),
+        )
+    })?;
+    let again = republished(&store, larger).map_err(|why| match why {
+        Cannot::Refused(e @ (Error::Size | Error::Header | Error::Unsound)) => refused(&store, path)(e),
+        Cannot::Refused(e) => Fail::Refused(e, format!(
+            "{capacity} slots are too few for versions {} to {} of {name}, which is as it was.",
+            header.oldest, header.latest
+        )),
+        Cannot::Because(why) => Fail::Book(format!(
+            "{why}: {name} is as it was. `grants export` and `grants import` bring the grants of one version into a larger store, under a number of its own."
+        )),
+    })?;
+    locked.replace(again.as_bytes())?;
+    out.changed = true;
+    let slots = again.slots().map_err(refused(&again, path))?;
+    let free = slots.iter().filter(|slot| slot.is_none()).count();
+    out.answer(
+        0,
+        object(vec![
+            ("capacity", capacity.into()),
+            ("free", free.into()),
+            ("oldest", header.oldest.into()),
+            ("latest", header.latest.into()),
+        ]),
+        format_args!(
+            "{name}: {}, {free} free; versions {} to {} with their roots as they were",
+            counted(capacity as usize, "slot"),
+            header.oldest,
+            header.latest
+        ),
+    )
+}
+
+enum Cannot {
+    Refused(Error),
+    Because(String),
+}
+
+impl From<Error> for Cannot {
+    fn from(error: Error) -> Cannot {
+        Cannot::Refused(error)
+    }
+}
+
+/// A fresh store with the kept versions of another one.
+fn republished(store: &Bytes, mut fresh: Bytes) -> Result<Bytes, Cannot> {
+    let slots = store.slots()?;
+    let header = store.header()?;
+    if header.latest > MOST_VERSIONS {
+        return Err(Cannot::Because(format!(
+            "its latest version is {}, and each number up to that would take a publishing",
+            header.latest
+        )));
+    }
+    // The oldest version in parts, the last of them under its own number; before them, versions that hold nothing.
+    let mut oldest = Batch::new();
+    for (key, value) in held::grants(store, &slots, header.oldest)? {
+        let _ = oldest.insert(key, value);
+    }
+    if header.oldest > 0 {
+        let parts = oldest.split();
+        if parts.len() as u32 > header.oldest {
+            return Err(Cannot::Because(format!(
+                "version {} holds more than that many batches can make",
+                header.oldest
+            )));
+        }
+        for _ in parts.len() as u32..header.oldest {
+            fresh.apply(&Batch::new())?;
+        }
+        for part in &parts {
+            fresh.apply(part)?;
+        }
+        fresh.prune(header.oldest)?;
+    }
+    same_root(store, &fresh, header.oldest)?;
+    let touched = held::touched(&slots);
+    for version in header.oldest..header.latest {
+        let version = version + 1;
+        let mut batch = Batch::new();
+        for (key, _, after) in held::changes(store, &touched, version)? {
+            let _ = match after {
+                Some(value) => batch.insert(key, value),
+                None => batch.delete(key),
+            };
+        }
+        fresh.apply(&batch).map_err(|e| match e {
+            Error::BatchForm => {
+                Cannot::Because(format!("version {version} changed more than one batch can"))
+            }
+            e => Cannot::Refused(e),
+        })?;
+        same_root(store, &fresh, version)?;
+    }
+    fresh.check()?;
+    Ok(fresh)
+}
+
+fn same_root(store: &Bytes, fresh: &Bytes, version: u32) -> Result<(), Cannot> {
+    if store.root(version)? == fresh.root(version)? {
+        return Ok(());
+    }
+    Err(Cannot::Because(format!(
+        "version {version} would get another root"
+    )))
+}

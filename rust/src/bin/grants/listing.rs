@@ -1,0 +1,489 @@
+//! What the versions hold and when it came: log, list, export, history. The store is checked first.
+
+use crate::args::{number, Args};
+use crate::asked::{key, read_store, refused, version, Bytes};
+use crate::book::{Book, Said};
+use crate::commands::{object, ABSENT};
+use crate::dates;
+use crate::fail::Fail;
+use crate::held;
+use crate::json::Json;
+use crate::out::Out;
+use crate::plain::{counted, escaped, quoted, shown};
+use grants::{to_hex, Error, Header, Key, Record, Root, Value};
+use std::collections::{BTreeMap, BTreeSet};
+use std::fmt::Write as _;
+
+/// How many grants and records stand in a version, and how many records it made.
+#[derive(Clone, Copy, Default)]
+struct Counts {
+    grants: i64,
+    records: i64,
+    new: i64,
+}
+
+/// 64 hex digits, or their two ends.
+pub fn ends(bytes: &[u8], full: bool) -> String {
+    let digits = to_hex(bytes);
+    if full {
+        return digits;
+    }
+    format!("{}..{}", &digits[..8], &digits[60..])
+}
+
+/// 'mira: Spring list', or what can be said instead.
+fn remark(said: Said<'_>) -> String {
+    match said {
+        Said::Nothing => String::new(),
+        Said::Disagrees => "the book disagrees".to_string(),
+        Said::This(entry) => {
+            let parts = [entry.author.as_str(), entry.message.as_str()];
+            let parts: Vec<&str> = parts.into_iter().filter(|p| !p.is_empty()).collect();
+            escaped(&parts.join(": "))
+        }
+    }
+}
+
+fn when(said: Said<'_>) -> String {
+    match said {
+        Said::This(entry) => dates::short(entry.time),
+        _ => "-".to_string(),
+    }
+}
+
+/// The book's part of an answer in JSON.
+fn said_fields(said: Said<'_>) -> Vec<(&'static str, Json)> {
+    let entry = match said {
+        Said::This(entry) => Some(entry),
+        _ => None,
+    };
+    let book = match said {
+        Said::Nothing => Json::Null,
+        Said::This(_) => "agrees".into(),
+        Said::Disagrees => "disagrees".into(),
+    };
+    vec![
+        ("book", book),
+        ("time", entry.map(|e| dates::text(e.time)).into()),
+        ("author", entry.map(|e| e.author.clone()).into()),
+        ("message", entry.map(|e| e.message.clone()).into()),
+    ]
+}
+
+/// What is odd about the book, a line for each.
+fn oddities(book: &Book, latest: u32) -> Vec<String> {
+    let mut odd = vec![];
+    if let Some(most) = book.latest().filter(|most| *most > latest) {
+        odd.push(format!(
+            "{} speaks of version {most}: this store is older than its book",
+            book.shown()
+        ));
+    }
+    if let Some(line) = book.unread.first() {
+        odd.push(format!(
+            "{}: {} can't be read, the first is line {line}",
+            book.shown(),
+            counted(book.unread.len(), "line")
+        ));
+    }
+    odd
+}
+
+/// How many keys a version added, removed and gave another value.
+fn tally(
+    store: &Bytes,
+    touched: &BTreeMap<u32, BTreeSet<Key>>,
+    version: u32,
+) -> Result<[usize; 3], Error> {
+    let mut tally = [0; 3];
+    for change in held::changes(store, touched, version)? {
+        match change {
+            (_, None, Some(_)) => tally[0] += 1,
+            (_, Some(_), None) => tally[1] += 1,
+            _ => tally[2] += 1,
+        }
+    }
+    Ok(tally)
+}
+
+/// What comes and goes with each version from the first one asked for: a version may be one of thousands of millions, a record is one of some
+/// thousand.
+fn counts(slots: &[Option<Record>], first: u32) -> BTreeMap<u32, Counts> {
+    let mut counts: BTreeMap<u32, Counts> = BTreeMap::new();
+    for record in slots.iter().flatten() {
+        let leaf = i64::from(record.grant().is_some());
+        let made = counts.entry(record.version.max(first)).or_default();
+        made.grants += leaf;
+        made.records += 1;
+        if record.version >= first {
+            made.new += 1;
+        }
+        if let Some(since) = record.retired_since {
+            let ended = counts.entry(since.max(first)).or_default();
+            ended.grants -= leaf;
+            ended.records -= 1;
+        }
+    }
+    counts
+}
+
+/// One line of the log. What the oldest kept version changed isn't known any more.
+struct Row<'a> {
+    version: u32,
+    counts: Counts,
+    changed: Option<[usize; 3]>,
+    root: Root,
+    said: Said<'a>,
+}
+
+impl Row<'_> {
+    fn json(&self) -> Json {
+        let changed = |i: usize| self.changed.map(|c| c[i]).into();
+        let mut fields: Vec<(&'static str, Json)> = vec![
+            ("version", self.version.into()),
+            ("grants", (self.counts.grants as usize).into()),
+            ("added", changed(0)),
+            ("removed", changed(1)),
+            ("changed", changed(2)),
+            ("records", (self.counts.records as usize).into()),
+            ("new", (self.counts.new as usize).into()),
+            ("root", self.root.to_string().into()),
+        ];
+        fields.extend(said_fields(self.said));
+        object(fields)
+    }
+
+    fn line(&self, full: bool) -> String {
+        let changed = |i: usize| self.changed.map_or("-".to_string(), |c| c[i].to_string());
+        let columns = [
+            self.version.to_string(),
+            when(self.said),
+            self.counts.grants.to_string(),
+            changed(0),
+            changed(1),
+            changed(2),
+            self.counts.records.to_string(),
+            self.counts.new.to_string(),
+            ends(self.root.as_ref(), full),
+            remark(self.said),
+        ];
+        in_columns(columns.each_ref().map(String::as_str), full)
+    }
+}
+
+/// A line of the log, with nothing after its last word.
+fn in_columns(words: [&str; 10], full: bool) -> String {
+    let [version, when, grants, added, removed, changed, records, new, root, remark] = words;
+    let width = if full { 64 } else { 14 };
+    let line = format!(
+        "{version:>10}  {when:<16}  {grants:>6}  {added:>5}  {removed:>7}  {changed:>7}  {records:>7}  {new:>5}  {root:<width$}  {remark}"
+    );
+    line.trim_end().to_string()
+}
+
+const HEADS: [&str; 10] = [
+    "version",
+    "published",
+    "grants",
+    "added",
+    "removed",
+    "changed",
+    "records",
+    "new",
+    "root",
+    "by whom, and why",
+];
+
+/// The first version that is asked for.
+fn first(args: &Args, header: Header) -> Result<u32, Fail> {
+    let Some(word) = args.value("--last") else {
+        return Ok(header.oldest);
+    };
+    match number("N", word)? {
+        0 => Err(Fail::Usage("--last wants 1 or more".to_string())),
+        last => Ok(header.oldest.max(header.latest.saturating_sub(last - 1))),
+    }
+}
+
+pub fn log(args: &Args, out: &mut Out) -> Result<u8, Fail> {
+    let path = args.path(0);
+    let store = read_store(path)?;
+    let refused = refused(&store, path);
+    let slots = store.slots().map_err(&refused)?;
+    let header = store.header().map_err(&refused)?;
+    let book = Book::of(args, Some(path))?;
+    let first = first(args, header)?;
+    let (counts, touched) = (counts(&slots, first), held::touched(&slots));
+    let (json, full) = (out.json, args.has("--full"));
+    let mut answer = out.decided(0);
+    if json {
+        answer.line("[")?;
+    } else {
+        for odd in oddities(&book, header.latest) {
+            answer.line(format_args!("({odd})"))?;
+        }
+        let mut heads = HEADS;
+        if !book.is_there() {
+            heads[9] = "";
+        }
+        answer.line(in_columns(heads, full))?;
+    }
+    let mut now = Counts::default();
+    for version in first..=header.latest {
+        let change = counts.get(&version).copied().unwrap_or_default();
+        now.grants += change.grants;
+        now.records += change.records;
+        now.new = change.new;
+        let root = store.root(version).map_err(&refused)?;
+        let changed = match version {
+            0 => Some([0; 3]),
+            v if v > header.oldest => Some(tally(&store, &touched, v).map_err(&refused)?),
+            _ => None,
+        };
+        let row = Row {
+            version,
+            counts: now,
+            changed,
+            root,
+            said: book.said(version, root),
+        };
+        match json {
+            true if version == header.latest => answer.line(row.json())?,
+            true => answer.line(format_args!("{},", row.json()))?,
+            false => answer.line(row.line(full))?,
+        }
+    }
+    if json {
+        answer.line("]")?;
+    }
+    answer.end()
+}
+
+/// A version, its grants, and what the book says of it.
+struct Listed {
+    version: u32,
+    root: Root,
+    grants: held::Grants,
+    book: Book,
+}
+
+fn listed(args: &Args) -> Result<Listed, Fail> {
+    let path = args.path(0);
+    let store = read_store(path)?;
+    let refused = refused(&store, path);
+    let slots = store.slots().map_err(&refused)?;
+    let version = version(args, 1, &store, path)?;
+    let root = store.root(version).map_err(&refused)?;
+    let mut grants = held::grants(&store, &slots, version).map_err(&refused)?;
+    let book = Book::of(args, Some(path))?;
+    if let Some(part) = args.said("--match")? {
+        grants.retain(|key, _| match book.name(key.as_bytes()) {
+            Some(name) => name.contains(&part),
+            None => false,
+        });
+    }
+    Ok(Listed {
+        version,
+        root,
+        grants,
+        book,
+    })
+}
+
+pub fn list(args: &Args, out: &mut Out) -> Result<u8, Fail> {
+    let Listed {
+        version,
+        root,
+        grants,
+        book,
+    } = listed(args)?;
+    let said = book.said(version, root);
+    let name = |word: &[u8; 32]| book.name(word).map(str::to_string);
+    let status = if grants.is_empty() { ABSENT } else { 0 };
+    if out.json {
+        let list = grants.iter().map(|(key, value)| {
+            object(vec![
+                ("key", key.to_string().into()),
+                ("value", value.to_string().into()),
+                ("key_name", name(key.as_bytes()).into()),
+                ("value_name", name(value.as_bytes()).into()),
+            ])
+        });
+        let mut fields: Vec<(&'static str, Json)> = vec![
+            ("version", version.into()),
+            ("root", root.to_string().into()),
+            ("grants", Json::List(list.collect())),
+        ];
+        fields.extend(said_fields(said));
+        return out.answer(status, object(fields), "");
+    }
+    let mut text = String::new();
+    if args.has("--csv") {
+        text += "key,value,key_name,value_name\n";
+        for (key, value) in &grants {
+            let names =
+                [key.as_bytes(), value.as_bytes()].map(|w| csv(book.name(w).unwrap_or_default()));
+            let _ = writeln!(text, "{key},{value},{},{}", names[0], names[1]);
+        }
+    } else {
+        let full = args.has("--full");
+        let published = match said {
+            Said::This(_) => {
+                let parts = [when(said), remark(said)];
+                let parts: Vec<String> = parts.into_iter().filter(|p| !p.is_empty()).collect();
+                format!(" ({})", parts.join(", "))
+            }
+            Said::Disagrees => " (the book disagrees)".to_string(),
+            Said::Nothing => String::new(),
+        };
+        let _ = writeln!(
+            text,
+            "version {version}{published}: {}, root {root}",
+            counted(grants.len(), "grant")
+        );
+        for (key, value) in &grants {
+            let line = format!(
+                "  {} = {}  {}",
+                ends(key.as_ref(), full),
+                ends(value.as_ref(), full),
+                named(&book, key, value)
+            );
+            let _ = writeln!(text, "{}", line.trim_end());
+        }
+    }
+    let mut answer = out.decided(status);
+    answer.raw(text.as_bytes())?;
+    answer.end()
+}
+
+/// '"chords sonata" = "read"', with what is known of it.
+fn named(book: &Book, key: &Key, value: &Value) -> String {
+    let names = [book.name(key.as_bytes()), book.name(value.as_bytes())];
+    if names == [None, None] {
+        return String::new();
+    }
+    let [key, value] = names.map(|name| name.map_or("?".to_string(), quoted));
+    format!("{key} = {value}")
+}
+
+fn csv(text: &str) -> String {
+    let text = escaped(text);
+    if text.contains([',', '"']) {
+        return format!("\"{}\"", text.replace('"', "\"\""));
+    }
+    text
+}
+
+/// A batch as text, which publishes these grants elsewhere: names in quotes where they give the same bytes there, without this book.
+pub fn export(args: &Args, out: &mut Out) -> Result<u8, Fail> {
+    let Listed {
+        version,
+        root,
+        grants,
+        book,
+    } = listed(args)?;
+    let mut text = format!(
+        "# version {version} of {}: {}, root {root}\n",
+        shown(args.path(0)),
+        counted(grants.len(), "grant")
+    );
+    let word = |word: &[u8; 32]| match book.name(word) {
+        Some(name) if grants::sha256(name.as_bytes()) == *word => quoted(name),
+        _ => to_hex(word),
+    };
+    for (key, value) in &grants {
+        let given = [key.as_bytes(), value.as_bytes()].map(|w| {
+            let name = book
+                .name(w)
+                .filter(|name| grants::sha256(name.as_bytes()) != *w);
+            name.map(quoted)
+        });
+        let given: Vec<String> = given.into_iter().flatten().collect();
+        let line = format!(
+            "+ {} {}  # {}",
+            word(key.as_bytes()),
+            word(value.as_bytes()),
+            given.join(" ")
+        );
+        let _ = writeln!(text, "{}", line.trim_end_matches([' ', '#']));
+    }
+    if out.json {
+        return out.answer(
+            0,
+            object(vec![
+                ("version", version.into()),
+                ("root", root.to_string().into()),
+                ("batch", text.into()),
+            ]),
+            "",
+        );
+    }
+    let mut answer = out.decided(0);
+    answer.raw(text.as_bytes())?;
+    answer.end()
+}
+
+/// Every kept version in which a key's value is another than before.
+pub fn history(args: &Args, out: &mut Out) -> Result<u8, Fail> {
+    let path = args.path(0);
+    let key = key(args, 1, Some(path))?;
+    let store = read_store(path)?;
+    let refused = refused(&store, path);
+    let slots = store.slots().map_err(&refused)?;
+    let header = store.header().map_err(&refused)?;
+    let book = Book::of(args, Some(path))?;
+    let mut versions = BTreeSet::from([header.oldest]);
+    for (version, keys) in held::touched(&slots) {
+        if version > header.oldest && keys.iter().any(|k| k.as_bytes()[..] == key[..]) {
+            versions.insert(version);
+        }
+    }
+    let mut rows = vec![];
+    let mut before = None;
+    for version in versions {
+        let value = store.get(version, &key).map_err(&refused)?;
+        if before != Some(value) {
+            let root = store.root(version).map_err(&refused)?;
+            rows.push((version, value, book.said(version, root)));
+        }
+        before = Some(value);
+    }
+    let status = if rows.iter().any(|(_, value, _)| value.is_some()) {
+        0
+    } else {
+        ABSENT
+    };
+    if out.json {
+        let list = rows.iter().map(|(version, value, said)| {
+            let name = value.and_then(|v| book.name(v.as_bytes()).map(str::to_string));
+            let mut fields: Vec<(&'static str, Json)> = vec![
+                ("version", (*version).into()),
+                ("value", value.map(|v| v.to_string()).into()),
+                ("value_name", name.into()),
+            ];
+            fields.extend(said_fields(*said));
+            object(fields)
+        });
+        let list = Json::List(list.collect());
+        return out.answer(status, list, "");
+    }
+    let full = args.has("--full");
+    let mut answer = out.decided(status);
+    for (version, value, said) in rows {
+        let value = match value {
+            Some(value) => {
+                let name = book.name(value.as_bytes()).map(quoted).unwrap_or_default();
+                format!("{} {name}", ends(value.as_ref(), full))
+            }
+            None => "absent".to_string(),
+        };
+        let line = format!(
+            "{version:>10}  {:<16}  {:<24}  {}",
+            when(said),
+            value.trim_end(),
+            remark(said)
+        );
+        answer.line(line.trim_end())?;
+    }
+    answer.end()
+}

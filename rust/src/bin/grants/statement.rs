@@ -1,0 +1,160 @@
+//! The root of a version, alone or as the statement that is signed (docs/SIGNING.md), and that statement read again.
+
+use crate::args::{number, Args};
+use crate::asked::{hex, read_store, refused, version};
+use crate::book::{self, Book, Said};
+use crate::commands::{both_to_output, object};
+use crate::dates;
+use crate::fail::Fail;
+use crate::files::{self, PROOF_LIMIT};
+use crate::out::Out;
+use crate::plain::shown;
+use grants::Root;
+use std::path::Path;
+
+pub fn root(args: &Args, out: &mut Out) -> Result<u8, Fail> {
+    let path = args.path(0);
+    let store = read_store(path)?;
+    let version = version(args, 1, &store, path)?;
+    let root = store.root(version).map_err(refused(&store, path))?;
+    if let Some(to) = args.value("--out").map(Path::new) {
+        return put(args, stated(args, path, version, root)?, to, out);
+    }
+    if args.has("--not-after") {
+        return Err(Fail::Usage("--not-after goes with --out FILE".to_string()));
+    }
+    let fields = vec![
+        ("version", version.into()),
+        ("root", root.to_string().into()),
+    ];
+    out.answer(0, object(fields), root)
+}
+
+/// What is to be signed of this root.
+fn stated(args: &Args, path: &Path, version: u32, root: Root) -> Result<Statement, Fail> {
+    let until = args.said("--not-after")?;
+    let until = until.map(|text| book::date("--not-after", &text));
+    let published = match Book::of(args, Some(path))?.said(version, root) {
+        Said::This(entry) => Some(entry.time),
+        _ => None,
+    };
+    Ok(Statement {
+        version,
+        root: root.to_string(),
+        published,
+        made: book::time(args)?,
+        not_after: until.transpose()?.map(|(_, last)| last),
+    })
+}
+
+fn put(args: &Args, statement: Statement, to: &Path, out: &mut Out) -> Result<u8, Fail> {
+    let text = statement.text();
+    if to.as_os_str() == "-" {
+        if out.json {
+            return Err(both_to_output());
+        }
+        let mut answer = out.decided(0);
+        answer.raw(text.as_bytes())?;
+        return answer.end();
+    }
+    files::write(args, to, text.as_bytes(), &[args.path(0)])?;
+    let version = statement.version;
+    out.answer(
+        0,
+        object(vec![
+            ("version", version.into()),
+            ("root", statement.root.into()),
+            ("not_after", statement.not_after.map(dates::text).into()),
+        ]),
+        format_args!("{}: the root of version {version}, to be signed", shown(to)),
+    )
+}
+
+/// A root with its version and dates, as it is signed (docs/SIGNING.md).
+struct Statement {
+    version: u32,
+    root: String,
+    published: Option<i64>,
+    made: i64,
+    not_after: Option<i64>,
+}
+
+const STATEMENT: &str = "the root of a grant store";
+
+impl Statement {
+    fn text(&self) -> String {
+        let mut text = format!(
+            "{STATEMENT}\nversion {}\nroot {}\n",
+            self.version, self.root
+        );
+        if let Some(time) = self.published {
+            text += &format!("published {}\n", dates::text(time));
+        }
+        text += &format!("made {}\n", dates::text(self.made));
+        if let Some(time) = self.not_after {
+            text += &format!("not-after {}\n", dates::text(time));
+        }
+        text
+    }
+
+    /// The very lines that `text` writes, and no others.
+    fn read(text: &str) -> Option<Statement> {
+        let mut lines = text.lines().peekable();
+        let mut field = |name: &str| {
+            let line = lines.next_if(|line| line.split(' ').next() == Some(name));
+            line.and_then(|line| line.split_once(' '))
+                .map(|(_, rest)| rest.to_string())
+        };
+        let time = |text: String| dates::parse(&text).map(|(time, _)| time);
+        field("the").filter(|rest| STATEMENT.strip_prefix("the ") == Some(rest))?;
+        let statement = Statement {
+            version: field("version")?.parse().ok()?,
+            root: field("root")?,
+            published: field("published").and_then(time),
+            made: field("made").and_then(time)?,
+            not_after: field("not-after").and_then(time),
+        };
+        (statement.text() == text).then_some(statement)
+    }
+}
+
+/// The root to verify against: hex digits, or a file that `root --out` wrote, whose date has not passed and whose version is not too old.
+pub fn known_root(args: &Args) -> Result<Vec<u8>, Fail> {
+    let path = args.path(0);
+    match hex("root", &args.text(0)) {
+        Err(Fail::Usage(_)) if path.is_file() => {}
+        _ if args.has("--least") => {
+            return Err(Fail::Usage(
+                "--least goes with a ROOT that is a file, which has its version".to_string(),
+            ));
+        }
+        digits => return digits,
+    }
+    let bytes = files::read(path, PROOF_LIMIT)?;
+    let statement = std::str::from_utf8(&bytes).ok().and_then(Statement::read);
+    let statement = statement.ok_or_else(|| {
+        Fail::Usage(format!(
+            "the root is wrong: {} is neither 64 hex digits nor a file that `grants root --out` wrote",
+            shown(path)
+        ))
+    })?;
+    let least = args.value("--least").map(|word| number("VERSION", word));
+    if let Some(least) = least
+        .transpose()?
+        .filter(|least| statement.version < *least)
+    {
+        return Err(Fail::Book(format!(
+            "the root in {} is that of version {}, older than {least}: get the latest",
+            shown(path),
+            statement.version
+        )));
+    }
+    match statement.not_after {
+        Some(last) if dates::now() > last => Err(Fail::Book(format!(
+            "the root in {} is past its date, {}: get one that was signed since",
+            shown(path),
+            dates::text(last)
+        ))),
+        _ => hex("root", &statement.root),
+    }
+}
