@@ -1,103 +1,129 @@
 // What ends at the children of an inner node, document 01, 'Retirement', and what is left above them.
+use apply_guess::find_near;
 use apply_outcome::Change;
 use apply_place::Node;
-use apply_place::mark_node;
 use hash::Hash;
+use lookup::Found;
 use place::Place;
+use store::put_retired_at;
 ghost use mathlib.Core.Path.{_≡_};
-ghost use mathlib.Core.List.{_++_};
-ghost use Rattle.place.specs.Place.{placeOf, Proper};
-ghost use Rattle.layout.specs.Stores.{storeOf};
+ghost use mathlib.Core.List.{[], _∷_, _++_};
+ghost use Rattle.terms.specs.Bits.{longer, left, right};
+ghost use Rattle.place.specs.Place.{placeOf};
 ghost use Rattle.steps.specs.Writing.{mark};
-ghost use Rattle.apply_place.specs.Placing.{Stored, Changed, whenWrites, Single};
-ghost use Rattle.apply_end.specs.Ending.{endsSays, leftOf, Ends};
+ghost use Rattle.apply_place.specs.Placing.{Changed, whenWrites, nodeAt};
+ghost use Rattle.apply_guess.specs.Guess.{Once};
+ghost use Rattle.apply_end.specs.Ending.{endsSays, remainsOf, Ends};
 
-// What is left above two children: nothing, a lone leaf, or more.
-pub enum Left {
+// What remains above two children: nothing, a lone leaf, or more.
+pub enum Remains {
     Nothing,
     Leaf { key: Hash, value: Hash },
     More,
 }
 
-pub fn left_of(l: Node, r: Node) -> Left
-    ensures { λ o. ⌜ o ≡ leftOf l r ⌝ }
+pub fn remains_of(l: Node, r: Node) -> Remains
+    ensures { λ o. ⌜ o ≡ remainsOf l r ⌝ }
 {
     match l {
         Node::Nothing => match r {
-            Node::Nothing => Left::Nothing,
+            Node::Nothing => Remains::Nothing,
             Node::Leaf {
                 version: _,
                 key,
                 value,
-            } => Left::Leaf { key, value },
+            } => Remains::Leaf { key, value },
             Node::Inner {
                 version: _,
                 left: _,
                 right: _,
-            } => Left::More,
+            } => Remains::More,
         },
         Node::Leaf {
             version: _,
             key,
             value,
         } => match r {
-            Node::Nothing => Left::Leaf { key, value },
+            Node::Nothing => Remains::Leaf { key, value },
             Node::Leaf {
                 version: _,
                 key: _,
                 value: _,
-            } => Left::More,
+            } => Remains::More,
             Node::Inner {
                 version: _,
                 left: _,
                 right: _,
-            } => Left::More,
+            } => Remains::More,
         },
         Node::Inner {
             version: _,
             left: _,
             right: _,
-        } => Left::More,
+        } => Remains::More,
     }
 }
 
-// Marks the child (version, place) if it was updated or deleted; version 0 is no child.
+// Marks the node (version, place) retired since a version.
+fn mark_node(
+    store: &mut [u8],
+    guesses: &[u16; 8192],
+    writes: bool,
+    version: u32,
+    place: Place,
+    since: u32,
+)
+    requires { ⌜ Once (now store) version place ⌝ }
+    ensures { λ _. ⌜ Changed (whenWrites writes (mark since (nodeAt version (placeOf place) ∷ []))) (now (store .entry)) (now (store .exit)) ⌝ }
+{
+    if !writes {
+        return;
+    }
+    let Found::At(i) = find_near(store, guesses, version, place) else {
+        return;
+    };
+    put_retired_at(store, i, since);
+}
+
+// Marks the child (version, place) unless it is unchanged; version 0 is no child.
 pub fn mark_changed(
     store: &mut [u8],
+    guesses: &[u16; 8192],
     writes: bool,
     change: Change,
     version: u32,
     place: Place,
     since: u32,
 )
-    requires { ⌜ Stored (now store) × Proper place × Single version (placeOf place) (storeOf (now store) .slots) ⌝ }
+    requires { ⌜ Once (now store) version place ⌝ }
     ensures { λ _. ⌜ Changed (whenWrites writes (mark since (endsSays change version (placeOf place)))) (now (store .entry)) (now (store .exit)) ⌝ }
 {
     if version == 0 {
         return;
     }
-    match change {
-        Change::Updated => mark_node(store, writes, version, place, since),
-        Change::Deleted => mark_node(store, writes, version, place, since),
-        Change::Unchanged => {}
-    }
+    let Change::Unchanged = change else {
+        mark_node(store, guesses, writes, version, place, since);
+        return;
+    };
 }
 
-// Marks both children, the left one first.
+// Marks both children of the node at a place, the left one first.
 pub fn mark_children(
     store: &mut [u8],
+    guesses: &[u16; 8192],
     writes: bool,
+    place: Place,
     lc: Change,
     rc: Change,
     lv: u32,
     rv: u32,
-    lp: Place,
-    rp: Place,
     since: u32,
 )
-    requires { ⌜ Ends (now store) lv rv lp rp ⌝ }
-    ensures { λ _. ⌜ Changed (whenWrites writes (mark since (endsSays lc lv (placeOf lp) ++ endsSays rc rv (placeOf rp)))) (now (store .entry)) (now (store .exit)) ⌝ }
+    requires { ⌜ Ends (now store) lv rv place ⌝ }
+    ensures { λ _. ⌜ Changed (whenWrites writes (mark since (endsSays lc lv (longer left (placeOf place)) ++ endsSays rc rv (longer right (placeOf place))))) (now (store .entry)) (now (store .exit)) ⌝ }
 {
-    mark_changed(store, writes, lc, lv, lp, since);
-    mark_changed(store, writes, rc, rv, rp, since);
+    let lp = place.left();
+    let rp = place.right();
+    mark_changed(store, guesses, writes, lc, lv, lp, since);
+    mark_changed(store, guesses, writes, rc, rv, rp, since);
 }

@@ -33,13 +33,18 @@ use Rattle.steps.proofs.Inserts.{ascending-rising}
 use Rattle.steps.proofs.Fitting.{Fits, fits-shaped}
 use Rattle.steps.proofs.Growing.{staying, Stays, grows-one, grow-gives}
 use Rattle.steps.proofs.Writing.{AllNew, AllOlder, given-new, given-older}
+use Rattle.slots.specs.declared.Child as child
+use Rattle.slots.specs.Answer.{childSays}
+use Rattle.apply_place.specs.declared.Node as node
 use Rattle.apply_place.specs.declared.Node.the-variants as N
 use Rattle.apply_place.specs.Placing.{Stored, Changed, whenWrites}
 use Rattle.apply_place.proofs.Changing.{unchanged, changed-as, changed-stored}
+use Rattle.apply_place.specs.Reach.{Starts}
 use Rattle.apply_place.proofs.Placing.{placed-nothing}
+use Rattle.apply_place.proofs.Reaching.{reaches-none}
 use Rattle.apply_outcome.specs.declared.Change.the-variants as C
 use Rattle.apply_outcome.specs.declared.Outcome as declared
-use Rattle.apply_outcome.specs.Outcomes.{NodeSays, updatedSays, Did, Fork, Forked}
+use Rattle.apply_outcome.specs.Outcomes.{changeSays, nodeChild, NodeSays, updatedSays, Kept, Did, Forks, Forked}
 use Rattle.apply_outcome.proofs.Forms.{given-form}
 use Rattle.apply_outcome.proofs.Forking.{mark-nothing, nothing-marked, fork-did}
 use Rattle.apply_grow.specs.declared.Stays as declared-stays
@@ -93,6 +98,19 @@ module _ (new : ℕ) (q : Place) (stays : Option Grant) (as′ : List Ask) where
   grow-one zero g e = rw e
   grow-one (suc n) g e = rw e
 
+  -- what grows nothing is unchanged, and else it is updated
+  grown-none : (side : Side → step.Outcome) (gs : List Grant) → step.growBy leafHash innerHash new q gs side .change ≡ step.unchanged →
+      step.growBy leafHash innerHash new q gs side .node ≡ vnone
+  grown-none side [] e = refl
+  grown-none side (g ∷ []) e = let z : _≡_ {A = ℕ} 0 1 = cc in absurd (omega arith)
+  grown-none side (g ∷ h ∷ gs) e = let z : _≡_ {A = ℕ} 0 1 = cc in absurd (omega arith)
+
+  grow-unchanged : (n : ℕ) → growing n .change ≡ step.unchanged → growing n .node ≡ vnone
+  unfolding step.grow
+  grow-unchanged zero e = grown-none (λ b. step.outcome step.unchanged vnone) (step.toGrow stays as′) e
+  grow-unchanged (suc n) e =
+      grown-none (λ b. step.grow leafHash innerHash new n (longer b q) (step.leafOn (length q) b stays) (run (length q) b as′)) (step.toGrow stays as′) e
+
   abbrev side-grown : ℕ → Side → step.Outcome
   side-grown n b = step.grow leafHash innerHash new n (longer b q) (step.leafOn (length q) b stays) (run (length q) b as′)
 
@@ -101,8 +119,15 @@ module _ (new : ℕ) (q : Place) (stays : Option Grant) (as′ : List Ask) where
   unfolding step.grow
   grow-more n e = rw e
 
+-- no node is at the top of no tree
+no-top : (w : Bool) (n : node.Node) (t : VTree) → t ≡ vnone → NodeSays w n t → n ≡ N.Nothing
+no-top w N.Nothing t e h = refl
+no-top w (N.Leaf v k x) t e h = let z : _≡_ {A = ℕ} 0 1 = cc in absurd (omega arith)
+no-top w (N.Inner v l r) t e (a, b, i, x, y) = let z : _≡_ {A = ℕ} 0 1 = cc in absurd (omega arith)
+
 -- a place where a subtree grows, and the outcome there
-module _ {new : ℕ} {s : Bytes} {p : place.Place} {leaf : declared-stays.Stays} {part : Bytes} (w : Grows new s p leaf part) where
+module _ {new : ℕ} {writes : Bool} {from : ℕ} {s : Bytes} {p : place.Place} {leaf : declared-stays.Stays} {part : Bytes}
+    (w : Grows new writes from s p leaf part) where
   -- the leaf that stays there
   abbrev here : Option Grant
   here = staysAt (placeOf p) (staysSays leaf)
@@ -131,29 +156,46 @@ module _ {new : ℕ} {s : Bytes} {p : place.Place} {leaf : declared-stays.Stays}
   grows-older : AllOlder new (grows .retired)
   grows-older = given-older leafHash innerHash new (placeOf p) vnone after grows given (λ v q h. absurd h)
 
-  grows-form : new ≤ top32 → (r : declared.Outcome) → NodeSays (r .node) (grows .node) → All RecordForm (updatedSays (placeOf p) r)
+  grows-form : new ≤ top32 → (r : declared.Outcome) → NodeSays writes (r .node) (grows .node) → writes ≡ true → All RecordForm (updatedSays (placeOf p) r)
   grows-form t r h =
       given-form new (placeOf p) vnone after grows given (w .number, t) tt
-      (fits-shaped (256 - p .count) (placeOf p) (staying here) (asks part) long fits) r h
+      (fits-shaped (256 - p .count) (placeOf p) (staying here) (asks part) long fits) writes r h
+
+  -- an unchanged outcome has no node
+  grows-kept : (c : child.Child) (r : declared.Outcome) → childSays c ≡ nodeChild N.Nothing → changeSays (r .change) ≡ grows .change →
+      NodeSays writes (r .node) (grows .node) → Kept writes c r
+  grows-kept c r k e h z u =
+      let t = grow-unchanged new (placeOf p) here (asks part) (256 - p .count) (sym e ∙ ap changeSays u) in
+      k ∙ ap nodeChild (sym (no-top writes (r .node) (grows .node) t h))
 
   -- the grants, by the case of what was found
   pub few-is : (o : declared-stays.Stays) {f g : declared-few.Few} → staysSays o ≡ here → f ≡ g → FewSays f (step.toGrow (staysSays o) (asks part)) →
       FewSays g (step.toGrow here (asks part))
   few-is o i e h = subst₂ (λ x y. FewSays x (step.toGrow y (asks part))) e i h
 
-  pub none-did : (writes : Bool) → FewSays Nothing (step.toGrow here (asks part)) →
-      Did new writes s s grows (record { change = C.Unchanged; node = N.Nothing; count = 0 })
-  none-did writes f =
-      subst (λ o. Did new writes s s o (record { change = C.Unchanged; node = N.Nothing; count = 0 }))
+  pub none-did : FewSays Nothing (step.toGrow here (asks part)) →
+      Did new writes from s s grows (record { change = C.Unchanged; node = N.Nothing; reach = from })
+  none-did f =
+      subst (λ o. Did new writes from s s o (record { change = C.Unchanged; node = N.Nothing; reach = from }))
       (sym (grow-none new (placeOf p) here (asks part) (256 - p .count) f))
-      (record { change = refl; node = refl; count = refl; bytes = written-nothing writes new step.unchanged vnone (w .stored) })
+      (record {
+        change = refl;
+        node = refl;
+        reach = reaches-none writes refl (w .starts);
+        bytes = written-nothing writes new step.unchanged vnone (w .stored);
+      })
 
-  pub one-did : (writes : Bool) {k x : Hash} → FewSays (One k x) (step.toGrow here (asks part)) →
-      Did new writes s s grows (record { change = C.Updated; node = N.Leaf new k x; count = 0 })
-  one-did writes {k} {x} f =
-      subst (λ o. Did new writes s s o (record { change = C.Updated; node = N.Leaf new k x; count = 0 }))
+  pub one-did : {k x : Hash} → FewSays (One k x) (step.toGrow here (asks part)) →
+      Did new writes from s s grows (record { change = C.Updated; node = N.Leaf new k x; reach = from })
+  one-did {k} {x} f =
+      subst (λ o. Did new writes from s s o (record { change = C.Updated; node = N.Leaf new k x; reach = from }))
       (sym (grow-one new (placeOf p) here (asks part) (256 - p .count) (grant (hashBytes k) (hashBytes x)) f))
-      (record { change = refl; node = refl; count = refl; bytes = written-nothing writes new step.updated (vleaf new (grant (hashBytes k) (hashBytes x))) (w .stored) })
+      (record {
+        change = refl;
+        node = refl;
+        reach = reaches-none writes refl (w .starts);
+        bytes = written-nothing writes new step.updated (vleaf new (grant (hashBytes k) (hashBytes x))) (w .stored);
+      })
 
   -- two or more differ in a bit that is left
   pub several-short : FewSays Several (step.toGrow here (asks part)) → p .count < 256
@@ -168,7 +210,8 @@ module _ {new : ℕ} {s : Bytes} {p : place.Place} {leaf : declared-stays.Stays}
           (subst (λ gs. 1 < length gs) (sym (f .3)) (omega arith)))
 
 -- on a side of it
-module _ {new : ℕ} {s : Bytes} {p : place.Place} {leaf : declared-stays.Stays} {part : Bytes} (w : Grows new s p leaf part) where
+module _ {new : ℕ} {writes : Bool} {from : ℕ} {s : Bytes} {p : place.Place} {leaf : declared-stays.Stays} {part : Bytes}
+    (w : Grows new writes from s p leaf part) where
   module _ (b : Side) (h : p .count < 256) {r : place.Place} {part′ : Bytes} (g : Grown b p r) (f : part′ ≡ runOf b (p .count) part) where
     its-count : p .count ≡ length (placeOf p)
     its-count = sym (proper-count p (w .proper))
@@ -180,9 +223,10 @@ module _ {new : ℕ} {s : Bytes} {p : place.Place} {leaf : declared-stays.Stays}
     side-asks =
         ap asks f ∙ asks-of-part b (p .count) part (run-at p part (w .proper) h (w .run)) ∙ ap (λ i. run i b (asks part)) its-count
 
-    pub side-grows : {s′ : Bytes} → Stored s′ → Grows new s′ r leaf part′
-    side-grows st = record {
+    pub side-grows : {s′ : Bytes} {k : ℕ} → Stored s′ → Starts writes (storeOf s′ .slots) k → Grows new writes k s′ r leaf part′
+    side-grows st t = record {
       stored = st;
+      starts = t;
       number = w .number;
       proper = g .proper;
       run = subst (Run (placeOf r)) (sym f) (run-grown p part (w .proper) h (w .run) b r g);
@@ -195,29 +239,31 @@ module _ {new : ℕ} {s : Bytes} {p : place.Place} {leaf : declared-stays.Stays}
     side-is = let k : 256 - r .count ≡ 255 - p .count = omega (arith, g .count) in rw (side-leaf, k, g .place, side-asks)
 
   -- both sides, and the inner node above them
-  module _ (writes : Bool) (t : new ≤ top32) (h : p .count < 256) {lp rp : place.Place} {lpart rpart s₁ s₂ : Bytes}
+  module _ (t : new ≤ top32) (h : p .count < 256) {lp rp : place.Place} {lpart rpart s₁ s₂ : Bytes}
       {l r : declared.Outcome} (gl : Grown left p lp) (gr : Grown right p rp) (fl : lpart ≡ runOf left (p .count) part)
       (fr : rpart ≡ runOf right (p .count) part)
-      (x : Did new writes s s₁ (step.grow leafHash innerHash new (256 - lp .count) (placeOf lp) (staysAt (placeOf lp) (staysSays leaf)) (asks lpart)) l)
-      (y : Did new writes s₁ s₂ (step.grow leafHash innerHash new (256 - rp .count) (placeOf rp) (staysAt (placeOf rp) (staysSays leaf)) (asks rpart)) r) where
-    on-left : Grows new s lp leaf lpart
-    on-left = side-grows left h gl fl (w .stored)
+      (x : Did new writes from s s₁ (step.grow leafHash innerHash new (256 - lp .count) (placeOf lp) (staysAt (placeOf lp) (staysSays leaf)) (asks lpart)) l)
+      (y : Did new writes (l .reach) s₁ s₂ (step.grow leafHash innerHash new (256 - rp .count) (placeOf rp) (staysAt (placeOf rp) (staysSays leaf)) (asks rpart)) r) where
+    on-left : Grows new writes from s lp leaf lpart
+    on-left = side-grows left h gl fl (w .stored) (w .starts)
 
-    on-right : Grows new s₁ rp leaf rpart
-    on-right = side-grows right h gr fr (changed-stored (x .bytes))
+    on-right : Grows new writes (l .reach) s₁ rp leaf rpart
+    on-right = side-grows right h gr fr (changed-stored (x .bytes)) (x .reach .starts)
 
-    pub sides-fork : Fork s₂ lp rp l r
-    sides-fork = record {
+    pub sides-fork : {c : child.Child} → childSays c ≡ nodeChild N.Nothing → Forks writes s₂ p c c l r
+    sides-fork {c} k = record {
       stored = changed-stored (y .bytes);
-      left-place = gl .proper;
-      right-place = gr .proper;
-      left-form = grows-form on-left t l (x .node);
-      right-form = grows-form on-right t r (y .node);
-      counts = (omega (arith, x .count), omega (arith, y .count));
+      starts = y .reach .starts;
+      proper = w .proper;
+      short = h;
+      left-form = λ e. subst (λ q. All RecordForm (updatedSays q l)) (gl .place) (grows-form on-left t l (x .node) e);
+      right-form = λ e. subst (λ q. All RecordForm (updatedSays q r)) (gr .place) (grows-form on-right t r (y .node) e);
+      left-kept = grows-kept on-left c l k (x .change) (x .node);
+      right-kept = grows-kept on-right c r k (y .change) (y .node);
     }
 
     pub several-did : {s₃ : Bytes} {o : declared.Outcome} → FewSays Several (step.toGrow (here w) (asks part)) →
-        Forked new writes s₂ s₃ (placeOf lp) (placeOf rp) l r o → Did new writes s s₃ (grows w) o
+        Forked new writes s₂ s₃ (placeOf p) l r o → Did new writes from s s₃ (grows w) o
     several-did {s₃} {o} f k =
         let a = step.grow leafHash innerHash new (256 - lp .count) (placeOf lp) (staysAt (placeOf lp) (staysSays leaf)) (asks lpart) in
         let b = step.grow leafHash innerHash new (256 - rp .count) (placeOf rp) (staysAt (placeOf rp) (staysSays leaf)) (asks rpart) in
@@ -226,7 +272,6 @@ module _ {new : ℕ} {s : Bytes} {p : place.Place} {leaf : declared-stays.Stays}
         let is : step.fork leafHash innerHash new q a b [] ≡ grows w =
         ap₂ (λ c d. step.fork leafHash innerHash new q c d []) (side-is left h gl fl) (side-is right h gr fr)
         ∙ sym (ap (growing new q (here w) (asks part)) n ∙ grow-more new q (here w) (asks part) (255 - p .count) (f .3)) in
-        subst (λ c. Did new writes s s₃ c o) is
-        (fork-did new writes q a b l r o [] x y (nothing-marked writes new (changed-stored (y .bytes)))
-        (subst₂ (λ i j. Forked new writes s₂ s₃ i j l r o) (gl .place) (gr .place) k) (grows-new on-left) (grows-new on-right) (grows-older on-right)
-        (λ v u m. absurd m))
+        subst (λ c. Did new writes from s s₃ c o) is
+        (fork-did new writes q a b l r o [] x y (nothing-marked writes new (changed-stored (y .bytes))) k (grows-new on-left) (grows-new on-right)
+        (grows-older on-right) (λ v u m. absurd m))

@@ -2,7 +2,7 @@
 -- What the values of the code say, case by case. Assumes nothing.
 use Prim.Native.Nat.{ℕ, _<_, _≤_}
 use mathlib.Core.Path.{_≡_}
-use mathlib.Core.Bool.{true, false, cond}
+use mathlib.Core.Bool.{Bool, true, false, cond}
 use mathlib.Core.List.{List, [], _∷_}
 use mathlib.Core.Option.{Option, none, some}
 use lib.ListN.{drop}
@@ -12,10 +12,12 @@ use Rattle.terms.specs.Form.{GrantForm}
 use Rattle.hash.specs.Hash.{hashBytes}
 use Rattle.place.specs.declared.Place as place
 use Rattle.place.specs.Place.{placeOf, Proper}
+use Rattle.layout.specs.Stores.{storeOf}
 use Rattle.batch.specs.Batch.{count, asks, askAt, inserts}
 use Rattle.batch.specs.Runs.{Run}
 use Rattle.steps.specs.Step as step
 use Rattle.apply_place.specs.Placing.{Stored}
+use Rattle.apply_place.specs.Reach.{Starts}
 use Rattle.apply_grow.specs.declared.Stays as declared-stays
 use Rattle.apply_grow.specs.declared.Stays.the-variants as S
 use Rattle.apply_grow.specs.declared.Few as declared-few
@@ -50,8 +52,9 @@ StaysAt p none asks = Unit {0}
 StaysAt p (some g) asks = GrantForm g × (begins p (g .key) ≡ true) × All (λ a. sameBytes (askKey a) (g .key) ≡ false) asks
 
 -- A place where a run may grow a subtree.
-pub record Grows (new : ℕ) (s : Bytes) (p : place.Place) (leaf : declared-stays.Stays) (part : Bytes) : Type 0 where
+pub record Grows (new : ℕ) (writes : Bool) (from : ℕ) (s : Bytes) (p : place.Place) (leaf : declared-stays.Stays) (part : Bytes) : Type 0 where
   pub stored : Stored s
+  pub starts : Starts writes (storeOf s .slots) from
   pub number : 1 ≤ new
   pub proper : Proper p
   pub run : Run (placeOf p) part

@@ -1,6 +1,7 @@
 // Growing a subtree, document 01: a run of inserts with no node there; at a leaf, with the leaf if it stays.
 use apply_outcome::Change;
 use apply_outcome::Outcome;
+use apply_outcome::child_of;
 use apply_outcome::fork;
 use apply_place::Node;
 use batch::grant;
@@ -121,12 +122,13 @@ pub fn grow(
     store: &mut [u8],
     writes: bool,
     new: u32,
+    from: usize,
     place: Place,
     stays: Stays,
     run: &[u8],
 ) -> Outcome
-    requires { ⌜ Grows new (now store) place stays (now run) ⌝ }
-    ensures { λ r. ⌜ Did new writes (now (store .entry)) (now (store .exit)) (step.grow leafHash innerHash new (256 - place .count) (placeOf place) (staysAt (placeOf place) (staysSays stays)) (asks (now (run .entry)))) r ⌝ }
+    requires { ⌜ Grows new writes from (now store) place stays (now run) ⌝ }
+    ensures { λ r. ⌜ Did new writes from (now (store .entry)) (now (store .exit)) (step.grow leafHash innerHash new (256 - place .count) (placeOf place) (staysAt (placeOf place) (staysSays stays)) (asks (now (run .entry)))) r ⌝ }
 {
     let here = stays_at(stays, place);
     let grants = to_grow(here, run);
@@ -134,7 +136,7 @@ pub fn grow(
         Few::Nothing => Outcome {
             change: Change::Unchanged,
             node: Node::Nothing,
-            count: 0,
+            reach: from,
         },
         Few::One { key, value } => Outcome {
             change: Change::Updated,
@@ -143,15 +145,30 @@ pub fn grow(
                 key,
                 value,
             },
-            count: 0,
+            reach: from,
         },
         Few::Several => {
             let i = place.count;
-            let lp = place.left();
-            let rp = place.right();
-            let l = grow(store, writes, new, lp, stays, left_run(run, i));
-            let r = grow(store, writes, new, rp, stays, right_run(run, i));
-            fork(store, writes, new, lp, rp, l, r)
+            let l = grow(
+                store,
+                writes,
+                new,
+                from,
+                place.left(),
+                stays,
+                left_run(run, i),
+            );
+            let r = grow(
+                store,
+                writes,
+                new,
+                l.reach,
+                place.right(),
+                stays,
+                right_run(run, i),
+            );
+            let none = child_of(Node::Nothing);
+            fork(store, writes, new, place, none, none, l, r)
         }
     }
 }

@@ -1,16 +1,19 @@
 -- A tree that stands at a place stands there after writes for newer nodes, and so do its children: each is where its parent's record says.
 -- Assumes nothing.
-use Prim.Native.Nat.{ℕ, _-_, _<_, _≤_}
+use Prim.Native.Nat.{ℕ, zero, suc, _-_, _<_, _≤_}
 use native.Mathlib.Omega.{arith}
-use mathlib.Core.Path.{_≡_, refl, sym, subst}
+use mathlib.Core.Path.{_≡_, refl, ap, sym, _∙_, subst}
 use mathlib.Core.Logic.{inl}
 use mathlib.Core.Bool.{Bool, true, false}
+use mathlib.Core.List.{List, [], _∷_}
+use lib.ListN.{length, getD}
 use Rattle.terms.specs.Bits.{Bytes, Side, Place, longer}
-use Rattle.terms.specs.Records.{Body, Store, used}
+use Rattle.terms.specs.Records.{Body, Record, Slot, Store, free, used}
 use Rattle.terms.proofs.Members.{in-getD}
 use Rattle.terms.proofs.Lists.{all-at}
 use Rattle.meaning.specs.Tree.{VTree, vnone, vleaf, vinner, topVersion, kid}
 use Rattle.meaning.specs.Sound.{Found, Stands}
+use Rattle.meaning.proofs.Finding.{isNode-eq, free-used}
 use Rattle.histories.proofs.Standing.{Formed, found-record, reads, kid-node}
 use Rattle.nodehash.specs.Node.{leafHash, innerHash}
 use Rattle.place.specs.declared.Place as place
@@ -18,6 +21,8 @@ use Rattle.place.specs.Place.{placeOf, Proper}
 use Rattle.place.proofs.Places.{proper-count}
 use Rattle.layout.specs.Slots.{SlotForm}
 use Rattle.layout.specs.Stores.{storeOf}
+use Rattle.lookup.specs.declared.Found.the-variants as F
+use Rattle.lookup.specs.Lookup.{FoundIn}
 use Rattle.steps.specs.Step as step
 use Rattle.steps.specs.Given.{Older}
 use Rattle.steps.specs.Writing.{written}
@@ -25,7 +30,9 @@ use Rattle.steps.proofs.Writing.{AllNew}
 use Rattle.apply_place.specs.Placing.{Stored, putSlots, Changed, whenWrites, Single}
 use Rattle.apply_place.proofs.Changing.{changed-store, changed-slots}
 use Rattle.apply_outcome.proofs.Forms.{Number, Numbered}
-use Rattle.apply_place.proofs.Keeping.{stands-written, single-written}
+use Rattle.apply_place.proofs.Keeping.{stands-written, single-written, written-slot}
+use Rattle.apply_place.proofs.Marking.{found-node, single-finds}
+use Rattle.apply_read.specs.Held.{versionOf, versionIn}
 use Rattle.apply_read.specs.Standing.{treeHere, Standing}
 
 -- every record of bytes in form is in form
@@ -48,14 +55,7 @@ module _ (st : Store) (z : Formed (st .slots)) where
     stands-numbered (longer true p) r (s .3),
   )
 
--- its children stand, and are older too
-pub kid-stands : (b : Side) (st : Store) (p : Place) (t : VTree) → Stands leafHash innerHash st p t →
-    Stands leafHash innerHash st (longer b p) (kid b t)
-kid-stands b st p vnone s = tt
-kid-stands b st p (vleaf v g) s = tt
-kid-stands false st p (vinner v l r) s = s .2
-kid-stands true st p (vinner v l r) s = s .3
-
+-- its children are older too
 pub kid-older : (b : Side) (new : ℕ) (p : Place) (t : VTree) → Older new p t → Older new (longer b p) (kid b t)
 kid-older b new p t o w q n = o w q (kid-node b w q t p n)
 
@@ -76,6 +76,24 @@ module _ (new : ℕ) (o : step.Outcome) (f : AllNew new (o .fresh)) {s s′ : By
       (v : ℕ) (q : Place) → v < new → Single v q (storeOf s′ .slots)
   single-after true c h v q l = rw (changed-slots c) (single-written new v q o (storeOf s .slots) l f (h v q l))
   single-after false c h v q l = rw (changed-slots c) (h v q l)
+
+-- and each slot that holds an older node
+used-within : (s : List Slot) (i : ℕ) (r : Record) → getD s i free ≡ used r → i < length s
+used-within [] i r u = free-used r u
+used-within (x ∷ s) zero r u = omega arith
+used-within (x ∷ s) (suc i) r u = let l = used-within s i r u in omega arith
+
+pub found-after : (new : ℕ) (o : step.Outcome) (w : Bool) {s s′ : Bytes} → Changed (whenWrites w (written new o)) s s′ → (v : ℕ) (p : Place) (i : ℕ) →
+    Single v p (storeOf s′ .slots) → FoundIn (storeOf s .slots) v p (F.At i) → FoundIn (storeOf s′ .slots) v p (F.At i)
+found-after new o true {s} {s′} c v p i once (l, (r, u, f)) =
+    let (q, k, same) = written-slot new o (storeOf s .slots) i r u in
+    let g : getD (storeOf s′ .slots) i free ≡ used q = ap (λ xs. getD xs i free) (changed-slots c) ∙ k in
+    let n = same v p ∙ found-node 0 v p (storeOf s .slots) r f in
+    (used-within (storeOf s′ .slots) i q g, (q, g, single-finds 0 v p (storeOf s′ .slots) i q once g n))
+found-after new o false c v p i once f = rw (changed-slots c) f
+
+pub found-version : (s : Bytes) (v : ℕ) (p : Place) (i : ℕ) → FoundIn (storeOf s .slots) v p (F.At i) → versionIn s i ≡ v
+found-version s v p i (l, (r, u, f)) = ap versionOf u ∙ isNode-eq v p r (found-node 0 v p (storeOf s .slots) r f) .0
 
 -- the tree that stands where a record says a child is what is read there
 module _ {s : Bytes} (h : Stored s) (p : place.Place) (proper : Proper p) {v : ℕ} (t : VTree) (e : v ≡ topVersion t)

@@ -1,26 +1,31 @@
 -- Document 01, 'The tree of a set of grants' and 'Retirement': what becomes of an inner node by the outcomes at its children, in the values of
 -- the code. Assumes nothing.
-use Prim.Native.Nat.{ℕ, _+_, _<_, _≤_}
+use Prim.Native.Nat.{ℕ, _<_, _≤_}
 use mathlib.Core.Path.{_≡_}
-use mathlib.Core.Bool.{Bool, true, false}
+use mathlib.Core.Bool.{Bool, true, false, cond}
 use mathlib.Core.List.{_++_}
 use Rattle.terms.specs.Bits.{Bytes, Place, All, longer, left, right}
 use Rattle.terms.specs.Form.{RecordForm}
 use Rattle.hash.specs.declared.Hash.{Hash}
 use Rattle.place.specs.declared.Place as place
-use Rattle.place.specs.Place.{placeOf, Grown}
+use Rattle.place.specs.Place.{placeOf}
 use Rattle.layout.specs.Stores.{storeOf}
 use Rattle.slots.specs.declared.Child as child
+use Rattle.lookup.specs.declared.Found.the-variants as F
+use Rattle.lookup.specs.Lookup.{FoundIn}
 use Rattle.steps.specs.Given.{Older}
 use Rattle.steps.specs.Writing.{mark}
 use Rattle.apply_place.specs.declared.Node.the-variants as N
 use Rattle.apply_place.specs.Placing.{Changed, whenWrites, Single}
+use Rattle.apply_place.specs.Reach.{Starts}
 use Rattle.apply_outcome.specs.declared.Change as change
 use Rattle.apply_outcome.specs.declared.Change.the-variants.{Updated, Deleted, Unchanged}
 use Rattle.apply_outcome.specs.declared.Outcome as declared
-use Rattle.apply_outcome.specs.Outcomes.{beyond, capped, NodeSays, updatedSays, Fork, Forked}
-use Rattle.apply_end.specs.declared.Left.the-variants as L
-use Rattle.apply_end.specs.Ending.{endsSays, leftOf, Ends}
+use Rattle.apply_outcome.specs.Outcomes.{NodeSays, updatedSays, Kept, Forks, Forked}
+use Rattle.apply_end.specs.declared.Remains as remains
+use Rattle.apply_end.specs.declared.Remains.the-variants as R
+use Rattle.apply_end.specs.Ending.{endsSays, remainsOf, Ends}
+use Rattle.apply_read.specs.Held.{versionIn}
 use Rattle.apply_read.specs.Standing.{treeHere, Standing, isInner}
 
 abbrev pub bothStayed : change.Change → change.Change → Bool
@@ -30,51 +35,70 @@ bothStayed Unchanged Updated = false
 bothStayed Unchanged Deleted = false
 bothStayed Unchanged Unchanged = true
 
--- The children as their parent's record says them, and the outcomes there.
-pub record Settle (s : Bytes) (lp rp : place.Place) (left right : child.Child) (l r : declared.Outcome) : Type 0 where
-  pub ends : Ends s (left .version) (right .version) lp rp
-  pub fork : Fork s lp rp l r
+-- Where nothing remains it is deleted, else updated.
+abbrev pub remainsChange : remains.Remains → change.Change
+remainsChange R.Nothing = Deleted
+remainsChange (R.Leaf k x) = Updated
+remainsChange R.More = Updated
 
-module _ (new : ℕ) (writes : Bool) (s s′ : Bytes) (lp rp : place.Place) (left right : child.Child) where
+-- Both unchanged, it is unchanged.
+unfoldable pub settledSays : declared.Outcome → declared.Outcome → change.Change
+settledSays l r = cond (bothStayed (l .change) (r .change)) Unchanged (remainsChange (remainsOf (l .node) (r .node)))
+
+module _ (new : ℕ) (writes : Bool) (s s′ : Bytes) (p : place.Place) (cl cr : child.Child) where
   -- Both old children are marked, or those that changed.
   abbrev pub Marked : change.Change → change.Change → Type 0
   Marked lc rc =
-      Changed (whenWrites writes (mark new (endsSays lc (left .version) (placeOf lp) ++ endsSays rc (right .version) (placeOf rp)))) s s′
+      Changed (whenWrites writes (mark new (endsSays lc (cl .version) (longer left (placeOf p)) ++ endsSays rc (cr .version) (longer right (placeOf p))))) s s′
 
--- Both unchanged, it is unchanged; no node left, it is deleted; a lone leaf moves up; else it is new.
-pub data Settled (new : ℕ) (writes : Bool) (s s′ : Bytes) (lp rp : place.Place) (version : ℕ) (left right : child.Child) (l r o : declared.Outcome) : Type 0 where
-  stayed : bothStayed (l .change) (r .change) ≡ true →
-      o ≡ record { change = Unchanged; node = N.Inner version left right; count = capped (l .count + r .count) } → s′ ≡ s →
-      Settled new writes s s′ lp rp version left right l r o
-  gone : bothStayed (l .change) (r .change) ≡ false → leftOf (l .node) (r .node) ≡ L.Nothing →
-      o ≡ record { change = Deleted; node = N.Nothing; count = capped (l .count + r .count) } →
-      Marked new writes s s′ lp rp left right Deleted Deleted → Settled new writes s s′ lp rp version left right l r o
-  lone : (k x : Hash) → bothStayed (l .change) (r .change) ≡ false → leftOf (l .node) (r .node) ≡ L.Leaf k x →
-      o ≡ record { change = Updated; node = N.Leaf new k x; count = capped (l .count + r .count) } →
-      Marked new writes s s′ lp rp left right Deleted Deleted → Settled new writes s s′ lp rp version left right l r o
-  more : bothStayed (l .change) (r .change) ≡ false → leftOf (l .node) (r .node) ≡ L.More → (s₂ : Bytes) →
-      Marked new writes s s₂ lp rp left right (l .change) (r .change) → Forked new writes s₂ s′ (placeOf lp) (placeOf rp) l r o →
-      Settled new writes s s′ lp rp version left right l r o
+  -- It stays as it was, or it ends with both its children.
+  abbrev pub EndsBy : ℕ → ℕ → change.Change → declared.Outcome → Type 0
+  EndsBy reach v Deleted o = (o ≡ record { change = Deleted; node = N.Nothing; reach = reach }) × Marked Deleted Deleted
+  EndsBy reach v Updated o = Unit {0}
+  EndsBy reach v Unchanged o = (o ≡ record { change = Unchanged; node = N.Inner v cl cr; reach = reach }) × (s′ ≡ s)
 
--- An older tree with an inner node at its top stands at the place, each older node is there once, and the outcomes at the children are in form.
-pub record SettleAt (new : ℕ) (s : Bytes) (p : place.Place) (v : ℕ) (l r : declared.Outcome) : Type 0 where
-  pub standing : Standing s p v
+pub record EndsOrStays (new : ℕ) (writes : Bool) (s s′ : Bytes) (p : place.Place) (cl cr : child.Child) (reach v : ℕ) (c : change.Change) (o : declared.Outcome) : Type 0 where
+  pub by : EndsBy new writes s s′ p cl cr reach v c o
+
+-- The children as their parent's record says them, and the outcomes there.
+pub record Renews (new since : ℕ) (writes : Bool) (s : Bytes) (p : place.Place) (cl cr : child.Child) (l r : declared.Outcome) : Type 0 where
+  pub marks : writes ≡ true → since ≡ new
+  pub ends : Ends s (cl .version) (cr .version) p
+  pub forks : Forks writes s p cl cr l r
+
+-- A lone leaf moves up; else it is new.
+pub data Renewed (new : ℕ) (writes : Bool) (s s′ : Bytes) (p : place.Place) (cl cr : child.Child) (l r o : declared.Outcome) : Type 0 where
+  lone : (k x : Hash) → remainsOf (l .node) (r .node) ≡ R.Leaf k x → o ≡ record { change = Updated; node = N.Leaf new k x; reach = r .reach } →
+      Marked new writes s s′ p cl cr Deleted Deleted → Renewed new writes s s′ p cl cr l r o
+  more : ((k x : Hash) → remainsOf (l .node) (r .node) ≡ R.Leaf k x → ⊥) → (s₂ : Bytes) → Marked new writes s s₂ p cl cr (l .change) (r .change) →
+      Forked new writes s₂ s′ (placeOf p) l r o → Renewed new writes s s′ p cl cr l r o
+
+-- By what it is settled to be.
+abbrev pub SettledTo : change.Change → ℕ → Bool → Bytes → Bytes → place.Place → ℕ → child.Child → child.Child → declared.Outcome → declared.Outcome →
+    declared.Outcome → Type 0
+SettledTo Updated new writes s s′ p v cl cr l r o = Renewed new writes s s′ p cl cr l r o
+SettledTo Deleted new writes s s′ p v cl cr l r o = EndsBy new writes s s′ p cl cr (r .reach) v Deleted o
+SettledTo Unchanged new writes s s′ p v cl cr l r o = EndsBy new writes s s′ p cl cr (r .reach) v Unchanged o
+
+-- An older tree with an inner node at its top stands at the place, its record is in a slot, each older node is there once, and the outcomes at
+-- the children are in form; what ends is marked since the new version; of an unchanged one the record says what is still true.
+pub record Settles (new since : ℕ) (writes : Bool) (s : Bytes) (p : place.Place) (slot : ℕ) (l r : declared.Outcome) : Type 0 where
+  pub standing : Standing s p (versionIn s slot)
+  pub there : FoundIn (storeOf s .slots) (versionIn s slot) (placeOf p) (F.At slot)
   pub short : p .count < 256
-  pub inner : isInner (treeHere s p v) ≡ true
+  pub inner : isInner (treeHere s p (versionIn s slot)) ≡ true
   pub number : 1 ≤ new
-  pub older : Older new (placeOf p) (treeHere s p v)
+  pub marks : writes ≡ true → since ≡ new
+  pub older : Older new (placeOf p) (treeHere s p (versionIn s slot))
   pub single : (w : ℕ) (q : Place) → w < new → Single w q (storeOf s .slots)
-  pub left-form : All RecordForm (updatedSays (longer left (placeOf p)) l)
-  pub right-form : All RecordForm (updatedSays (longer right (placeOf p)) r)
-  pub counts : (l .count ≤ beyond) × (r .count ≤ beyond)
+  pub starts : Starts writes (storeOf s .slots) (r .reach)
+  pub left-form : writes ≡ true → All RecordForm (updatedSays (longer left (placeOf p)) l)
+  pub right-form : writes ≡ true → All RecordForm (updatedSays (longer right (placeOf p)) r)
+  pub kept : (cl cr : child.Child) → NodeSays true (N.Inner (versionIn s slot) cl cr) (treeHere s p (versionIn s slot)) → Kept writes cl l × Kept writes cr r
 
 -- What becomes of that inner node.
-pub record SettledAt (new : ℕ) (writes : Bool) (s s′ : Bytes) (p : place.Place) (v : ℕ) (l r o : declared.Outcome) : Type 0 where
-  pub lp : place.Place
-  pub rp : place.Place
+pub record Settled (new : ℕ) (writes : Bool) (s s′ : Bytes) (p : place.Place) (slot : ℕ) (l r o : declared.Outcome) : Type 0 where
   pub left-child : child.Child
   pub right-child : child.Child
-  pub at-left : Grown left p lp
-  pub at-right : Grown right p rp
-  pub node : NodeSays (N.Inner v left-child right-child) (treeHere s p v)
-  pub settled : Settled new writes s s′ lp rp v left-child right-child l r o
+  pub node : NodeSays true (N.Inner (versionIn s slot) left-child right-child) (treeHere s p (versionIn s slot))
+  pub settled : SettledTo (settledSays l r) new writes s s′ p (versionIn s slot) left-child right-child l r o

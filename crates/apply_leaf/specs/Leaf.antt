@@ -11,7 +11,15 @@ use Rattle.hash.specs.Hash.{hashBytes}
 use Rattle.place.specs.declared.Place as place
 use Rattle.place.specs.Place.{placeOf, Proper}
 use Rattle.batch.specs.Runs.{Run}
+use Rattle.nodehash.specs.Node.{leafHash, innerHash}
+use Rattle.layout.specs.Stores.{storeOf}
+use Rattle.steps.specs.Step as step
 use Rattle.apply_place.specs.Placing.{Stored}
+use Rattle.apply_place.specs.Reach.{Starts}
+use Rattle.apply_outcome.specs.declared.Outcome as outcome
+use Rattle.apply_outcome.specs.Outcomes.{changeSays, NodeSays}
+use Rattle.apply_grow.specs.declared.Stays as stays
+use Rattle.apply_grow.specs.declared.Stays.the-variants as S
 use Rattle.apply_leaf.specs.declared.Own as declared
 use Rattle.apply_leaf.specs.declared.Own.the-variants.{Nothing, Insert, Delete}
 
@@ -26,9 +34,29 @@ abbrev pub isMore : List Grant → Bool
 isMore [] = false
 isMore (g ∷ gs) = true
 
+-- A leaf stays beside inserts where nothing is asked for its key.
+abbrev pub stayingSays : declared.Own → Hash → Hash → stays.Stays
+stayingSays Nothing k x = S.Grant k x
+stayingSays (Insert y) k x = S.Nothing
+stayingSays Delete k x = S.Nothing
+
+-- What becomes of a leaf that nothing is inserted beside is what the definition makes of it.
+pub record Alone (new from version : ℕ) (g : Grant) (asked : Option Ask) (r : outcome.Outcome) : Type 0 where
+  pub change : (grown : Option Grant → step.Outcome) → changeSays (r .change) ≡ step.leafBy leafHash innerHash new version g asked [] grown .change
+  pub node : (writes : Bool) (grown : Option Grant → step.Outcome) →
+      NodeSays writes (r .node) (step.leafBy leafHash innerHash new version g asked [] grown .node)
+  pub quiet : (grown : Option Grant → step.Outcome) →
+      (step.leafBy leafHash innerHash new version g asked [] grown .fresh ≡ []) × (step.leafBy leafHash innerHash new version g asked [] grown .retired ≡ [])
+  pub reach : r .reach ≡ from
+
+-- The same by what the run was found to ask for its key.
+abbrev pub AloneBy : ℕ → ℕ → ℕ → Grant → declared.Own → outcome.Outcome → Type 0
+AloneBy new from version g own r = (asked : Option Ask) → OwnSays own asked → Alone new from version g asked r
+
 -- A leaf where a run is to be applied.
-pub record AtLeaf (new : ℕ) (s : Bytes) (p : place.Place) (key : Hash) (part : Bytes) : Type 0 where
+pub record AtLeaf (new : ℕ) (writes : Bool) (from : ℕ) (s : Bytes) (p : place.Place) (key : Hash) (part : Bytes) : Type 0 where
   pub stored : Stored s
+  pub starts : Starts writes (storeOf s .slots) from
   pub number : 1 ≤ new
   pub proper : Proper p
   pub run : Run (placeOf p) part

@@ -12,7 +12,6 @@ use hash::hash_at;
 use hash::same_hash;
 use place::Place;
 ghost use mathlib.Core.Path.{_≡_};
-ghost use mathlib.Core.Bool.{true};
 ghost use Prim.Native.Nat.{_-_, _<_};
 ghost use Rattle.terms.specs.Bits.{sameBytes};
 ghost use Rattle.terms.specs.Records.{grant, askKey};
@@ -22,7 +21,7 @@ ghost use Rattle.place.specs.Place.{placeOf};
 ghost use Rattle.batch.specs.Batch.{count, asks, askAt};
 ghost use Rattle.steps.specs.Step as step;
 ghost use Rattle.apply_outcome.specs.Outcomes.{Did};
-ghost use Rattle.apply_leaf.specs.Leaf.{OwnSays, isMore, AtLeaf};
+ghost use Rattle.apply_leaf.specs.Leaf.{OwnSays, isMore, stayingSays, AloneBy, AtLeaf};
 
 // What a run asks for a key.
 enum Own {
@@ -79,71 +78,73 @@ fn inserts_more(run: &[u8], key: Hash) -> bool
     false
 }
 
+// The leaf that stays beside inserts: one whose key nothing is asked for.
+fn staying(own: Own, key: Hash, value: Hash) -> Stays
+    ensures { λ r. ⌜ r ≡ stayingSays own key value ⌝ }
+{
+    let Own::Nothing = own else {
+        return Stays::Nothing;
+    };
+    Stays::Grant { key, value }
+}
+
+// What becomes of a leaf (version, place) that nothing is inserted beside.
+fn alone(new: u32, from: usize, version: u32, key: Hash, value: Hash, own: Own) -> Outcome
+    ensures { λ r. ⌜ AloneBy new from version (grant (hashBytes key) (hashBytes value)) own r ⌝ }
+{
+    let stays = Outcome {
+        change: Change::Unchanged,
+        node: Node::Leaf {
+            version,
+            key,
+            value,
+        },
+        reach: from,
+    };
+    match own {
+        Own::Nothing => stays,
+        Own::Insert { value: asked } => {
+            if same_hash(asked, value) {
+                return stays;
+            }
+            let node = Node::Leaf {
+                version: new,
+                key,
+                value: asked,
+            };
+            Outcome {
+                change: Change::Updated,
+                node,
+                reach: from,
+            }
+        }
+        Own::Delete => Outcome {
+            change: Change::Deleted,
+            node: Node::Nothing,
+            reach: from,
+        },
+    }
+}
+
 // The step at a leaf (version, place) with its grant.
 pub fn at_leaf(
     store: &mut [u8],
     writes: bool,
     new: u32,
+    from: usize,
     place: Place,
     version: u32,
     key: Hash,
     value: Hash,
     run: &[u8],
 ) -> Outcome
-    requires { ⌜ AtLeaf new (now store) place key (now run) ⌝ }
-    ensures { λ r. ⌜ Did new writes (now (store .entry)) (now (store .exit)) (step.stepLeaf leafHash innerHash new (256 - place .count) (placeOf place) version (grant (hashBytes key) (hashBytes value)) (asks (now (run .entry)))) r ⌝ }
+    requires { ⌜ AtLeaf new writes from (now store) place key (now run) ⌝ }
+    ensures { λ r. ⌜ Did new writes from (now (store .entry)) (now (store .exit)) (step.stepLeaf leafHash innerHash new (256 - place .count) (placeOf place) version (grant (hashBytes key) (hashBytes value)) (asks (now (run .entry)))) r ⌝ }
 {
     let own = own_ask(run, key);
-    let more = inserts_more(run, key);
-    match own {
-        Own::Nothing => {
-            if more {
-                return grow(store, writes, new, place, Stays::Grant { key, value }, run);
-            }
-            Outcome {
-                change: Change::Unchanged,
-                node: Node::Leaf {
-                    version,
-                    key,
-                    value,
-                },
-                count: 0,
-            }
-        }
-        Own::Insert { value: asked } => {
-            if more {
-                return grow(store, writes, new, place, Stays::Nothing, run);
-            }
-            if same_hash(asked, value) {
-                return Outcome {
-                    change: Change::Unchanged,
-                    node: Node::Leaf {
-                        version,
-                        key,
-                        value,
-                    },
-                    count: 0,
-                };
-            }
-            Outcome {
-                change: Change::Updated,
-                node: Node::Leaf {
-                    version: new,
-                    key,
-                    value: asked,
-                },
-                count: 0,
-            }
-        }
-        Own::Delete => {
-            if more {
-                return grow(store, writes, new, place, Stays::Nothing, run);
-            }
-            Outcome {
-                change: Change::Deleted,
-                node: Node::Nothing,
-                count: 0,
-            }
-        }
+    if inserts_more(run, key) {
+        let stays = staying(own, key, value);
+        return grow(store, writes, new, from, place, stays, run);
     }
+    alone(new, from, version, key, value, own)
 }

@@ -2,7 +2,7 @@
 use Prim.Native.Nat.{ℕ, _<_, _≤_}
 use native.Mathlib.Omega.{arith}
 use mathlib.Core.Path.{_≡_, refl, ap, sym, _∙_, subst}
-use mathlib.Core.Bool.{Bool, true, false, cond}
+use mathlib.Core.Bool.{Bool, true, false, cond, false≢true}
 use mathlib.Core.List.{List, [], _∷_, _++_}
 use lib.ListN.{length}
 use Rattle.terms.specs.Bits.{All, Place, longer, left, right, bits, begins}
@@ -60,7 +60,7 @@ unfolding childOf
 child-missing c t n e z = top-number t n .1 (sym (ap (λ (x : Child). x .version) e) ∙ z)
 
 -- the record of a node by value
-pub says-form : (n : node.Node) (t : VTree) (p : Place) → NodeSays n t → Shaped p (unversioned t) → Numbered t → All RecordForm (recordSays p n)
+pub says-form : (n : node.Node) (t : VTree) (p : Place) → NodeSays true n t → Shaped p (unversioned t) → Numbered t → All RecordForm (recordSays p n)
 unfolding begins
 says-form Nothing t p e s m = tt
 says-form (Leaf v k x) t p e s m =
@@ -132,5 +132,6 @@ module _ (new : ℕ) (p : Place) (t : VTree) (now : Tree) (o : step.Outcome) (gi
   pub given-numbered : Numbered (o .node)
   given-numbered = rw (given .node-is) (numbered-versioned new t p now n m s)
 
-  pub given-form : (r : declared.Outcome) → NodeSays (r .node) (o .node) → All RecordForm (updatedSays p r)
-  given-form r h = updated-form p r (says-form (r .node) (o .node) p h given-shaped given-numbered)
+  pub given-form : (w : Bool) (r : declared.Outcome) → NodeSays w (r .node) (o .node) → w ≡ true → All RecordForm (updatedSays p r)
+  given-form true r h e = updated-form p r (says-form (r .node) (o .node) p h given-shaped given-numbered)
+  given-form false r h e = absurd (false≢true e)

@@ -1,14 +1,14 @@
 -- What a node by value says: its record and what its parent says of it are those of the tree it is the top of. Assumes nothing.
 use Prim.Native.Nat.{ℕ, _≤_}
 use native.Mathlib.Omega.{arith}
-use mathlib.Core.Path.{_≡_, refl, ap, ap₂, sym, subst}
+use mathlib.Core.Path.{_≡_, refl, ap, ap₂, sym, subst, subst₂}
 use mathlib.Core.Logic.{⊎-elim}
-use mathlib.Core.Bool.{Bool, true, false}
+use mathlib.Core.Bool.{Bool, true, false, false≢true}
 use mathlib.Core.List.{List, [], _∷_, _++_}
-use lib.ListN.{length}
+use lib.ListN.{length, length-append}
 use types.Run.{OneOf}
 use denote.Enum.Declared.{tagOf}
-use Rattle.terms.specs.Bits.{Bytes, Place, All}
+use Rattle.terms.specs.Bits.{Bytes, Side, Place, All, longer, left, right}
 use Rattle.terms.specs.Form.{RecordForm}
 use Rattle.terms.specs.Records.{Child, child, innerBody, Record, Slot, zeros}
 use Rattle.meaning.specs.Tree.{VTree}
@@ -21,15 +21,20 @@ use Rattle.slots.specs.declared.Child as declared-child
 use Rattle.slots.specs.Answer.{childSays}
 use Rattle.steps.specs.Step.{placesAt}
 use Rattle.steps.proofs.Writing.{placed-append}
+use Rattle.place.specs.declared.Place as place
+use Rattle.place.specs.Place.{placeOf, Grown}
+use Rattle.layout.specs.Stores.{storeOf}
 use Rattle.apply_place.specs.declared.Node as node
 use Rattle.apply_place.specs.declared.Node.the-variants.{Nothing, Leaf, Inner}
 use Rattle.apply_place.specs.Placing.{Stored, Changed, whenWrites, recordSays}
-use Rattle.apply_place.proofs.Changing.{unchanged, changed-as}
+use Rattle.apply_place.proofs.Changing.{unchanged, changed-as, changed-then}
+use Rattle.apply_place.specs.Reach.{Starts, Places, Placed}
 use Rattle.apply_place.proofs.Placing.{placed-nothing}
+use Rattle.apply_place.proofs.Reaching.{reaches-none, reaches-then}
 use Rattle.apply_outcome.specs.declared.Change as declared-change
 use Rattle.apply_outcome.specs.declared.Change.the-variants.{Updated, Deleted, Unchanged}
 use Rattle.apply_outcome.specs.declared.Outcome as declared
-use Rattle.apply_outcome.specs.Outcomes.{NodeSays, nodeChild, nodeSize, changeSays, changedRecord, updatedSays}
+use Rattle.apply_outcome.specs.Outcomes.{NodeSays, nodeChild, changeSays, changedRecord, updatedSays}
 use Rattle.apply_outcome.proofs.Change as change
 
 -- what the parent says of a node, by its case
@@ -46,16 +51,6 @@ pub child-inner : (n : node.Node) (h : Hash) {v : ℕ} {l r : declared-child.Chi
     hashBytes h ≡ innerHash (hashBytes (l .hash)) (hashBytes (r .hash)) → childSays (record { version = v; hash = h }) ≡ nodeChild n
 unfolding childSays
 child-inner n h {v} e k = rw e (ap (child v) k)
-
-pub node-size : (p : Place) (n : node.Node) → nodeSize n ≡ length (recordSays p n)
-node-size p Nothing = refl
-node-size p (Leaf v k x) = refl
-node-size p (Inner v l r) = refl
-
-pub size-small : (n : node.Node) → nodeSize n ≤ 1
-size-small Nothing = omega arith
-size-small (Leaf v k x) = omega arith
-size-small (Inner v l r) = omega arith
 
 -- only what was updated is placed
 pub is-updated : (p : Place) (o : declared.Outcome) → o .change ≡ Updated → updatedSays p o ≡ recordSays p (o .node)
@@ -84,33 +79,92 @@ pub nothing-placed : (w : Bool) {s : Bytes} → Stored s → Changed (whenWrites
 nothing-placed true h = changed-as (λ x. x) (placed []) (sym (placed-nothing _)) (unchanged h)
 nothing-placed false h = unchanged h
 
-pub placed-as : (w : Bool) {xs ys : List Record} {s s′ : Bytes} → xs ≡ ys → Changed (whenWrites w (placed xs)) s s′ → Changed (whenWrites w (placed ys)) s s′
-placed-as w {s = s} {s′ = s′} e c = subst (λ rs. Changed (whenWrites w (placed rs)) s s′) e c
+pub placed-as : (w : Bool) {xs ys : List Record} {s s′ : Bytes} → (w ≡ true → xs ≡ ys) → Changed (whenWrites w (placed xs)) s s′ →
+    Changed (whenWrites w (placed ys)) s s′
+placed-as true {s = s} {s′ = s′} e c = subst (λ rs. Changed (placed rs) s s′) (e refl) c
+placed-as false e c = c
+
+-- records of a place that are none, or others
+pub none-placed : (w : Bool) {from : ℕ} {q : place.Place} {rs : List Record} {s : Bytes} → rs ≡ [] → Places w s from q rs → Placed w from rs s s from
+none-placed w {s = s} e h = record {
+  bytes = placed-as w (λ z. sym e) (nothing-placed w (h .stored));
+  reach = reaches-none w (ap length e) (h .starts);
+}
+
+pub some-placed : (w : Bool) {from k : ℕ} {xs ys : List Record} {s s′ : Bytes} → ys ≡ xs → Placed w from xs s s′ k → Placed w from ys s s′ k
+some-placed w {from} {k} {s = s} {s′ = s′} e h = subst (λ rs. Placed w from rs s s′ k) (sym e) h
 
 pub both-placed : (w : Bool) (xs ys : List Record) (s : List Slot) →
     whenWrites w (placed ys) (whenWrites w (placed xs) s) ≡ whenWrites w (placed (xs ++ ys)) s
 both-placed true xs ys s = sym (placed-append xs ys s)
 both-placed false xs ys s = refl
 
--- the record of a node is that of the tree
-pub says-record : (n : node.Node) (t : VTree) → NodeSays n t → (p : Place) → recordSays p n ≡ recordAt leafHash innerHash p t
-says-record Nothing t e p = rw e
-says-record (Leaf v k x) t e p = rw e
-says-record (Inner v l r) t (a, b, e, x, y) p = rw e (ap₂ (λ c d. recordOf p v 0 (innerBody c d) ∷ []) x y)
+-- the outcomes on both sides of a place, one after the other
+pub places-at : (w : Bool) (o : declared.Outcome) {b : Side} {p q : place.Place} {s : Bytes} {from : ℕ} → Grown b p q → Stored s →
+    Starts w (storeOf s .slots) from → (w ≡ true → All RecordForm (updatedSays (longer b (placeOf p)) o)) → Places w s from q (updatedSays (placeOf q) o)
+places-at w o g h t f = record {
+  stored = h;
+  starts = t;
+  proper = g .proper;
+  form = λ e. subst (λ i. All RecordForm (updatedSays i o)) (sym (g .place)) (f e);
+}
 
-pub says-child : (n : node.Node) (t : VTree) → NodeSays n t → nodeChild n ≡ childOf leafHash innerHash t
+pub two-placed : (w : Bool) (l r : declared.Outcome) {p lp rp : place.Place} {from k m : ℕ} {s s₁ s₂ : Bytes} → Grown left p lp → Grown right p rp →
+    Placed w from (updatedSays (placeOf lp) l) s s₁ k → Placed w k (updatedSays (placeOf rp) r) s₁ s₂ m →
+    Placed w from (updatedSays (longer left (placeOf p)) l ++ updatedSays (longer right (placeOf p)) r) s s₂ m
+two-placed w l r {p} {lp} {rp} {from} {m = m} {s = s} {s₂ = s₂} gl gr x y =
+    let xs = updatedSays (placeOf lp) l in
+    let ys = updatedSays (placeOf rp) r in
+    subst₂ (λ i j. Placed w from (updatedSays i l ++ updatedSays j r) s s₂ m) (gl .place) (gr .place)
+    (record {
+      bytes = changed-as _ (whenWrites w (placed (xs ++ ys))) (both-placed w xs ys _) (changed-then (x .bytes) (y .bytes));
+      reach = reaches-then w (length-append xs ys) (x .reach) (y .reach);
+    })
+
+-- where it is written, the record of a node is that of the tree, and what its parent says of it is what is said of the tree
+pub says-record : (w : Bool) (n : node.Node) (t : VTree) → w ≡ true → NodeSays w n t → (p : Place) → recordSays p n ≡ recordAt leafHash innerHash p t
+says-record false n t e h p = absurd (false≢true e)
+says-record true Nothing t e h p = rw h
+says-record true (Leaf v k x) t e h p = rw h
+says-record true (Inner v l r) t e (a, b, i, x, y) p = rw i (ap₂ (λ c d. recordOf p v 0 (innerBody c d) ∷ []) x y)
+
+pub says-child : (w : Bool) (n : node.Node) (t : VTree) → w ≡ true → NodeSays w n t → nodeChild n ≡ childOf leafHash innerHash t
 unfolding childOf childSays
-says-child Nothing t e = rw e
-says-child (Leaf v k x) t e = rw e
-says-child (Inner v l r) t (a, b, e, x, y) =
-    rw e (ap₂ (λ g h. child v (innerHash g h)) (ap (λ (c : Child). c .hash) x) (ap (λ (c : Child). c .hash) y))
+says-child false n t e h = absurd (false≢true e)
+says-child true Nothing t e h = rw h
+says-child true (Leaf v k x) t e h = rw h
+says-child true (Inner v l r) t e (a, b, i, x, y) =
+    rw i (ap₂ (λ g h. child v (innerHash g h)) (ap (λ (c : Child). c .hash) x) (ap (λ (c : Child). c .hash) y))
 
-pub says-updated : (o : declared.Outcome) (t : VTree) → NodeSays (o .node) t → (p : Place) →
+pub says-updated : (w : Bool) (o : declared.Outcome) (t : VTree) → w ≡ true → NodeSays w (o .node) t → (p : Place) →
     updatedSays p o ≡ placesAt leafHash innerHash (changeSays (o .change)) p t
 unfolding updatedSays
-says-updated o t h p = go (o .change)
+says-updated w o t e h p = go (o .change)
   where
     go : (c : declared-change.Change) → changedRecord c (recordSays p (o .node)) ≡ placesAt leafHash innerHash (changeSays c) p t
-    go Updated = says-record (o .node) t h p
+    go Updated = says-record w (o .node) t e h p
     go Deleted = refl
     go Unchanged = refl
+
+-- written or not, there are as many
+pub says-many : (w : Bool) (o : declared.Outcome) (t : VTree) → NodeSays w (o .node) t → (p : Place) →
+    length (updatedSays p o) ≡ length (placesAt leafHash innerHash (changeSays (o .change)) p t)
+unfolding updatedSays
+says-many w o t h p = go (o .change)
+  where
+    one : (n : node.Node) → NodeSays w n t → length (recordSays p n) ≡ length (recordAt leafHash innerHash p t)
+    one Nothing e = rw e
+    one (Leaf v k x) e = rw e
+    one (Inner v l r) (a, b, e, x, y) = rw e
+
+    go : (c : declared-change.Change) → length (changedRecord c (recordSays p (o .node))) ≡ length (placesAt leafHash innerHash (changeSays c) p t)
+    go Updated = one (o .node) h
+    go Deleted = refl
+    go Unchanged = refl
+
+-- what is true where things are written is true of a node that is read
+pub says-either : (w : Bool) (n : node.Node) (t : VTree) → NodeSays true n t → NodeSays w n t
+says-either true n t h = h
+says-either false Nothing t h = h
+says-either false (Leaf v k x) t h = h
+says-either false (Inner v l r) t (a, b, e, x, y) = (a, b, e, tt, tt)

@@ -8,15 +8,10 @@ use nodehash::inner_hash;
 use place::Place;
 use slots::Child;
 ghost use mathlib.Core.Path.{_≡_};
-ghost use Prim.Native.Nat.{_+_, _≤_};
-ghost use lib.ListN.{length};
-ghost use Rattle.terms.specs.Bits.{All};
-ghost use Rattle.terms.specs.Form.{RecordForm};
-ghost use Rattle.meaning.specs.Store.{placed};
-ghost use Rattle.place.specs.Place.{placeOf, Proper};
+ghost use Rattle.place.specs.Place.{placeOf};
 ghost use Rattle.slots.specs.Answer.{childSays};
-ghost use Rattle.apply_place.specs.Placing.{Stored, Changed, whenWrites};
-ghost use Rattle.apply_outcome.specs.Outcomes.{beyond, capped, nodeChild, updatedSays, nodeSize, Fork, Forked};
+ghost use Rattle.apply_place.specs.Reach.{Places, Placed};
+ghost use Rattle.apply_outcome.specs.Outcomes.{nodeChild, updatedSays, Kept, ChildAfter, Forks, Forked};
 
 pub enum Change {
     Updated,
@@ -24,23 +19,11 @@ pub enum Change {
     Unchanged,
 }
 
-// The node itself is for its parent to place; the count is that of the new records strictly below it.
+// The node itself is for its parent to place; the reach is that of the new records strictly below it.
 pub struct Outcome {
     pub change: Change,
     pub node: Node,
-    pub count: usize,
-}
-
-// One more than the most slots of a store.
-const BEYOND: usize = 16385;
-
-// Two counts together; those above the most slots of a store are not told apart.
-pub fn more(a: usize, b: usize) -> usize
-    requires { ⌜ (a ≤ beyond) × (b ≤ beyond) ⌝ }
-    ensures { λ r. ⌜ r ≡ capped (a + b) ⌝ }
-{
-    let sum = a + b;
-    if BEYOND < sum { BEYOND } else { sum }
+    pub reach: usize,
 }
 
 // What the parent's record says of a node.
@@ -71,61 +54,55 @@ pub fn child_of(node: Node) -> Child
     }
 }
 
-// How many records a node has: one, if there is a node.
-pub fn size(node: Node) -> usize
-    ensures { λ r. ⌜ r ≡ nodeSize node ⌝ }
+// What the new parent's record says of a child that has an outcome: of an unchanged one what the old record says. Nothing is hashed where nothing
+// is written.
+fn child_after(writes: bool, old: Child, out: Outcome) -> Child
+    requires { ⌜ Kept writes old out ⌝ }
+    ensures { λ r. ⌜ ChildAfter writes out r ⌝ }
 {
-    match node {
-        Node::Nothing => 0,
-        Node::Leaf {
-            version: _,
-            key: _,
-            value: _,
-        } => 1,
-        Node::Inner {
-            version: _,
-            left: _,
-            right: _,
-        } => 1,
+    if !writes {
+        return old;
     }
+    let change = out.change;
+    let Change::Unchanged = change else {
+        let node = out.node;
+        return child_of(node);
+    };
+    old
 }
 
-// Places the node of an outcome, if it was updated, and counts it.
-pub fn place_updated(store: &mut [u8], writes: bool, place: Place, out: Outcome) -> usize
-    requires { ⌜ Stored (now store) × Proper place × All RecordForm (updatedSays (placeOf place) out) ⌝ }
-    ensures placing { λ _. ⌜ Changed (whenWrites writes (placed (updatedSays (placeOf place) out))) (now (store .entry)) (now (store .exit)) ⌝ }
-    ensures { λ r. ⌜ (r ≡ length (updatedSays (placeOf place) out)) × (r ≤ 1) ⌝ }
+// Places the node of an outcome, if it was updated, and answers how far the new records reach.
+fn place_updated(store: &mut [u8], writes: bool, from: usize, place: Place, out: Outcome) -> usize
+    requires { ⌜ Places writes (now store) from place (updatedSays (placeOf place) out) ⌝ }
+    ensures { λ r. ⌜ Placed writes from (updatedSays (placeOf place) out) (now (store .entry)) (now (store .exit)) r ⌝ }
 {
     let change = out.change;
     let Change::Updated = change else {
-        return 0;
+        return from;
     };
     let node = out.node;
-    place_node(store, writes, place, node);
-    size(node)
+    place_node(store, writes, from, place, node)
 }
 
-// A new inner node above two children: those that were updated are placed, the left one before the right one.
+// A new inner node above two children, with what the old record says of them: those that were updated are placed, the left one before the
+// right one.
 pub fn fork(
     store: &mut [u8],
     writes: bool,
     new: u32,
-    lp: Place,
-    rp: Place,
+    place: Place,
+    cl: Child,
+    cr: Child,
     l: Outcome,
     r: Outcome,
 ) -> Outcome
-    requires { ⌜ Fork (now store) lp rp l r ⌝ }
-    ensures { λ o. ⌜ Forked new writes (now (store .entry)) (now (store .exit)) (placeOf lp) (placeOf rp) l r o ⌝ }
+    requires { ⌜ Forks writes (now store) place cl cr l r ⌝ }
+    ensures { λ o. ⌜ Forked new writes (now (store .entry)) (now (store .exit)) (placeOf place) l r o ⌝ }
 {
-    let a = place_updated(store, writes, lp, l);
-    let b = place_updated(store, writes, rp, r);
-    let ln = l.node;
-    let rn = r.node;
-    let left = child_of(ln);
-    let right = child_of(rn);
-    let below = more(l.count, r.count);
-    let count = more(below, a + b);
+    let half = place_updated(store, writes, r.reach, place.left(), l);
+    let reach = place_updated(store, writes, half, place.right(), r);
+    let left = child_after(writes, cl, l);
+    let right = child_after(writes, cr, r);
     Outcome {
         change: Change::Updated,
         node: Node::Inner {
@@ -133,6 +110,6 @@ pub fn fork(
             left,
             right,
         },
-        count,
+        reach,
     }
 }

@@ -1,17 +1,18 @@
 -- Writing does not disturb reading: what is placed has the new version, what is marked keeps its node, so every tree of older versions stands
 -- as before, is read as before, and has each of its nodes once. Assumes nothing.
-use Prim.Native.Nat.{ℕ, _<_}
+use Prim.Native.Nat.{ℕ, zero, suc, _<_}
 use native.Mathlib.Omega.{arith}
 use mathlib.Core.Path.{_≡_, refl, ap, ap₂, sym, _∙_}
 use mathlib.Core.Bool.{Bool, true, false, cond, true≢false}
 use mathlib.Core.List.{List, [], _∷_}
+use lib.ListN.{getD}
 use Rattle.terms.specs.Bits.{Bytes, Place, All}
 use Rattle.terms.specs.Records.{Record, Slot, free, used, spoiled, Store}
 use Rattle.terms.proofs.Lists.{all-map}
 use Rattle.meaning.specs.Tree.{VTree}
 use Rattle.meaning.specs.Store.{find, isNode, marked, placed}
 use Rattle.meaning.specs.Sound.{Stands}
-use Rattle.meaning.proofs.Finding.{isNode-eq}
+use Rattle.meaning.proofs.Finding.{isNode-eq, free-used, spoiled-used, used-eq}
 use Rattle.histories.proofs.Slots.{not-node, Unique}
 use Rattle.histories.proofs.Writing.{contents, contents-none, contents-turned, Not, New, find-placed, find-older}
 use Rattle.histories.proofs.Standing.{Alike, stands-alike}
@@ -43,11 +44,40 @@ module _ (leafHash innerHash : Bytes → Bytes → Bytes) (new : ℕ) (o : Outco
       stands-alike leafHash innerHash st (putSlots (written new o (st .slots)) st) q t
       (λ w p n. find-written new w p o (st .slots) (old w p n) fresh) s
 
+-- a slot that holds a node holds it after writes
+marked-slot : (new : ℕ) (ns : List Node) (s : List Slot) (i : ℕ) (r : Record) → getD s i free ≡ used r → getD (mark new ns s) i free ≡ markIn new ns r
+marked-slot new ns [] i r u = free-used r u
+marked-slot new ns (free ∷ s) zero r u = free-used r u
+marked-slot new ns (free ∷ s) (suc i) r u = marked-slot new ns s i r u
+marked-slot new ns (used q ∷ s) zero r u = ap (markIn new ns) (used-eq q r u)
+marked-slot new ns (used q ∷ s) (suc i) r u = marked-slot new ns s i r u
+marked-slot new ns (spoiled x ∷ s) zero r u = spoiled-used x r u
+marked-slot new ns (spoiled x ∷ s) (suc i) r u = marked-slot new ns s i r u
+
+placed-slot : (rs : List Record) (s : List Slot) (i : ℕ) (r : Record) → getD s i free ≡ used r → getD (placed rs s) i free ≡ used r
+placed-slot rs [] i r u = free-used r u
+placed-slot [] (free ∷ s) i r u = u
+placed-slot (x ∷ rs) (free ∷ s) zero r u = free-used r u
+placed-slot (x ∷ rs) (free ∷ s) (suc i) r u = placed-slot rs s i r u
+placed-slot rs (used q ∷ s) zero r u = u
+placed-slot rs (used q ∷ s) (suc i) r u = placed-slot rs s i r u
+placed-slot rs (spoiled x ∷ s) zero r u = spoiled-used x r u
+placed-slot rs (spoiled x ∷ s) (suc i) r u = placed-slot rs s i r u
+
 -- a node that was there once is there once
 marked-node : (new v : ℕ) (p : Place) (b : Bool) (r : Record) → isNode v p (cond b (marked new r) r) ≡ isNode v p r
 unfolding isNode marked
 marked-node new v p true r = refl
 marked-node new v p false r = refl
+
+pub written-slot : (new : ℕ) (o : Outcome) (s : List Slot) (i : ℕ) (r : Record) → getD s i free ≡ used r →
+    (q : Record) × (getD (written new o s) i free ≡ used q) × ((v : ℕ) (p : Place) → isNode v p q ≡ isNode v p r)
+unfolding markIn
+written-slot new o s i r u = (
+  cond (isAmong r (o .retired)) (marked new r) r,
+  placed-slot (o .fresh) (mark new (o .retired) s) i _ (marked-slot new (o .retired) s i r u),
+  λ v p. marked-node new v p (isAmong r (o .retired)) r,
+)
 
 pub single-mark : (new v : ℕ) (p : Place) (ns : List Node) (s : List Slot) → Single v p s → Single v p (mark new ns s)
 unfolding markIn

@@ -60,6 +60,22 @@ module _ (new v : ℕ) (p : Place) where
       go rest false f zero g = false≢true (sym f ∙ ap (isNode v p) (used-eq q r g) ∙ n)
       go rest false f (suc k) g = rest k (rw f at e) g n
 
+  -- a slot that holds the node is the one found
+  pub single-finds : (s : List Slot) (i : ℕ) (r : Record) → Single v p s → getD s i free ≡ used r → isNode v p r ≡ true → find v p s ≡ some r
+  single-finds [] i r h u n = free-used r u
+  single-finds (free ∷ s) zero r h u n = free-used r u
+  single-finds (free ∷ s) (suc i) r h u n = single-finds s i r h u n
+  single-finds (spoiled x ∷ s) zero r h u n = spoiled-used x r u
+  single-finds (spoiled x ∷ s) (suc i) r h u n = single-finds s i r h u n
+  single-finds (used q ∷ s) i r h u n = go (λ k g. single-finds s k r (h .1) g n) (isNode v p q) refl i u
+    where
+      go : ((k : ℕ) → getD s k free ≡ used r → find v p s ≡ some r) → (b : Bool) → isNode v p q ≡ b → (k : ℕ) → getD (used q ∷ s) k free ≡ used r →
+          find v p (used q ∷ s) ≡ some r
+      go rest true f zero g = rw f (ap some (used-eq q r g))
+      go rest true f (suc k) g = absurd (none-at s k r (h .0 f) g n)
+      go rest false f zero g = absurd (false≢true (sym f ∙ ap (isNode v p) (used-eq q r g) ∙ n))
+      go rest false f (suc k) g = rw f (rest k g)
+
   -- the one found is, and no other
   pub mark-found : (s : List Slot) (i : ℕ) (r : Record) → Single v p s → getD s i free ≡ used r → find v p s ≡ some r →
       marks s ≡ set s i (used (marked new r))

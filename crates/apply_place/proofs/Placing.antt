@@ -27,7 +27,7 @@ use Rattle.lookup.specs.declared.Found as found
 use Rattle.lookup.specs.declared.Found.the-variants.{At, Nothing}
 use Rattle.apply_place.specs.declared.Node as declared
 use Rattle.apply_place.specs.declared.Node.the-variants.{Nothing as none, Leaf, Inner}
-use Rattle.apply_place.specs.Placing.{Stored, Changed, FreeIn, recordSays}
+use Rattle.apply_place.specs.Placing.{Stored, Changed, NoneFree, Lowest, FreeIn, recordSays}
 use Rattle.apply_place.proofs.Changing.{stored-accepted, stored-room, slot-changed}
 
 spoiled-free : {A : Type 0} (x : Bytes) → spoiled x ≡ free → A
@@ -38,10 +38,6 @@ placed-nothing [] = refl
 placed-nothing (free ∷ s) = refl
 placed-nothing (used x ∷ s) = ap (used x ∷_) (placed-nothing s)
 placed-nothing (spoiled x ∷ s) = ap (spoiled x ∷_) (placed-nothing s)
-
--- no slot before i is free
-abbrev NoneFree : List Slot → ℕ → Type 0
-NoneFree s i = (j : ℕ) → j < i → getD s j free ≡ free → ⊥
 
 placed-here : (r : Record) (s : List Slot) (i : ℕ) → i < length s → NoneFree s i → getD s i free ≡ free → placed (r ∷ []) s ≡ set s i (used r)
 placed-here r [] i l h e = absurd (omega arith)
@@ -78,11 +74,10 @@ pub record Passed (s : Bytes) (n i : ℕ) : Type 0 where
   pub size : length s ≡ 24 + 120 * n
   pub small : n ≤ 16384
   pub many : length (storeOf s .slots) ≡ n
-  pub within : i ≤ n
   pub none : NoneFree (storeOf s .slots) i
 
-pub from-start : {s : Bytes} {n : ℕ} → Stored s → n ≡ roomOf (length s) → Passed s n 0
-from-start h e =
+pub from-slot : {s : Bytes} {n i : ℕ} → Stored s → n ≡ roomOf (length s) → NoneFree (storeOf s .slots) i → Passed s n i
+from-slot h e f =
     let a = stored-accepted h in
     let k = e ∙ stored-room h in
     record {
@@ -90,8 +85,7 @@ from-start h e =
       size = rw k (a .size);
       small = rw k (a .fits);
       many = sym k;
-      within = omega arith;
-      none = λ j l. absurd (omega arith);
+      none = f;
     }
 
 module _ {s : Bytes} {n i : ℕ} (w : Passed s n i) where
@@ -104,18 +98,21 @@ module _ {s : Bytes} {n i : ℕ} (w : Passed s n i) where
     size = w .size;
     small = w .small;
     many = w .many;
-    within = omega arith;
     none = below-more (λ j. getD (storeOf s .slots) j free ≡ free → ⊥) i (w .none) (λ k. not-free (slotIn i s) e (sym (slot-here l) ∙ k));
   }
 
   pub free-here : i < n → allZero (slotIn i s) ≡ true → FreeIn (storeOf s .slots) (At i)
   free-here l e =
       let k : i < length (storeOf s .slots) = rw (w .many) l in
-      (k, λ r. placed-here r (storeOf s .slots) i k (w .none) (slot-here l ∙ zero-free (slotIn i s) e))
+      record {
+        within = k;
+        none = w .none;
+        placing = λ r. placed-here r (storeOf s .slots) i k (w .none) (slot-here l ∙ zero-free (slotIn i s) e);
+      }
 
   pub none-free : n ≤ i → FreeIn (storeOf s .slots) Nothing
   none-free l =
-      λ r. placed-nowhere r (storeOf s .slots) (λ j k. let m = w .within in w .none j (omega (arith, w .many)))
+      λ r. placed-nowhere r (storeOf s .slots) (λ j k. w .none j (omega (arith, w .many)))
 
 -- a grant's 64 bytes from two hashes, one after the other
 pub two-hashes : (k v : Hash) (g₀ g₁ y : Bytes) → length g₀ ≡ 64 → g₁ ≡ hashBytes k ++ drop 32 g₀ → y ≡ hashBytes v ++ drop 32 (take 32 (drop 32 g₁)) →
@@ -140,7 +137,7 @@ grant-hashes k v =
     (ap (leafBody (hashBytes k)) (take-all 32 (hashBytes v) (omega arith)))
 
 -- a free slot that was found, by its case
-pub free-at : (s : List Slot) {o : found.Found} {i : ℕ} → o ≡ At i → FreeIn s o → (i < length s) × ((r : Record) → placed (r ∷ []) s ≡ set s i (used r))
+pub free-at : (s : List Slot) {o : found.Found} {i : ℕ} → o ≡ At i → FreeIn s o → Lowest s i
 free-at s e f = subst (FreeIn s) e f
 
 -- with no free slot, nothing is placed
@@ -155,18 +152,18 @@ placed-gone p n e s = ap (λ m. placed (recordSays p m) s) e ∙ placed-nothing 
 
 -- one record in a free slot
 placed-one : {s s′ : Bytes} {i : ℕ} (rs : List Record) (r : Record) → Stored s → rs ≡ r ∷ [] → All RecordForm rs →
-    (i < length (storeOf s .slots)) × ((q : Record) → placed (q ∷ []) (storeOf s .slots) ≡ set (storeOf s .slots) i (used q)) →
+    Lowest (storeOf s .slots) i →
     s′ ≡ written (24 + 120 * i) (slotBytes (used r)) s → Changed (placed rs) s s′
 placed-one {s} {i = i} rs r h e k f w =
-    slot-changed h i (f .0) (placed rs) (used r) (subst (All RecordForm) e k .0) (ap (λ q. placed q (storeOf s .slots)) e ∙ f .1 r) w
+    slot-changed h i (f .within) (placed rs) (used r) (subst (All RecordForm) e k .0) (ap (λ q. placed q (storeOf s .slots)) e ∙ f .placing r) w
 
 module _ (p : Place) (n : declared.Node) {s s′ : Bytes} {i : ℕ} (h : Stored s) where
   pub placed-leaf : {v : ℕ} {k x : Hash} → n ≡ Leaf v k x → All RecordForm (recordSays p n) →
-      (i < length (storeOf s .slots)) × ((q : Record) → placed (q ∷ []) (storeOf s .slots) ≡ set (storeOf s .slots) i (used q)) →
+      Lowest (storeOf s .slots) i →
       s′ ≡ written (24 + 120 * i) (slotBytes (used (recordOf p v 0 (leafBody (hashBytes k) (hashBytes x))))) s → Changed (placed (recordSays p n)) s s′
   placed-leaf e k f w = placed-one (recordSays p n) _ h (ap (recordSays p) e) k f w
 
   pub placed-inner : {v : ℕ} {l r : child.Child} → n ≡ Inner v l r → All RecordForm (recordSays p n) →
-      (i < length (storeOf s .slots)) × ((q : Record) → placed (q ∷ []) (storeOf s .slots) ≡ set (storeOf s .slots) i (used q)) →
+      Lowest (storeOf s .slots) i →
       s′ ≡ written (24 + 120 * i) (slotBytes (used (recordOf p v 0 (innerBody (childSays l) (childSays r))))) s → Changed (placed (recordSays p n)) s s′
   placed-inner e k f w = placed-one (recordSays p n) _ h (ap (recordSays p) e) k f w

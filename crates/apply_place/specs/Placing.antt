@@ -4,7 +4,7 @@ use mathlib.Core.Path.{_≡_}
 use mathlib.Core.Bool.{Bool, true, false}
 use mathlib.Core.List.{List, [], _∷_}
 use mathlib.Core.Option.{none}
-use lib.ListN.{length, set}
+use lib.ListN.{length, getD, set}
 use Rattle.terms.specs.Bits.{Bytes, Place}
 use Rattle.terms.specs.Records.{leafBody, innerBody, Record, Slot, free, used, spoiled, Store}
 use Rattle.meaning.specs.Store.{find, isNode, placed}
@@ -37,9 +37,19 @@ abbrev pub whenWrites : Bool → (List Slot → List Slot) → List Slot → Lis
 whenWrites true f s = f s
 whenWrites false f s = s
 
--- What a search for a free slot found: the slot that the next record is placed in, or none.
+-- No slot below k is free.
+abbrev pub NoneFree : List Slot → ℕ → Type 0
+NoneFree s k = (j : ℕ) → j < k → getD s j free ≡ free → ⊥
+
+-- Slot i is the one that the next record is placed in.
+pub record Lowest (s : List Slot) (i : ℕ) : Type 0 where
+  pub within : i < length s
+  pub none : NoneFree s i
+  pub placing : (r : Record) → placed (r ∷ []) s ≡ set s i (used r)
+
+-- What a search for a free slot found.
 abbrev pub FreeIn : List Slot → found.Found → Type 0
-FreeIn s (F.At i) = (i < length s) × ((r : Record) → placed (r ∷ []) s ≡ set s i (used r))
+FreeIn s (F.At i) = Lowest s i
 FreeIn s F.Nothing = (r : Record) → placed (r ∷ []) s ≡ s
 
 -- At most one record is the node (v, p).

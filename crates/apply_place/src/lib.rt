@@ -1,24 +1,20 @@
-// Retirement and placing in lent memory, document 01: the record of a node goes to the lowest free slot, a node that ends is marked. Where
-// `writes` is false nothing is written.
+// Placing in lent memory, document 01: the record of a node goes to the lowest free slot. Where `writes` is false nothing is written, and the
+// records are counted as if every slot were free.
 use fields::all_zero;
 use hash::Hash;
 use hash::put_hash;
 use layout::sizes;
 use lookup::Found;
-use lookup::find;
 use place::Place;
 use slots::Child;
 use store::put_inner_at;
 use store::put_leaf_at;
-use store::put_retired_at;
 use store::slot_of;
 ghost use mathlib.Core.Path.{_≡_};
-ghost use mathlib.Core.List.{[], _∷_, _++_};
+ghost use mathlib.Core.List.{_++_};
 ghost use Prim.Native.Nat.{_+_, _≤_};
 ghost use lib.ListN.{length};
-ghost use Rattle.terms.specs.Bits.{All};
 ghost use Rattle.terms.specs.Records.{used, leafBody};
-ghost use Rattle.terms.specs.Form.{RecordForm};
 ghost use Rattle.meaning.specs.Store.{placed};
 ghost use Rattle.fields.specs.Written.{written};
 ghost use Rattle.hash.specs.Hash.{hashBytes};
@@ -26,8 +22,8 @@ ghost use Rattle.place.specs.Place.{placeOf, Proper};
 ghost use Rattle.layout.specs.Sizes.{slotSize, slotAt};
 ghost use Rattle.layout.specs.Slots.{recordOf, slotBytes};
 ghost use Rattle.layout.specs.Stores.{storeOf};
-ghost use Rattle.steps.specs.Writing.{mark};
-ghost use Rattle.apply_place.specs.Placing.{Stored, Changed, whenWrites, FreeIn, Single, recordSays, nodeAt};
+ghost use Rattle.apply_place.specs.Placing.{Stored, Changed, NoneFree, FreeIn, recordSays};
+ghost use Rattle.apply_place.specs.Reach.{beyond, capped, nodeSize, Puts, Places, Placed};
 
 // The node that stands at a place: a leaf with its grant, an inner node with its children.
 pub enum Node {
@@ -44,13 +40,44 @@ pub enum Node {
     },
 }
 
-// The lowest free slot.
-fn find_free(store: &[u8]) -> Found
-    requires { ⌜ Stored (now store) ⌝ }
+// One more than the most slots of a store.
+const BEYOND: usize = 16385;
+
+// Two counts together; those above the most slots of a store are not told apart.
+fn more(a: usize, b: usize) -> usize
+    requires { ⌜ (a ≤ beyond) × (b ≤ beyond) ⌝ }
+    ensures { λ r. ⌜ r ≡ capped (a + b) ⌝ }
+{
+    let sum = a + b;
+    if BEYOND < sum { BEYOND } else { sum }
+}
+
+// How many records a node has: one, if there is a node.
+fn size(node: Node) -> usize
+    ensures { λ r. ⌜ r ≡ nodeSize node ⌝ }
+{
+    match node {
+        Node::Nothing => 0,
+        Node::Leaf {
+            version: _,
+            key: _,
+            value: _,
+        } => 1,
+        Node::Inner {
+            version: _,
+            left: _,
+            right: _,
+        } => 1,
+    }
+}
+
+// The lowest free slot, where none below a slot is free.
+fn find_free(store: &[u8], from: usize) -> Found
+    requires { ⌜ Stored (now store) × NoneFree (storeOf (now store) .slots) from ⌝ }
     ensures { λ r. ⌜ FreeIn (storeOf (now (store .entry)) .slots) r ⌝ }
 {
     let n = (store.len() - sizes::HEADER_SIZE) / sizes::SLOT_SIZE;
-    let mut i = 0;
+    let mut i = from;
     loop {
         if n <= i {
             break Found::Nothing;
@@ -81,17 +108,11 @@ fn put_leaf_new(store: &mut [u8], i: usize, place: Place, version: u32, key: Has
     put_leaf_at(store, i, place, version, 0, &grant);
 }
 
-// Places the record of the node at a place; with no free slot there is nothing to place it in.
-pub fn place_node(store: &mut [u8], writes: bool, place: Place, node: Node)
-    requires { ⌜ Stored (now store) × Proper place × All RecordForm (recordSays (placeOf place) node) ⌝ }
-    ensures { λ _. ⌜ Changed (whenWrites writes (placed (recordSays (placeOf place) node))) (now (store .entry)) (now (store .exit)) ⌝ }
+// Writes the record of the node at a place over the lowest free slot, i.
+fn put_node(store: &mut [u8], i: usize, place: Place, node: Node)
+    requires { ⌜ Puts (now store) i place (recordSays (placeOf place) node) ⌝ }
+    ensures { λ _. ⌜ Changed (placed (recordSays (placeOf place) node)) (now (store .entry)) (now (store .exit)) ⌝ }
 {
-    if !writes {
-        return;
-    }
-    let Found::At(i) = find_free(store) else {
-        return;
-    };
     match node {
         Node::Nothing => {}
         Node::Leaf {
@@ -107,16 +128,18 @@ pub fn place_node(store: &mut [u8], writes: bool, place: Place, node: Node)
     }
 }
 
-// Marks the node (version, place) retired since a version.
-pub fn mark_node(store: &mut [u8], writes: bool, version: u32, place: Place, since: u32)
-    requires { ⌜ Stored (now store) × Proper place × Single version (placeOf place) (storeOf (now store) .slots) ⌝ }
-    ensures { λ _. ⌜ Changed (whenWrites writes (mark since (nodeAt version (placeOf place) ∷ []))) (now (store .entry)) (now (store .exit)) ⌝ }
+// Places the record of the node at a place, and answers how far the new records reach; with no free slot there is nothing to place it in.
+pub fn place_node(store: &mut [u8], writes: bool, from: usize, place: Place, node: Node) -> usize
+    requires { ⌜ Places writes (now store) from place (recordSays (placeOf place) node) ⌝ }
+    ensures { λ r. ⌜ Placed writes from (recordSays (placeOf place) node) (now (store .entry)) (now (store .exit)) r ⌝ }
 {
+    let n = size(node);
     if !writes {
-        return;
+        return more(from, n);
     }
-    let Found::At(i) = find(store, version, place) else {
-        return;
+    let Found::At(i) = find_free(store, from) else {
+        return from;
     };
-    put_retired_at(store, i, since);
+    put_node(store, i, place, node);
+    i + n
 }

@@ -2,43 +2,34 @@
 use Prim.Native.Nat.{ℕ, _<_}
 use native.Mathlib.Omega.{arith}
 use mathlib.Core.Path.{_≡_, refl, ap, sym, _∙_, subst}
-use mathlib.Core.Logic.{⊎-elim}
-use mathlib.Core.List.{[], _∷_}
+use mathlib.Core.Bool.{true, false}
 use mathlib.Core.Option.{none, some, Option·none-ne-some, Option·some-injective}
-use lib.ListN.{length, getD, take, drop}
-use types.Run.{OneOf}
-use denote.Enum.Declared.{tagOf}
-use Rattle.terms.specs.Bits.{Bytes, Place}
-use Rattle.terms.specs.Fields.{slice}
-use Rattle.terms.specs.Records.{grant, Child, leafBody, innerBody, Record, Slot, free, used, Store}
+use lib.ListN.{length, getD}
+use Rattle.terms.specs.Bits.{Bytes, Place, left, right}
+use Rattle.terms.specs.Records.{grant, Child, leafBody, innerBody, Record, free, used, Store}
 use Rattle.terms.specs.Form.{RecordForm}
 use Rattle.terms.proofs.Lists.{all-at}
-use Rattle.meaning.specs.Tree.{VTree, vnone, vleaf, vinner, topVersion}
+use Rattle.meaning.specs.Tree.{VTree, vnone, vleaf, vinner, topVersion, kid}
 use Rattle.meaning.specs.Store.{find, childOf}
 use Rattle.meaning.specs.Sound.{Found, Stands}
-use Rattle.meaning.proofs.Finding.{isNode-eq, free-used, spoiled-used, used-eq}
-use Rattle.hash.specs.declared.Hash.{Hash}
+use Rattle.meaning.proofs.Finding.{isNode-eq}
 use Rattle.hash.specs.Hash.{hashBytes}
 use Rattle.nodehash.specs.Node.{leafHash, innerHash}
 use Rattle.place.specs.declared.Place as place
 use Rattle.place.specs.Place.{placeOf}
-use Rattle.layout.specs.Slots.{leafIn, slotOf, SlotForm}
-use Rattle.layout.specs.Stores.{slotIn, storeOf}
-use Rattle.layout.proofs.Stores.{slot-at}
-use Rattle.slots.specs.declared.Child as child
-use Rattle.slots.specs.declared.Kind as kind
-use Rattle.slots.specs.declared.Kind.the-variants as K
-use Rattle.slots.specs.declared.Slot as slot
-use Rattle.slots.specs.Answer.{childSays, recordSays, kindSays, slotSays, Read}
-use Rattle.slots.proofs.Kind as kind-type
+use Rattle.layout.specs.Slots.{SlotForm}
+use Rattle.layout.specs.Stores.{storeOf}
 use Rattle.lookup.specs.declared.Found as found
 use Rattle.lookup.specs.declared.Found.the-variants as F
 use Rattle.lookup.specs.Lookup.{FoundIn}
+use Rattle.apply_place.specs.declared.Node as node
 use Rattle.apply_place.specs.declared.Node.the-variants as N
-use Rattle.apply_place.proofs.Changing.{stored-room}
 use Rattle.apply_place.proofs.Marking.{found-none, found-at, found-node}
 use Rattle.apply_outcome.specs.Outcomes.{NodeSays}
-use Rattle.apply_read.specs.Standing.{treeHere, Standing}
+use Rattle.apply_read.specs.declared.Onward as onward
+use Rattle.apply_read.specs.declared.Onward.the-variants.{End, Inner}
+use Rattle.apply_read.specs.Held.{Used, versionOf, versionIn, HoldsNode, NodeHeld, GoesOn}
+use Rattle.apply_read.specs.Standing.{treeHere, Standing, isInner}
 
 leaf-inner : {A : Type 0} {k x : Bytes} {l r : Child} → leafBody k x ≡ innerBody l r → A
 leaf-inner e = let z : _≡_ {A = ℕ} 0 1 = cc in absurd (omega arith)
@@ -61,8 +52,8 @@ module _ (st : Store) (q : Place) (v : ℕ) (t : VTree) (stands : Stands leafHas
       go (vinner w a b) s f = absurd (Option·none-ne-some (s .0 .0) (sym e ∙ ap (λ x. find x q (st .slots)) (sym f) ∙ s .0 .1))
 
   module _ (r : Record) (e : find v q (st .slots) ≡ some r) (form : RecordForm r) where
-    its-version : r .version ≡ v
-    its-version = isNode-eq v q r (found-node 0 v q (st .slots) r e) .0
+    its-own : r .version ≡ v
+    its-own = isNode-eq v q r (found-node 0 v q (st .slots) r e) .0
 
     -- a leaf, or an inner node
     top-leaf : (k x : Bytes) → r .body ≡ leafBody k x → t ≡ vleaf v (grant k x)
@@ -70,7 +61,7 @@ module _ (st : Store) (q : Place) (v : ℕ) (t : VTree) (stands : Stands leafHas
     top-leaf k x h = go t stands top
       where
         go : (u : VTree) → Stands leafHash innerHash st q u → topVersion u ≡ v → u ≡ vleaf v (grant k x)
-        go vnone s f = absurd (omega (arith, form .versioned, its-version))
+        go vnone s f = absurd (omega (arith, form .versioned, its-own))
         go (vleaf w g) s f =
             let m : s .0 .0 ≡ r = Option·some-injective (s .0 .0) r (sym (s .0 .1) ∙ ap (λ y. find y q (st .slots)) f ∙ e) in
             rw f (ap (vleaf v) (leaf-same (sym h ∙ ap (λ (y : Record). y .body) (sym m) ∙ s .0 .2)))
@@ -85,7 +76,7 @@ module _ (st : Store) (q : Place) (v : ℕ) (t : VTree) (stands : Stands leafHas
       where
         go : (u : VTree) → Stands leafHash innerHash st q u → topVersion u ≡ v →
             (a : VTree) × (b : VTree) × (u ≡ vinner v a b) × (l ≡ childOf leafHash innerHash a) × (c ≡ childOf leafHash innerHash b)
-        go vnone s f = absurd (omega (arith, form .versioned, its-version))
+        go vnone s f = absurd (omega (arith, form .versioned, its-own))
         go (vleaf w g) s f =
             let m : s .0 .0 ≡ r = Option·some-injective (s .0 .0) r (sym (s .0 .1) ∙ ap (λ y. find y q (st .slots)) f ∙ e) in
             leaf-inner (sym (sym h ∙ ap (λ (y : Record). y .body) (sym m) ∙ s .0 .2))
@@ -96,36 +87,59 @@ module _ (st : Store) (q : Place) (v : ℕ) (t : VTree) (stands : Stands leafHas
 
 -- over the bytes
 module _ {s : Bytes} {p : place.Place} {v : ℕ} (w : Standing s p v) {o : found.Found} (f : FoundIn (storeOf s .slots) v (placeOf p) o) where
-  pub node-none : o ≡ F.Nothing → NodeSays N.Nothing (treeHere s p v)
+  pub node-none : o ≡ F.Nothing → treeHere s p v ≡ vnone
   node-none e = top-none (storeOf s) (placeOf p) v (treeHere s p v) (w .stands) (w .top) (found-none v (placeOf p) (storeOf s .slots) e f)
 
-  module _ {i : ℕ} (e : o ≡ F.At i) {x : Bytes} (d : x ≡ slotIn i s) (z : slot.Slot) (g : Read x z) where
+  module _ {i : ℕ} (e : o ≡ F.At i) where
     abbrev hit : (i < length (storeOf s .slots)) × ((r : Record) × (getD (storeOf s .slots) i free ≡ used r) × (find v (placeOf p) (storeOf s .slots) ≡ some r))
     hit = found-at v (placeOf p) (storeOf s .slots) e f
+
+    -- the slot found is used, and has the version sought
+    pub slot-used : Used s i
+    slot-used = record { stored = w .stored; within = hit .0; held = hit .1 .0; slot = hit .1 .1 }
 
     its-form : RecordForm (hit .1 .0)
     its-form = subst SlotForm (hit .1 .1) (all-at SlotForm (storeOf s .slots) free i (w .stored .form .each) (hit .0))
 
-    read-is : slotSays z x ≡ used (hit .1 .0)
-    read-is =
-        g .says ∙ ap slotOf d ∙ sym (slot-at s i (rw (stored-room (w .stored)) (hit .0))) ∙ hit .1 .1
+    its-version : hit .1 .0 .version ≡ v
+    its-version = isNode-eq v (placeOf p) (hit .1 .0) (found-node 0 v (placeOf p) (storeOf s .slots) (hit .1 .0) (hit .1 .2)) .0
 
-    pub node-leaf : (k y : Hash) → OneOf (0 ∷ 1 ∷ 3 ∷ []) (tagOf kind-type.the-type (z .kind)) → hashBytes k ≡ take 32 (drop 48 x) →
-        hashBytes y ≡ take 32 (drop 80 x) → NodeSays (N.Leaf v k y) (treeHere s p v)
-    unfolding slotSays kindSays recordSays leafIn slice
-    node-leaf k y n a b = go (z .kind) n read-is
+    pub slot-version : versionIn s i ≡ v
+    slot-version = ap versionOf (hit .1 .1) ∙ its-version
+
+    -- the record it holds is the top of the tree
+    pub leaf-there : {k x : Bytes} → hit .1 .0 .body ≡ leafBody k x → treeHere s p v ≡ vleaf v (grant k x)
+    leaf-there {k} {x} b =
+        top-leaf (storeOf s) (placeOf p) v (treeHere s p v) (w .stands) (w .top) (hit .1 .0) (hit .1 .2) its-form k x b
+
+    pub inner-there : {l r : Child} → hit .1 .0 .body ≡ innerBody l r →
+        (a : VTree) × (b : VTree) × (treeHere s p v ≡ vinner v a b) × (l ≡ childOf leafHash innerHash a) × (r ≡ childOf leafHash innerHash b)
+    inner-there {l} {r} b =
+        top-inner (storeOf s) (placeOf p) v (treeHere s p v) (w .stands) (w .top) (hit .1 .0) (hit .1 .2) its-form l r b
+
+    pub node-there : (n : node.Node) → NodeHeld s i n → NodeSays true n (treeHere s p v)
+    node-there n h = go n (h (hit .1 .0) (hit .1 .1))
       where
-        go : (c : kind.Kind) → OneOf (0 ∷ 1 ∷ 3 ∷ []) (tagOf kind-type.the-type c) → kindSays c z x ≡ used (hit .1 .0) →
-            treeHere s p v ≡ vleaf v (grant (hashBytes k) (hashBytes y))
-        go K.Free n h = free-used _ h
-        go K.Leaf n h =
-            top-leaf (storeOf s) (placeOf p) v (treeHere s p v) (w .stands) (w .top) (hit .1 .0) (hit .1 .2) its-form (hashBytes k) (hashBytes y)
-            (rw (a, b) (sym (ap (λ (r : Record). r .body) (used-eq _ _ h))))
-        go (K.Inner l r) n h = absurd (⊎-elim (λ e. omega arith) (⊎-elim (λ e. omega arith) (λ e. omega arith)) n)
-        go K.Spoiled n h = spoiled-used _ _ h
+        go : (m : node.Node) → HoldsNode m (hit .1 .0) → NodeSays true m (treeHere s p v)
+        go N.Nothing b = absurd b
+        go (N.Leaf u k x) b = leaf-there (b .1) ∙ ap (λ z. vleaf z (grant (hashBytes k) (hashBytes x))) (sym (b .0 ∙ its-version))
+        go (N.Inner u l r) b =
+            let (x, y, t, g, d) = inner-there (b .1) in
+            (x, y, t ∙ ap (λ z. vinner z x y) (sym (b .0 ∙ its-version)), g, d)
 
-    pub node-inner : {l r : child.Child} → z .kind ≡ K.Inner l r → NodeSays (N.Inner v l r) (treeHere s p v)
-    unfolding slotSays kindSays recordSays
-    node-inner {l} {r} n =
-        top-inner (storeOf s) (placeOf p) v (treeHere s p v) (w .stands) (w .top) (hit .1 .0) (hit .1 .2) its-form (childSays l) (childSays r)
-        (sym (ap (λ (q : Record). q .body) (used-eq _ _ (sym (ap (λ c. kindSays c z x) n) ∙ read-is))))
+    -- an inner node stands there exactly if the steps go on
+    pub ends-there : {d : onward.Onward} → d ≡ End → GoesOn s (F.At i) d → isInner (treeHere s p v) ≡ false
+    ends-there z g = let (k, x, b) = subst (GoesOn s (F.At i)) z g (hit .1 .0) (hit .1 .1) in ap isInner (leaf-there b)
+
+    pub goes-there : {d : onward.Onward} {j l r : ℕ} → d ≡ Inner j l r → GoesOn s (F.At i) d →
+        (j ≡ i) × (isInner (treeHere s p v) ≡ true) × (l ≡ topVersion (kid left (treeHere s p v))) × (r ≡ topVersion (kid right (treeHere s p v)))
+    unfolding childOf
+    goes-there z g =
+        let (j, h) = subst (GoesOn s (F.At i)) z g in
+        let (cl, cr, b, k, m) = h (hit .1 .0) (hit .1 .1) in
+        let (x, y, t, q, u) = inner-there b in (
+          j,
+          ap isInner t,
+          k ∙ ap (λ (c : Child). c .version) q ∙ sym (ap (λ z. topVersion (kid left z)) t),
+          m ∙ ap (λ (c : Child). c .version) u ∙ sym (ap (λ z. topVersion (kid right z)) t),
+        )

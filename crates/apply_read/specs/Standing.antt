@@ -2,8 +2,8 @@
 use Prim.Native.Nat.{ℕ, _-_}
 use mathlib.Core.Path.{_≡_}
 use mathlib.Core.Bool.{Bool, true, false}
-use Rattle.terms.specs.Bits.{Bytes, left, right}
-use Rattle.meaning.specs.Tree.{VTree, vnone, vleaf, vinner, topVersion, kid}
+use Rattle.terms.specs.Bits.{Bytes}
+use Rattle.meaning.specs.Tree.{VTree, vnone, vleaf, vinner, topVersion}
 use Rattle.meaning.specs.Store.{treeFrom}
 use Rattle.meaning.specs.Sound.{Stands}
 use Rattle.nodehash.specs.Node.{leafHash, innerHash}
@@ -14,8 +14,6 @@ use Rattle.apply_place.specs.Placing.{Stored}
 use Rattle.apply_outcome.specs.declared.Change.the-variants as C
 use Rattle.apply_outcome.specs.declared.Outcome as outcome
 use Rattle.apply_outcome.specs.Outcomes.{NodeSays}
-use Rattle.apply_read.specs.declared.Below as declared
-use Rattle.apply_read.specs.declared.Below.the-variants.{End, Inner}
 
 -- The tree that is read on from a version and place.
 unfoldable pub treeHere : Bytes → place.Place → ℕ → VTree
@@ -27,11 +25,6 @@ isInner vnone = false
 isInner (vleaf v g) = false
 isInner (vinner v l r) = true
 
--- What is below it: nothing that the steps go on to, or two children of these versions.
-abbrev pub BelowSays : declared.Below → VTree → Type 0
-BelowSays End t = isInner t ≡ false
-BelowSays (Inner l r) t = (isInner t ≡ true) × (l ≡ topVersion (kid left t)) × (r ≡ topVersion (kid right t))
-
 -- It stands there; version 0 is no node.
 pub record Standing (s : Bytes) (p : place.Place) (v : ℕ) : Type 0 where
   pub stored : Stored s
@@ -40,7 +33,7 @@ pub record Standing (s : Bytes) (p : place.Place) (v : ℕ) : Type 0 where
   pub top : topVersion (treeHere s p v) ≡ v
 
 -- An outcome where nothing changes.
-pub record Unchanged (t : VTree) (r : outcome.Outcome) : Type 0 where
+pub record Unchanged (from : ℕ) (t : VTree) (r : outcome.Outcome) : Type 0 where
   pub change : r .change ≡ C.Unchanged
-  pub node : NodeSays (r .node) t
-  pub count : r .count ≡ 0
+  pub node : NodeSays true (r .node) t
+  pub reach : r .reach ≡ from

@@ -1,30 +1,44 @@
-// The node (version, place) as it is read from lent memory, with its grant or what it says of its children.
+// The node that a slot holds, with its grant or what it says of its children, and the node (version, place) of a tree that stands.
+use apply_guess::find_near;
 use apply_outcome::Change;
 use apply_outcome::Outcome;
 use apply_place::Node;
+use fields::get_u32;
 use hash::hash_at;
 use layout::sizes;
 use lookup::Found;
-use lookup::find;
 use place::Place;
-use slots::Kind;
-use slots::read_slot;
+use slots::Child;
+use slots::is_leaf;
 use store::slot_of;
-ghost use Rattle.apply_outcome.specs.Outcomes.{NodeSays};
-ghost use Rattle.apply_read.specs.Standing.{treeHere, Standing, BelowSays, Unchanged};
+ghost use mathlib.Core.Path.{_≡_};
+ghost use Prim.Native.Nat.{_+_, _≤_};
+ghost use lib.ListN.{length};
+ghost use Rattle.layout.specs.Sizes.{childSize};
+ghost use Rattle.layout.specs.Slots.{childIn};
+ghost use Rattle.slots.specs.Answer.{childSays};
+ghost use Rattle.apply_guess.specs.Guess.{Once};
+ghost use Rattle.apply_read.specs.Held.{Used, NodeHeld, UsedAt, GoesOn};
+ghost use Rattle.apply_read.specs.Standing.{treeHere, Standing, Unchanged};
 
-// A record that is found is a leaf or an inner record.
-pub fn node_at(store: &[u8], version: u32, place: Place) -> Node
-    requires { ⌜ Standing (now store) place version ⌝ }
-    ensures { λ r. ⌜ NodeSays r (treeHere (now (store .entry)) place version) ⌝ }
+// What an inner record says of the child at an offset.
+fn child_in(s: &[u8], at: usize) -> Child
+    requires { ⌜ at + childSize ≤ length (now s) ⌝ }
+    ensures { λ r. ⌜ childSays r ≡ childIn at (now (s .entry)) ⌝ }
 {
-    let Found::At(i) = find(store, version, place) else {
-        return Node::Nothing;
-    };
+    let version = get_u32(s, at);
+    let hash = hash_at(s, at + 4);
+    Child { version, hash }
+}
+
+// A slot that is used holds a leaf or an inner record.
+pub fn node_in(store: &[u8], i: usize) -> Node
+    requires { ⌜ Used (now store) i ⌝ }
+    ensures { λ r. ⌜ NodeHeld (now (store .entry)) i r ⌝ }
+{
     let s = slot_of(store, i);
-    let slot = read_slot(s);
-    let kind = slot.kind;
-    let Kind::Inner { left, right } = kind else {
+    let version = get_u32(s, sizes::VERSION_AT);
+    if is_leaf(s) {
         let key = hash_at(s, sizes::KEY_AT);
         let value = hash_at(s, sizes::VALUE_AT);
         return Node::Leaf {
@@ -32,7 +46,9 @@ pub fn node_at(store: &[u8], version: u32, place: Place) -> Node
             key,
             value,
         };
-    };
+    }
+    let left = child_in(s, sizes::LEFT_AT);
+    let right = child_in(s, sizes::RIGHT_AT);
     Node::Inner {
         version,
         left,
@@ -40,40 +56,51 @@ pub fn node_at(store: &[u8], version: u32, place: Place) -> Node
     }
 }
 
-// The versions of the children, where an inner node stands.
-pub enum Below {
+// Where the steps go on to from what was found: the slot of an inner node and the versions of its children.
+pub enum Onward {
     End,
-    Inner { left: u32, right: u32 },
+    Inner { slot: usize, left: u32, right: u32 },
 }
 
-pub fn below_at(store: &[u8], version: u32, place: Place) -> Below
-    requires { ⌜ Standing (now store) place version ⌝ }
-    ensures { λ r. ⌜ BelowSays r (treeHere (now (store .entry)) place version) ⌝ }
+pub fn onward_from(store: &[u8], found: Found) -> Onward
+    requires { ⌜ UsedAt (now store) found ⌝ }
+    ensures { λ r. ⌜ GoesOn (now (store .entry)) found r ⌝ }
 {
-    let node = node_at(store, version, place);
-    let Node::Inner {
-        version: _,
-        left,
-        right,
-    } = node
-    else {
-        return Below::End;
+    let Found::At(slot) = found else {
+        return Onward::End;
     };
-    Below::Inner {
-        left: left.version,
-        right: right.version,
+    let s = slot_of(store, slot);
+    if is_leaf(s) {
+        return Onward::End;
     }
+    let left = get_u32(s, sizes::LEFT_AT);
+    let right = get_u32(s, sizes::RIGHT_AT);
+    Onward::Inner { slot, left, right }
 }
 
 // The outcome where nothing changes.
-pub fn unchanged_at(store: &[u8], version: u32, place: Place) -> Outcome
-    requires { ⌜ Standing (now store) place version ⌝ }
-    ensures { λ r. ⌜ Unchanged (treeHere (now (store .entry)) place version) r ⌝ }
+pub fn unchanged_at(
+    store: &[u8],
+    guesses: &[u16; 8192],
+    from: usize,
+    version: u32,
+    place: Place,
+) -> Outcome
+    requires { ⌜ Standing (now store) place version × Once (now store) version place ⌝ }
+    ensures { λ r. ⌜ Unchanged from (treeHere (now (store .entry)) place version) r ⌝ }
 {
-    let node = node_at(store, version, place);
+    let found = find_near(store, guesses, version, place);
+    let Found::At(i) = found else {
+        return Outcome {
+            change: Change::Unchanged,
+            node: Node::Nothing,
+            reach: from,
+        };
+    };
+    let node = node_in(store, i);
     Outcome {
         change: Change::Unchanged,
         node,
-        count: 0,
+        reach: from,
     }
 }

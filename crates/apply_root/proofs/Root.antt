@@ -3,7 +3,7 @@
 use Prim.Native.Nat.{ℕ, _+_, _-_, _≤_}
 use native.Mathlib.Omega.{arith}
 use mathlib.Core.Path.{_≡_, refl, ap, ap₂, sym, _∙_, subst}
-use mathlib.Core.Bool.{Bool, true, false}
+use mathlib.Core.Bool.{Bool, true, false, false≢true}
 use mathlib.Core.List.{List, [], _++_}
 use lib.ListN.{length, length-append}
 use Rattle.terms.specs.Bits.{Bytes, All, Place}
@@ -26,27 +26,30 @@ use Rattle.steps.proofs.Among.{at-node}
 use Rattle.steps.proofs.Writing.{AllNew, AllOlder, two-turns}
 use Rattle.apply_place.specs.declared.Node as node
 use Rattle.apply_place.specs.declared.Node.the-variants as N
-use Rattle.apply_place.specs.Placing.{Changed, whenWrites, Single, recordSays}
-use Rattle.apply_place.proofs.Changing.{changed-as, changed-then}
+use Rattle.apply_place.specs.Placing.{Changed, whenWrites, recordSays}
+use Rattle.apply_place.specs.Reach.{Places, Placed}
+use Rattle.apply_place.proofs.Reaching.{starts-marked, reaches-then, reaches-as}
+use Rattle.apply_place.proofs.Changing.{changed-as, changed-stored, changed-then}
 use Rattle.apply_outcome.specs.declared.Change as change
-use Rattle.apply_outcome.specs.declared.Change.the-variants.{Deleted}
+use Rattle.apply_outcome.specs.declared.Change.the-variants.{Updated, Deleted}
 use Rattle.apply_outcome.specs.declared.Outcome as declared
-use Rattle.apply_outcome.specs.Outcomes.{beyond, capped, nodeSize, NodeSays, Did}
-use Rattle.apply_outcome.proofs.Saying.{says-record, node-size}
+use Rattle.apply_outcome.specs.Outcomes.{NodeSays, updatedSays, Did}
+use Rattle.apply_outcome.proofs.Saying.{says-record, says-many, placed-as}
 use Rattle.apply_outcome.proofs.Forms.{Number, Numbered, says-form}
+use Rattle.apply_guess.specs.Guess.{Once}
 use Rattle.apply_end.specs.Ending.{childNodes, endsSays}
 use Rattle.apply_end.proofs.Ending.{top-nodes}
 use Rattle.apply_read.specs.Standing.{treeHere}
-use Rattle.apply_step.specs.Stepping.{atNode, atChild}
+use Rattle.apply_tip.specs.Stepping.{atNode, atChild}
 use Rattle.apply_inner.proofs.Standing.{top-older, single-after}
-use Rattle.apply_step.proofs.Stepping.{numbered, child-is-node, child-new, child-shaped, child-numbered}
+use Rattle.apply_tip.proofs.Stepping.{numbered, child-is-node, child-new, child-shaped, child-numbered}
 use Rattle.apply_root.specs.Root.{newRootSays, HereRoot}
 
 -- the new root by value is the top of the new tree
-pub says-root : (new : ℕ) (n : node.Node) (t : VTree) → NodeSays n t → NodeSays (newRootSays new n) (newRoot new t)
-says-root new N.Nothing t e = rw e refl
-says-root new (N.Leaf v k x) t e = rw e refl
-says-root new (N.Inner v l r) t (a, b, e, x, y) = (a, b, ap (newRoot new) e, x, y)
+pub says-root : (w : Bool) (new : ℕ) (n : node.Node) (t : VTree) → NodeSays w n t → NodeSays w (newRootSays new n) (newRoot new t)
+says-root w new N.Nothing t e = rw e refl
+says-root w new (N.Leaf v k x) t e = rw e refl
+says-root w new (N.Inner v l r) t (a, b, e, x, y) = (a, b, ap (newRoot new) e, x, y)
 
 root-numbered : (new : ℕ) (t : VTree) → Number new → Numbered t → Numbered (newRoot new t)
 root-numbered new vnone n m = tt
@@ -60,7 +63,7 @@ in-turn : (w : Bool) (new : ℕ) (xs ys : List Record) (ms ns : List step.Node) 
 in-turn true new xs ys ms ns s f o = sym (two-turns new xs ys ms ns s f o)
 in-turn false new xs ys ms ns s f o = refl
 
-module _ {new : ℕ} {s : Bytes} {p : place.Place} {v : ℕ} {part : Bytes} (w : HereRoot new s p v part) where
+module _ {new : ℕ} {writes : Bool} {s : Bytes} {p : place.Place} {v : ℕ} {part : Bytes} (w : HereRoot new writes s p v part) where
   abbrev tree : VTree
   tree = treeHere s p v
 
@@ -79,37 +82,56 @@ module _ {new : ℕ} {s : Bytes} {p : place.Place} {v : ℕ} {part : Bytes} (w :
   below-new : AllNew new (below .fresh)
   below-new = subst (λ (o : step.Outcome). AllNew new (o .fresh)) below-is (child-new (w .here))
 
-  module _ (writes : Bool) {s₁ : Bytes} {r : declared.Outcome} (x : Did new writes s s₁ (atChild new s p v part) r) where
+  module _ {s₁ : Bytes} {r : declared.Outcome} (x : Did new writes 0 s s₁ (atChild new s p v part) r) where
     -- the old root is one record at most
-    pub root-once : Single v (placeOf p) (storeOf s₁ .slots)
-    root-once =
-        single-after new (atChild new s p v part) (child-new (w .here)) writes (x .bytes) (w .here .single) v (placeOf p)
-        (omega (arith, top-older new (placeOf p) tree (w .here .number) (w .here .older), w .here .standing .top))
+    pub root-once : Once s₁ v p
+    root-once = record {
+      stored = changed-stored (x .bytes);
+      proper = w .here .standing .proper;
+      single =
+          single-after new (atChild new s p v part) (child-new (w .here)) writes (x .bytes) (w .here .single) v (placeOf p)
+          (omega (arith, top-older new (placeOf p) tree (w .here .number) (w .here .older), w .here .standing .top));
+    }
 
-    done : Did new writes s s₁ below r
-    done = subst (λ o. Did new writes s s₁ o r) below-is x
+    done : Did new writes 0 s s₁ below r
+    done = subst (λ o. Did new writes 0 s s₁ o r) below-is x
 
-    pub root-says : NodeSays (newRootSays new (r .node)) (newRoot new (below .node))
-    root-says = says-root new (r .node) (below .node) (done .node)
+    pub root-says : NodeSays writes (newRootSays new (r .node)) (newRoot new (below .node))
+    root-says = says-root writes new (r .node) (below .node) (done .node)
 
-    pub root-form : new ≤ top32 → All RecordForm (recordSays (placeOf p) (newRootSays new (r .node)))
-    root-form t =
+    root-form : (b : Bool) → writes ≡ b → new ≤ top32 → b ≡ true → All RecordForm (recordSays (placeOf p) (newRootSays new (r .node)))
+    root-form false i t e = absurd (false≢true e)
+    root-form true i t z =
         let e = ap (λ (o : step.Outcome). o .node) below-is in
         let sh : Shaped (placeOf p) (unversioned (below .node)) = subst (λ u. Shaped (placeOf p) (unversioned u)) e (child-shaped (w .here) t) in
-        says-form (newRootSays new (r .node)) (newRoot new (below .node)) (placeOf p) root-says
+        says-form (newRootSays new (r .node)) (newRoot new (below .node)) (placeOf p)
+        (subst (λ b. NodeSays b (newRootSays new (r .node)) (newRoot new (below .node))) i root-says)
         (subst (Shaped (placeOf p)) (sym (root-tree new (below .node))) sh)
         (root-numbered new (below .node) (w .here .number, t) (subst Numbered e (child-numbered (w .here) t)))
 
-    pub few : r .count ≤ beyond
-    few = omega (arith, x .count)
+    pub root-places : {s₂ : Bytes} {n : node.Node} → new ≤ top32 → Changed (whenWrites writes (mark new (endsSays Deleted v (placeOf p)))) s₁ s₂ →
+        n ≡ newRootSays new (r .node) → Places writes s₂ (r .reach) p (recordSays (placeOf p) n)
+    root-places t m e = record {
+      stored = changed-stored m;
+      starts = starts-marked writes new (endsSays Deleted v (placeOf p)) m (x .reach .starts);
+      proper = w .here .standing .proper;
+      form = λ z. subst (λ n. All RecordForm (recordSays (placeOf p) n)) (sym e) (root-form writes refl t z);
+    }
 
     -- the new root's record
     abbrev root-record : List Record
     root-record = recordAt leafHash innerHash [] (newRoot new (below .node))
 
-    record-is : recordSays (placeOf p) (newRootSays new (r .node)) ≡ root-record
-    record-is =
-        ap (λ q. recordSays q (newRootSays new (r .node))) (w .top) ∙ says-record (newRootSays new (r .node)) (newRoot new (below .node)) root-says []
+    record-is : writes ≡ true → recordSays (placeOf p) (newRootSays new (r .node)) ≡ root-record
+    record-is z =
+        ap (λ q. recordSays q (newRootSays new (r .node))) (w .top)
+        ∙ says-record writes (newRootSays new (r .node)) (newRoot new (below .node)) z root-says []
+
+    record-many : length (recordSays (placeOf p) (newRootSays new (r .node))) ≡ length root-record
+    unfolding updatedSays
+    record-many =
+        ap (λ q. length (recordSays q (newRootSays new (r .node)))) (w .top)
+        ∙ says-many writes (record { change = Updated; node = newRootSays new (r .node); reach = 0 }) (newRoot new (below .node)) root-says []
 
     marks-are : endsSays Deleted v (placeOf p) ≡ step.nodeAt [] tree
     marks-are = ap₂ childNodes (sym (w .here .standing .top)) (w .top) ∙ top-nodes tree [] (numbered (w .here))
@@ -119,18 +141,18 @@ module _ {new : ℕ} {s : Bytes} {p : place.Place} {v : ℕ} {part : Bytes} (w :
 
     -- what was below the root, its mark, and the new root
     pub root-did : {s₂ s₃ : Bytes} {n : node.Node} {k : ℕ} → Changed (whenWrites writes (mark new (endsSays Deleted v (placeOf p)))) s₁ s₂ →
-        n ≡ newRootSays new (r .node) → Changed (whenWrites writes (placed (recordSays (placeOf p) n))) s₂ s₃ → k ≡ capped (r .count + nodeSize n) →
-        Did new writes s s₃ (step.stepRoot leafHash innerHash new tree (asks part)) (record { change = r .change; node = n; count = k })
+        n ≡ newRootSays new (r .node) → Placed writes (r .reach) (recordSays (placeOf p) n) s₂ s₃ k →
+        Did new writes 0 s s₃ (step.stepRoot leafHash innerHash new tree (asks part)) (record { change = r .change; node = n; reach = k })
     unfolding step.stepRoot
-    root-did {s₂} {s₃} {n} {k} m e z c = record {
+    root-did {s₂} {s₃} {n} {k} m e z = record {
       change = done .change;
       node = rw e root-says;
-      count =
-          let i : nodeSize n ≡ length root-record = node-size (placeOf p) n ∙ ap length (ap (recordSays (placeOf p)) e ∙ record-is) in
-          c ∙ omega (arith, done .count, i, length-append (below .fresh) root-record);
+      reach =
+          reaches-then writes (length-append (below .fresh) root-record) (done .reach)
+          (reaches-as writes (ap (λ c. length (recordSays (placeOf p) c)) e ∙ record-many) (z .reach));
       bytes =
           let m′ = subst (λ ns. Changed (whenWrites writes (mark new ns)) s₁ s₂) marks-are m in
-          let z′ = subst (λ rs. Changed (whenWrites writes (placed rs)) s₂ s₃) (ap (recordSays (placeOf p)) e ∙ record-is) z in
+          let z′ = placed-as writes (λ z. ap (recordSays (placeOf p)) e ∙ record-is z) (z .bytes) in
           changed-as _ (whenWrites writes (λ u. placed (below .fresh ++ root-record) (mark new (below .retired ++ step.nodeAt [] tree) u)))
           (in-turn writes new (below .fresh) root-record (below .retired) (step.nodeAt [] tree) (storeOf s .slots) below-new ends-older)
           (changed-then (changed-then (done .bytes) m′) z′);

@@ -2,8 +2,6 @@
 use apply_end::mark_changed;
 use apply_outcome::Change;
 use apply_outcome::Outcome;
-use apply_outcome::more;
-use apply_outcome::size;
 use apply_place::Node;
 use apply_place::place_node;
 use apply_step::at_child;
@@ -43,28 +41,28 @@ fn new_root(node: Node, new: u32) -> Node
     }
 }
 
-// A batch on the whole tree; version 0 where there is no root. The count is that of all new records.
+// A batch on the whole tree; version 0 where there is no root. The reach is that of all new records.
 pub fn at_root(
     store: &mut [u8],
+    guesses: &[u16; 8192],
     writes: bool,
     new: u32,
     top: Place,
     version: u32,
     batch: &[u8],
 ) -> Outcome
-    requires { ⌜ HereRoot new (now store) top version (now batch) ⌝ }
-    ensures { λ r. ⌜ Did new writes (now (store .entry)) (now (store .exit)) (step.stepRoot leafHash innerHash new (treeHere (now (store .entry)) top version) (asks (now (batch .entry)))) r ⌝ }
+    requires { ⌜ HereRoot new writes (now store) top version (now batch) ⌝ }
+    ensures { λ r. ⌜ Did new writes 0 (now (store .entry)) (now (store .exit)) (step.stepRoot leafHash innerHash new (treeHere (now (store .entry)) top version) (asks (now (batch .entry)))) r ⌝ }
 {
-    let below = at_child(store, writes, new, top, version, batch);
-    mark_changed(store, writes, Change::Deleted, version, top, new);
+    let below = at_child(store, guesses, writes, new, 0, top, version, batch);
+    mark_changed(store, guesses, writes, Change::Deleted, version, top, new);
     let change = below.change;
     let was = below.node;
     let node = new_root(was, new);
-    place_node(store, writes, top, node);
-    let count = more(below.count, size(node));
+    let reach = place_node(store, writes, below.reach, top, node);
     Outcome {
         change,
         node,
-        count,
+        reach,
     }
 }

@@ -1,4 +1,1 @@
-pub mod Counting
-pub mod Ready
-pub mod Outcomes
-pub mod Publishing
+pub mod Refusing

@@ -1,113 +1,16 @@
-// Applying a batch to a store in lent memory, document 01: the next version, or a number of refusal. Room is known before the first byte is
-// written: the steps are taken once without writing, to count the new records, and once with.
-use apply_outcome::child_of;
-use apply_root::at_root;
+// Applying a batch to a store in lent memory, document 01: the next version, or a number of refusal.
+use apply_publish::Applied;
+use apply_publish::publish;
 use batch::batch_form;
 use batch::batch_order;
-use fields::all_zero;
-use fields::get_u32;
-use fields::put_u32;
-use hash::Hash;
-use layout::sizes;
-use lookup::Found;
-use lookup::find_root;
-use place::Place;
 use soundness::check;
-use store::slot_count;
-use store::slot_of;
-use store::version_at;
-ghost use mathlib.Core.Path.{_≡_};
-ghost use mathlib.Core.Bool.{true};
-ghost use lib.ListN.{length};
-ghost use Rattle.meaning.specs.Store.{rootOf};
-ghost use Rattle.layout.specs.Headers.{sizeRight};
-ghost use Rattle.layout.specs.Stores.{storeOf};
-ghost use Rattle.apply_place.specs.Placing.{Stored};
-ghost use Rattle.applying.specs.Apply.{appliedSays, Applies, rootVersion, FreeCount, Ready};
+ghost use Rattle.apply_publish.specs.Apply.{appliedSays, Applies};
 
 // 4: the batch isn't whole records in form, or they are more than 1,024.
 const BAD_BATCH: u32 = 4;
 
 // 5: its keys aren't strictly ascending.
 const BAD_ORDER: u32 = 5;
-
-// 6: latest is the last number there is.
-const NO_VERSION: u32 = 6;
-
-// 7: fewer free slots than new records.
-const NO_ROOM: u32 = 7;
-
-const LAST_NUMBER: u32 = 4294967295;
-
-// A number of refusal, or the new version, its root, and the count of new records.
-pub enum Applied {
-    Refused(u32),
-    Made {
-        version: u32,
-        root: Hash,
-        count: u32,
-    },
-}
-
-// How many slots are free.
-fn count_free(store: &[u8]) -> usize
-    requires { ⌜ Stored (now store) ⌝ }
-    ensures { λ r. ⌜ FreeCount (now (store .entry)) r ⌝ }
-{
-    let n = slot_count(store);
-    let mut free = 0;
-    let mut i = 0;
-    while i < n {
-        if all_zero(slot_of(store, i)) {
-            free += 1;
-            i += 1;
-            continue;
-        }
-        i += 1;
-    }
-    free
-}
-
-// The version of the root of a version; 0 where there is none.
-fn root_version(store: &[u8], version: u32) -> u32
-    requires { ⌜ Stored (now store) ⌝ }
-    ensures { λ r. ⌜ r ≡ rootVersion (rootOf (storeOf (now (store .entry))) version) ⌝ }
-{
-    let found = find_root(store, version);
-    let Found::At(i) = found else {
-        return 0;
-    };
-    version_at(store, i)
-}
-
-// Makes the next version of a sound store.
-fn publish(store: &mut [u8], batch: &[u8]) -> Applied
-    requires { ⌜ Ready (now store) (now batch) ⌝ }
-    ensures { λ r. ⌜ Applies (now (batch .entry)) (now (store .entry)) (appliedSays r) (now (store .exit)) ⌝ }
-{
-    let latest = get_u32(store, sizes::LATEST_AT);
-    if latest == LAST_NUMBER {
-        return Applied::Refused(NO_VERSION);
-    }
-    let new = latest + 1;
-    let top = Place::top();
-    let old = root_version(store, latest);
-    let needs = at_root(store, false, new, top, old, batch);
-    if count_free(store) < needs.count {
-        return Applied::Refused(NO_ROOM);
-    }
-    let made = at_root(store, true, new, top, old, batch);
-    put_u32(store, sizes::LATEST_AT, new);
-    let node = made.node;
-    let says = child_of(node);
-    let root = says.hash;
-    let count = made.count as u32;
-    Applied::Made {
-        version: new,
-        root,
-        count,
-    }
-}
 
 // Applies a batch to a store, where check accepts it; refused, nothing is written.
 pub fn apply(store: &mut [u8], batch: &[u8]) -> Applied

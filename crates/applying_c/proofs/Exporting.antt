@@ -13,9 +13,9 @@ use Rattle.hash.proofs.Laws.{hash-whole, put-over}
 use Rattle.fields.specs.Written.{written}
 use Rattle.fields.proofs.Written.{length-written, part-written, fields-fill}
 use Rattle.promises.specs.Calls.{exports-refusal, exports-answer}
-use Rattle.applying.specs.Apply.{appliedSays, Applies}
-use Rattle.applying.specs.declared.Applied as declared
-use Rattle.applying.specs.declared.Applied.the-variants.{Refused, Made}
+use Rattle.apply_publish.specs.Apply.{appliedSays, Applies}
+use Rattle.apply_publish.specs.declared.Applied as declared
+use Rattle.apply_publish.specs.declared.Applied.the-variants.{Refused, Made}
 use Rattle.applying_c.specs.Export.{answerBytes, ApplyExports}
 
 -- four bytes, 32, and four

@@ -1,6 +1,6 @@
 // Applying a batch at the boundary: the call answers 0 where it is accepted, else the number of refusal, and then it writes nothing. `grants`
 // exports it.
-use applying::Applied;
+use apply_publish::Applied;
 use applying::apply;
 use fields::put_u32;
 use hash::Hash;

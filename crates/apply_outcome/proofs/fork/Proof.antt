@@ -1,70 +1,68 @@
 -- `apply_outcome::fork` meets its contract: the left child is placed, then the right one. Assumes nothing.
-use mathlib.Core.Path.{refl}
-use mathlib.Core.List.{_++_}
-use native.Mathlib.Omega.{arith}
-use lib.ListN.{length-append}
-use Rattle.meaning.specs.Store.{placed}
+use mathlib.Core.Path.{refl, sym, ap, subst}
+use Rattle.terms.specs.Bits.{All, longer, left, right}
+use Rattle.terms.specs.Form.{RecordForm}
 use Rattle.place.specs.Place.{placeOf}
-use Rattle.apply_place.specs.Placing.{whenWrites}
-use Rattle.apply_place.proofs.Changing.{changed-stored, changed-as, changed-then}
+use Rattle.apply_place.proofs.Changing.{changed-stored}
 use Rattle.apply_outcome.specs.Outcomes.{updatedSays}
-use Rattle.apply_outcome.proofs.Saying.{both-placed}
+use Rattle.apply_outcome.proofs.Saying.{places-at, two-placed}
 use borrow.Author.Needs.{needs}
 use Rattle.apply_outcome.proofs.fork.Statement.{statement}
 use Rattle.apply_outcome.proofs.fork.Tie as tie
 
+left-requires : tie.Need-left-requires
+left-requires c κs = search needs
+
 place-updated-requires : tie.Need-place-updated-requires
-place-updated-requires c κs = let h = c .before .before .pre in (h .stored, h .left-place, h .left-form)
+place-updated-requires c κs =
+    let c3 = c .before .before .before in
+    places-at (c3 .args .writes) (c3 .args .l) (c .left .ensures) (c3 .pre .stored) (c3 .pre .starts) (c3 .pre .left-form)
+
+right-requires : tie.Need-right-requires
+right-requires c κs = search needs
 
 place-updated-requires-2 : tie.Need-place-updated-requires-2
-place-updated-requires-2 c κs = let h = c .before .before .before .before .before .before .pre in (changed-stored (c .before .before .before .place-updated .ensures .0), h .right-place, h .right-form)
+place-updated-requires-2 c κs =
+    let c4 = c .before .before .before .before in
+    let c8 = c4 .before .before .before .before in
+    places-at (c8 .args .writes) (c8 .args .r) (c .right .ensures) (changed-stored (c4 .place-updated .ensures .bytes)) (c4 .place-updated .ensures .reach .starts) (c8 .pre .right-form)
 
-child-of-requires : tie.Need-child-of-requires
-child-of-requires c κs = search needs
+child-after-requires : tie.Need-child-after-requires
+child-after-requires c κs = search needs
 
-child-of-requires-2 : tie.Need-child-of-requires-2
-child-of-requires-2 c κs = search needs
-
-more-requires : tie.Need-more-requires
-more-requires c κs = c .before .before .before .before .before .before .before .before .before .before .before .pre .counts
-
-add-more : tie.Need-add-more
-add-more c = omega (arith, c .before .before .before .before .before .before .before .before .before .place-updated .ensures .1, c .before .before .before .before .before .place-updated2 .ensures .1)
-
-more-requires-2 : tie.Need-more-requires-2
-more-requires-2 c κs = omega (arith, c .more .ensures, c .before .before .before .before .before .before .before .before .before .place-updated .ensures .1, c .before .before .before .before .before .place-updated2 .ensures .1)
+child-after-requires-2 : tie.Need-child-after-requires-2
+child-after-requires-2 c κs = search needs
 
 same-length : tie.Need-same-length
 same-length c = search needs
 
 returns : tie.Need-returns
 returns c =
-    let a = c .before .before .before .before .before .before .before .before .before .before .before .before .before .args in
-    let x = updatedSays (placeOf (a .lp)) (a .l) in
-    let y = updatedSays (placeOf (a .rp)) (a .r) in
-    let left = c .before .before .before .before .before .before .before .before .before .before .place-updated .ensures in
-    let right = c .before .before .before .before .before .before .place-updated2 .ensures in
+    let c1 = c .before in
+    let c4 = c1 .before .before .before in
+    let c5 = c4 .before in
+    let c9 = c5 .before .before .before .before in
+    let c10 = c9 .before in
+    let c13 = c10 .before .before .before in
     record {
-      left = _;
-      right = _;
+      left-child = _;
+      right-child = _;
       change = refl;
       node = refl;
-      left-is = c .before .before .before .child-of .ensures;
-      right-is = c .before .before .child-of2 .ensures;
-      count = simp length-append (omega (arith, c .more2 .ensures, c .before .more .ensures, left .1, right .1));
-      bytes = changed-as _ (whenWrites (a .writes) (placed (x ++ y))) (both-placed (a .writes) x y _) (changed-then (left .0) (right .0));
+      left-is = c1 .child-after .ensures;
+      right-is = c .child-after2 .ensures;
+      placed = two-placed (c13 .args .writes) (c13 .args .l) (c13 .args .r) (c10 .left .ensures) (c5 .right .ensures) (c9 .place-updated .ensures) (c4 .place-updated2 .ensures);
     }
 
 pub fork-spec : {M : Type 1} → statement M
 fork-spec =
     tie.close
     (tie.spec
+    left-requires
     place-updated-requires
+    right-requires
     place-updated-requires-2
-    child-of-requires
-    child-of-requires-2
-    more-requires
-    add-more
-    more-requires-2
+    child-after-requires
+    child-after-requires-2
     same-length
     returns)

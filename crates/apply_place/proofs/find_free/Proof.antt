@@ -6,50 +6,41 @@ use borrow.Author.Needs.{needs}
 use Rattle.terms.specs.Fields.{allZero}
 use Rattle.layout.specs.Sizes.{roomOf}
 use Rattle.apply_place.proofs.Changing.{stored-accepted}
-use Rattle.apply_place.proofs.Placing.{Passed, from-start, one-more, free-here, none-free}
+use Rattle.apply_place.proofs.Placing.{Passed, from-slot, one-more, free-here, none-free}
 use Rattle.apply_place.proofs.find_free.Statement.{statement}
 use Rattle.apply_place.proofs.find_free.Tie as tie
 
 abbrev Inv-loop : tie.InvT-loop
-Inv-loop store n i₀ i = Passed store n i
+Inv-loop store from n i₀ i = Passed store n i
 
 abbrev μ-loop : tie.MeasureT-loop
-μ-loop store n i₀ i = n - i
+μ-loop store from n i₀ i = n - i
 
--- src/lib.rt:45:14
 sub-n : tie.Need-sub-n Inv-loop μ-loop
-sub-n c = omega (arith, stored-accepted (c .before .pre))
+sub-n c = omega (arith, stored-accepted (c .before .pre .0))
 
--- src/lib.rt:47:5
 loop-holds : tie.Need-loop-holds Inv-loop μ-loop
 unfolding roomOf
-loop-holds c = from-start (c .before .pre) refl
+loop-holds c = from-slot (c .before .pre .0) refl (c .before .pre .1)
 
--- src/lib.rt:51:21
 slot-of-requires : tie.Need-slot-of-requires Inv-loop μ-loop
 slot-of-requires c κs = omega arith
 
--- src/lib.rt:51:12
 all-zero-requires : tie.Need-all-zero-requires Inv-loop μ-loop
 all-zero-requires c κs = search needs
 
--- src/lib.rt:54:9
 add-i : tie.Need-add-i Inv-loop μ-loop
 add-i c = omega arith
 
--- src/lib.rt:47:5
 loop-less : tie.Need-loop-less Inv-loop μ-loop
 loop-less c = omega arith
 
--- src/lib.rt:47:5
 loop-again : tie.Need-loop-again Inv-loop μ-loop
 loop-again c = one-more (c .before .before .before .before .loop .inv) (c .before .before .before .if1 .left) (ap allZero (sym (c .before .before .slot-of .ensures .0)) ∙ sym (c .before .all-zero .ensures) ∙ c .if2 .left)
 
--- src/lib.rt:41:1
 returns : tie.Need-returns Inv-loop μ-loop
 returns c = none-free (c .before .loop .inv) (c .if1 .taken)
 
--- src/lib.rt:41:1
 returns-2 : tie.Need-returns-2 Inv-loop μ-loop
 returns-2 c = free-here (c .before .before .before .before .loop .inv) (c .before .before .before .if1 .left) (ap allZero (sym (c .before .before .slot-of .ensures .0)) ∙ sym (c .before .all-zero .ensures) ∙ c .if2 .taken)
 

@@ -1,21 +1,39 @@
--- `apply_place::place_node` meets its contract: the record goes to the lowest free slot, if there is one. Assumes nothing.
+-- `apply_place::place_node` meets its contract: counted, or placed in the lowest free slot, if there is one. Assumes nothing.
+use native.Mathlib.Omega.{arith}
 use mathlib.Core.Path.{sym}
 use borrow.Author.Tests.{not-true, not-false}
 use Rattle.meaning.specs.Store.{placed}
 use Rattle.place.specs.Place.{placeOf}
 use Rattle.layout.specs.Stores.{storeOf}
 use Rattle.apply_place.specs.Placing.{recordSays}
-use Rattle.apply_place.proofs.Changing.{slot-within, unchanged, not-writing, writing, changed-as}
-use Rattle.apply_place.proofs.Placing.{free-at, placed-full, placed-gone, placed-leaf, placed-inner}
+use Rattle.apply_place.proofs.Changing.{unchanged, writing, changed-as, stored-accepted}
+use Rattle.apply_place.proofs.Placing.{free-at, placed-full}
+use Rattle.apply_place.proofs.Reaching.{size-small, clear-when, counted, full, put}
 use borrow.Author.Needs.{needs}
 use Rattle.apply_place.proofs.place_node.Statement.{statement}
 use Rattle.apply_place.proofs.place_node.Tie as tie
 
+size-requires : tie.Need-size-requires
+size-requires c κs = search needs
+
+more-requires : tie.Need-more-requires
+more-requires c κs =
+    let c1 = c .before in
+    let c3 = c1 .before .before in
+    (c3 .pre .starts .few, omega (arith, c1 .size .ensures, size-small (c3 .args .node)))
+
 returns : tie.Need-returns
-returns c = let a = c .before .before in not-writing (a .args .writes) _ (not-true _ (c .if1 .taken)) (a .pre .0)
+returns c =
+    let c1 = c .before in
+    let c2 = c1 .before in
+    let c4 = c2 .before .before in
+    counted (c4 .args .writes) (placeOf (c4 .args .place)) (c4 .args .node) (not-true _ (c1 .if1 .taken)) (c4 .pre .stored) (c2 .size .ensures) (c .more .ensures)
 
 find-free-requires : tie.Need-find-free-requires
-find-free-requires c κs = c .before .before .before .pre .0
+find-free-requires c κs =
+    let c1 = c .before in
+    let c4 = c1 .before .before .before in
+    (c4 .pre .stored, clear-when (c4 .args .writes) (not-false _ (c1 .if1 .left)) (c4 .pre .starts))
 
 enum-known-i : tie.Need-enum-known-i
 enum-known-i c = search needs
@@ -28,74 +46,63 @@ same-length c = search needs
 
 returns-2 : tie.Need-returns-2
 returns-2 c =
-    let a = c .before .before .before .before .before .before in
-    let m = placed (recordSays (placeOf (a .args .place)) (a .args .node)) in
-    writing (a .args .writes) m (not-false _ (c .before .before .before .before .if1 .left))
-    (changed-as (λ x. x) m (sym (placed-full (placeOf (a .args .place)) (a .args .node) (c .enum-told .given .1) (c .before .before .find-free .ensures))) (unchanged (a .pre .0)))
+    let c2 = c .before .before in
+    let c4 = c2 .before .before in
+    let c7 = c4 .before .before .before in
+    let p = placeOf (c7 .args .place) in
+    let m = placed (recordSays p (c7 .args .node)) in
+    let w = not-false _ (c4 .if1 .left) in
+    full (c7 .args .writes) p (c7 .args .node) w (c7 .pre .starts)
+    (writing (c7 .args .writes) m w (changed-as (λ x. x) m (sym (placed-full p (c7 .args .node) (c .enum-told .given .1) (c2 .find-free .ensures))) (unchanged (c7 .pre .stored))))
 
-enum-told-2 : tie.Need-enum-told-2
-enum-told-2 c = search needs
+put-node-requires : tie.Need-put-node-requires
+put-node-requires c κs =
+    let c2 = c .before .before in
+    let c4 = c2 .before .before in
+    let c6 = c4 .before .before in
+    let c9 = c6 .before .before .before in
+    record {
+      stored = c9 .pre .stored;
+      proper = c9 .pre .proper;
+      lowest = free-at (storeOf (c9 .args .store .now) .slots) (c2 .i .given .1) (c4 .find-free .ensures);
+      form = c9 .pre .form (not-false _ (c6 .if1 .left));
+    }
 
-enum-known-node : tie.Need-enum-known-node
-enum-known-node c = search needs
-
-put-leaf-new-requires : tie.Need-put-leaf-new-requires
-put-leaf-new-requires c κs = let a = c .before .before .before .before .before .before .before .before .before .before .before in (slot-within (a .pre .0) _ (free-at (storeOf (a .args .store .now) .slots) (c .before .before .before .before .before .i .given .1) (c .before .before .before .before .before .before .before .find-free .ensures) .0), a .pre .1)
-
-enum-known-node-2 : tie.Need-enum-known-node-2
-enum-known-node-2 c = search needs
-
-put-inner-at-requires : tie.Need-put-inner-at-requires
-put-inner-at-requires c κs = let a = c .before .before .before .before .before .before .before .before .before .before .before in (slot-within (a .pre .0) _ (free-at (storeOf (a .args .store .now) .slots) (c .before .before .before .before .before .i .given .1) (c .before .before .before .before .before .before .before .find-free .ensures) .0), a .pre .1)
+add-result : tie.Need-add-result
+add-result c =
+    let c5 = c .before .before .before .before .before in
+    let c7 = c5 .before .before in
+    let c10 = c7 .before .before .before in
+    let c12 = c10 .before .before in
+    let l = free-at (storeOf (c12 .args .store .now) .slots) (c5 .i .given .1) (c7 .find-free .ensures) .within in
+    omega (arith, l, stored-accepted (c12 .pre .stored) .fits, c10 .size .ensures, size-small (c12 .args .node))
 
 same-length-2 : tie.Need-same-length-2
 same-length-2 c = search needs
 
 returns-3 : tie.Need-returns-3
 returns-3 c =
-    let a = c .before .before .before .before .before .before .before .before .before in
-    let m = placed (recordSays (placeOf (a .args .place)) (a .args .node)) in
-    writing (a .args .writes) m (not-false _ (c .before .before .before .before .before .before .before .if1 .left))
-    (changed-as (λ x. x) m (sym (placed-gone (placeOf (a .args .place)) (a .args .node) (c .enum-told2 .given .1) _)) (unchanged (a .pre .0)))
-
-same-length-3 : tie.Need-same-length-3
-same-length-3 c = search needs
-
-returns-4 : tie.Need-returns-4
-returns-4 c =
-    let a = c .before .before .before .before .before .before .before .before .before .before .before .before .before .before in
-    let m = placed (recordSays (placeOf (a .args .place)) (a .args .node)) in
-    writing (a .args .writes) m (not-false _ (c .before .before .before .before .before .before .before .before .before .before .before .before .if1 .left))
-    (placed-leaf (placeOf (a .args .place)) (a .args .node) (a .pre .0) (c .before .before .before .before .before .node .given .1) (a .pre .2) (free-at (storeOf (a .args .store .now) .slots) (c .before .before .before .before .before .before .before .before .i .given .1) (c .before .before .before .before .before .before .before .before .before .before .find-free .ensures)) (c .before .before .put-leaf-new .ensures))
-
-same-length-4 : tie.Need-same-length-4
-same-length-4 c = search needs
-
-returns-5 : tie.Need-returns-5
-returns-5 c =
-    let a = c .before .before .before .before .before .before .before .before .before .before .before .before .before .before in
-    let m = placed (recordSays (placeOf (a .args .place)) (a .args .node)) in
-    writing (a .args .writes) m (not-false _ (c .before .before .before .before .before .before .before .before .before .before .before .before .if1 .left))
-    (placed-inner (placeOf (a .args .place)) (a .args .node) (a .pre .0) (c .before .before .before .before .before .node2 .given .1) (a .pre .2) (free-at (storeOf (a .args .store .now) .slots) (c .before .before .before .before .before .before .before .before .i .given .1) (c .before .before .before .before .before .before .before .before .before .before .find-free .ensures)) (c .before .before .put-inner-at .ensures))
+    let c2 = c .before .before in
+    let c5 = c2 .before .before .before in
+    let c7 = c5 .before .before in
+    let c9 = c7 .before .before in
+    let c10 = c9 .before in
+    let c12 = c10 .before .before in
+    put (c12 .args .writes) (placeOf (c12 .args .place)) (c12 .args .node) (not-false _ (c9 .if1 .left)) (c12 .pre .stored) (free-at (storeOf (c12 .args .store .now) .slots) (c5 .i .given .1) (c7 .find-free .ensures)) (c10 .size .ensures) (c2 .put-node .ensures)
 
 pub place-node-spec : {M : Type 1} → statement M
 place-node-spec =
     tie.close
     (tie.spec
+    size-requires
+    more-requires
     returns
     find-free-requires
     enum-known-i
     enum-told
     same-length
     returns-2
-    enum-told-2
-    enum-known-node
-    put-leaf-new-requires
-    enum-known-node-2
-    put-inner-at-requires
+    put-node-requires
+    add-result
     same-length-2
-    returns-3
-    same-length-3
-    returns-4
-    same-length-4
-    returns-5)
+    returns-3)

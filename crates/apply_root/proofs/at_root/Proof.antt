@@ -1,50 +1,43 @@
 -- `apply_root::at_root` meets its contract: the step at the node, the mark of the old root, and the new root. Assumes nothing.
-use Prim.Native.Nat.{_+_}
 use native.Mathlib.Omega.{arith}
-use mathlib.Core.Path.{ap, sym, _∙_, subst}
-use Rattle.terms.specs.Bits.{All}
-use Rattle.terms.specs.Form.{RecordForm}
-use Rattle.place.specs.Place.{placeOf}
-use Rattle.apply_place.specs.Placing.{recordSays}
-use Rattle.apply_place.proofs.Changing.{changed-stored}
-use Rattle.apply_outcome.specs.Outcomes.{capped}
-use Rattle.apply_outcome.proofs.Saying.{size-small}
-use Rattle.apply_root.proofs.Root.{root-once, root-form, few, root-did}
+use Rattle.apply_root.proofs.Root.{root-once, root-places, root-did}
 use borrow.Author.Needs.{needs}
 use Rattle.apply_root.proofs.at_root.Statement.{statement}
 use Rattle.apply_root.proofs.at_root.Tie as tie
 
 at-child-requires : tie.Need-at-child-requires
-at-child-requires c κs = search needs
+at-child-requires c κs =
+    let c3 = c .before .before .before in
+    c3 .pre .here
 
 mark-changed-requires : tie.Need-mark-changed-requires
-mark-changed-requires c κs = let a = c .before .before .before .before .before .before .before in let x = c .before .before .before .at-child .ensures in (changed-stored (x .bytes), a .pre .here .standing .proper, root-once (a .pre) (a .args .writes) x)
+mark-changed-requires c κs =
+    let c3 = c .before .before .before in
+    let c7 = c3 .before .before .before .before in
+    root-once (c7 .pre) (c3 .at-child .ensures)
 
 new-root-requires : tie.Need-new-root-requires
 new-root-requires c κs = search needs
 
 place-node-requires : tie.Need-place-node-requires
 place-node-requires c κs =
-    let a = c .before .before .before .before .before .before .before .before .before .before .before .before in (
-      changed-stored (c .before .before .before .before .mark-changed .ensures),
-      a .pre .here .standing .proper,
-      subst (λ n. All RecordForm (recordSays (placeOf (a .args .top)) n)) (sym (c .before .new-root .ensures)) (root-form (a .pre) (a .args .writes) (c .before .before .before .before .before .before .before .before .at-child .ensures) (omega (arith, a .fits))),
-    )
-
-size-requires : tie.Need-size-requires
-size-requires c κs = search needs
-
-more-requires : tie.Need-more-requires
-more-requires c κs = let a = c .before .before .before .before .before .before .before .before .before .before .before .before .before .before .before .before in (few (a .pre) (a .args .writes) (c .before .before .before .before .before .before .before .before .before .before .before .before .at-child .ensures), omega (arith, c .size .ensures, size-small (c .before .before .before .before .before .new-root .result)))
+    let c1 = c .before in
+    let c4 = c1 .before .before .before in
+    let c8 = c4 .before .before .before .before in
+    let c12 = c8 .before .before .before .before in
+    root-places (c12 .pre) (c8 .at-child .ensures) (omega (arith, c12 .fits)) (c4 .mark-changed .ensures) (c1 .new-root .ensures)
 
 same-length : tie.Need-same-length
 same-length c = search needs
 
 returns : tie.Need-returns
 returns c =
-    let a = c .before .before .before .before .before .before .before .before .before .before .before .before .before .before .before .before .before in
-    let x = c .before .before .before .before .before .before .before .before .before .before .before .before .before .at-child in
-    root-did (a .pre) (a .args .writes) (x .ensures) (c .before .before .before .before .before .before .before .before .before .mark-changed .ensures) (c .before .before .before .before .before .before .new-root .ensures) (c .before .before .before .before .place-node .ensures) (c .more .ensures ∙ ap (λ i. capped (x .result .count + i)) (c .before .size .ensures))
+    let c2 = c .before .before in
+    let c4 = c2 .before .before in
+    let c7 = c4 .before .before .before in
+    let c11 = c7 .before .before .before .before in
+    let c15 = c11 .before .before .before .before in
+    root-did (c15 .pre) (c11 .at-child .ensures) (c7 .mark-changed .ensures) (c4 .new-root .ensures) (c2 .place-node .ensures)
 
 pub at-root-spec : {M : Type 1} → statement M
 at-root-spec =
@@ -54,7 +47,5 @@ at-root-spec =
     mark-changed-requires
     new-root-requires
     place-node-requires
-    size-requires
-    more-requires
     same-length
     returns)

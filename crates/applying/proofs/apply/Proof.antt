@@ -6,8 +6,8 @@ use Rattle.terms.specs.Bits.{Byte}
 use Rattle.terms.proofs.Lists.{all-of}
 use Rattle.batch.proofs.Runs.{run-of-batch}
 use Rattle.promises.proofs.Calls.{checked-refuses, checked-sound}
-use Rattle.applying.specs.Apply.{appliedSays}
-use Rattle.applying.proofs.Outcomes.{refused-4, refused-5}
+use Rattle.apply_publish.specs.Apply.{appliedSays}
+use Rattle.applying.proofs.Refusing.{refused-4, refused-5}
 use borrow.Author.Needs.{needs}
 use Rattle.applying.proofs.apply.Statement.{statement}
 use Rattle.applying.proofs.apply.Tie as tie

@@ -1,0 +1,54 @@
+-- `apply_leaf::alone` meets its contract, by what is asked. Assumes nothing.
+use Rattle.apply_leaf.proofs.Leaf.{alone-none, alone-same, alone-other, alone-gone}
+use borrow.Author.Needs.{needs}
+use Rattle.apply_leaf.proofs.alone.Statement.{statement}
+use Rattle.apply_leaf.proofs.alone.Tie as tie
+
+enum-told : tie.Need-enum-told
+enum-told c = search needs
+
+enum-known-own : tie.Need-enum-known-own
+enum-known-own c = search needs
+
+same-hash-requires : tie.Need-same-hash-requires
+same-hash-requires c κs = search needs
+
+returns : tie.Need-returns
+returns c =
+    let c1 = c .before in
+    let c3 = c1 .before .before in
+    let c5 = c3 .before .before in
+    alone-same (c5 .args .new) (c5 .args .from) (c5 .args .version) (c5 .args .key) (c5 .args .value) (c5 .args .own) (c3 .own .given .1) (c1 .same-hash .ensures) (c .if1 .taken)
+
+enum-told-2 : tie.Need-enum-told-2
+enum-told-2 c = search needs
+
+returns-2 : tie.Need-returns-2
+returns-2 c =
+    let c2 = c .before .before in
+    alone-none (c2 .args .new) (c2 .args .from) (c2 .args .version) (c2 .args .key) (c2 .args .value) (c2 .args .own) (c .enum-told .given .1)
+
+returns-3 : tie.Need-returns-3
+returns-3 c =
+    let c1 = c .before in
+    let c3 = c1 .before .before in
+    let c5 = c3 .before .before in
+    alone-other (c5 .args .new) (c5 .args .from) (c5 .args .version) (c5 .args .key) (c5 .args .value) (c5 .args .own) (c3 .own .given .1) (c1 .same-hash .ensures) (c .if1 .left)
+
+returns-4 : tie.Need-returns-4
+returns-4 c =
+    let c2 = c .before .before in
+    alone-gone (c2 .args .new) (c2 .args .from) (c2 .args .version) (c2 .args .key) (c2 .args .value) (c2 .args .own) (c .enum-told2 .given .1)
+
+pub alone-spec : {M : Type 1} → statement M
+alone-spec =
+    tie.close
+    (tie.spec
+    enum-told
+    enum-known-own
+    same-hash-requires
+    returns
+    enum-told-2
+    returns-2
+    returns-3
+    returns-4)
