@@ -6,6 +6,7 @@ use second::bytes::{b32_at, u32_at};
 use second::{Bytes32, Refusal};
 
 #[path = "record.rs"]
+#[allow(dead_code)] // the benchmarks, which have this file too, write no calls down
 pub mod record;
 
 extern "C" {
