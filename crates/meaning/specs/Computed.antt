@@ -1,4 +1,4 @@
--- A name that opens every shut definition, for a proof that computes: `unfolding computed`. Says nothing by itself.
+-- A name that opens every shut definition, for a proof that computes: `unfolding computed`. Says nothing by itself, and no public promise reaches it.
 use Rattle.terms.specs.Bits.{longer, odd, byteBits, bit, begins}
 use Rattle.terms.specs.Records.{zeros}
 use Rattle.meaning.specs.Tree.{smaller, greater, grantsAt, treeOf, nodeVersion, nextTree}
