@@ -125,6 +125,8 @@ function found([flag, ...value]) {
 }
 
 const LONGEST_PROOF = 17080;
+// No comparison of two versions takes more visits.
+const MOST_VISITS = 32769;
 
 // The records of a batch in the order of their keys; a batch's own bytes stay as they are.
 export function batch(changes) {
@@ -203,6 +205,21 @@ export class Store {
     if (!Number.isInteger(most) || most < 0) throw new RangeError('room is a whole number of bytes');
     const [proof, length] = this.#machine.call('prove', 'store', versionOf(version), bytesOf(key), room(Math.min(most, LONGEST_PROOF)), answer(4));
     return proof.slice(0, u32(length, 0));
+  }
+
+  // What changed from one version to another, in the order of keys: `before` is null where a key was added, `after` where it was removed.
+  changes(first, second, limit = MOST_VISITS) {
+    const most = 2 * Math.floor((this.bytes().length - 24) / 120);
+    const [list, records] = this.#machine.call('changes', 'store', versionOf(first), versionOf(second), versionOf(limit), room(72 * Math.max(most, 0)), answer(4));
+    const changed = [];
+    for (let at = 0; at < 72 * u32(records, 0); at += 72) {
+      const [key, value] = [list.slice(at + 8, at + 40), list.slice(at + 40, at + 72)];
+      const last = changed.at(-1);
+      if (list[at + 4] === 2) changed.push({ key, before: value, after: null });
+      else if (last && last.after === null && last.key.every((byte, i) => byte === key[i])) last.after = value;
+      else changed.push({ key, before: null, after: value });
+    }
+    return changed;
   }
 }
 

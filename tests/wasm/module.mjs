@@ -42,6 +42,14 @@ async function publishing(tally, grants) {
   tally.equal('its root', toHex(store.root(1)), toHex(first.root));
   tally.equal('get', store.get(1, lyrics), { present: true, value: read });
   tally.equal('get, absent', store.get(2, lyrics), { present: false });
+  tally.equal('changes', store.changes(1, 2), [{ key: lyrics, before: read, after: null }]);
+  tally.equal('changes, undone', store.changes(2, 1), [{ key: lyrics, before: null, after: read }]);
+  tally.equal('no changes', store.changes(2, 2), []);
+  const other = await grants.format(20);
+  other.apply([{ key: lyrics, value: read }]);
+  other.apply([{ key: lyrics, value: lyrics }, { key: chords, value: read }]);
+  tally.equal('another value', other.changes(1, 2).map(({ key, before, after }) => [toHex(key), before && toHex(before), toHex(after)]).sort(),
+    [[toHex(lyrics), toHex(read), toHex(lyrics)], [toHex(chords), null, toHex(read)]].sort());
   const [then, now] = [store.prove(1, lyrics), store.prove(2, lyrics)];
   tally.equal('present', grants.verify(first.root, lyrics, then), { present: true, value: read });
   tally.equal('absent', grants.verify(toHex(second.root), toHex(lyrics).toUpperCase(), toHex(now)), { present: false });
@@ -69,6 +77,8 @@ async function refusing(tally, grants, { store, lyrics }) {
     [9, () => store.prove(1, lyrics, 71)],
     [12, () => store.get(1, lyrics.slice(1))],
     [14, () => store.prove(0, lyrics)],
+    [13, () => store.changes(0, 1, 0)],
+    [8, () => store.changes(0, 99)],
   ];
   for (const [number, call] of cases) {
     tally.equal(`refused with ${number}`, refused(call), number);
