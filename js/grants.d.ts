@@ -51,8 +51,9 @@ export class Store {
   get(version: number, key: Bytes): Found;
   /** The proof that a key is in a version, or that it isn't, in at most so many bytes. Refused: 12, 1, 2, 8, 14, 3, 9. */
   prove(version: number, key: Bytes, most?: number): Uint8Array;
-  /** What changed from one kept version to another, in the order of keys, with at most so many visits (32,769 are always enough). Refused: 1, 2, 3, 8, 13. */
-  changes(first: number, second: number, limit?: number): Changed[];
+  /** What changed from one kept version to another, in the order of keys, with at most so many visits (32,769 are always enough) and bytes of
+   * the library's list (all that it can take). Refused: 1, 2, 3, 8, 13, 9. */
+  changes(first: number, second: number, limit?: number, most?: number): Changed[];
 }
 
 /** A key that was added (`before` is null), removed (`after` is null) or given another value. */

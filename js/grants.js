@@ -208,9 +208,11 @@ export class Store {
   }
 
   // What changed from one version to another, in the order of keys: `before` is null where a key was added, `after` where it was removed.
-  changes(first, second, limit = MOST_VISITS) {
-    const most = 2 * Math.floor((this.bytes().length - 24) / 120);
-    const [list, records] = this.#machine.call('changes', 'store', versionOf(first), versionOf(second), versionOf(limit), room(72 * Math.max(most, 0)), answer(4));
+  changes(first, second, limit = MOST_VISITS, most = Infinity) {
+    if (most !== Infinity && (!Number.isInteger(most) || most < 0)) throw new RangeError('room is a whole number of bytes');
+    // Each record of the list is another leaf of the store.
+    const longest = 72 * 2 * Math.max(Math.floor((this.bytes().length - 24) / 120), 0);
+    const [list, records] = this.#machine.call('changes', 'store', versionOf(first), versionOf(second), versionOf(limit), room(Math.min(most, longest)), answer(4));
     const changed = [];
     for (let at = 0; at < 72 * u32(records, 0); at += 72) {
       const [key, value] = [list.slice(at + 8, at + 40), list.slice(at + 40, at + 72)];

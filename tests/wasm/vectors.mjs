@@ -110,6 +110,14 @@ class Program {
     });
   }
 
+  changes(store, first, second, limit, most) {
+    this.tried(`changes ${first} to ${second}, limit ${limit}, buffer ${most} bytes`, store, () => {
+      const said = (kind, it, value) => (value ? [`, ${kind} ${toHex(it.key.slice(0, 1))} with ${toHex(value.slice(0, 1))}`] : []);
+      const list = store.changes(first, second, limit, most).flatMap((it) => [...said('delete', it, it.before), ...said('insert', it, it.after)]);
+      return `${list.length} records${list.join('')}`;
+    });
+  }
+
   look(store, version) {
     this.tried(`get B in version ${version}`, store, () => this.found(store.get(version, key(B))), '');
     this.prove(store, 'B', key(B), version, 316);
@@ -137,6 +145,9 @@ class Program {
     this.section = 'M6';
     this.apply(store, 'delete C', [remove(key(C))], zeros);
     this.look(store, 6);
+    this.section = '2026-01';
+    for (const [first, second, limit] of [[0, 1, 7], [1, 2, 7], [2, 1, 7], [2, 3, 3], [3, 4, 5], [5, 6, 1], [4, 4, 1], [1, 2, 6]]) this.changes(store, first, second, limit, 288);
+    for (const [second, limit, most] of [[2, 6, 215], [2, 7, 215], [2, 7, 216], [7, 0, 215]]) this.changes(store, 1, second, limit, most);
     this.section = 'M7';
     this.prune(store, 4);
     this.look(store, 3);
@@ -178,13 +189,13 @@ class Program {
   }
 }
 
-// The lines below each heading of the file, without 01's words.
+// The lines below each heading of the file, without 01's and 02's words.
 function held(file) {
   const sections = {};
   let section = '';
   for (const line of readFileSync(file, 'utf8').split('\n')) {
     if (/^\S/.test(line)) section = line;
-    else if (line && !line.startsWith('  01 ')) (sections[section] ??= []).push(line);
+    else if (line && !/^  0[12] /.test(line)) (sections[section] ??= []).push(line);
   }
   return sections;
 }
