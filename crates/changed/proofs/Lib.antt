@@ -4,3 +4,4 @@ pub mod Visits
 pub mod Walk
 pub mod Ends
 pub mod Theorems
+pub mod Samples
