@@ -24,7 +24,7 @@ fn wide(x: u16) -> usize
 }
 
 // The hash that a link stores.
-fn stored(store: &[u8], link: u16) -> Hash
+pub fn stored(store: &[u8], link: u16) -> Hash
     requires { ⌜ (1 ≤ link) × Has (now store) (linkSlot link) ⌝ }
     ensures { λ r. ⌜ hashBytes r ≡ storedAt (now (store .entry)) link ⌝ }
 {

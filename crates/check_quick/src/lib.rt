@@ -1,5 +1,6 @@
 // The check in few passes over the slots: own fields, order, links, lives. It says that all is fine, or which slot to look at. Only that all
 // is fine is promised; a slot that it names is a suspect, and the exact test decides.
+use check_ahead::hash_ahead;
 use check_cover::covered;
 use check_guess::guessed;
 use check_order::ascending;
@@ -92,6 +93,7 @@ fn linked(store: &[u8], kept: Kept, guess: &[u16; 32768]) -> Look
     let n = slot_count(store);
     let mut known = [0u16; 16384];
     let mut sums = [0u32; 16384];
+    hash_ahead(store, guess, &mut known);
     let j = tie_all(store, kept, guess, &mut known, &mut sums);
     if j < n {
         let a = wide(guess[2 * j]);

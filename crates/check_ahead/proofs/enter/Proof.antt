@@ -1,0 +1,34 @@
+-- `check_ahead::enter` meets its contract: a link that stores the hash of a record is known to. Assumes nothing.
+use mathlib.Core.Path.{sym, _∙_}
+use borrow.Author.Tests.{not-false}
+use Rattle.terms.proofs.Tests.{same-bytes}
+use native.Mathlib.Omega.{arith}
+use Rattle.hash.specs.Hash.{hashBytes}
+use Rattle.check_pass.proofs.Records.{slot-small}
+use Rattle.check_hash.proofs.Knowing.{known-set, same-is}
+use borrow.Author.Needs.{needs}
+use Rattle.check_ahead.proofs.enter.Statement.{statement}
+use Rattle.check_ahead.proofs.enter.Tie as tie
+
+stored-requires : tie.Need-stored-requires
+stored-requires c κs = (c .before .pre .0 .some, c .before .pre .0 .parent)
+
+same-hash-requires : tie.Need-same-hash-requires
+same-hash-requires c κs = search needs
+
+returns : tie.Need-returns
+returns c = search needs
+
+mul-known : tie.Need-mul-known
+mul-known c = omega (arith, slot-small {s = c .before .before .before .before .args .store .now} (c .before .before .before .before .pre .0 .child))
+
+element-write-known : tie.Need-element-write-known
+element-write-known c = omega (arith, slot-small {s = c .before .before .before .before .args .store .now} (c .before .before .before .before .pre .0 .child))
+
+returns-2 : tie.Need-returns-2
+returns-2 c = known-set (c .before .before .before .before .args .store .now) (c .before .before .before .before .args .known .now) (c .before .before .before .before .args .at .slot) (c .before .before .before .before .args .at .link) (c .before .before .before .before .pre .2) (record { has = c .before .before .before .before .pre .0 .parent; hash = λ r a. c .before .before .before .before .pre .1 r a ∙ sym (same-bytes (hashBytes (c .before .before .stored .result)) (hashBytes (c .before .before .before .before .args .hash)) (sym (c .before .same-hash .ensures) ∙ not-false (c .before .same-hash .result) (c .if1 .left))) ∙ c .before .before .stored .ensures })
+
+pub enter-spec : {M : Type 1} → statement M
+enter-spec =
+    tie.close
+    (tie.spec stored-requires same-hash-requires returns mul-known element-write-known returns-2)

@@ -1,0 +1,27 @@
+-- Links whose records are hashed ahead. Assumes nothing.
+use Prim.Native.Nat.{ℕ, _≤_, _<_}
+use Rattle.terms.specs.Bits.{Bytes}
+use Rattle.sha256.specs.Sha256.{sha256}
+use Rattle.nodehash.specs.Words.{message}
+use Rattle.nodehash_four.specs.declared.Message.{Message}
+use Rattle.layout.specs.Stores.{Has}
+use Rattle.check_hash.specs.Known.{linkSlot, HashIs}
+use Rattle.check_ahead.specs.declared.Ahead as declared
+use Rattle.check_ahead.specs.declared.Four as declared-four
+
+-- A link of the store, and a slot of it.
+pub record Fits (s : Bytes) (x : declared.Ahead) : Type 0 where
+  pub child : Has s (x .slot)
+  pub some : 1 ≤ x .link
+  pub parent : Has s (linkSlot (x .link))
+
+pub record AllFit (s : Bytes) (x : declared-four.Four) : Type 0 where
+  pub a : Fits s (x .a)
+  pub b : Fits s (x .b)
+  pub c : Fits s (x .c)
+  pub d : Fits s (x .d)
+
+-- The hash of the record in slot c is that of this message.
+pub record MessageOf (s : Bytes) (c : ℕ) (m : Message) : Type 0 where
+  pub kind : m .kind < 256
+  pub hash : HashIs s c (sha256 (message (m .kind) (m .left) (m .right)))
