@@ -5,59 +5,47 @@ use mathlib.Core.Path.{_≡_, refl, ap, sym, _∙_, subst}
 use mathlib.Core.Bool.{Bool, true, false}
 use mathlib.Core.List.{List, [], _∷_}
 use mathlib.Core.Option.{none}
-use lib.ListN.{length, take, drop}
+use lib.ListN.{length}
 use Rattle.terms.specs.Bits.{Bytes, Byte, All, Place, sameBytes}
-use Rattle.terms.specs.Fields.{field, slice}
 use Rattle.terms.specs.Records.{Slot, free, used, spoiled}
 use Rattle.terms.proofs.Tests.{same-bytes}
-use Rattle.terms.proofs.Fields.{length-slice, all-slice}
 use Rattle.meaning.specs.Store.{find, isNode}
 use Rattle.histories.proofs.Slots.{not-node}
 use Rattle.place.specs.declared.Place as place
 use Rattle.place.specs.Place.{placeOf, Proper}
 use Rattle.place.proofs.Places.{proper-count}
-use Rattle.layout.specs.Sizes.{roomOf}
-use Rattle.layout.specs.Slots.{countIn, slotOf, SlotForm}
-use Rattle.layout.specs.Stores.{slotIn, storeOf}
-use Rattle.layout.proofs.Stores.{slot-at}
+use Rattle.layout.specs.Sizes.{mostSlots, roomOf}
+use Rattle.layout.specs.Slots.{countIn, bitsIn, versionIn, slotOf, SlotForm}
+use Rattle.layout.specs.Stores.{slotIn, storeOf, Has, SlotWithin}
+use Rattle.layout.proofs.Headers.{size-says}
+use Rattle.store.proofs.Slots.{slots-many, slot-within, slot-long, slot-bytes, slot-is}
 use Rattle.lookup.specs.declared.Found.the-variants.{At, Nothing}
 use Rattle.lookup.specs.Lookup.{isUsed, FoundIn}
 use Rattle.lookup.proofs.Matching.{is-node}
 use Rattle.lookup.proofs.Searching.{used-or}
 use Rattle.apply_place.specs.Placing.{Stored}
-use Rattle.apply_place.proofs.Changing.{stored-accepted, stored-room, slot-within}
+use Rattle.apply_place.proofs.Changing.{stored-size}
 use Rattle.apply_place.proofs.Marking.{single-finds}
-use Rattle.apply_guess.specs.Guess.{Holds, Once}
+use Rattle.apply_guess.specs.Guess.{NodeAt, Once}
 
--- a slot that is there lies within the bytes
+-- a slot that is there
 module _ {s : Bytes} (h : Stored s) {n i : ℕ} (e : n ≡ roomOf (length s)) (l : i < n) where
-  pub slot-there : i < length (storeOf s .slots)
-  slot-there = omega (arith, stored-room h)
-
-  pub slot-fits : 24 + 120 * i + 120 ≤ length s
-  slot-fits = slot-within h i slot-there
+  pub slot-has : Has s i
+  slot-has = record { size = stored-size h; inside = omega (arith, e) }
 
 -- its fields decide
-module _ {s : Bytes} (h : Stored s) (b : All Byte s) (v : ℕ) (p : place.Place) (w : Proper p) {n i : ℕ} (e : n ≡ roomOf (length s)) (l : i < n) where
-  slot-long : length (slotIn i s) ≡ 120
-  unfolding slotIn
-  slot-long = length-slice (24 + 120 * i) 120 s (slot-fits h e l)
-
-  slot-bytes : All Byte (slotIn i s)
-  unfolding slotIn
-  slot-bytes = all-slice (24 + 120 * i) 120 s b
-
-  pub held : {x : Bytes} → x ≡ slotIn i s → field 40 4 (slotIn i s) ≡ v → countIn (slotIn i s) ≡ p .count →
-      sameBytes (take 32 (drop 8 x)) (p .bits) ≡ true → (t : Bool) → t ≡ isUsed (slotOf x) → Holds s i v (placeOf p) t
-  unfolding countIn slice
-  held k a c d true u =
+module _ {s : Bytes} (b : All Byte s) (v : ℕ) (p : place.Place) (w : Proper p) {i : ℕ} (h : Has s i) where
+  pub held : {x y : Bytes} → x ≡ slotIn i s → versionIn (slotIn i s) ≡ v → countIn (slotIn i s) ≡ p .count → y ≡ bitsIn x →
+      sameBytes y (p .bits) ≡ true → (t : Bool) → t ≡ isUsed (slotOf x) → NodeAt s i v (placeOf p) t
+  unfolding countIn
+  held k a c o d true u =
       let (q, f) = used-or (slotOf (slotIn i s)) (ap (λ y. isUsed (slotOf y)) (sym k) ∙ sym u) in
       let m : isNode v (placeOf p) q ≡ true =
-      is-node (slotIn i s) slot-long slot-bytes v (placeOf p) (omega (arith, w .short, proper-count p w)) a (c ∙ sym (proper-count p w))
-      (ap (λ y. take 32 (drop 8 y)) (sym k) ∙ same-bytes _ (p .bits) d ∙ w .trimmed) q f
+      is-node (slotIn i s) (slot-long i s (slot-within h)) (slot-bytes i s b) v (placeOf p) (omega (arith, w .short, proper-count p w)) a
+      (c ∙ sym (proper-count p w)) (ap bitsIn (sym k) ∙ sym o ∙ same-bytes _ (p .bits) d ∙ w .trimmed) q f
       in
-      (slot-there h e l, (q, slot-at s i (rw (← e) l) ∙ f, m))
-  held k a c d false u = tt
+      (omega (arith, h .inside, slots-many s), (q, slot-is h ∙ f, m))
+  held k a c o d false u = tt
 
 -- no record has version 0
 none-found : (p : Place) (s : List Slot) → All SlotForm s → find 0 p s ≡ none
@@ -70,7 +58,19 @@ module _ {s : Bytes} {v : ℕ} {p : place.Place} (w : Once s v p) where
   pub no-version : v ≡ 0 → FoundIn (storeOf s .slots) v (placeOf p) Nothing
   no-version e = ap (λ u. find u (placeOf p) (storeOf s .slots)) e ∙ none-found (placeOf p) (storeOf s .slots) (w .stored .form .each)
 
-  pub guessed : {i : ℕ} {t : Bool} → t ≡ true → Holds s i v (placeOf p) t → FoundIn (storeOf s .slots) v (placeOf p) (At i)
+  pub guessed : {i : ℕ} {t : Bool} → t ≡ true → NodeAt s i v (placeOf p) t → FoundIn (storeOf s .slots) v (placeOf p) (At i)
   guessed {i} e h =
-      let (l, (r, u, n)) = subst (Holds s i v (placeOf p)) e h in
+      let (l, (r, u, n)) = subst (NodeAt s i v (placeOf p)) e h in
       (l, (r, u, single-finds 0 v (placeOf p) (storeOf s .slots) i r (w .single) u n))
+
+-- the bytes of a store of n slots
+pub record Room (s : Bytes) (n : ℕ) : Type 0 where
+  pub stored : Stored s
+  pub many : n ≡ roomOf (length s)
+  pub small : n ≤ mostSlots
+
+pub room-of-store : {s : Bytes} {n : ℕ} → Stored s → n ≡ roomOf (length s) → Room s n
+room-of-store {s} h e = record { stored = h; many = e; small = omega (arith, size-says (length s) (stored-size h)) }
+
+pub room-slot : {s : Bytes} {n i : ℕ} → Room s n → i < n → SlotWithin i s
+room-slot r l = slot-within (slot-has (r .stored) (r .many) l)

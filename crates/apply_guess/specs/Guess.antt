@@ -12,9 +12,9 @@ use Rattle.layout.specs.Stores.{storeOf}
 use Rattle.apply_place.specs.Placing.{Stored, Single}
 
 -- Where the answer is yes, slot i holds the node (v, p).
-abbrev pub Holds : Bytes → ℕ → ℕ → Place → Bool → Type 0
-Holds s i v p true = (i < length (storeOf s .slots)) × ((r : Record) × (getD (storeOf s .slots) i free ≡ used r) × (isNode v p r ≡ true))
-Holds s i v p false = Unit {0}
+abbrev pub NodeAt : Bytes → ℕ → ℕ → Place → Bool → Type 0
+NodeAt s i v p true = (i < length (storeOf s .slots)) × ((r : Record) × (getD (storeOf s .slots) i free ≡ used r) × (isNode v p r ≡ true))
+NodeAt s i v p false = Unit {0}
 
 -- The node (v, p) is in one slot at most.
 pub record Once (s : Bytes) (v : ℕ) (p : place.Place) : Type 0 where

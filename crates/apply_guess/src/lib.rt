@@ -1,14 +1,15 @@
 // Where the nodes of the latest tree are likely to stand: guesses without proof. Each is looked at before it is believed, and where none is
 // right the slots are searched, so a wrong guess costs time and never an answer.
-use layout::sizes;
 use lookup::Found;
 use lookup::find;
 use lookup::holds_record;
 use place::Place;
 use place::same;
+use slots::bits_of;
 use slots::read_slot;
 use store::count_at;
 use store::retired_at;
+use store::slot_count;
 use store::slot_of;
 use store::version_at;
 ghost use mathlib.Core.Path.{_≡_};
@@ -19,7 +20,7 @@ ghost use Rattle.place.specs.Place.{placeOf, Proper};
 ghost use Rattle.layout.specs.Stores.{storeOf};
 ghost use Rattle.lookup.specs.Lookup.{FoundIn};
 ghost use Rattle.apply_place.specs.Placing.{Stored};
-ghost use Rattle.apply_guess.specs.Guess.{Holds, Once};
+ghost use Rattle.apply_guess.specs.Guess.{NodeAt, Once};
 
 // Four guesses lie together.
 const TOGETHER: usize = 4;
@@ -69,7 +70,7 @@ fn keep(guesses: &mut [u16; 8192], b: usize, slot: u16)
 pub fn guess_all(store: &[u8], guesses: &mut [u16; 8192])
     requires { ⌜ Stored (now store) ⌝ }
 {
-    let n = (store.len() - sizes::HEADER_SIZE) / sizes::SLOT_SIZE;
+    let n = slot_count(store);
     let mut i = 0;
     while i < n {
         if version_at(store, i) != 0 && retired_at(store, i) == 0 {
@@ -84,9 +85,9 @@ pub fn guess_all(store: &[u8], guesses: &mut [u16; 8192])
 // Whether slot i holds the node (version, place): the cheap fields first.
 fn holds(store: &[u8], i: usize, version: u32, place: Place) -> bool
     requires { ⌜ Stored (now store) × Proper place ⌝ }
-    ensures { λ r. ⌜ Holds (now (store .entry)) i version (placeOf place) r ⌝ }
+    ensures { λ r. ⌜ NodeAt (now (store .entry)) i version (placeOf place) r ⌝ }
 {
-    let n = (store.len() - sizes::HEADER_SIZE) / sizes::SLOT_SIZE;
+    let n = slot_count(store);
     if n <= i {
         return false;
     }
@@ -98,7 +99,7 @@ fn holds(store: &[u8], i: usize, version: u32, place: Place) -> bool
     }
     let bits = place.bits;
     let s = slot_of(store, i);
-    if !same(&s[sizes::BITS_AT..sizes::VERSION_AT], &bits) {
+    if !same(bits_of(s), &bits) {
         return false;
     }
     holds_record(s)

@@ -12,14 +12,13 @@ use Rattle.terms.specs.Fields.{allZero, slice}
 use Rattle.terms.specs.Records.{leafBody, innerBody, Record, Slot, free, used, spoiled}
 use Rattle.terms.specs.Form.{RecordForm}
 use Rattle.meaning.specs.Store.{placed}
-use Rattle.fields.specs.Written.{written}
 use Rattle.meaning.proofs.Finding.{free-used}
 use Rattle.hash.specs.declared.Hash.{Hash}
 use Rattle.hash.specs.Hash.{hashBytes}
 use Rattle.hash.proofs.Laws.{hash-whole}
-use Rattle.layout.specs.Sizes.{roomOf}
-use Rattle.layout.specs.Slots.{isLeaf, isInner, recordOf, recordIn, leafIn, innerIn, slotOf, slotBytes}
-use Rattle.layout.specs.Stores.{slotIn, storeOf}
+use Rattle.layout.specs.Sizes.{mostSlots, roomOf}
+use Rattle.layout.specs.Slots.{isLeaf, isInner, recordOf, recordIn, leafIn, innerIn, slotOf}
+use Rattle.layout.specs.Stores.{slotIn, storeOf, Has, withSlot}
 use Rattle.layout.proofs.Stores.{slot-at}
 use Rattle.slots.specs.declared.Child as child
 use Rattle.slots.specs.Answer.{childSays, grantBody}
@@ -28,7 +27,7 @@ use Rattle.lookup.specs.declared.Found.the-variants.{At, Nothing}
 use Rattle.apply_place.specs.declared.Node as declared
 use Rattle.apply_place.specs.declared.Node.the-variants.{Nothing as none, Leaf, Inner}
 use Rattle.apply_place.specs.Placing.{Stored, Changed, NoneFree, Lowest, FreeIn, recordSays}
-use Rattle.apply_place.proofs.Changing.{stored-accepted, stored-room, slot-changed}
+use Rattle.apply_place.proofs.Changing.{stored-accepted, stored-size, stored-room, slot-changed}
 
 spoiled-free : {A : Type 0} (x : Bytes) → spoiled x ≡ free → A
 spoiled-free x e = let z : _≡_ {A = ℕ} 0 1 = cc in absurd (omega arith)
@@ -71,8 +70,8 @@ not-free x e = rw e (go (isLeaf x) (isInner x))
 -- at slot i of n: no slot before it is free
 pub record Passed (s : Bytes) (n i : ℕ) : Type 0 where
   pub stored : Stored s
-  pub size : length s ≡ 24 + 120 * n
-  pub small : n ≤ 16384
+  pub room : n ≡ roomOf (length s)
+  pub small : n ≤ mostSlots
   pub many : length (storeOf s .slots) ≡ n
   pub none : NoneFree (storeOf s .slots) i
 
@@ -82,20 +81,23 @@ from-slot h e f =
     let k = e ∙ stored-room h in
     record {
       stored = h;
-      size = rw k (a .size);
+      room = e;
       small = rw k (a .fits);
       many = sym k;
       none = f;
     }
 
 module _ {s : Bytes} {n i : ℕ} (w : Passed s n i) where
+  pub passed-has : i < n → Has s i
+  passed-has l = record { size = stored-size (w .stored); inside = omega (arith, w .room) }
+
   slot-here : i < n → getD (storeOf s .slots) i free ≡ slotOf (slotIn i s)
   slot-here l = slot-at s i (rw (stored-room (w .stored), w .many) l)
 
   pub one-more : i < n → allZero (slotIn i s) ≡ false → Passed s n (i + 1)
   one-more l e = record {
     stored = w .stored;
-    size = w .size;
+    room = w .room;
     small = w .small;
     many = w .many;
     none = below-more (λ j. getD (storeOf s .slots) j free ≡ free → ⊥) i (w .none) (λ k. not-free (slotIn i s) e (sym (slot-here l) ∙ k));
@@ -153,17 +155,17 @@ placed-gone p n e s = ap (λ m. placed (recordSays p m) s) e ∙ placed-nothing 
 -- one record in a free slot
 placed-one : {s s′ : Bytes} {i : ℕ} (rs : List Record) (r : Record) → Stored s → rs ≡ r ∷ [] → All RecordForm rs →
     Lowest (storeOf s .slots) i →
-    s′ ≡ written (24 + 120 * i) (slotBytes (used r)) s → Changed (placed rs) s s′
+    s′ ≡ withSlot i (used r) s → Changed (placed rs) s s′
 placed-one {s} {i = i} rs r h e k f w =
     slot-changed h i (f .within) (placed rs) (used r) (subst (All RecordForm) e k .0) (ap (λ q. placed q (storeOf s .slots)) e ∙ f .placing r) w
 
 module _ (p : Place) (n : declared.Node) {s s′ : Bytes} {i : ℕ} (h : Stored s) where
   pub placed-leaf : {v : ℕ} {k x : Hash} → n ≡ Leaf v k x → All RecordForm (recordSays p n) →
       Lowest (storeOf s .slots) i →
-      s′ ≡ written (24 + 120 * i) (slotBytes (used (recordOf p v 0 (leafBody (hashBytes k) (hashBytes x))))) s → Changed (placed (recordSays p n)) s s′
+      s′ ≡ withSlot i (used (recordOf p v 0 (leafBody (hashBytes k) (hashBytes x)))) s → Changed (placed (recordSays p n)) s s′
   placed-leaf e k f w = placed-one (recordSays p n) _ h (ap (recordSays p) e) k f w
 
   pub placed-inner : {v : ℕ} {l r : child.Child} → n ≡ Inner v l r → All RecordForm (recordSays p n) →
       Lowest (storeOf s .slots) i →
-      s′ ≡ written (24 + 120 * i) (slotBytes (used (recordOf p v 0 (innerBody (childSays l) (childSays r))))) s → Changed (placed (recordSays p n)) s s′
+      s′ ≡ withSlot i (used (recordOf p v 0 (innerBody (childSays l) (childSays r)))) s → Changed (placed (recordSays p n)) s s′
   placed-inner e k f w = placed-one (recordSays p n) _ h (ap (recordSays p) e) k f w

@@ -16,7 +16,7 @@ use Rattle.steps.specs.Writing.{markIn, mark}
 use Rattle.apply_place.specs.declared.Node as declared
 use Rattle.apply_place.specs.declared.Node.the-variants.{Nothing, Leaf, Inner}
 use Rattle.apply_place.specs.Placing.{Stored, Changed, whenWrites, NoneFree, Lowest, recordSays}
-use Rattle.apply_place.specs.Reach.{beyond, capped, nodeSize, Clear, Starts, Counts, Reaches, Placed}
+use Rattle.apply_place.specs.Reach.{overMost, capped, nodeSize, Clear, Starts, Counts, Reaches, Placed}
 use Rattle.apply_place.proofs.Changing.{unchanged, changed-slots, stored-accepted}
 use Rattle.apply_place.proofs.Placing.{placed-nothing}
 

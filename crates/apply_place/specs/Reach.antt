@@ -16,12 +16,12 @@ use Rattle.apply_place.specs.declared.Node.the-variants.{Nothing, Leaf, 
 use Rattle.apply_place.specs.Placing.{Stored, Changed, whenWrites, NoneFree, Lowest}
 
 -- One more than the most slots of a store.
-abbrev pub beyond : ℕ
-beyond = 16385
+abbrev pub overMost : ℕ
+overMost = 16385
 
 -- A count, where those above the most slots of a store are not told apart.
 abbrev pub capped : ℕ → ℕ
-capped n = min n beyond
+capped n = min n overMost
 
 -- A node has one record, if there is a node.
 abbrev pub nodeSize : declared.Node → ℕ
@@ -36,7 +36,7 @@ Clear false s k = Unit {0}
 
 -- A reach that new records may go on from.
 pub record Starts (writes : Bool) (s : List Slot) (k : ℕ) : Type 0 where
-  pub few : k ≤ beyond
+  pub few : k ≤ overMost
   pub clear : Clear writes s k
 
 -- The reach k of n new records from another on: counted, they are n more.

@@ -3,12 +3,12 @@
 use fields::all_zero;
 use hash::Hash;
 use hash::put_hash;
-use layout::sizes;
 use lookup::Found;
 use place::Place;
 use slots::Child;
 use store::put_inner_at;
 use store::put_leaf_at;
+use store::slot_count;
 use store::slot_of;
 ghost use mathlib.Core.Path.{_≡_};
 ghost use mathlib.Core.List.{_++_};
@@ -16,14 +16,12 @@ ghost use Prim.Native.Nat.{_+_, _≤_};
 ghost use lib.ListN.{length};
 ghost use Rattle.terms.specs.Records.{used, leafBody};
 ghost use Rattle.meaning.specs.Store.{placed};
-ghost use Rattle.fields.specs.Written.{written};
 ghost use Rattle.hash.specs.Hash.{hashBytes};
 ghost use Rattle.place.specs.Place.{placeOf, Proper};
-ghost use Rattle.layout.specs.Sizes.{slotSize, slotAt};
-ghost use Rattle.layout.specs.Slots.{recordOf, slotBytes};
-ghost use Rattle.layout.specs.Stores.{storeOf};
+ghost use Rattle.layout.specs.Slots.{recordOf};
+ghost use Rattle.layout.specs.Stores.{storeOf, SlotWithin, withSlot};
 ghost use Rattle.apply_place.specs.Placing.{Stored, Changed, NoneFree, FreeIn, recordSays};
-ghost use Rattle.apply_place.specs.Reach.{beyond, capped, nodeSize, Puts, Places, Placed};
+ghost use Rattle.apply_place.specs.Reach.{overMost, capped, nodeSize, Puts, Places, Placed};
 
 // The node that stands at a place: a leaf with its grant, an inner node with its children.
 pub enum Node {
@@ -45,7 +43,7 @@ const BEYOND: usize = 16385;
 
 // Two counts together; those above the most slots of a store are not told apart.
 fn more(a: usize, b: usize) -> usize
-    requires { ⌜ (a ≤ beyond) × (b ≤ beyond) ⌝ }
+    requires { ⌜ (a ≤ overMost) × (b ≤ overMost) ⌝ }
     ensures { λ r. ⌜ r ≡ capped (a + b) ⌝ }
 {
     let sum = a + b;
@@ -76,7 +74,7 @@ fn find_free(store: &[u8], from: usize) -> Found
     requires { ⌜ Stored (now store) × NoneFree (storeOf (now store) .slots) from ⌝ }
     ensures { λ r. ⌜ FreeIn (storeOf (now (store .entry)) .slots) r ⌝ }
 {
-    let n = (store.len() - sizes::HEADER_SIZE) / sizes::SLOT_SIZE;
+    let n = slot_count(store);
     let mut i = from;
     loop {
         if n <= i {
@@ -100,8 +98,8 @@ fn put_grant(grant: &mut [u8], key: Hash, value: Hash)
 
 // Writes a leaf that isn't retired over slot i.
 fn put_leaf_new(store: &mut [u8], i: usize, place: Place, version: u32, key: Hash, value: Hash)
-    requires { ⌜ (slotAt i + slotSize ≤ length (now store)) × Proper place ⌝ }
-    ensures { λ _. ⌜ now (store .exit) ≡ written (slotAt i) (slotBytes (used (recordOf (placeOf place) version 0 (leafBody (hashBytes key) (hashBytes value))))) (now (store .entry)) ⌝ }
+    requires { ⌜ SlotWithin i (now store) × Proper place ⌝ }
+    ensures { λ _. ⌜ now (store .exit) ≡ withSlot i (used (recordOf (placeOf place) version 0 (leafBody (hashBytes key) (hashBytes value)))) (now (store .entry)) ⌝ }
 {
     let mut grant = [0u8; 64];
     put_grant(&mut grant, key, value);

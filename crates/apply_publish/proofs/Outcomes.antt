@@ -9,7 +9,7 @@ use Rattle.terms.specs.Form.{top32}
 use Rattle.terms.specs.Records.{Child, Store}
 use Rattle.meaning.specs.Tree.{unversioned, hash}
 use Rattle.meaning.specs.Store.{childOf, freeSlots, treeAtVersion}
-use Rattle.meaning.specs.Calls.{refused, accepted, refuse, Applied, Outcome, apply}
+use Rattle.meaning.specs.Calls.{refused, accepted, refuse, Applied, Result, apply}
 use Rattle.hash.specs.Hash.{hashBytes}
 use Rattle.nodehash.specs.Node.{leafHash, innerHash}
 use Rattle.layout.specs.Stores.{storeOf, storeBytes, withLatest, putBounds}
@@ -56,19 +56,19 @@ module _ {s batch : Bytes} (w : Ready s batch) where
     pub refused-7 : freeSlots (st .slots) < length (outcome .fresh) → Applies batch s (refused 7) s
     unfolding applySteps refuse
     refused-7 l =
-        refuses {m = 7} (w .sound) (ap (λ (o : Outcome Applied). o .answer) by-steps ∙ rw (lt-ltb (freeSlots (st .slots)) (length (outcome .fresh)) l))
+        refuses {m = 7} (w .sound) (ap (λ (o : Result Applied). o .answer) by-steps ∙ rw (lt-ltb (freeSlots (st .slots)) (length (outcome .fresh)) l))
 
     module _ (room : length (outcome .fresh) ≤ freeSlots (st .slots)) where
       made-answer : apply leafHash innerHash (batchOf batch) st .answer
           ≡ accepted (record { version = new; root = hash leafHash innerHash (unversioned (outcome .node)); count = length (outcome .fresh) })
       unfolding applySteps
       made-answer =
-          ap (λ (o : Outcome Applied). o .answer) by-steps ∙ rw (le-ltb (freeSlots (st .slots)) (length (outcome .fresh)) room)
+          ap (λ (o : Result Applied). o .answer) by-steps ∙ rw (le-ltb (freeSlots (st .slots)) (length (outcome .fresh)) room)
 
       made-store : apply leafHash innerHash (batchOf batch) st .store ≡ stepped leafHash innerHash new (asks batch) st
       unfolding applySteps
       made-store =
-          ap (λ (o : Outcome Applied). o .store) by-steps ∙ rw (le-ltb (freeSlots (st .slots)) (length (outcome .fresh)) room)
+          ap (λ (o : Result Applied). o .store) by-steps ∙ rw (le-ltb (freeSlots (st .slots)) (length (outcome .fresh)) room)
 
       -- the slots are written, and then latest
       pub made : {t u : Bytes} {r : declared.Outcome} (c : child.Child) {n : ℕ} → Did new true 0 s t outcome r → u ≡ withLatest new t →

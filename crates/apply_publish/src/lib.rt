@@ -9,15 +9,11 @@ use fields::get_u32;
 use fields::put_u32;
 use hash::Hash;
 use layout::sizes;
+use numbers::FEW_SLOTS;
+use numbers::NO_VERSION;
 use place::Place;
 ghost use Rattle.apply_ready.specs.Ready.{Ready};
 ghost use Rattle.apply_publish.specs.Apply.{appliedSays, Applies};
-
-// 6: latest is the last number there is.
-const NO_VERSION: u32 = 6;
-
-// 7: fewer free slots than new records.
-const NO_ROOM: u32 = 7;
 
 const LAST_NUMBER: u32 = 4294967295;
 
@@ -47,7 +43,7 @@ pub fn publish(store: &mut [u8], batch: &[u8]) -> Applied
     guess_all(store, &mut guesses);
     let needs = at_root(store, &guesses, false, new, top, old, batch);
     if count_free(store) < needs.reach {
-        return Applied::Refused(NO_ROOM);
+        return Applied::Refused(FEW_SLOTS);
     }
     let made = at_root(store, &guesses, true, new, top, old, batch);
     put_u32(store, sizes::LATEST_AT, new);

@@ -3,31 +3,32 @@ use apply_guess::find_near;
 use apply_outcome::Change;
 use apply_outcome::Outcome;
 use apply_place::Node;
-use fields::get_u32;
 use hash::hash_at;
-use layout::sizes;
 use lookup::Found;
 use place::Place;
 use slots::Child;
+use slots::child_hash;
 use slots::is_leaf;
+use slots::key_of;
+use slots::value_of;
+use store::child_version_at;
 use store::slot_of;
+use store::version_at;
 ghost use mathlib.Core.Path.{_≡_};
-ghost use Prim.Native.Nat.{_+_, _≤_};
-ghost use lib.ListN.{length};
-ghost use Rattle.layout.specs.Sizes.{childSize};
-ghost use Rattle.layout.specs.Slots.{childIn};
+ghost use Rattle.layout.specs.Slots.{kidOn};
+ghost use Rattle.layout.specs.Stores.{slotIn, SlotWithin};
 ghost use Rattle.slots.specs.Answer.{childSays};
 ghost use Rattle.apply_guess.specs.Guess.{Once};
 ghost use Rattle.apply_read.specs.Held.{Used, NodeHeld, UsedAt, GoesOn};
 ghost use Rattle.apply_read.specs.Standing.{treeHere, Standing, Unchanged};
 
-// What an inner record says of the child at an offset.
-fn child_in(s: &[u8], at: usize) -> Child
-    requires { ⌜ at + childSize ≤ length (now s) ⌝ }
-    ensures { λ r. ⌜ childSays r ≡ childIn at (now (s .entry)) ⌝ }
+// What the inner record in slot i says of the child on a side.
+fn child_on(store: &[u8], i: usize, right: bool) -> Child
+    requires { ⌜ SlotWithin i (now store) ⌝ }
+    ensures { λ r. ⌜ childSays r ≡ kidOn right (slotIn i (now (store .entry))) ⌝ }
 {
-    let version = get_u32(s, at);
-    let hash = hash_at(s, at + 4);
+    let version = child_version_at(store, i, right);
+    let hash = hash_at(child_hash(slot_of(store, i), right), 0);
     Child { version, hash }
 }
 
@@ -37,18 +38,18 @@ pub fn node_in(store: &[u8], i: usize) -> Node
     ensures { λ r. ⌜ NodeHeld (now (store .entry)) i r ⌝ }
 {
     let s = slot_of(store, i);
-    let version = get_u32(s, sizes::VERSION_AT);
+    let version = version_at(store, i);
     if is_leaf(s) {
-        let key = hash_at(s, sizes::KEY_AT);
-        let value = hash_at(s, sizes::VALUE_AT);
+        let key = hash_at(key_of(s), 0);
+        let value = hash_at(value_of(s), 0);
         return Node::Leaf {
             version,
             key,
             value,
         };
     }
-    let left = child_in(s, sizes::LEFT_AT);
-    let right = child_in(s, sizes::RIGHT_AT);
+    let left = child_on(store, i, false);
+    let right = child_on(store, i, true);
     Node::Inner {
         version,
         left,
@@ -73,8 +74,8 @@ pub fn onward_from(store: &[u8], found: Found) -> Onward
     if is_leaf(s) {
         return Onward::End;
     }
-    let left = get_u32(s, sizes::LEFT_AT);
-    let right = get_u32(s, sizes::RIGHT_AT);
+    let left = child_version_at(store, slot, false);
+    let right = child_version_at(store, slot, true);
     Onward::Inner { slot, left, right }
 }
 

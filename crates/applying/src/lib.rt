@@ -3,14 +3,10 @@ use apply_publish::Applied;
 use apply_publish::publish;
 use batch::batch_form;
 use batch::batch_order;
+use numbers::BAD_BATCH;
+use numbers::BAD_ORDER;
 use soundness::check;
 ghost use Rattle.apply_publish.specs.Apply.{appliedSays, Applies};
-
-// 4: the batch isn't whole records in form, or they are more than 1,024.
-const BAD_BATCH: u32 = 4;
-
-// 5: its keys aren't strictly ascending.
-const BAD_ORDER: u32 = 5;
 
 // Applies a batch to a store, where check accepts it; refused, nothing is written.
 pub fn apply(store: &mut [u8], batch: &[u8]) -> Applied

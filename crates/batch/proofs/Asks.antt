@@ -16,11 +16,11 @@ use Rattle.terms.specs.Form.{AskForm}
 use Rattle.terms.proofs.Tests.{and-left, and-right, and-true}
 use Rattle.terms.proofs.Fields.{num-le, length-le, le-field, length-slice, all-slice, zero-bytes, cuts, flat-cuts, all-of-tests, tests-all, test-passed, test-failed, Sized, cuts-flat, length-flat}
 use Rattle.batch.specs.Sizes.{recordSize, insertLength, insertKind, deleteLength, deleteKind, kindAt, zeroAt, keyAt, valueAt}
-use Rattle.batch.specs.Batch.{lengthOf, kindOf, askValue, inserts, askBytes, headIs, isInsert, isDelete, askForm, ask, askOf}
+use Rattle.batch.specs.Batch.{askLength, askKind, askValue, inserts, askBytes, headIs, isInsert, isDelete, askForm, ask, askOf}
 
 -- a record's fields, and their sizes
 abbrev fields : Ask → List Bytes
-fields a = le 4 (lengthOf a) ∷ le 2 (kindOf a) ∷ le 2 0 ∷ askKey a ∷ askValue a ∷ []
+fields a = le 4 (askLength a) ∷ le 2 (askKind a) ∷ le 2 0 ∷ askKey a ∷ askValue a ∷ []
 
 abbrev sizes : List ℕ
 sizes = 4 ∷ 2 ∷ 2 ∷ 32 ∷ 32 ∷ []
@@ -35,7 +35,7 @@ value-length (insert k x) h = h .1 .0
 value-length (delete k) h = refl
 
 sized : (a : Ask) → AskForm a → Sized sizes (fields a)
-sized a h = (length-le 4 (lengthOf a), (length-le 2 (kindOf a), (length-le 2 0, (key-whole a h .0, (value-length a h, tt)))))
+sized a h = (length-le 4 (askLength a), (length-le 2 (askKind a), (length-le 2 0, (key-whole a h .0, (value-length a h, tt)))))
 
 pub length-ask : (a : Ask) → AskForm a → length (askBytes a) ≡ recordSize
 unfolding askBytes
@@ -46,25 +46,25 @@ cut : (a : Ask) → AskForm a → (n : ℕ) → getD (cuts sizes 0 (askBytes a))
 unfolding askBytes
 cut a h n = ap (λ l. getD l n []) (cuts-flat sizes (fields a) (sized a h))
 
-length-small : (a : Ask) → lengthOf a < 4294967296
+length-small : (a : Ask) → askLength a < 4294967296
 length-small (insert k x) = omega arith
 length-small (delete k) = omega arith
 
-kind-small : (a : Ask) → kindOf a < 65536
+kind-small : (a : Ask) → askKind a < 65536
 kind-small (insert k x) = omega arith
 kind-small (delete k) = omega arith
 
 module _ (a : Ask) (h : AskForm a) where
-  length-says : field 0 4 (askBytes a) ≡ lengthOf a
+  length-says : field 0 4 (askBytes a) ≡ askLength a
   unfolding field
-  length-says = ap num (cut a h 0) ∙ num-le 4 (lengthOf a) (length-small a)
+  length-says = ap num (cut a h 0) ∙ num-le 4 (askLength a) (length-small a)
 
-  head-says : headIs (lengthOf a) (kindOf a) (askBytes a) ≡ true
+  head-says : headIs (askLength a) (askKind a) (askBytes a) ≡ true
   unfolding headIs field
   head-says =
       tests-all _ (
         eq-eqb _ _ length-says,
-        (eq-eqb _ _ (ap num (cut a h 1) ∙ num-le 2 (kindOf a) (kind-small a)), (eq-eqb _ _ (ap num (cut a h 2) ∙ num-le 2 0 (omega arith)), tt)),
+        (eq-eqb _ _ (ap num (cut a h 1) ∙ num-le 2 (askKind a) (kind-small a)), (eq-eqb _ _ (ap num (cut a h 2) ∙ num-le 2 0 (omega arith)), tt)),
       )
 
   key-says : slice keyAt 32 (askBytes a) ≡ askKey a

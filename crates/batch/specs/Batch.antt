@@ -12,13 +12,13 @@ use Rattle.terms.specs.Records.{Ask, insert, delete, askKey, zeros}
 use Rattle.batch.specs.Sizes.{recordSize, insertLength, insertKind, deleteLength, deleteKind, kindAt, zeroAt, keyAt, valueAt, mostRecords}
 
 -- Length 72 and kind 1 (insert) or length 40 and kind 2 (delete).
-abbrev pub lengthOf : Ask → ℕ
-lengthOf (insert k x) = insertLength
-lengthOf (delete k) = deleteLength
+abbrev pub askLength : Ask → ℕ
+askLength (insert k x) = insertLength
+askLength (delete k) = deleteLength
 
-abbrev pub kindOf : Ask → ℕ
-kindOf (insert k x) = insertKind
-kindOf (delete k) = deleteKind
+abbrev pub askKind : Ask → ℕ
+askKind (insert k x) = insertKind
+askKind (delete k) = deleteKind
 
 -- The value is zero for delete.
 abbrev pub askValue : Ask → Bytes
@@ -32,7 +32,7 @@ inserts (delete k) = false
 
 -- A record's bytes: length, kind, 2 zero, key 32, value 32.
 unfoldable pub askBytes : Ask → Bytes
-askBytes a = flat (le 4 (lengthOf a) ∷ le 2 (kindOf a) ∷ le 2 0 ∷ askKey a ∷ askValue a ∷ [])
+askBytes a = flat (le 4 (askLength a) ∷ le 2 (askKind a) ∷ le 2 0 ∷ askKey a ∷ askValue a ∷ [])
 
 -- The bytes begin with this length, this kind and 2 zero.
 unfoldable pub headIs : ℕ → ℕ → Bytes → Bool

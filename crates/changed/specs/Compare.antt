@@ -8,7 +8,7 @@ use lib.Dec.{ltb}
 use Rattle.terms.specs.Records.{Store}
 use Rattle.meaning.specs.Tree.{grantsIn}
 use Rattle.meaning.specs.Store.{treeAtVersion}
-use Rattle.meaning.specs.Calls.{Outcome, accepted, refuse, isKept}
+use Rattle.meaning.specs.Calls.{Result, accepted, refuse, isKept}
 use Rattle.changed.specs.Changes.{Change, changed, Item, items, itemSize}
 use Rattle.changed.specs.Visits.{visits}
 
@@ -22,7 +22,7 @@ visitsOf st first second = visits (treeAtVersion st first) (treeAtVersion st sec
 
 -- 8 if either version isn't kept, 13 if the count is above the limit, 9 if the list doesn't fit in the room; else the list, and the store
 -- stays as it is.
-unfoldable pub compare : ℕ → ℕ → ℕ → ℕ → Store → Outcome (List Item)
+unfoldable pub compare : ℕ → ℕ → ℕ → ℕ → Store → Result (List Item)
 compare first second limit room st =
     cond (isKept st first && isKept st second)
     (cond (ltb limit (visitsOf st first second)) (refuse 13 st)

@@ -17,7 +17,7 @@ use Rattle.terms.proofs.Tests.{and-left, and-right}
 use Rattle.meaning.specs.Tree.{VTree, grantsIn}
 use Rattle.meaning.specs.Store.{treeAtVersion}
 use Rattle.meaning.specs.Sound.{Sound, Kept}
-use Rattle.meaning.specs.Calls.{Answer, refused, accepted, Outcome, refuse, isKept}
+use Rattle.meaning.specs.Calls.{Answer, refused, accepted, Result, refuse, isKept}
 use Rattle.histories.proofs.Whole.{Whole, sound-whole}
 use Rattle.nodehash.specs.Node.{leafHash, innerHash}
 use Rattle.place.specs.declared.Place as place
@@ -124,7 +124,7 @@ module _ {s : Bytes} (w : SoundBytes s) where
     unfolding refuse
     refuse-with {m} e f = record {
       answer = refused m;
-      does = refuses w (ap (λ (o : Outcome (List Item)). o .answer) e);
+      does = refuses w (ap (λ (o : Result (List Item)). o .answer) e);
       says = refl;
       bytes = f;
     }
@@ -214,8 +214,8 @@ module _ {s : Bytes} (w : SoundBytes s) where
                 answer = accepted (items (changesOf st first second));
                 does =
                     subst (Does (compare first second limit (length room)) s (accepted (items (changesOf st first second))))
-                    (ap (λ (o : Outcome (List Item)). storeBytes (o .store)) e ∙ sound-back w h)
-                    (accepts w (ap (λ (o : Outcome (List Item)). o .answer) e));
+                    (ap (λ (o : Result (List Item)). storeBytes (o .store)) e ∙ sound-back w h)
+                    (accepts w (ap (λ (o : Result (List Item)). o .answer) e));
                 says = ap accepted count-is;
                 bytes =
                     u .2

@@ -1,25 +1,18 @@
 // What changed between two kept versions, document 02, request 2026-01: the two trees are walked together, once to count visits and records,
 // once to write the list.
+use changes_put::ITEM_SIZE;
 use changes_top::root_top;
 use changes_walk::Walked;
 use changes_walk::walk;
+use numbers::NO_ROOM;
+use numbers::NOT_KEPT;
+use numbers::TOO_MANY_VISITS;
 use place::Place;
 use read_step::Opened;
 use read_step::open;
 use soundness::check;
 ghost use Rattle.promises.specs.Calls.{SoundBytes};
 ghost use Rattle.changes.specs.Changes.{comparedSays, Compares};
-
-// 8: a version isn't in oldest to latest.
-const NOT_KEPT: u32 = 8;
-
-// 9: the list is longer than the buffer.
-const NO_ROOM: u32 = 9;
-
-// 13: more visits than the limit.
-const TOO_MANY_VISITS: u32 = 13;
-
-const ITEM_SIZE: usize = 72;
 
 // A number of refusal, or how many records the list has.
 pub enum Compared {

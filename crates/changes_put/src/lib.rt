@@ -20,7 +20,7 @@ ghost use Rattle.changed.specs.Changes.{itemSize, itemAs};
 ghost use Rattle.changes_top.specs.Tops.{grantAt};
 ghost use Rattle.changes_put.specs.Puts.{grantOf, twoItems, endItems, putInto, Fits, Ends, Puts};
 
-const ITEM_SIZE: usize = 72;
+pub const ITEM_SIZE: usize = 72;
 
 // A record's kind.
 const INSERTS: u16 = 1;

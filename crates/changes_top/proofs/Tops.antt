@@ -1,24 +1,23 @@
 -- The record that is found is the top of the tree that is read on from there: a record in form says what its 120 bytes say, and an inner one
 -- stands at a place shorter than a key. Assumes nothing.
-use Prim.Native.Nat.{ℕ, zero, suc, _+_, _*_, _-_, _<_, _≤_}
+use Prim.Native.Nat.{ℕ, zero, suc, _-_, _<_, _≤_}
 use native.Mathlib.Omega.{arith}
 use mathlib.Core.Path.{_≡_, refl, ap, ap₂, sym, _∙_, subst}
 use mathlib.Core.Logic.{⊎-elim}
 use mathlib.Core.Bool.{Bool, true, false, cond, _||_, Bool·beq}
-use mathlib.Core.List.{List, [], _∷_}
+use mathlib.Core.List.{[], _∷_}
 use mathlib.Core.Option.{none, some}
 use lib.ListN.{length, getD}
 use lib.Dec.{eqb}
 use borrow.Author.Tests.{ne-eqb}
 use types.Run.{OneOf}
 use denote.Enum.Declared.{tagOf}
-use Rattle.terms.specs.Bits.{Bytes, Byte, All, Side, left, right, Place, longer, bit}
-use Rattle.terms.specs.Fields.{allZero}
-use Rattle.terms.specs.Records.{Body, leafBody, innerBody, Record, Slot, free, used, spoiled, Store}
+use Rattle.terms.specs.Bits.{Bytes, Byte, All, Side, right, Place, longer, bit}
+use Rattle.terms.specs.Records.{Body, leafBody, innerBody, Record, free, used}
 use Rattle.terms.specs.Form.{RecordForm, placeLimit}
-use Rattle.meaning.specs.Tree.{VTree, vnone, vleaf, vinner}
+use Rattle.meaning.specs.Tree.{VTree, vnone}
 use Rattle.meaning.specs.Store.{find, rootOf, treeBelow, treeFound, treeFrom, treeAtVersion}
-use Rattle.meaning.proofs.Finding.{used-eq, found-in}
+use Rattle.meaning.proofs.Finding.{found-in}
 use Rattle.meaning.proofs.Roots.{root-at}
 use Rattle.place.specs.declared.Place as place
 use Rattle.place.specs.Place.{placeOf, Proper, Grown}
@@ -26,12 +25,11 @@ use Rattle.place.specs.Place as places
 use Rattle.place.proofs.Places.{proper-count}
 use Rattle.layout.specs.Sizes.{roomOf}
 use Rattle.layout.specs.Headers.{sizeRight}
-use Rattle.layout.specs.Slots.{isLeaf, isInner, versionIn, keyIn, leafIn, leftIn, rightIn, innerIn, recordIn, slotOf, SlotForm}
+use Rattle.layout.specs.Slots.{isLeaf, versionIn, keyIn, leafIn, leftIn, rightIn, innerIn, recordIn, slotOf, SlotForm}
 use Rattle.layout.specs.Stores.{slotIn, storeOf, SlotWithin}
-use Rattle.layout.proofs.Slots.{slot-form}
+use Rattle.layout.proofs.Slots.{slot-form, record-is}
 use Rattle.layout.proofs.Stores.{slot-at}
 use Rattle.store.proofs.Slots.{slots-many, slot-fits, slot-long, slot-bytes}
-use Rattle.lookup.specs.Lookup.{FoundIn}
 use Rattle.lookup.specs.declared.Found as found
 use Rattle.lookup.specs.declared.Found.the-variants as F
 use Rattle.changed.specs.Visits.{noDeeper}
@@ -41,20 +39,9 @@ use Rattle.changes_top.specs.declared.Top as declared
 use Rattle.changes_top.specs.declared.Top.the-variants.{Nothing, Leaf, Inner}
 use Rattle.changes_top.proofs.Top as top
 
--- a record in form says what its bytes say
+-- what the bytes of a record in form say
 abbrev bodyIn : Bytes → Body
 bodyIn x = cond (isLeaf x) (leafIn x) (innerIn x)
-
-record-is : (x : Bytes) (r : Record) → slotOf x ≡ used r → recordIn x (bodyIn x) ≡ r
-unfolding slotOf
-record-is x r = go (allZero x) (isLeaf x) (isInner x)
-  where
-    go : (a b c : Bool) → cond a free (cond b (used (recordIn x (leafIn x))) (cond c (used (recordIn x (innerIn x))) (spoiled x))) ≡ used r →
-        recordIn x (cond b (leafIn x) (innerIn x)) ≡ r
-    go true b c e = let z : _≡_ {A = ℕ} 0 1 = cc in absurd (omega arith)
-    go false true c e = used-eq _ r e
-    go false false true e = used-eq _ r e
-    go false false false e = let z : _≡_ {A = ℕ} 0 1 = cc in absurd (omega arith)
 
 inner-limit : (x : Bytes) → placeLimit (innerIn x) ≡ 255
 unfolding innerIn

@@ -17,7 +17,7 @@ use Rattle.terms.specs.Form.{AskForm}
 use Rattle.terms.proofs.Tests.{and-left, and-right}
 use Rattle.meaning.specs.Store.{formatted}
 use Rattle.meaning.specs.Sound.{Sound}
-use Rattle.meaning.specs.Calls.{Answer, refused, accepted, Outcome, Applied, apply, prune}
+use Rattle.meaning.specs.Calls.{Answer, refused, accepted, Result, Applied, apply, prune}
 use Rattle.meaning.specs.Answers.{numberOf}
 use Rattle.meaning.specs.Desk.{Row, applies, prunes, RowHolds, table, A, B, C, D, a, b, c, d, s₁}
 use Rattle.meaning.proofs.Desk.{desk}
@@ -67,7 +67,7 @@ asks-by [] h = tt
 asks-by (a ∷ asks) h = (ask-by a (and-left (askTest a) (asksTest asks) h), asks-by asks (and-right (askTest a) (asksTest asks) h))
 
 -- a call on the bytes of a sound store, for C, by its outcome on the store
-module _ {R : Type 0} (call : Store → Outcome R) (told : R → Bytes) (st : Store) (s : Sound leafHash innerHash st) where
+module _ {R : Type 0} (call : Store → Result R) (told : R → Bytes) (st : Store) (s : Sound leafHash innerHash st) where
   exported : (answer : Answer R) (end : Store) (f : Bytes) → call st ≡ record { answer = answer; store = end } →
       ((n : ℕ) → answer ≡ refused n → end ≡ st) → Exports call told (storeBytes st) f (numberOf answer) (storeBytes end) (toldOf told answer f)
   exported (refused n) end f e same =

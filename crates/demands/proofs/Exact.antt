@@ -11,7 +11,7 @@ use lib.Dec.{eqb}
 use borrow.Author.Tests.{eqb-true, eqb-false}
 use Rattle.terms.specs.Bits.{Bytes, Byte, All}
 use Rattle.terms.specs.Records.{Store, Proof}
-use Rattle.meaning.specs.Calls.{Answer, refused, accepted, Outcome, apply, prune}
+use Rattle.meaning.specs.Calls.{Answer, refused, accepted, Result, apply, prune}
 use Rattle.meaning.specs.Reading.{readKey, readRoot}
 use Rattle.meaning.specs.Proving.{prove}
 use Rattle.meaning.specs.Answers.{numberOf}
@@ -59,7 +59,7 @@ check-exactly {s} {r} w = exactly (checkRows s) r refl (go w)
     go (check.sound c o l e f) = past (headerRows s) ((3, NotSound s) ∷ []) 0 (after-header s e) (inr (λ n. n f, refl))
 
 -- A call that tests soundness: 1, 2, 3; then its own.
-does-first : {A : Type 0} (call : Store → Outcome A) (s : Bytes) (more : Table) (a : Answer A) {t : Bytes} →
+does-first : {A : Type 0} (call : Store → Result A) (s : Bytes) (more : Table) (a : Answer A) {t : Bytes} →
     First more (numberOf (call (storeOf s) .answer)) → Does call s a t → First (headerRows s ++ (3, NotSound s) ∷ more) (numberOf a)
 does-first call s more a f (wrong-header {m} e) = let h = header-row s e in within (headerRows s) ((3, NotSound s) ∷ more) m (h .0) (h .1)
 does-first call s more a f (not-sound e n) = past (headerRows s) ((3, NotSound s) ∷ more) 3 (after-header s e) (inl (n, refl))
@@ -70,7 +70,7 @@ does-first call s more a f (accepts w e) =
     past (headerRows s) ((3, NotSound s) ∷ more) (numberOf a) (after-header s (w .headed))
     (inr (λ n. n (w .sound), subst (λ x. First more (numberOf x)) e f))
 
-export-first : {A : Type 0} (call : Store → Outcome A) {told : A → Bytes} (s : Bytes) (more : Table) {f t g : Bytes} {r : ℕ} →
+export-first : {A : Type 0} (call : Store → Result A) {told : A → Bytes} (s : Bytes) (more : Table) {f t g : Bytes} {r : ℕ} →
     First more (numberOf (call (storeOf s) .answer)) → Exports call told s f r t g → First (headerRows s ++ (3, NotSound s) ∷ more) r
 export-first call s more f (exports-refusal {m} d) = does-first call s more (refused m) f d
 export-first call s more f (exports-answer {a} d) = does-first call s more (accepted a) f d

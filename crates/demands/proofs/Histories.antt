@@ -16,7 +16,7 @@ use Rattle.terms.specs.Records.{Grant, Ask, Store, zeros}
 use Rattle.meaning.specs.Tree.{grantsAt, treeOf, hash}
 use Rattle.meaning.specs.Store.{formatted}
 use Rattle.meaning.specs.Sound.{Kept}
-use Rattle.meaning.specs.Calls.{refused, accepted, Outcome}
+use Rattle.meaning.specs.Calls.{refused, accepted, Result}
 use Rattle.meaning.specs.Reading.{answerOf}
 use Rattle.meaning.specs.History.{Call, formatting, applying, pruning, CallForm, Entry, entry, noted, ledger, grantsOf, Holds}
 use Rattle.histories.proofs.Histories.{Keeps, keeps-holds, keeps-formatted, keeps-calls}
@@ -74,7 +74,7 @@ not-headed : {A : Type 0} {h : Headed} {m c o l : ℕ} → h ≡ refusal m → h
 not-headed e f = let z : _≡_ {A = ℕ} 0 1 = cc in absurd (omega arith)
 
 -- a call that tests soundness, refused or accepted
-export-keeps : {A : Type 0} {call : Store → Outcome A} {told : A → Bytes} {s f t g : Bytes} {r : ℕ} {es now : List Entry} →
+export-keeps : {A : Type 0} {call : Store → Result A} {told : A → Bytes} {s f t g : Bytes} {r : ℕ} {es now : List Entry} →
     Exports call told s f r t g → Keeping s es → ((m : ℕ) → call (storeOf s) .answer ≡ refused m → m ≡ 0 → ⊥) →
     ((a : A) → call (storeOf s) .answer ≡ accepted a → Keeps leafHash innerHash (call (storeOf s) .store) now) →
     Keeping t (cond (eqb r 0) now es)

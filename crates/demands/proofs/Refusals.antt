@@ -13,7 +13,7 @@ use borrow.Author.Tests.{eqb-false}
 use Rattle.terms.specs.Bits.{Bytes, left, right, sameBytes}
 use Rattle.terms.specs.Records.{Ask, Proof, Store}
 use Rattle.terms.proofs.Tests.{and-right}
-use Rattle.meaning.specs.Calls.{Answer, refused, accepted, Outcome, isKept, apply, prune}
+use Rattle.meaning.specs.Calls.{Answer, refused, accepted, Result, isKept, apply, prune}
 use Rattle.meaning.specs.Reading.{Verdict, End, broken, atLeaf, atGap, walk, seen}
 use Rattle.meaning.specs.Proving.{Sought, lostWay, nobody, somebody, neighbour, absenceFrom, absenceAt, proveEnd, proveSeen, proof, proofLength, fitted, prove}
 use Rattle.meaning.proofs.Empty.{proof-by-searches}
@@ -94,7 +94,7 @@ header-numbers s {n} e = go (header-refused s n e)
     go (inr z) = inr (inl z)
 
 -- A call that tests soundness: 1, 2; then 3; then its own.
-module _ {A : Type 0} {call : Store → Outcome A} {s : Bytes} where
+module _ {A : Type 0} {call : Store → Result A} {s : Bytes} where
   pub does-numbers : (ns : List ℕ) {m : ℕ} {t : Bytes} → ((st : Store) (n : ℕ) → call st .answer ≡ refused n → OneOf ns n) →
       Does call s (refused m) t → OneOf (1 ∷ 2 ∷ 3 ∷ ns) m
   does-numbers ns {m} own (wrong-header e) = later (header-numbers s e)

@@ -2,12 +2,10 @@
 use fields::clear;
 use layout::put_header;
 use layout::size_right;
+use numbers::WRONG_SIZE;
 use store::slot_count;
 ghost use mathlib.Core.Path.{_≡_};
 ghost use Rattle.format.specs.Format.{formatAnswer, formatBytes};
-
-// 1: the store's length isn't 24 + 120n, n in 1 to 16,384.
-const WRONG_SIZE: u32 = 1;
 
 // 0 where the store is formatted, else 1; refused, nothing is written.
 pub fn format(store: &mut [u8]) -> u32

@@ -15,7 +15,7 @@ use Rattle.terms.specs.Form.{AskForm, top32}
 use Rattle.meaning.specs.Tree.{VTree, unversioned, grantsIn, hash, nextTree}
 use Rattle.meaning.specs.Store.{treeAtVersion, freeSlots, pruned, onRecord, pruneRecord, recordsOf, newRecords, settled}
 use Rattle.meaning.specs.Sound.{Kept, NodeOf, Hashes32, Sound}
-use Rattle.meaning.specs.Calls.{accepted, Outcome, refuse, isKept, Applied, ascending, prune, publish, applyAs, apply}
+use Rattle.meaning.specs.Calls.{accepted, Result, refuse, isKept, Applied, ascending, prune, publish, applyAs, apply}
 use Rattle.histories.specs.Claims.{AfterApply, AfterPrune}
 use Rattle.histories.proofs.Writing.{free-written, length-written, free-pruned}
 use Rattle.histories.proofs.Whole.{Whole, sound-whole, whole-sound}
@@ -29,7 +29,7 @@ use Rattle.histories.proofs.Applying.{ends-at, stays-at, tree-old, tree
 abbrev freedBy : ℕ → Store → ℕ
 freedBy n st = freeSlots (pruned n (st .slots)) - freeSlots (st .slots)
 
-pub prune-cases : (P : Outcome ℕ → Type 0) (n : ℕ) (st : Store) → ((Kept st n → ⊥) → P (refuse 8 st)) →
+pub prune-cases : (P : Result ℕ → Type 0) (n : ℕ) (st : Store) → ((Kept st n → ⊥) → P (refuse 8 st)) →
     (Kept st n → P (record { answer = accepted (freedBy n st); store = cut n st })) → P (prune n st)
 unfolding prune cut isKept
 prune-cases P n st f g = go (leb (st .oldest) n) (leb n (st .latest)) refl refl
@@ -74,7 +74,7 @@ module _ (leafHash innerHash : Bytes → Bytes → Bytes) where
   abbrev pub storeAfter : List Ask → Store → Store
   storeAfter batch st = settled leafHash innerHash (st .latest + 1) (treeAtVersion st (st .latest)) (treeMade batch st) st
 
-  pub apply-cases : (P : Outcome Applied → Type 0) (batch : List Ask) (st : Store) →
+  pub apply-cases : (P : Result Applied → Type 0) (batch : List Ask) (st : Store) →
       (ascending batch ≡ false → P (refuse 5 st)) →
       (ascending batch ≡ true → st .latest ≡ top32 → P (refuse 6 st)) →
       (ascending batch ≡ true → (st .latest ≡ top32 → ⊥) → freeSlots (st .slots) < length (recordsNeeded batch st) → P (refuse 7 st)) →

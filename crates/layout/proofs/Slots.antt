@@ -1,6 +1,6 @@
 -- Slots there and back: the bytes of a record in form are read as that record, every 120 bytes are the bytes of the slot that they are read
 -- as, and what is read is in form. The fields fill the slot, and each is its number or its part. Assumes nothing.
-use Prim.Native.Nat.{ℕ, _+_, _-_, _<_, _≤_}
+use Prim.Native.Nat.{ℕ, _+_, _<_, _≤_}
 use native.Mathlib.Omega.{arith}
 use mathlib.Core.Path.{_≡_, refl, ap, ap₂, sym, _∙_}
 use mathlib.Core.Bool.{Bool, true, false, cond, _||_, false≢true}
@@ -9,11 +9,10 @@ use lib.ListN.{length, getD, drop, length-take}
 use lib.Dec.{leb}
 use borrow.Author.Tests.{eqb-true, eq-eqb, ne-eqb, leb-true, leb-false, le-leb, lt-leb}
 use Rattle.terms.specs.Bits.{Bytes, Byte, Place, All, Whole32, bits, pack, noneSet}
-use Rattle.terms.specs.Fields.{le, num, field, slice, zeroBytes, allZero, flat, allOf}
+use Rattle.terms.specs.Fields.{le, num, field, slice, zeroBytes, allZero, flat}
 use Rattle.terms.specs.Records.{Child, child, Body, leafBody, innerBody, Record, Slot, free, used, spoiled, zeros}
 use Rattle.terms.specs.Form.{top32, placeLimit, ChildForm, BodyForm, RecordForm}
 use Rattle.terms.proofs.Places.{length-bits, length-pack, pack-place, place-packed, unused-packed}
-use Rattle.terms.proofs.Tests.{is-false}
 use Rattle.terms.proofs.Fields.{num-le, length-le, le-field, field-below, length-slice, all-slice, zero-bytes, all-zero, cuts, total, flat-cuts, all-of-tests, test-failed, tests-all, Sized, cuts-flat, length-flat, length-zero-bytes, flat-append}
 use Rattle.fields.specs.Written.{written}
 use Rattle.fields.proofs.Written.{written-between}
@@ -346,21 +345,14 @@ module _ (x : Bytes) (l : length x ≡ 120) (h : All Byte x) where
       go false false true d e f = inner-form f
       go false false false d e f = (l, h, rw (d, e, f))
 
-zeros-no-leaf : isLeaf (zeroBytes 120) ≡ false
-unfolding isLeaf headRight leafIn field slice zeroBytes allOf
-zeros-no-leaf = refl
-
--- the tests by themselves say what is read
-module _ (x : Bytes) (l : length x ≡ 120) where
-  all-zeros : allZero x ≡ true → x ≡ zeroBytes 120
-  all-zeros e = zero-bytes x e ∙ ap zeroBytes l
-
-  pub leaf-read : isLeaf x ≡ true → slotOf x ≡ used (recordIn x (leafIn x))
-  unfolding slotOf
-  leaf-read e = rw (is-false (allZero x) (λ z. false≢true (sym zeros-no-leaf ∙ ap isLeaf (sym (all-zeros z)) ∙ e)), e)
-
-  not-leaf : isInner x ≡ true → isLeaf x ≡ false
-  unfolding isLeaf isInner headRight leafIn innerIn
-  not-leaf e =
-      let n = eqb-true (field 0 4 x) 120 (all-of-tests _ (all-of-tests _ e .0) .0) in
-      test-failed _ (test-failed _ (ne-eqb (field 0 4 x) 112 (λ k. omega arith)))
+-- bytes that are a record are a leaf's where they pass for one, else an inner record's
+pub record-is : (x : Bytes) (r : Record) → slotOf x ≡ used r → recordIn x (cond (isLeaf x) (leafIn x) (innerIn x)) ≡ r
+unfolding slotOf
+record-is x r = go (allZero x) (isLeaf x) (isInner x)
+  where
+    go : (a b c : Bool) → cond a free (cond b (used (recordIn x (leafIn x))) (cond c (used (recordIn x (innerIn x))) (spoiled x))) ≡ used r →
+        recordIn x (cond b (leafIn x) (innerIn x)) ≡ r
+    go true b c e = let z : _≡_ {A = ℕ} 0 1 = cc in absurd (omega arith)
+    go false true c e = cc
+    go false false true e = cc
+    go false false false e = let z : _≡_ {A = ℕ} 0 1 = cc in absurd (omega arith)

@@ -7,6 +7,8 @@ use fields::get_u16;
 use fields::get_u32;
 use fields::put_u16;
 use fields::put_u32;
+use numbers::WRONG_HEADER;
+use numbers::WRONG_SIZE;
 ghost use mathlib.Core.Path.{_≡_};
 ghost use Prim.Native.Nat.{_≤_};
 ghost use lib.ListN.{length};
@@ -14,12 +16,6 @@ ghost use Rattle.fields.specs.Written.{written};
 ghost use Rattle.layout.specs.Sizes.{headerSize};
 ghost use Rattle.layout.specs.Headers.{sizeRight, headerRight, headerOf, headerBytes};
 ghost use Rattle.layout.specs.Answer.{headerSays};
-
-// The store's length isn't 24 + 120n, n in 1 to 16,384.
-const WRONG_SIZE: u32 = 1;
-
-// A header field isn't as it should be, its capacity isn't n, or oldest is above latest.
-const WRONG_HEADER: u32 = 2;
 
 // What reading a header answers.
 pub enum Header {

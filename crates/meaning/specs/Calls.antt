@@ -18,12 +18,12 @@ pub data Answer (A : Type 0) : Type 0 where
   accepted : A → Answer A
 
 -- A call's answer, and the store it leaves.
-pub record Outcome (A : Type 0) : Type 0 where
+pub record Result (A : Type 0) : Type 0 where
   pub answer : Answer A
   pub store : Store
 
 -- A refused call writes nothing.
-unfoldable pub refuse : {A : Type 0} → ℕ → Store → Outcome A
+unfoldable pub refuse : {A : Type 0} → ℕ → Store → Result A
 refuse n st = record { answer = refused n; store = st }
 
 -- The version is kept.
@@ -43,7 +43,7 @@ ascending (a ∷ []) = true
 ascending (a ∷ b ∷ batch) = before (askKey a) (askKey b) && ascending (b ∷ batch)
 
 -- Pruning to n: 8 if the version isn't kept; else it answers how many records it freed.
-unfoldable pub prune : ℕ → Store → Outcome ℕ
+unfoldable pub prune : ℕ → Store → Result ℕ
 prune n st =
     cond (isKept st n)
     (record {
@@ -54,7 +54,7 @@ prune n st =
 
 module _ (leafHash innerHash : Bytes → Bytes → Bytes) where
   -- The tree `now` as version `new` after the tree `old`: 7 if there are fewer free slots than new records.
-  unfoldable pub publish : ℕ → VTree → VTree → Store → Outcome Applied
+  unfoldable pub publish : ℕ → VTree → VTree → Store → Result Applied
   publish new old now st =
       cond (ltb (freeSlots (st .slots)) (length (newRecords leafHash innerHash new now)))
       (refuse 7 st)
@@ -68,11 +68,11 @@ module _ (leafHash innerHash : Bytes → Bytes → Bytes) where
       })
 
   -- A batch makes version `new` of the latest tree.
-  unfoldable pub applyAs : ℕ → List Ask → Store → Outcome Applied
+  unfoldable pub applyAs : ℕ → List Ask → Store → Result Applied
   applyAs new batch st = publish new (treeAtVersion st (st .latest)) (nextTree new (treeAtVersion st (st .latest)) batch) st
 
   -- Apply, of a batch in form (else 4): keys not strictly ascending 5, no further version 6, too few free slots 7. A batch makes latest + 1.
-  abbrev pub apply : Option (List Ask) → Store → Outcome Applied
+  abbrev pub apply : Option (List Ask) → Store → Result Applied
   apply none st = refuse 4 st
   apply (some batch) st =
       cond (ascending batch) (cond (eqb (st .latest) top32) (refuse 6 st) (applyAs (st .latest + 1) batch st)) (refuse 5 st)

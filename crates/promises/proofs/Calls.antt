@@ -9,7 +9,7 @@ use Rattle.terms.specs.Bits.{Bytes, Byte, All}
 use Rattle.terms.specs.Records.{Slot, free, used, spoiled, Store}
 use Rattle.terms.proofs.Lists.{all-of}
 use Rattle.meaning.specs.Sound.{At, Sound}
-use Rattle.meaning.specs.Calls.{Answer, refused, accepted, Outcome}
+use Rattle.meaning.specs.Calls.{Answer, refused, accepted, Result}
 use Rattle.nodehash.specs.Node.{leafHash, innerHash}
 use Rattle.layout.specs.Headers.{Headed, refusal, header, headerOf}
 use Rattle.layout.specs.Slots.{SlotForm}
@@ -64,7 +64,7 @@ same-refusal e f = let g = sym e ∙ f in cc
 not-answered : {A B : Type 0} {a : Answer A} {m : ℕ} {k : A} → a ≡ refused m → a ≡ accepted k → B
 not-answered e f = let g = sym e ∙ f in let z : _≡_ {A = ℕ} 0 1 = cc in absurd (omega arith)
 
-module _ {A : Type 0} {call : Store → Outcome A} {s : Bytes} where
+module _ {A : Type 0} {call : Store → Result A} {s : Bytes} where
   pub checked-refuses : {r : ℕ} → Checked s r → (r ≡ 0 → ⊥) → Does call s (refused r) s
   checked-refuses (check.refused m e) f = wrong-header e
   checked-refuses (check.unsound c o l e g) f = not-sound e g
@@ -102,7 +102,7 @@ same-number e = cc
 same-told : {A : Type 0} (told : A → Bytes) {a b : A} → _≡_ {A = Answer A} (accepted a) (accepted b) → told a ≡ told b
 same-told told e = cc
 
-module _ {A : Type 0} {call : Store → Outcome A} {told : A → Bytes} {s f : Bytes} where
+module _ {A : Type 0} {call : Store → Result A} {told : A → Bytes} {s f : Bytes} where
   pub one-export : {a b : ℕ} {t u g h : Bytes} → Exports call told s f a t g → Exports call told s f b u h → (a ≡ b) × (t ≡ u) × (g ≡ h)
   one-export (exports-refusal x) (exports-refusal y) = let o = one-outcome x y in (same-number (o .0), o .1, refl)
   one-export (exports-refusal x) (exports-answer y) = not-answered refl (one-outcome x y .0)

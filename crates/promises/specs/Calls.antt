@@ -5,7 +5,7 @@ use mathlib.Core.Path.{_≡_}
 use Rattle.terms.specs.Bits.{Bytes}
 use Rattle.terms.specs.Records.{Store}
 use Rattle.meaning.specs.Sound.{Sound}
-use Rattle.meaning.specs.Calls.{Answer, refused, accepted, Outcome}
+use Rattle.meaning.specs.Calls.{Answer, refused, accepted, Result}
 use Rattle.nodehash.specs.Node.{leafHash, innerHash}
 use Rattle.layout.specs.Headers.{refusal, header, headerOf}
 use Rattle.layout.specs.Stores.{storeOf, storeBytes}
@@ -19,7 +19,7 @@ pub record SoundBytes (s : Bytes) : Type 0 where
   pub sound : Sound leafHash innerHash (storeOf s)
 
 -- The call on the bytes s gives this answer and leaves these bytes.
-pub data Does {A : Type 0} (call : Store → Outcome A) (s : Bytes) : Answer A → Bytes → Type 0 where
+pub data Does {A : Type 0} (call : Store → Result A) (s : Bytes) : Answer A → Bytes → Type 0 where
   -- 1 or 2, by size and header; nothing is written
   wrong-header : {m : ℕ} → headerOf s ≡ refusal m → Does call s (refused m) s
   -- 3: not sound; nothing is written
@@ -31,6 +31,6 @@ pub data Does {A : Type 0} (call : Store → Outcome A) (s : Bytes) : Answer A �
 
 -- The same call for C: it answers 0 where it is accepted, else the number of refusal; what is told goes to the array f, which a refused call
 -- leaves.
-pub data Exports {A : Type 0} (call : Store → Outcome A) (told : A → Bytes) (s f : Bytes) : ℕ → Bytes → Bytes → Type 0 where
+pub data Exports {A : Type 0} (call : Store → Result A) (told : A → Bytes) (s f : Bytes) : ℕ → Bytes → Bytes → Type 0 where
   exports-refusal : {m : ℕ} {t : Bytes} → Does call s (refused m) t → Exports call told s f m t f
   exports-answer : {a : A} {t : Bytes} → Does call s (accepted a) t → Exports call told s f 0 t (told a)

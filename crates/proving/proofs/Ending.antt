@@ -33,7 +33,7 @@ use Rattle.trails.specs.Trails.{shownAt, shownBy, stepsBy, forkSays, forkOn, Wa
 use Rattle.trails.specs.Searches.{pathOf, endSays, neighbourSays}
 use Rattle.trails.specs.declared.Walked as declared-walked
 use Rattle.proving.specs.Proving.{proveAnswer, roomAfter}
-use Rattle.proving.specs.Parts.{Gives, presentAt, absentFrom, provedAt, lengthOf, provedSays}
+use Rattle.proving.specs.Parts.{Gives, presentAt, absentFrom, provedAt, lengthAnswer, provedSays}
 use Rattle.proving.specs.declared.Proved as declared
 use Rattle.proving.specs.declared.Proved.the-variants.{Refused}
 use Rattle.proving.proofs.Giving.{gives-refusal}
@@ -108,11 +108,11 @@ module _ (s : Bytes) (v : ℕ) (k : Bytes) (w : declared-walked.Walked) (h : Wal
 -- the call's answer and room
 abbrev Answers : Bytes → ℕ → Bytes → Bytes → Bytes → declared.Proved → Type 0
 Answers s v k room after r =
-    (provedSays r ≡ lengthOf (proveAnswer s v k (length room))) × (after ≡ roomAfter (proveAnswer s v k (length room)) room)
+    (provedSays r ≡ lengthAnswer (proveAnswer s v k (length room))) × (after ≡ roomAfter (proveAnswer s v k (length room)) room)
 
 answers : {a : Answer Proof} (s : Bytes) (v : ℕ) (k room after : Bytes) (r : declared.Proved) → Gives a room after r → a ≡ proveAnswer s v k (length room) →
     Answers s v k room after r
-answers s v k room after r g e = (g .answer ∙ ap lengthOf e, g .bytes ∙ ap (λ a. roomAfter a room) e)
+answers s v k room after r g e = (g .answer ∙ ap lengthAnswer e, g .bytes ∙ ap (λ a. roomAfter a room) e)
 
 fitted-kept : (n : ℕ) (b : Bool) (a : Answer Proof) → fitted n (cond b a (refused 8)) ≡ cond b (fitted n a) (refused 8)
 fitted-kept n true a = refl

@@ -23,7 +23,7 @@ use Rattle.paths.specs.declared.Way.the-variants.{Lost, Nobody, Somebody}
 use Rattle.paths.specs.declared.Sought as declared-sought
 use Rattle.paths.proofs.Records.{part-room, steps-count}
 use Rattle.proving.specs.Proving.{roomAfter}
-use Rattle.proving.specs.Parts.{lengthOf, provedSays, Gives, wayLost, wayAlone}
+use Rattle.proving.specs.Parts.{lengthAnswer, provedSays, Gives, wayLost, wayAlone}
 use Rattle.proving.specs.declared.Proved as declared
 use Rattle.proving.specs.declared.Proved.the-variants.{Refused, Length}
 
@@ -38,7 +38,7 @@ front-filled len room f l = part-written 0 len f room (zero-add (length f) ∙ l
 -- a refusal
 pub gives-refusal : {a : Answer Proof} (n : ℕ) (room : Bytes) → a ≡ refused n → Gives a room room (Refused n)
 unfolding provedSays
-gives-refusal n room e = record { answer = sym (ap lengthOf e); bytes = sym (ap (λ a. roomAfter a room) e) }
+gives-refusal n room e = record { answer = sym (ap lengthAnswer e); bytes = sym (ap (λ a. roomAfter a room) e) }
 
 pub no-room : {len : ℕ} (p : Proof) (room : Bytes) → proofLength p ≡ len → length room < len → Gives (fitted (length room) (accepted p)) room room (Refused 9)
 no-room p room e h = gives-refusal 9 room (rw (lt-ltb (length room) (proofLength p) (omega arith)))
@@ -50,7 +50,7 @@ with-room {len} p room y e h l f =
     let fits : fitted (length room) (accepted p) ≡ accepted p = rw (le-ltb (length room) (proofLength p) (omega arith)) in
     let n : length (proofBytes p) ≡ len = ap length (sym f) ∙ l ∙ part-room 0 len len room (omega arith) h in
     record {
-      answer = ap accepted (sym e) ∙ sym (ap lengthOf fits);
+      answer = ap accepted (sym e) ∙ sym (ap lengthAnswer fits);
       bytes = ap (front len room) f ∙ front-filled len room (proofBytes p) n ∙ sym (ap (λ a. roomAfter a room) fits);
     }
 

@@ -22,7 +22,7 @@ use Rattle.layout.specs.Stores.{storeOf}
 use Rattle.read_step.specs.Headed.{byHeader}
 use Rattle.reads.specs.Reads.{rootAnswer}
 use Rattle.proving.specs.Proving.{proveAnswer, roomAfter}
-use Rattle.proving.specs.Parts.{lengthOf, provedSays}
+use Rattle.proving.specs.Parts.{lengthAnswer, provedSays}
 use Rattle.proving.specs.declared.Proved as declared
 use Rattle.proving.specs.declared.Proved.the-variants.{Refused, Length}
 
@@ -35,8 +35,8 @@ proved-same (Length m) (Length n) e = let z : m ≡ n = cc in ap Length z
 
 -- Two outcomes that the contract allows are equal: the answer, and every byte of the room.
 pub proving-is-settled : (s : Bytes) (v : ℕ) (k room a b : Bytes) (x y : declared.Proved) →
-    provedSays x ≡ lengthOf (proveAnswer s v k (length room)) → a ≡ roomAfter (proveAnswer s v k (length room)) room →
-    provedSays y ≡ lengthOf (proveAnswer s v k (length room)) → b ≡ roomAfter (proveAnswer s v k (length room)) room → (x ≡ y) × (a ≡ b)
+    provedSays x ≡ lengthAnswer (proveAnswer s v k (length room)) → a ≡ roomAfter (proveAnswer s v k (length room)) room →
+    provedSays y ≡ lengthAnswer (proveAnswer s v k (length room)) → b ≡ roomAfter (proveAnswer s v k (length room)) room → (x ≡ y) × (a ≡ b)
 proving-is-settled s v k room a b x y ex ea ey eb = (proved-same x y (ex ∙ sym ey), ea ∙ sym eb)
 
 -- Bytes with a right header that hold a sound store, a kept version that holds a grant, and a key: with room for any proof one is given, and the checker's answer to

@@ -20,9 +20,9 @@ use Rattle.proving.specs.declared.Proved.the-variants.{Refused, Length}
 use Rattle.proving.specs.Proving.{roomAfter}
 
 -- Proving answers the proof's length.
-abbrev pub lengthOf : Answer Proof → Answer ℕ
-lengthOf (refused n) = refused n
-lengthOf (accepted p) = accepted (proofLength p)
+abbrev pub lengthAnswer : Answer Proof → Answer ℕ
+lengthAnswer (refused n) = refused n
+lengthAnswer (accepted p) = accepted (proofLength p)
 
 -- What each case of the answer says.
 unfoldable pub provedSays : declared.Proved → Answer ℕ
@@ -31,7 +31,7 @@ provedSays (Length n) = accepted n
 
 -- The answer and the room afterwards are those of the answer a.
 pub record Gives (a : Answer Proof) (room after : Bytes) (r : declared.Proved) : Type 0 where
-  pub answer : provedSays r ≡ lengthOf a
+  pub answer : provedSays r ≡ lengthAnswer a
   pub bytes : after ≡ roomAfter a room
 
 -- The same where the proof is still to be fitted into the room: 9 if it is longer.

@@ -1,4 +1,8 @@
 // Proving over lent bytes, document 01, 'Reading and proving', and 2026-03: the proof for a key in a version, for every store, sound or damaged.
+use numbers::EMPTY_VERSION;
+use numbers::NO_ROOM;
+use numbers::NOT_32_BYTES;
+use numbers::NOT_SOUND;
 use paths::ABSENCE_HEAD;
 use paths::PRESENCE_HEAD;
 use paths::Path;
@@ -9,10 +13,8 @@ use paths::neighbour_length;
 use paths::put_presence;
 use paths_absence::put_absence;
 use place::same;
-use read_step::NOT_SOUND;
 use read_step::Opened;
 use read_step::Seen;
-use read_step::WRONG_KEY;
 use read_step::open;
 use slots::key_of;
 use store::slot_of;
@@ -33,13 +35,7 @@ ghost use Rattle.paths.specs.Paths.{presenceAt, PathIn};
 ghost use Rattle.paths.specs.Neighbours.{neighbourAt, NeighbourIn};
 ghost use Rattle.trails.specs.Searches.{WalkedIn};
 ghost use Rattle.proving.specs.Proving.{proveAnswer, roomAfter};
-ghost use Rattle.proving.specs.Parts.{Offers, absentFrom, provedAt, wayLost, wayAlone, provedSays, lengthOf};
-
-// 9: the proof is longer than the buffer.
-const NO_ROOM: u32 = 9;
-
-// 14: the version is empty, so there is no neighbour to show.
-const EMPTY: u32 = 14;
+ghost use Rattle.proving.specs.Parts.{Offers, absentFrom, provedAt, wayLost, wayAlone, provedSays, lengthAnswer};
 
 // What proving answers.
 pub enum Proved {
@@ -123,7 +119,7 @@ fn absent(store: &[u8], key: &[u8], walked: Walked, room: &mut [u8]) -> Proved
         return Proved::Refused(NOT_SOUND);
     }
     if neither(left, right) {
-        return Proved::Refused(EMPTY);
+        return Proved::Refused(EMPTY_VERSION);
     }
     give_absence(store, key, left, right, room)
 }
@@ -165,11 +161,11 @@ fn in_kept(store: &[u8], version: u32, key: &[u8], room: &mut [u8]) -> Proved
 
 // Proves a key present or absent in a version: the proof fills the front of the room and the rest stays; refused, nothing is written.
 pub fn prove(store: &[u8], version: u32, key: &[u8], room: &mut [u8]) -> Proved
-    ensures answer { λ r. ⌜ provedSays r ≡ lengthOf (proveAnswer (now (store .entry)) version (now (key .entry)) (length (now (room .entry)))) ⌝ }
+    ensures answer { λ r. ⌜ provedSays r ≡ lengthAnswer (proveAnswer (now (store .entry)) version (now (key .entry)) (length (now (room .entry)))) ⌝ }
     ensures bytes { λ _. ⌜ now (room .exit) ≡ roomAfter (proveAnswer (now (store .entry)) version (now (key .entry)) (length (now (room .entry)))) (now (room .entry)) ⌝ }
 {
     if key.len() != 32 {
-        return Proved::Refused(WRONG_KEY);
+        return Proved::Refused(NOT_32_BYTES);
     }
     let opened = open(store, version);
     if let Opened::Refused(n) = opened {

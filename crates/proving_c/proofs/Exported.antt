@@ -13,7 +13,7 @@ use Rattle.fields.proofs.Written.{fields-fill}
 use Rattle.meaning.specs.Calls.{Answer, refused, accepted}
 use Rattle.meaning.specs.Proving.{proofLength}
 use Rattle.proving.specs.Proving.{roomAfter}
-use Rattle.proving.specs.Parts.{lengthOf, provedSays}
+use Rattle.proving.specs.Parts.{lengthAnswer, provedSays}
 use Rattle.proving.specs.declared.Proved as declared
 use Rattle.proving.specs.declared.Proved.the-variants.{Refused, Length}
 use Rattle.meaning.specs.Answers.{numberOf}
@@ -24,15 +24,15 @@ record Told (a : Answer Proof) (n : ℕ) (old new : Bytes) : Type 0 where
   number : n ≡ numberOf a
   told : new ≡ lengthBytes a old
 
-refused-told : (a : Answer Proof) (n : ℕ) (old : Bytes) → refused n ≡ lengthOf a → Told a n old old
+refused-told : (a : Answer Proof) (n : ℕ) (old : Bytes) → refused n ≡ lengthAnswer a → Told a n old old
 refused-told (refused m) n old e = record { number = cc; told = refl }
 refused-told (accepted p) n old e = let z : _≡_ {A = ℕ} 0 1 = cc in absurd (omega arith)
 
-length-told : (a : Answer Proof) (n : ℕ) (old new : Bytes) → accepted n ≡ lengthOf a → new ≡ le 4 n → Told a 0 old new
+length-told : (a : Answer Proof) (n : ℕ) (old new : Bytes) → accepted n ≡ lengthAnswer a → new ≡ le 4 n → Told a 0 old new
 length-told (refused m) n old new e f = let z : _≡_ {A = ℕ} 0 1 = cc in absurd (omega arith)
 length-told (accepted p) n old new e f = let z : n ≡ proofLength p = cc in record { number = refl; told = f ∙ ap (le 4) z }
 
-module _ {s k room after : Bytes} {v : ℕ} {r : declared.Proved} (says : provedSays r ≡ lengthOf (provedInto s v k room)) (bytes : after ≡ roomAfter (provedInto s v k room) room) (old : Bytes) where
+module _ {s k room after : Bytes} {v : ℕ} {r : declared.Proved} (says : provedSays r ≡ lengthAnswer (provedInto s v k room)) (bytes : after ≡ roomAfter (provedInto s v k room) room) (old : Bytes) where
   pub prove-refused : {n : ℕ} → r ≡ Refused n → Proves s v k room old n after old
   unfolding provedSays
   prove-refused {n} e =

@@ -10,21 +10,21 @@ use Rattle.layout.proofs.Stores.{oldest-put-bytes}
 use Rattle.promises.specs.Calls.{SoundBytes, refuses, accepts}
 use Rattle.promises.proofs.Calls.{sound-form, sound-back}
 use Rattle.freeing.specs.Free.{Readable, emptied, Frees}
-use Rattle.pruning.specs.Prune.{Prunes}
+use Rattle.pruning.specs.Prune.{PruneDoes}
 
 module _ {s : Bytes} (w : SoundBytes s) where
   pub sound-readable : All Byte s → Readable s
   sound-readable h = record { form = sound-form (storeOf s) (w .sound); back = sound-back w h; whole = w .sound .whole }
 
-  pub refused-8 : (n : ℕ) → isKept (storeOf s) n ≡ false → Prunes n s (refused 8) s
+  pub refused-8 : (n : ℕ) → isKept (storeOf s) n ≡ false → PruneDoes n s (refused 8) s
   unfolding prune refuse
   refused-8 n e = refuses {m = 8} w (rw e)
 
   -- the retired records are freed and oldest is set
-  pub pruned-to : (n : ℕ) {k : ℕ} {t u : Bytes} → isKept (storeOf s) n ≡ true → Frees n s k t → u ≡ withOldest n t → Prunes n s (accepted k) u
+  pub pruned-to : (n : ℕ) {k : ℕ} {t u : Bytes} → isKept (storeOf s) n ≡ true → Frees n s k t → u ≡ withOldest n t → PruneDoes n s (accepted k) u
   unfolding prune putBounds emptied
   pruned-to n {k} {t} {u} e f p =
       let st = storeOf s in
       let answer : prune n st .answer ≡ accepted k = rw (e, f .count) in
       let after : prune n st .store ≡ putBounds n (st .latest) (emptied n st) = rw e in
-      subst (Prunes n s (accepted k)) (ap storeBytes after ∙ oldest-put-bytes (emptied n st) n ∙ ap (withOldest n) (sym (f .bytes)) ∙ sym p) (accepts w answer)
+      subst (PruneDoes n s (accepted k)) (ap storeBytes after ∙ oldest-put-bytes (emptied n st) n ∙ ap (withOldest n) (sym (f .bytes)) ∙ sym p) (accepts w answer)

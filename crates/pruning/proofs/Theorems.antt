@@ -10,11 +10,11 @@ use Rattle.layout.specs.Stores.{storeOf}
 use Rattle.layout.proofs.Stores.{store-said}
 use Rattle.promises.specs.Calls.{accepts}
 use Rattle.promises.proofs.Calls.{sound-form}
-use Rattle.pruning.specs.Prune.{Prunes}
+use Rattle.pruning.specs.Prune.{PruneDoes}
 
 -- Pruning a sound store leaves a sound store, in which each version that is still kept has its tree, and as many slots more are free as
 -- the answer counts.
-pub pruned-stays-sound : (n : ℕ) (s : Bytes) (k : ℕ) (t : Bytes) → Prunes n s (accepted k) t →
+pub pruned-stays-sound : (n : ℕ) (s : Bytes) (k : ℕ) (t : Bytes) → PruneDoes n s (accepted k) t →
     AfterPrune leafHash innerHash n (storeOf s) k (storeOf t)
 pruned-stays-sound n s k t (accepts w e) =
     let a = prune-keeps-sound leafHash innerHash n (storeOf s) k (w .sound) e in

@@ -13,5 +13,5 @@ prunedSays (Refused m) = refused m
 prunedSays (Freed freed) = accepted freed
 
 -- Pruning the bytes s to n gives this answer and leaves these bytes.
-abbrev pub Prunes : ℕ → Bytes → Answer ℕ → Bytes → Type 0
-Prunes n s answer t = Does (prune n) s answer t
+abbrev pub PruneDoes : ℕ → Bytes → Answer ℕ → Bytes → Type 0
+PruneDoes n s answer t = Does (prune n) s answer t

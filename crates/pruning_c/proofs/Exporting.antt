@@ -8,19 +8,19 @@ use Rattle.terms.specs.Fields.{le}
 use Rattle.terms.proofs.Fields.{length-le}
 use Rattle.fields.specs.Written.{written}
 use Rattle.fields.proofs.Written.{fields-fill}
-use Rattle.pruning.specs.Prune.{prunedSays, Prunes}
+use Rattle.pruning.specs.Prune.{prunedSays, PruneDoes}
 use Rattle.pruning.specs.declared.Pruned as declared
 use Rattle.pruning.specs.declared.Pruned.the-variants.{Refused, Freed}
 use Rattle.promises.specs.Calls.{exports-refusal, exports-answer}
 use Rattle.pruning_c.specs.Export.{PruneExports}
 
-module _ (n : ℕ) {s f t : Bytes} {p : declared.Pruned} (o : Prunes n s (prunedSays p) t) where
+module _ (n : ℕ) {s f t : Bytes} {p : declared.Pruned} (o : PruneDoes n s (prunedSays p) t) where
   pub export-refused : {m : ℕ} → p ≡ Refused m → PruneExports n s f m t f
   unfolding prunedSays
-  export-refused {m} e = exports-refusal (subst (λ q. Prunes n s (prunedSays q) t) e o)
+  export-refused {m} e = exports-refusal (subst (λ q. PruneDoes n s (prunedSays q) t) e o)
 
   pub export-freed : {k : ℕ} {g : Bytes} → p ≡ Freed k → length f ≡ 4 → g ≡ written 0 (le 4 k) f → PruneExports n s f 0 t g
   unfolding prunedSays
   export-freed {k} {g} e l q =
       let whole : g ≡ le 4 k = q ∙ fields-fill (4 ∷ []) (le 4 k ∷ []) f (length-le 4 k, tt) (sym l) ∙ append-nil (le 4 k) in
-      subst (PruneExports n s f 0 t) (sym whole) (exports-answer (subst (λ r. Prunes n s (prunedSays r) t) e o))
+      subst (PruneExports n s f 0 t) (sym whole) (exports-answer (subst (λ r. PruneDoes n s (prunedSays r) t) e o))

@@ -9,6 +9,7 @@ use lookup::find;
 use lookup::find_root;
 use nodehash::inner_hash;
 use nodehash::leaf_hash;
+use numbers::NOT_KEPT;
 use place::Place;
 use place::begins;
 use slots::child_hash;
@@ -30,15 +31,6 @@ ghost use Rattle.layout.specs.Sizes.{slotSize, roomOf};
 ghost use Rattle.layout.specs.Headers.{sizeRight};
 ghost use Rattle.layout.specs.Stores.{slotIn, storeOf};
 ghost use Rattle.read_step.specs.Walk.{opened, openedSays, bodyIn, kidIn, seenBelow, bodySeen, Sees, Slotted, Holds};
-
-// 8: the version isn't in oldest to latest.
-const NOT_KEPT: u32 = 8;
-
-// 3: the walk says that the store is not sound.
-pub const NOT_SOUND: u32 = 3;
-
-// 12: a key handed in isn't 32 bytes.
-pub const WRONG_KEY: u32 = 12;
 
 // What a read tests first.
 pub enum Opened {

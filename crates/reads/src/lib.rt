@@ -5,14 +5,14 @@ use hash::hash_at;
 use hash::no_hash;
 use lookup::Found;
 use lookup::find_root;
+use numbers::NOT_32_BYTES;
+use numbers::NOT_SOUND;
 use place::Place;
 use place::child_place;
 use place::key_bit;
 use place::same;
-use read_step::NOT_SOUND;
 use read_step::Opened;
 use read_step::Seen;
-use read_step::WRONG_KEY;
 use read_step::child;
 use read_step::open;
 use read_step::record_hash;
@@ -110,7 +110,7 @@ pub fn get(store: &[u8], version: u32, key: &[u8]) -> KeyRead
     ensures { λ r. ⌜ readSays r ≡ keyAnswer (now (store .entry)) version (now (key .entry)) ⌝ }
 {
     if key.len() != 32 {
-        return KeyRead::Refused(WRONG_KEY);
+        return KeyRead::Refused(NOT_32_BYTES);
     }
     let opened = open(store, version);
     if let Opened::Refused(n) = opened {

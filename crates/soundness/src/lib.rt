@@ -7,6 +7,7 @@ use check_slot::slot_passes;
 use kin::Kept;
 use layout::Header;
 use layout::read_header;
+use numbers::NOT_SOUND;
 use store::slot_count;
 ghost use mathlib.Core.Path.{_≡_};
 ghost use Rattle.local.specs.Test.{slotsTest};
@@ -14,9 +15,6 @@ ghost use Rattle.nodehash.specs.Node.{leafHash, innerHash};
 ghost use Rattle.layout.specs.Stores.{storeOf};
 ghost use Rattle.kin.specs.Kin.{Keeps};
 ghost use Rattle.soundness.specs.Check.{Checked};
-
-// 3: not sound.
-const UNSOUND: u32 = 3;
 
 // Whether each slot passes, where slot i is suspect: the exact test of it decides, or where it passes, that of each.
 fn suspect_passes(store: &[u8], kept: Kept, i: usize) -> bool
@@ -59,7 +57,7 @@ pub fn check(store: &[u8]) -> u32
         } => {
             let kept = Kept { oldest, latest };
             if !slots_pass(store, kept) {
-                return UNSOUND;
+                return NOT_SOUND;
             }
             0
         }

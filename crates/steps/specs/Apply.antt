@@ -8,7 +8,7 @@ use Rattle.terms.specs.Bits.{Bytes}
 use Rattle.terms.specs.Records.{Ask, Store}
 use Rattle.meaning.specs.Tree.{unversioned, hash}
 use Rattle.meaning.specs.Store.{freeSlots, treeAtVersion}
-use Rattle.meaning.specs.Calls.{accepted, Outcome, refuse, Applied}
+use Rattle.meaning.specs.Calls.{accepted, Result, refuse, Applied}
 use Rattle.steps.specs.Step.{stepRoot}
 use Rattle.steps.specs.Writing.{written}
 
@@ -22,7 +22,7 @@ module _ (leafHash innerHash : Bytes → Bytes → Bytes) where
   }
 
   -- A batch makes version `new` of the latest tree, by steps: 7 if there are fewer free slots than new records.
-  unfoldable pub applySteps : ℕ → List Ask → Store → Outcome Applied
+  unfoldable pub applySteps : ℕ → List Ask → Store → Result Applied
   applySteps new batch st =
       let o = stepRoot leafHash innerHash new (treeAtVersion st (st .latest)) batch in
       cond (ltb (freeSlots (st .slots)) (length (o .fresh)))

@@ -14,6 +14,9 @@ use fields::clear;
 use hash::Hash;
 use hash::hash_at;
 use hash::put_hash;
+use numbers::NOT_32_BYTES;
+use numbers::NOT_HOLDING;
+use numbers::NOT_IN_FORM;
 use place::same;
 use proofrecords::KEY_AT;
 use proofrecords::VALUE_AT;
@@ -21,13 +24,6 @@ use verify_form::is_absence;
 use verify_form::is_presence;
 use verify_neighbours::leads_to;
 use verify_neighbours::neighbours_hold;
-
-// The proof isn't one whole record in form, no byte over.
-const NOT_IN_FORM: u32 = 10;
-// In form, but doesn't hold.
-const NOT_HOLDING: u32 = 11;
-// A key or root handed in isn't 32 bytes.
-const NOT_32_BYTES: u32 = 12;
 
 // The answer of the check: a number of refusal, "present" with the value, or "absent".
 pub enum Checked {

@@ -1,71 +1,56 @@
 -- `apply_guess::guess_all` stays within the store, and ends. Assumes nothing.
-use Prim.Native.Nat.{_+_, _*_, _-_, _≤_}
 use native.Mathlib.Omega.{arith}
-use mathlib.Core.Path.{_≡_}
-use lib.ListN.{length}
-use Rattle.apply_place.proofs.Changing.{stored-accepted}
+use Prim.Native.Nat.{_-_}
 use borrow.Author.Needs.{needs}
+use Rattle.apply_place.proofs.Changing.{stored-size}
+use Rattle.apply_guess.proofs.Guessing.{Room, room-of-store, room-slot}
 use Rattle.apply_guess.proofs.guess_all.Statement.{statement}
 use Rattle.apply_guess.proofs.guess_all.Tie as tie
 
 abbrev Inv-loop : tie.InvT-loop
-Inv-loop store guesses₀ n i₀ guesses i =
-    (length store ≡ 24 + 120 * n) × (n ≤ 16384)
+Inv-loop store guesses₀ n i₀ guesses i = Room store n
 
 abbrev μ-loop : tie.MeasureT-loop
-μ-loop store guesses₀ n i₀ guesses i =
-    n - i
+μ-loop store guesses₀ n i₀ guesses i = n - i
 
-sub-n : tie.Need-sub-n Inv-loop μ-loop
-sub-n c =
-    let c1 = c .before in
-    omega (arith, stored-accepted (c1 .pre))
+slot-count-requires : tie.Need-slot-count-requires Inv-loop μ-loop
+slot-count-requires c κs = stored-size (c .before .pre)
 
 loop-holds : tie.Need-loop-holds Inv-loop μ-loop
-loop-holds c =
-    let c1 = c .before in
-    let a = stored-accepted (c1 .pre) in (omega (arith, a), omega (arith, a))
+loop-holds c = room-of-store (c .before .before .pre) (c .slot-count .ensures)
 
 version-at-requires : tie.Need-version-at-requires Inv-loop μ-loop
-version-at-requires c κs =
-    omega arith
+version-at-requires c κs = room-slot (c .before .loop .inv) (c .loop-test .taken)
 
 retired-at-requires : tie.Need-retired-at-requires Inv-loop μ-loop
-retired-at-requires c κs =
-    omega arith
+retired-at-requires c κs = room-slot (c .before .before .before .loop .inv) (c .before .before .loop-test .taken)
 
 slot-of-requires : tie.Need-slot-of-requires Inv-loop μ-loop
-slot-of-requires c κs =
-    omega arith
+slot-of-requires c κs = room-slot (c .before .before .before .before .before .loop .inv) (c .before .before .before .before .loop-test .taken)
 
 read-slot-requires : tie.Need-read-slot-requires Inv-loop μ-loop
-read-slot-requires c κs =
-    search needs
+read-slot-requires c κs = search needs
 
 start-of-requires : tie.Need-start-of-requires Inv-loop μ-loop
-start-of-requires c κs =
-    search needs
+start-of-requires c κs = search needs
 
 cast-keep : tie.Need-cast-keep Inv-loop μ-loop
-cast-keep c = search needs
+cast-keep c = omega (arith, c .before .before .before .before .before .before .before .before .before .before .loop .inv .small, c .before .before .before .before .before .before .before .before .before .loop-test .taken)
 
 keep-requires : tie.Need-keep-requires Inv-loop μ-loop
-keep-requires c κs =
-    search needs
+keep-requires c κs = search needs
 
 add-i : tie.Need-add-i Inv-loop μ-loop
-add-i c = omega arith
+add-i c = omega (arith, c .before .before .before .loop .inv .small, c .before .before .loop-test .taken)
 
 loop-less : tie.Need-loop-less Inv-loop μ-loop
-loop-less c = omega arith
+loop-less c = omega (arith, c .before .before .loop-test .taken)
 
 loop-again : tie.Need-loop-again Inv-loop μ-loop
-loop-again c =
-    search needs
+loop-again c = c .before .before .before .loop .inv
 
 returns : tie.Need-returns Inv-loop μ-loop
-returns c =
-    search needs
+returns c = search needs
 
 pub guess-all-spec : {M : Type 1} → statement M
 guess-all-spec =
@@ -73,7 +58,7 @@ guess-all-spec =
     (tie.spec
     Inv-loop
     μ-loop
-    sub-n
+    slot-count-requires
     loop-holds
     version-at-requires
     retired-at-requires

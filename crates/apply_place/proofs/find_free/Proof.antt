@@ -1,12 +1,12 @@
 -- `apply_place::find_free` meets its contract: no slot that was passed is free. Assumes nothing.
 use Prim.Native.Nat.{_-_}
-use mathlib.Core.Path.{refl, ap, sym, _∙_}
+use mathlib.Core.Path.{ap, sym, _∙_}
 use native.Mathlib.Omega.{arith}
 use borrow.Author.Needs.{needs}
 use Rattle.terms.specs.Fields.{allZero}
-use Rattle.layout.specs.Sizes.{roomOf}
-use Rattle.apply_place.proofs.Changing.{stored-accepted}
-use Rattle.apply_place.proofs.Placing.{Passed, from-slot, one-more, free-here, none-free}
+use Rattle.store.proofs.Slots.{slot-within}
+use Rattle.apply_place.proofs.Changing.{stored-size}
+use Rattle.apply_place.proofs.Placing.{Passed, passed-has, from-slot, one-more, free-here, none-free}
 use Rattle.apply_place.proofs.find_free.Statement.{statement}
 use Rattle.apply_place.proofs.find_free.Tie as tie
 
@@ -16,24 +16,23 @@ Inv-loop store from n i₀ i = Passed store n i
 abbrev μ-loop : tie.MeasureT-loop
 μ-loop store from n i₀ i = n - i
 
-sub-n : tie.Need-sub-n Inv-loop μ-loop
-sub-n c = omega (arith, stored-accepted (c .before .pre .0))
+slot-count-requires : tie.Need-slot-count-requires Inv-loop μ-loop
+slot-count-requires c κs = stored-size (c .before .pre .0)
 
 loop-holds : tie.Need-loop-holds Inv-loop μ-loop
-unfolding roomOf
-loop-holds c = from-slot (c .before .pre .0) refl (c .before .pre .1)
+loop-holds c = from-slot (c .before .before .pre .0) (c .slot-count .ensures) (c .before .before .pre .1)
 
 slot-of-requires : tie.Need-slot-of-requires Inv-loop μ-loop
-slot-of-requires c κs = omega arith
+slot-of-requires c κs = slot-within (passed-has (c .before .loop .inv) (c .if1 .left))
 
 all-zero-requires : tie.Need-all-zero-requires Inv-loop μ-loop
 all-zero-requires c κs = search needs
 
 add-i : tie.Need-add-i Inv-loop μ-loop
-add-i c = omega arith
+add-i c = omega (arith, c .before .before .before .before .loop .inv .small, c .before .before .before .if1 .left)
 
 loop-less : tie.Need-loop-less Inv-loop μ-loop
-loop-less c = omega arith
+loop-less c = omega (arith, c .before .before .before .if1 .left)
 
 loop-again : tie.Need-loop-again Inv-loop μ-loop
 loop-again c = one-more (c .before .before .before .before .loop .inv) (c .before .before .before .if1 .left) (ap allZero (sym (c .before .before .slot-of .ensures .0)) ∙ sym (c .before .all-zero .ensures) ∙ c .if2 .left)
@@ -50,7 +49,7 @@ find-free-spec =
     (tie.spec
     Inv-loop
     μ-loop
-    sub-n
+    slot-count-requires
     loop-holds
     slot-of-requires
     all-zero-requires

@@ -1,10 +1,9 @@
 -- `apply_place::put_leaf_new` meets its contract: the grant is its key and value. Assumes nothing.
 use mathlib.Core.Path.{ap, _∙_}
 use Rattle.terms.specs.Records.{Body, used}
-use Rattle.fields.specs.Written.{written}
 use Rattle.place.specs.Place.{placeOf}
-use Rattle.layout.specs.Sizes.{slotAt}
-use Rattle.layout.specs.Slots.{recordOf, slotBytes}
+use Rattle.layout.specs.Slots.{recordOf}
+use Rattle.layout.specs.Stores.{withSlot}
 use Rattle.slots.specs.Answer.{grantBody}
 use Rattle.apply_place.proofs.Placing.{grant-hashes}
 use borrow.Author.Needs.{needs}
@@ -30,7 +29,7 @@ returns : tie.Need-returns
 returns c =
     let a = c .before .before .before .before .before .before .before .before .before .args in
     c .before .before .put-leaf-at .ensures
-    ∙ ap (λ (b : Body). written (slotAt (a .i)) (slotBytes (used (recordOf (placeOf (a .place)) (a .version) 0 b))) (a .store .now))
+    ∙ ap (λ (b : Body). withSlot (a .i) (used (recordOf (placeOf (a .place)) (a .version) 0 b)) (a .store .now))
     (ap grantBody (c .before .before .before .before .before .before .put-grant .ensures) ∙ grant-hashes (a .key) (a .value))
 
 pub put-leaf-new-spec : {M : Type 1} → statement M

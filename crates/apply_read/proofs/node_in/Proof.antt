@@ -1,62 +1,58 @@
 -- `apply_read::node_in` meets its contract, by what the slot's bytes are. Assumes nothing.
+use native.Mathlib.Omega.{arith}
+use mathlib.Core.Path.{refl, ap, _∙_}
+use Rattle.hash.proofs.Laws.{read-whole}
+use Rattle.layout.specs.Slots.{isLeaf, keyIn, valueIn}
 use Rattle.apply_read.proofs.Held.{slot-there, leaf-held, inner-held}
 use borrow.Author.Needs.{needs}
 use Rattle.apply_read.proofs.node_in.Statement.{statement}
 use Rattle.apply_read.proofs.node_in.Tie as tie
 
 slot-of-requires : tie.Need-slot-of-requires
-slot-of-requires c κs =
-    let c1 = c .before in
-    slot-there (c1 .pre)
+slot-of-requires c κs = slot-there (c .before .pre)
 
-get-u32-requires : tie.Need-get-u32-requires
-get-u32-requires c κs = search needs
+version-at-requires : tie.Need-version-at-requires
+version-at-requires c κs = slot-there (c .before .before .pre)
 
 is-leaf-requires : tie.Need-is-leaf-requires
 is-leaf-requires c κs = search needs
 
+key-of-requires : tie.Need-key-of-requires
+key-of-requires c κs = search needs
+
 hash-at-requires : tie.Need-hash-at-requires
-hash-at-requires c κs = search needs
+hash-at-requires c κs = omega (arith, c .key-of .ensures .1)
+
+value-of-requires : tie.Need-value-of-requires
+value-of-requires c κs = search needs
 
 hash-at-requires-2 : tie.Need-hash-at-requires-2
-hash-at-requires-2 c κs = search needs
+hash-at-requires-2 c κs = omega (arith, c .value-of .ensures .1)
 
 returns : tie.Need-returns
-returns c =
-    let c1 = c .before in
-    let c2 = c1 .before in
-    let c3 = c2 .before in
-    let c4 = c3 .before in
-    let c5 = c4 .before in
-    let c7 = c5 .before .before in
-    leaf-held (c7 .pre) (c5 .slot-of .ensures .0) (c1 .hash-at .result) (c .hash-at2 .result) (c3 .is-leaf .ensures) (c2 .if1 .taken) (c4 .get-u32 .ensures) (c1 .hash-at .ensures .1) (c .hash-at2 .ensures .1)
+returns c = leaf-held (c .before .before .before .before .before .before .before .before .before .pre) refl (c .before .before .hash-at .result) (c .hash-at2 .result) (c .before .before .before .before .before .is-leaf .ensures ∙ ap isLeaf (c .before .before .before .before .before .before .before .slot-of .ensures .0)) (c .before .before .before .before .if1 .taken) (c .before .before .before .before .before .before .version-at .ensures) (read-whole (c .before .before .hash-at .ensures .1) (c .before .before .before .key-of .ensures .1) (c .before .before .before .key-of .ensures .0 ∙ ap keyIn (c .before .before .before .before .before .before .before .slot-of .ensures .0))) (read-whole (c .hash-at2 .ensures .1) (c .before .value-of .ensures .1) (c .before .value-of .ensures .0 ∙ ap valueIn (c .before .before .before .before .before .before .before .slot-of .ensures .0)))
 
-child-in-requires : tie.Need-child-in-requires
-child-in-requires c κs = search needs
+child-on-requires : tie.Need-child-on-requires
+child-on-requires c κs = slot-there (c .before .before .before .before .before .pre)
 
-child-in-requires-2 : tie.Need-child-in-requires-2
-child-in-requires-2 c κs = search needs
+child-on-requires-2 : tie.Need-child-on-requires-2
+child-on-requires-2 c κs = slot-there (c .before .before .before .before .before .before .pre)
 
 returns-2 : tie.Need-returns-2
-returns-2 c =
-    let c1 = c .before in
-    let c2 = c1 .before in
-    let c3 = c2 .before in
-    let c4 = c3 .before in
-    let c5 = c4 .before in
-    let c7 = c5 .before .before in
-    inner-held (c7 .pre) (c5 .slot-of .ensures .0) (c1 .child-in .result) (c .child-in2 .result) (c3 .is-leaf .ensures) (c2 .if1 .left) (c4 .get-u32 .ensures) (c1 .child-in .ensures) (c .child-in2 .ensures)
+returns-2 c = inner-held (c .before .before .before .before .before .before .before .pre) refl (c .before .child-on .result) (c .child-on2 .result) (c .before .before .before .is-leaf .ensures ∙ ap isLeaf (c .before .before .before .before .before .slot-of .ensures .0)) (c .before .before .if1 .left) (c .before .before .before .before .version-at .ensures) (c .before .child-on .ensures) (c .child-on2 .ensures)
 
 pub node-in-spec : {M : Type 1} → statement M
 node-in-spec =
     tie.close
     (tie.spec
     slot-of-requires
-    get-u32-requires
+    version-at-requires
     is-leaf-requires
+    key-of-requires
     hash-at-requires
+    value-of-requires
     hash-at-requires-2
     returns
-    child-in-requires
-    child-in-requires-2
+    child-on-requires
+    child-on-requires-2
     returns-2)
