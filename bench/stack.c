@@ -7,7 +7,7 @@ typedef __PTRDIFF_TYPE__ ptrdiff_t;
 
 uint32_t grants_format(uint8_t *store, size_t store_len);
 uint32_t grants_check(const uint8_t *store, size_t store_len);
-uint32_t grants_apply(uint8_t *store, size_t store_len, const uint8_t *batch, size_t batch_len, uint8_t answer[40]);
+uint32_t grants_apply(uint8_t *store, size_t store_len, uint32_t number, const uint8_t *batch, size_t batch_len, uint8_t answer[40]);
 int printf(const char *, ...);
 void *memset(void *, int, size_t);
 
@@ -22,12 +22,12 @@ static void ask(uint8_t *a, uint8_t last, uint8_t value) {
     memset(a + 40, value, 32);
 }
 
-/* Of apply, or with no batch of check. */
-__attribute__((noinline)) static size_t depth(size_t batch_len) {
+/* Of apply with a number, or with no batch of check. */
+__attribute__((noinline)) static size_t depth(uint32_t number, size_t batch_len) {
     volatile uint8_t here = 0;
     volatile uint8_t *top = &here - 512;
     for (size_t i = 0; i < PAINTED; i++) top[-(ptrdiff_t)i] = 0x5A;
-    uint32_t refused = batch_len ? grants_apply(store, STORE, batch, batch_len, answer) : grants_check(store, STORE);
+    uint32_t refused = batch_len ? grants_apply(store, STORE, number, batch, batch_len, answer) : grants_check(store, STORE);
     if (refused) {
         printf("refused: %u\n", refused);
         return PAINTED;
@@ -41,10 +41,10 @@ int main(void) {
     if (grants_format(store, STORE)) return 1;
     ask(batch, 0, 1);
     ask(batch + 72, 1, 1);
-    size_t grown = depth(144);
+    size_t grown = depth(1, 144);
     ask(batch, 0, 2);
-    size_t stepped = depth(72);
-    size_t checked = depth(0);
+    size_t stepped = depth(2, 72);
+    size_t checked = depth(0, 0);
     size_t most = grown < stepped ? stepped : grown;
     if (most < checked) most = checked;
     printf("stack apply-grows-x86-64 %zu\nstack apply-steps-x86-64 %zu\nstack check-x86-64 %zu\n", grown, stepped, checked);

@@ -29,10 +29,10 @@ static void ask(uint8_t record[RECORD], const uint8_t key[32], const uint8_t *va
     if (value) memcpy(record + 40, value, 32);
 }
 
-/* What a marketplace does: publish a version, whose root it then signs. */
-static uint32_t publish(const uint8_t *batch, size_t records, uint8_t root[32]) {
+/* What a marketplace does: publish a version under a number of its own, whose root it then signs. */
+static uint32_t publish(uint32_t number, const uint8_t *batch, size_t records, uint8_t root[32]) {
     uint8_t answer[40];
-    uint32_t refused = grants_apply(store, STORE, batch, records * RECORD, answer);
+    uint32_t refused = grants_apply(store, STORE, number, batch, records * RECORD, answer);
     if (refused) return refused;
     memcpy(root, answer + 4, 32);
     printf("version %u, new records: %u, root ", (unsigned)number_at(answer), (unsigned)number_at(answer + 36));
@@ -76,35 +76,39 @@ int main(void) {
     proof = malloc(LONGEST_PROOF);
     if (!store || !proof || grants_format(store, STORE)) return 1;
 
-    /* Two grants are published; then one of them is withdrawn. */
+    /* Two grants are published as version 10; then, as version 20, one of them is withdrawn. */
     ask(batch, plugin, score);
     ask(batch + RECORD, other, score);
-    if (publish(batch, 2, first)) return 1;
+    if (publish(10, batch, 2, first)) return 1;
     ask(batch, plugin, NULL);
-    if (publish(batch, 1, second)) return 1;
+    if (publish(20, batch, 1, second)) return 1;
 
-    /* The grant stood in version 1, and not in version 2. */
-    proof_length = show(1, plugin);
+    /* The grant stood in version 10, and so in 15, which reads as 10; not in version 20. */
+    proof_length = show(10, plugin);
     if (!granted(first, plugin, proof_length)) return 1;
-    proof_length = show(2, plugin);
+    proof_length = show(15, plugin);
+    if (!granted(first, plugin, proof_length)) return 1;
+    proof_length = show(20, plugin);
     if (granted(second, plugin, proof_length)) return 1;
 
     /* An old proof under the new root is refused. */
-    proof_length = show(1, plugin);
+    proof_length = show(10, plugin);
     if (granted(second, plugin, proof_length)) return 1;
 
     /* With the last grant withdrawn the version is empty: its root says so, and there is no proof. */
     ask(batch, other, NULL);
-    if (publish(batch, 1, third)) return 1;
-    printf("an empty version: refused with %u\n", (unsigned)grants_prove(store, STORE, 3, plugin, 32, proof, LONGEST_PROOF, length));
+    if (publish(21, batch, 1, third)) return 1;
+    printf("an empty version: refused with %u\n", (unsigned)grants_prove(store, STORE, 21, plugin, 32, proof, LONGEST_PROOF, length));
     if (granted(third, plugin, 0)) return 1;
 
-    /* Refused are also keys out of order, a version that is not kept, and a proof for which there is no room; none of these writes anything. */
+    /* Refused are also keys out of order, a number that is not above the latest, a version that is not kept, and a proof for which there is no
+       room; none of these writes anything. */
     ask(batch, other, score);
     ask(batch + RECORD, plugin, score);
-    printf("keys out of order: refused with %u\n", (unsigned)publish(batch, 2, second));
-    printf("version 4: refused with %u\n", (unsigned)grants_root(store, STORE, 4, second));
-    printf("no room: refused with %u\n", (unsigned)grants_prove(store, STORE, 1, plugin, 32, proof, proof_length - 1, length));
+    printf("keys out of order: refused with %u\n", (unsigned)publish(22, batch, 2, second));
+    printf("number 21 again: refused with %u\n", (unsigned)publish(21, batch, 1, second));
+    printf("version 22: refused with %u\n", (unsigned)grants_root(store, STORE, 22, second));
+    printf("no room: refused with %u\n", (unsigned)grants_prove(store, STORE, 10, plugin, 32, proof, proof_length - 1, length));
     printf("the store is %s\n", grants_check(store, STORE) == 0 ? "sound" : "not sound");
     free(proof);
     free(store);

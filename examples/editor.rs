@@ -38,20 +38,21 @@ fn main() -> Result<(), Box<dyn std::error::Error>> {
     let score = Value::from([7; 32]);
     let mut store = Store::with_capacity(20)?;
 
-    // Two grants are published; then one of them is withdrawn.
+    // Two grants are published as version 10; then, as version 20, one of them is withdrawn.
     let mut batch = Batch::new();
     batch.insert(plugin, score)?.insert(other, score)?;
-    let first = store.apply(&batch)?;
+    let first = store.apply(10, &batch)?;
     tell(&first);
     let mut batch = Batch::new();
     batch.delete(plugin)?;
-    let second = store.apply(&batch)?;
+    let second = store.apply(20, &batch)?;
     tell(&second);
 
-    // The grant stood in version 1, and not in version 2.
-    let old = store.prove(1, plugin)?;
+    // The grant stood in version 10, and so in 15, which reads as 10; not in version 20.
+    let old = store.prove(10, plugin)?;
     assert!(granted(first.root, plugin, &old));
-    assert!(!granted(second.root, plugin, &store.prove(2, plugin)?));
+    assert!(granted(first.root, plugin, &store.prove(15, plugin)?));
+    assert!(!granted(second.root, plugin, &store.prove(20, plugin)?));
 
     // An old proof under the new root is refused.
     assert!(!granted(second.root, plugin, &old));
@@ -60,32 +61,36 @@ fn main() -> Result<(), Box<dyn std::error::Error>> {
     let number = |refused: Result<(), Error>| refused.unwrap_err().number();
     let mut batch = Batch::new();
     batch.delete(other)?;
-    let third = store.apply(&batch)?;
+    let third = store.apply_next(&batch)?;
     tell(&third);
     println!(
         "an empty version: refused with {}",
-        number(store.prove(3, plugin).map(drop))
+        number(store.prove(21, plugin).map(drop))
     );
     assert!(!granted(third.root, plugin, &old));
 
-    // Refused are also keys out of order, a version that is not kept, and a proof for which there is no room; none of these writes anything. A `Batch` puts
-    // its keys in order, so disorder takes bytes from elsewhere.
+    // Refused are also keys out of order, a number that is not above the latest, a version that is not kept, and a proof for which there is no room;
+    // none of these writes anything. A `Batch` puts its keys in order, so disorder takes bytes from elsewhere.
     let mut both = Batch::new();
     both.insert(plugin, score)?.insert(other, score)?;
     let mut bytes = both.to_bytes();
     bytes.rotate_left(72);
     println!(
         "keys out of order: refused with {}",
-        number(store.apply_bytes(&bytes).map(drop))
+        number(store.apply_bytes(22, &bytes).map(drop))
     );
     println!(
-        "version 4: refused with {}",
-        number(store.root(4).map(drop))
+        "number 21 again: refused with {}",
+        number(store.apply(21, &both).map(drop))
+    );
+    println!(
+        "version 22: refused with {}",
+        number(store.root(22).map(drop))
     );
     let mut room = vec![0; old.as_bytes().len() - 1];
     println!(
         "no room: refused with {}",
-        number(store.prove_into(1, plugin, &mut room).map(drop))
+        number(store.prove_into(10, plugin, &mut room).map(drop))
     );
     println!(
         "the store is {}",

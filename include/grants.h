@@ -1,10 +1,9 @@
 /* The grant store: a versioned, authenticated key-value store over lent memory.
  *
- * Each publishing of grants is a version with one SHA-256 root. From any copy of the store comes a short proof that a key has a value in a
+ * Each publishing of grants is a version, named by a number of the caller's, with one SHA-256 root. From any copy of the store comes a short proof that a key has a value in a
  * version, or that it has none; whoever has the version's root checks it with grants_verify alone. examples/editor.c shows all of it.
  *
- * Each call returns 0 where it is accepted, else a number of refusal; a refused call writes nothing, its answer included. Buffers lent to one
- * call do not overlap. A pointer is never null, also where its length is 0. The calls keep no state, take no lock and allocate nothing; a
+ * Each call returns 0 where it is accepted, else a number of refusal; a refused call writes nothing, its answer included. Buffers lent to one call do not overlap. A pointer is never null, also where its length is 0. The calls keep no state, take no lock and allocate nothing; a
  * store may be used from any thread that owns it. All numbers in buffers are little-endian. Every call takes any bytes: bad input is refused.
  * The stack that each call takes is in docs/FIGURES.md; every byte of a store, a batch and a proof is in docs/FORMAT.md, and
  * what the library does, complete and in words, in docs/RULES.md. The archive to link is target/native/libgrants.a of the checkout, or what
@@ -15,7 +14,6 @@
  *   3  the store isn't sound (check, apply, prune, changes), or the walk says so (reads)
  *   4  the batch isn't whole records in form, or has over 1,024
  *   5  the batch's keys aren't strictly ascending
- *   6  latest is 4,294,967,295
  *   7  fewer free slots than new records
  *   8  the version isn't in oldest to latest
  *   9  the proof or the list is longer than the room
@@ -24,6 +22,7 @@
  *  12  a key or root handed in isn't 32 bytes
  *  13  a comparison has more visits than the limit
  *  14  the version is empty, so there is no proof
+ *  18  the number isn't above latest
  *
  * 'Refused' below names a call's numbers in the order in which it tests for them: where several are deserved, the first is given.
  */
@@ -45,19 +44,22 @@ uint32_t grants_format(uint8_t *store, size_t store_len);
    its lifetime. A store that only these calls wrote always is. Refused: 1, 2, 3. */
 uint32_t grants_check(const uint8_t *store, size_t store_len);
 
-/* Publishes the next version: the grants of the latest one with the batch applied. A batch is records of 72 bytes, at most 1,024 of them, with
+/* Publishes a version under a number, any above latest, so 4,294,967,295 at most once and 0 never: the grants of the latest version with the batch
+   applied. From then on latest is that number; the versions between, which no one published, read as the one before them. A batch is records of 72 bytes, at most 1,024 of them, with
    keys that ascend strictly as byte strings; an empty batch is one too.
      insert: length 72 (4 bytes), kind 1 (2), 2 zero bytes, key 32, value 32
      delete: length 40 (4 bytes), kind 2 (2), 2 zero bytes, key 32, 32 zero bytes
    Inserting the value that is there already, and deleting a key that isn't there, are no change.
-   answer: the new version (4 bytes), its root (32), how many records are new (4). Refused: 1, 2, 3, 4, 5, 6, 7. */
-uint32_t grants_apply(uint8_t *store, size_t store_len, const uint8_t *batch, size_t batch_len, uint8_t answer[40]);
+   answer: the number (4 bytes), the root (32), how many records are new (4). Refused: 1, 2, 3, 4, 5, 18, 7. */
+uint32_t grants_apply(uint8_t *store, size_t store_len, uint32_t number, const uint8_t *batch, size_t batch_len, uint8_t answer[40]);
 
-/* Frees every record retired since the version or earlier, and keeps no older version. freed: how many records were freed, 4 bytes.
+/* Frees every record retired since the version or earlier, and keeps no older version; between two publishings it keeps the tree of the earlier
+   one. freed: how many records were freed, 4 bytes.
    Refused: 1, 2, 3, 8. */
 uint32_t grants_prune(uint8_t *store, size_t store_len, uint32_t version, uint8_t freed[4]);
 
-/* The root of a version, 32 zero bytes where it holds no grant. It tests the header, not soundness. Refused: 1, 2, 8. */
+/* The root of a version, 32 zero bytes where it holds no grant; between two publishings that of the earlier one. It tests the header,
+   not soundness. Refused: 1, 2, 8. */
 uint32_t grants_root(const uint8_t *store, size_t store_len, uint32_t version, uint8_t root[32]);
 
 /* A key in a version. found: 1 and the value (32), or 0 and 32 zero bytes where the key is absent. It tests the header and what it meets on the

@@ -14,6 +14,7 @@ export interface Change {
 
 /** What a publishing made. */
 export interface Applied {
+  /** The number that was given. */
   version: number;
   root: Uint8Array;
   newRecords: number;
@@ -41,8 +42,11 @@ export class Store {
   format(): void;
   /** Nothing where the store is sound. Refused: 1, 2, 3. */
   check(): void;
-  /** Publishes the next version; changes may come in any order, bytes are taken as a batch. Refused: 1, 2, 3, 4, 5, 6, 7. */
-  apply(changes: Iterable<Change> | Bytes): Applied;
+  /** Publishes a version under a number, any above latest; changes may come in any order, bytes are taken as a batch. A version between two
+   * publishings reads as the earlier one. Refused: 1, 2, 3, 4, 5, 18, 7. */
+  apply(number: number, changes: Iterable<Change> | Bytes): Applied;
+  /** The same under the number after latest. Refused: 1, 2, 3, 4, 5, 18 (latest is 4,294,967,295), 7. */
+  applyNext(changes: Iterable<Change> | Bytes): Applied;
   /** Keeps no version before this one; how many records were freed. Refused: 1, 2, 3, 8. */
   prune(version: number): number;
   /** The root of a version, 32 zero bytes where it holds no grant. Refused: 1, 2, 8. */

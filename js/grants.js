@@ -184,9 +184,16 @@ export class Store {
     this.#machine.call('check', 'store');
   }
 
-  apply(changes) {
-    const [wrote] = this.#machine.call('apply', 'store', batch(changes), answer(40));
+  // Publishes under a number of the caller's, any above latest.
+  apply(number, changes) {
+    const [wrote] = this.#machine.call('apply', 'store', versionOf(number), batch(changes), answer(40));
     return { version: u32(wrote, 0), root: wrote.slice(4, 36), newRecords: u32(wrote, 36) };
+  }
+
+  // Under the number after latest. Where there is none it is 0, which is never above latest; where there is no header, the call says so first.
+  applyNext(changes) {
+    const bytes = this.bytes();
+    return this.apply(bytes.length < 24 ? 0 : (u32(bytes, 16) + 1) % 2 ** 32, changes);
   }
 
   prune(version) {

@@ -100,11 +100,27 @@ export function recordsOf(bytes) {
   return records;
 }
 
-// The tree of a version, none where it has no root.
-export function treeOf(records, version, place = '') {
+// The node of a version at a place, with all below it.
+function nodeOf(records, version, place) {
   const record = records.get(`${version}:${place}`);
   if (!record?.children) return record;
-  return { ...record, below: record.children.map((child, bit) => (child ? treeOf(records, child, place + bit) : undefined)) };
+  return { ...record, below: record.children.map((child, bit) => (child ? nodeOf(records, child, place + bit) : undefined)) };
+}
+
+const rootsOf = (records) => [...records.values()].filter(({ place }) => place === '');
+
+// The tree of a version, none where it has no root: its root is the root record whose lifetime covers it.
+export function treeOf(records, version) {
+  const root = rootsOf(records).find((it) => it.version <= version && (it.retired === 0 || version < it.retired));
+  return root && nodeOf(records, root.version, '');
+}
+
+// The publishings of a sound store, the oldest first, each with the versions that read as it. They are found where a root begins or ends, and at
+// latest; no number between is looked at.
+export function spansOf(records, oldest, latest) {
+  const ends = rootsOf(records).flatMap(({ version, retired }) => [version, retired]);
+  const firsts = [...new Set([oldest, latest, ...ends])].filter((v) => oldest <= v && v <= latest).sort((a, b) => a - b);
+  return firsts.map((first, i) => ({ first, last: i + 1 < firsts.length ? firsts[i + 1] - 1 : latest }));
 }
 
 // The leaves of a tree, from left to right.

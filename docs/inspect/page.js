@@ -1,6 +1,6 @@
 // The page: what is dropped, typed and clicked, the checker's verdicts, and the drawings.
 import { Refused, fromHex, load, toHex } from '../../js/grants.js';
-import { faultsOf, hashesOf, leavesOf, proofOf, recordsOf, treeOf } from './drawing.js';
+import { faultsOf, hashesOf, leavesOf, proofOf, recordsOf, spansOf, treeOf } from './drawing.js';
 
 const at = (id) => document.getElementById(id);
 const grants = await load(Uint8Array.from(atob(at('wasm').textContent.trim()), (c) => c.charCodeAt(0)));
@@ -108,11 +108,12 @@ function prove(version, key) {
   at('result').focus();
 }
 
-function node(tree, version) {
+// `made` is the number that the tree was published under: what has it is new there.
+function node(tree, version, made) {
   const place = tree.place || 'root';
-  const names = tree.version === version ? 'new' : '';
+  const names = tree.version === made ? 'new' : '';
   if (tree.below) {
-    const below = tree.below.map((child, bit) => child && element('li', {}, `${bit} `, node(child, version)));
+    const below = tree.below.map((child, bit) => child && element('li', {}, `${bit} `, node(child, version, made)));
     return element('span', {}, element('span', { class: names }, `inner node ${place}, version ${tree.version}, slot ${tree.slot}`), element('ul', {}, ...below));
   }
   const button = element('button', { type: 'button', class: 'hex', title: toHex(tree.key) }, `prove ${short(tree.key)}`);
@@ -120,7 +121,7 @@ function node(tree, version) {
   return element('span', {}, button, ` = `, element('span', { class: `hex ${names}` }, `${short(tree.value)}`), ` leaf ${place.length > 24 ? `${place.slice(0, 20)}.. (${place.length} bits)` : place}, version ${tree.version}, slot ${tree.slot}`);
 }
 
-// What became of the keys since the version before.
+// What became of the keys since the version before, which reads as the publishing before.
 function changes(version) {
   const [before, now] = [version - 1, version].map((v) => new Map(leavesOf(treeOf(records, v)).map((leaf) => [toHex(leaf.key), toHex(leaf.value)])));
   const lines = [];
@@ -135,7 +136,7 @@ function show(version) {
   at('tree').replaceChildren(
     element('h2', { tabindex: '-1', id: 'tree-title' }, `The tree of version ${version}`),
     element('p', { id: 'changes' }, since === undefined ? 'The version before it is not kept.' : since.length ? `Since version ${version - 1}: ${since.join(', ')}.` : `Since version ${version - 1} no grant changed.`),
-    tree ? element('div', { class: 'wide' }, node(tree, version)) : element('p', {}, 'It holds no grant: its root is 32 zero bytes, and that is itself the proof.'),
+    tree ? element('div', { class: 'wide' }, node(tree, version, tree.version)) : element('p', {}, 'It holds no grant: its root is 32 zero bytes, and that is itself the proof.'),
   );
   at('tree-title').focus();
 }
@@ -161,15 +162,16 @@ async function openStore(name, bytes) {
   at('sound').className = 'granted';
   at('sound').textContent = `Sound: versions ${oldest} to ${latest}, ${capacity} slots.`;
   const body = element('tbody');
-  for (let version = latest; version >= oldest && version > latest - MOST_ROWS; version -= 1) {
-    const button = element('button', { type: 'button' }, `version ${version}`);
-    button.addEventListener('click', () => show(version));
-    const leaves = leavesOf(treeOf(records, version)).length;
-    body.append(element('tr', {}, element('td', {}, button), element('td', {}, `${leaves}`), element('td', { class: 'hex' }, toHex(store.root(version)))));
+  const spans = spansOf(records, oldest, latest);
+  for (const { first, last } of spans.slice(-MOST_ROWS).reverse()) {
+    const button = element('button', { type: 'button' }, first === last ? `version ${first}` : `version ${first} to ${last}`);
+    button.addEventListener('click', () => show(first));
+    const leaves = leavesOf(treeOf(records, first)).length;
+    body.append(element('tr', {}, element('td', {}, button), element('td', {}, `${leaves}`), element('td', { class: 'hex' }, toHex(store.root(first)))));
   }
   const head = element('tr', {}, ...['Version', 'Grants', 'Root'].map((text) => element('th', { scope: 'col' }, text)));
   at('versions').replaceChildren(element('div', { class: 'wide' }, element('table', {}, element('thead', {}, head), body)));
-  if (latest - oldest >= MOST_ROWS) at('versions').append(element('p', { class: 'note' }, `The last ${MOST_ROWS} versions are listed.`));
+  if (spans.length > MOST_ROWS) at('versions').append(element('p', { class: 'note' }, `The last ${MOST_ROWS} publishings are listed.`));
 }
 
 // A file is a store or a root by its size, else a proof; one of hex digits is taken for the bytes that they stand for.

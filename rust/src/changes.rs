@@ -19,7 +19,9 @@ pub enum Change {
 impl Change {
     pub fn key(&self) -> Key {
         match *self {
-            Change::Added { key, .. } | Change::Removed { key, .. } | Change::Changed { key, .. } => key,
+            Change::Added { key, .. }
+            | Change::Removed { key, .. }
+            | Change::Changed { key, .. } => key,
         }
     }
 }
@@ -32,10 +34,10 @@ impl Change {
 /// let mut store = Store::with_capacity(20)?;
 /// let mut batch = Batch::new();
 /// batch.insert([1; 32], [7; 32]).unwrap().insert([2; 32], [8; 32]).unwrap();
-/// store.apply(&batch)?;
+/// store.apply(1, &batch)?;
 /// let mut batch = Batch::new();
 /// batch.delete([1; 32]).unwrap().insert([2; 32], [9; 32]).unwrap();
-/// store.apply(&batch)?;
+/// store.apply(2, &batch)?;
 /// let changes = store.changes(1, 2, MOST_VISITS)?;
 /// assert_eq!(
 ///     changes.iter().collect::<Vec<_>>(),
@@ -81,7 +83,11 @@ impl Changes {
             }
             let new = records.next_if(|(inserts, next, _)| *inserts && *next == key);
             Some(match new {
-                Some((_, _, new)) => Change::Changed { key, old: value, new },
+                Some((_, _, new)) => Change::Changed {
+                    key,
+                    old: value,
+                    new,
+                },
                 None => Change::Removed { key, value },
             })
         })

@@ -14,7 +14,7 @@ use std::fmt;
 #[non_exhaustive]
 pub enum Error {
     /// 1: the store's length isn't 24 + 120n, n in 1 to 16,384.
-    Size = 1,
+    Size,
     /// 2: a header field isn't right, its capacity isn't n, or oldest is above latest.
     Header,
     /// 3: the store isn't sound (check, apply, prune, changes), or the walk says so (reads).
@@ -23,8 +23,6 @@ pub enum Error {
     BatchForm,
     /// 5: the batch's keys aren't strictly ascending.
     BatchOrder,
-    /// 6: latest is 4,294,967,295.
-    LastVersion,
     /// 7: fewer free slots than new records.
     NoRoom,
     /// 8: the version isn't in oldest to latest.
@@ -38,67 +36,84 @@ pub enum Error {
     /// 12: a key or root handed in isn't 32 bytes.
     NotThirtyTwoBytes,
     /// 13: a comparison has more visits than the limit.
-    TooManyVisits = 13,
+    TooManyVisits,
     /// 14: the version is empty, so there is no proof; its root of 32 zero bytes itself shows that nothing is granted.
-    EmptyVersion = 14,
+    EmptyVersion,
+    /// 18: the number to publish under isn't above latest.
+    NotAboveLatest,
 }
 
 /// The table of the rules, number 1 first, in the words of include/grants.h.
-const TABLE: [(Error, &str); 14] = [
+const TABLE: [(u32, Error, &str); 14] = [
     (
+        1,
         Error::Size,
         "the store's length isn't 24 + 120n, n in 1 to 16,384",
     ),
     (
+        2,
         Error::Header,
         "a header field isn't right, its capacity isn't n, or oldest is above latest",
     ),
     (
+        3,
         Error::Unsound,
         "the store isn't sound (check, apply, prune, changes), or the walk says so (reads)",
     ),
     (
+        4,
         Error::BatchForm,
         "the batch isn't whole records in form, or has over 1,024",
     ),
     (
+        5,
         Error::BatchOrder,
         "the batch's keys aren't strictly ascending",
     ),
-    (Error::LastVersion, "latest is 4,294,967,295"),
-    (Error::NoRoom, "fewer free slots than new records"),
+    (7, Error::NoRoom, "fewer free slots than new records"),
     (
+        8,
         Error::VersionNotKept,
         "the version isn't in oldest to latest",
     ),
-    (Error::ProofTooLong, "the proof or the list is longer than the room"),
     (
+        9,
+        Error::ProofTooLong,
+        "the proof or the list is longer than the room",
+    ),
+    (
+        10,
         Error::ProofForm,
         "the proof isn't one whole record in form, no byte over",
     ),
-    (Error::ProofFails, "the proof is in form, but doesn't hold"),
     (
+        11,
+        Error::ProofFails,
+        "the proof is in form, but doesn't hold",
+    ),
+    (
+        12,
         Error::NotThirtyTwoBytes,
         "a key or root handed in isn't 32 bytes",
     ),
     (
+        13,
         Error::TooManyVisits,
         "a comparison has more visits than the limit",
     ),
     (
+        14,
         Error::EmptyVersion,
         "the version is empty, so there is no proof",
     ),
+    (18, Error::NotAboveLatest, "the number isn't above latest"),
 ];
 
 impl Error {
     /// The number that the table gives it.
     pub fn number(self) -> u32 {
-        self as u32
-    }
-
-    fn row(number: u32) -> Option<&'static (Error, &'static str)> {
-        TABLE.iter().find(|(error, _)| error.number() == number)
+        let row = TABLE.iter().find(|(_, error, _)| *error == self);
+        row.expect("each has its row").0
     }
 
     /// The refusal of a number, none where the table has no such row.
@@ -108,15 +123,18 @@ impl Error {
     ///
     /// assert_eq!(Error::from_number(7), Some(Error::NoRoom));
     /// assert_eq!(Error::from_number(0), None);
+    /// assert_eq!(Error::from_number(6), None);
     /// ```
     pub fn from_number(number: u32) -> Option<Error> {
-        Error::row(number).map(|(error, _)| *error)
+        let row = TABLE.iter().find(|(listed, ..)| *listed == number);
+        row.map(|(_, error, _)| *error)
     }
 }
 
 impl fmt::Display for Error {
     fn fmt(&self, f: &mut fmt::Formatter<'_>) -> fmt::Result {
-        f.write_str(Error::row(self.number()).expect("each has its row").1)
+        let row = TABLE.iter().find(|(_, error, _)| error == self);
+        f.write_str(row.expect("each has its row").2)
     }
 }
 
@@ -128,8 +146,8 @@ mod tests {
 
     #[test]
     fn numbers_are_the_rows_of_the_table() {
-        let numbers: Vec<u32> = TABLE.iter().map(|(error, _)| error.number()).collect();
-        assert_eq!(numbers, [1, 2, 3, 4, 5, 6, 7, 8, 9, 10, 11, 12, 13, 14]);
+        let numbers: Vec<u32> = TABLE.iter().map(|(_, error, _)| error.number()).collect();
+        assert_eq!(numbers, [1, 2, 3, 4, 5, 7, 8, 9, 10, 11, 12, 13, 14, 18]);
         for number in 0..=20 {
             let listed = numbers.contains(&number).then_some(number);
             assert_eq!(Error::from_number(number).map(Error::number), listed);

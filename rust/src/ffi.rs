@@ -13,6 +13,7 @@ extern "C" {
     fn grants_apply(
         store: *mut u8,
         store_len: usize,
+        number: u32,
         batch: *const u8,
         batch_len: usize,
         answer: *mut [u8; 40],
@@ -76,12 +77,13 @@ pub fn check(store: &[u8]) -> Result<(), Error> {
     accepted(unsafe { grants_check(store.as_ptr(), store.len()) })
 }
 
-pub fn apply(store: &mut [u8], batch: &[u8]) -> Result<[u8; 40], Error> {
+pub fn apply(store: &mut [u8], number: u32, batch: &[u8]) -> Result<[u8; 40], Error> {
     let mut answer = [0; 40];
     accepted(unsafe {
         grants_apply(
             store.as_mut_ptr(),
             store.len(),
+            number,
             batch.as_ptr(),
             batch.len(),
             &mut answer,

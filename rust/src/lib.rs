@@ -1,6 +1,6 @@
 //! A versioned, authenticated key-value store over lent memory: safe Rust over the proved library, `libgrants.a`.
 //!
-//! Each publishing is a version with one SHA-256 root. Any copy of the store, however little trusted, shows by a short [`Proof`] that a key has
+//! Each publishing is a version, named by a number of the caller's, with one SHA-256 root. Any copy of the store, however little trusted, shows by a short [`Proof`] that a key has
 //! a value in a version, or that it has none; whoever knows the version's [`Root`] checks that with [`verify`] alone.
 //!
 //! ```
@@ -12,14 +12,14 @@
 //! // Publish two grants: version 1.
 //! let mut batch = Batch::new();
 //! batch.insert([0x40; 32], [1; 32]).unwrap().insert([0x80; 32], [2; 32]).unwrap();
-//! let first = store.apply(&batch)?;
+//! let first = store.apply(1, &batch)?;
 //!
-//! // Withdraw one of them: version 2.
+//! // Withdraw one of them: version 5, for numbers may have gaps. Versions 2 to 4 read as 1.
 //! let mut batch = Batch::new();
 //! batch.delete([0x40; 32]).unwrap();
-//! let second = store.apply(&batch)?;
+//! let second = store.apply(5, &batch)?;
 //!
-//! // The grant stood in version 1, and doesn't stand in version 2.
+//! // The grant stood in version 1, and doesn't stand in version 5.
 //! let then = store.prove(first.version, [0x40; 32])?;
 //! let now = store.prove(second.version, [0x40; 32])?;
 //! assert_eq!(then.verify(first.root, [0x40; 32])?, Some(Value::from([1; 32])));

@@ -11,7 +11,7 @@ pub const PROOF_BYTES: usize = 17_080;
 /// let mut store = Store::with_capacity(20)?;
 /// let mut batch = Batch::new();
 /// batch.insert([1; 32], [7; 32]).unwrap();
-/// let root = store.apply(&batch)?.root;
+/// let root = store.apply(1, &batch)?.root;
 ///
 /// let sent: Vec<u8> = store.prove(1, [1; 32])?.into_bytes();
 ///

@@ -25,7 +25,7 @@ pub const fn store_bytes(capacity: u32) -> usize {
 /// let mut store = Store::with_capacity(20)?;
 /// let mut batch = Batch::new();
 /// batch.insert([1; 32], [7; 32]).unwrap().insert([2; 32], [8; 32]).unwrap();
-/// let made = store.apply(&batch)?;
+/// let made = store.apply(1, &batch)?;
 /// assert_eq!(made.version, 1);
 /// assert_eq!(store.root(1)?, made.root);
 /// assert_eq!(store.get(1, [2; 32])?, Some(Value::from([8; 32])));
@@ -41,6 +41,7 @@ pub struct Store<B> {
 /// What an accepted batch made.
 #[derive(Clone, Copy, Debug, PartialEq, Eq)]
 pub struct Applied {
+    /// The number that was given.
     pub version: u32,
     pub root: Root,
     /// How many records are new.
@@ -96,7 +97,8 @@ impl<B: AsRef<[u8]>> Store<B> {
         ffi::check(self.as_bytes())
     }
 
-    /// The root of a version, [`Root::EMPTY`] where it holds no grant. Refused: 1, 2, 8.
+    /// The root of a version, [`Root::EMPTY`] where it holds no grant. A version between two publishings has the root of the earlier one.
+    /// Refused: 1, 2, 8.
     pub fn root(&self, version: u32) -> Result<Root, Error> {
         ffi::root(self.as_bytes(), version).map(Root::from)
     }
@@ -126,7 +128,7 @@ impl<B: AsRef<[u8]>> Store<B> {
     ///
     /// let mut batch = Batch::new();
     /// batch.insert([2; 32], [7; 32]).unwrap();
-    /// store.apply(&batch)?;
+    /// store.apply(1, &batch)?;
     /// assert_eq!(store.prove_into(1, [1; 32], &mut room)?, 112);
     /// assert_eq!(room[112], 9);
     /// assert_eq!(store.prove_into(1, [1; 32], &mut room[..111]), Err(Error::ProofTooLong));
@@ -171,7 +173,7 @@ impl<B: AsRef<[u8]>> Store<B> {
     /// let mut store = Store::with_capacity(2)?;
     /// let mut batch = Batch::new();
     /// batch.insert([1; 32], [7; 32]).unwrap();
-    /// store.apply(&batch)?;
+    /// store.apply(1, &batch)?;
     /// let slots = store.slots()?;
     /// let record = slots[0].unwrap();
     /// assert_eq!(record.version, 1);
@@ -203,26 +205,54 @@ impl<B: AsRef<[u8]> + AsMut<[u8]>> Store<B> {
         ffi::format(self.bytes.as_mut())
     }
 
-    /// Publishes the next version: the latest grants with the batch applied. Refused: 1, 2, 3, 4, 5, 6, 7.
+    /// Publishes a version under a number of the caller's, any above latest: the latest grants with the batch applied. A version between two
+    /// publishings reads as the earlier one. Refused: 1, 2, 3, 4, 5, 18, 7.
+    ///
+    /// ```
+    /// use grants::{Batch, Error, Store, Value};
+    ///
+    /// let mut store = Store::with_capacity(4)?;
+    /// let mut batch = Batch::new();
+    /// batch.insert([1; 32], [7; 32]).unwrap();
+    /// store.apply(2026_05, &batch)?;
+    /// store.apply(2026_11, &Batch::new())?;
+    /// assert_eq!(store.get(2026_08, [1; 32])?, Some(Value::from([7; 32])));
+    ///
+    /// // Refused, and nothing changed.
+    /// let before = store.clone();
+    /// assert_eq!(store.apply(2026_11, &batch), Err(Error::NotAboveLatest));
+    /// batch.insert([2; 32], [8; 32]).unwrap();
+    /// assert_eq!(store.apply(2026_12, &batch), Err(Error::NoRoom));
+    /// assert_eq!(store, before);
+    /// # Ok::<(), Error>(())
+    /// ```
+    pub fn apply(&mut self, number: u32, batch: &Batch) -> Result<Applied, Error> {
+        self.apply_bytes(number, &batch.to_bytes())
+    }
+
+    /// The same under the number after latest, which is in [`Applied::version`]. Refused: 1, 2, 3, 4, 5, 18 (latest is 4,294,967,295), 7.
     ///
     /// ```
     /// use grants::{Batch, Error, Store};
     ///
-    /// let mut store = Store::with_capacity(1)?;
-    /// let mut batch = Batch::new();
-    /// batch.insert([1; 32], [7; 32]).unwrap().insert([2; 32], [8; 32]).unwrap();
-    /// assert_eq!(store.apply(&batch), Err(Error::NoRoom));
-    /// // Refused, and nothing changed.
-    /// assert_eq!(store, Store::with_capacity(1)?);
+    /// let mut store = Store::with_capacity(4)?;
+    /// store.apply(41, &Batch::new())?;
+    /// assert_eq!(store.apply_next(&Batch::new())?.version, 42);
+    /// store.apply(u32::MAX, &Batch::new())?;
+    /// assert_eq!(store.apply_next(&Batch::new()), Err(Error::NotAboveLatest));
     /// # Ok::<(), Error>(())
     /// ```
-    pub fn apply(&mut self, batch: &Batch) -> Result<Applied, Error> {
-        self.apply_bytes(&batch.to_bytes())
+    pub fn apply_next(&mut self, batch: &Batch) -> Result<Applied, Error> {
+        // Where there is no next number it is 0, which is never above latest; where there is no header, the call says so first.
+        let next = self
+            .header()
+            .map_or(0, |header| header.latest.wrapping_add(1));
+        self.apply(next, batch)
     }
 
-    /// The same, of batch records of 72 bytes (docs/FORMAT.md), from anybody. Refused: 1, 2, 3, 4, 5, 6, 7.
-    pub fn apply_bytes(&mut self, batch: &[u8]) -> Result<Applied, Error> {
-        let answer = ffi::apply(self.bytes.as_mut(), batch)?;
+    /// Publishes batch records of 72 bytes (docs/FORMAT.md), from anybody. Refused: 1, 2, 3, 4, 5, 18, 7.
+    pub fn apply_bytes(&mut self, number: u32, batch: &[u8]) -> Result<Applied, Error> {
+        let answer = ffi::apply(self.bytes.as_mut(), number, batch)?;
         let mut root = [0; 32];
         root.copy_from_slice(&answer[4..36]);
         Ok(Applied {
@@ -232,7 +262,8 @@ impl<B: AsRef<[u8]> + AsMut<[u8]>> Store<B> {
         })
     }
 
-    /// Frees every record retired since the version or earlier, and keeps no older version; the answer is how many it freed. Refused: 1, 2, 3, 8.
+    /// Frees every record retired since the version or earlier, and keeps no older version; the answer is how many it freed. Between two
+    /// publishings it keeps the earlier one's tree. Refused: 1, 2, 3, 8.
     ///
     /// ```
     /// use grants::{Batch, Error, Store};
@@ -240,8 +271,8 @@ impl<B: AsRef<[u8]> + AsMut<[u8]>> Store<B> {
     /// let mut store = Store::with_capacity(4)?;
     /// let mut batch = Batch::new();
     /// batch.insert([1; 32], [7; 32]).unwrap();
-    /// store.apply(&batch)?;
-    /// store.apply(&Batch::new())?;
+    /// store.apply(1, &batch)?;
+    /// store.apply(2, &Batch::new())?;
     /// assert_eq!(store.prune(2)?, 1);
     /// assert_eq!(store.root(1), Err(Error::VersionNotKept));
     /// # Ok::<(), Error>(())

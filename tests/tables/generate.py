@@ -89,6 +89,14 @@ def random_batch(rng, grants, keys):
     return batch
 
 
+def random_number(rng, s):
+    """The next number, one further on, or one that is not above latest; 4294967295 at most."""
+    how = rng.random()
+    if how < 0.05:
+        return rng.randrange(s.latest + 1)
+    return min(model.TOP, s.latest + (rng.randrange(2, 6) if how < 0.4 else 1))
+
+
 def random_history(rng):
     capacity = rng.choice([4, 8, 12, 16, 24])
     keys = [key(f) for f in rng.sample(KEYS, rng.randrange(2, 7))]
@@ -105,8 +113,9 @@ def random_history(rng):
         else:
             grants = model.grants_of(model.tree(s, s.latest))
             batch = random_batch(rng, grants, keys)
-            moves.append(('apply', batch))
-            a, s2 = model.apply(s, batch)
+            number = random_number(rng, s)
+            moves.append(('apply', batch, number))
+            a, s2 = model.apply(s, batch, number)
             replies.append(('refused', a) if isinstance(a, int) else ('made',) + a)
         s = s2
     return capacity, start, moves, replies, s, keys
@@ -116,7 +125,7 @@ def move_term(m):
     if m[0] == 'prune':
         return f'pruning {m[1]}'
     asks = (f'delete {key_term(k)}' if x is None else f'insert {key_term(k)} {value_term(x)}' for k, x in m[1])
-    return f'applying {list_term(asks)}'
+    return f'applying {m[2]} {list_term(asks)}'
 
 
 def reply_term(names, r):
@@ -159,7 +168,7 @@ def damaged(rng, s):
     slots = list(s.slots)
     i = rng.choice(used)
     r = slots[i]
-    how = rng.randrange(6)
+    how = rng.randrange(7)
     if how == 0:
         slots[i] = None
     elif how == 1 and r.leaf is not None:
@@ -170,12 +179,14 @@ def damaged(rng, s):
         slots[i] = replace(r, left=(0, ZEROS))
     elif how == 4 and None in slots:
         slots[slots.index(None)] = replace(r, leaf=(key(rng.choice(KEYS)), value(9)), left=None, right=None)
+    elif how == 5:
+        slots[i] = replace(r, retired=rng.choice([0, r.version + 1, s.latest + 1]))
     else:
         slots[i] = replace(r, version=r.version + 1)
     return Store(s.oldest, s.latest, tuple(slots))
 
 
-HEAD = '''-- {title} Written by tests/tables/generate.py; compared with a second reading of document 01. Assumes nothing.
+HEAD = '''-- {title} Written by tests/tables/generate.py; compared with a second reading of document 01 with 2026-13. Assumes nothing.
 use mathlib.Core.Path.{{_≡_, refl}}
 use mathlib.Core.Bool.{{true, false}}
 use mathlib.Core.List.{{List, [], _∷_}}
@@ -363,7 +374,7 @@ def files():
         made[f'Looks{n}'] = lay_out(f'looks{n}', looks(rng, n, 30))
     for n in range(1, 4):
         made[f'Tries{n}'] = lay_out(f'tries{n}', checks(rng, n, 250))
-    made['Lib'] = ''.join(f'pub mod {name}\n' for name in made)
+    made['Lib'] = ''.join(f'pub mod {name}\n' for name in ['Desk', *made])
     return made
 
 

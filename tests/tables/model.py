@@ -1,5 +1,5 @@
-"""Document 01 read a second time, with 2026-03 of document 02, by its words, on records without bytes. Hashes are symbols: ('leaf', key, value), ('inner', left, right)
-or ZEROS. Nothing here was made from the project's definitions; generate.py compares the two.
+"""Document 01 read a second time, with 2026-03 and 2026-13 of document 02, by their words, on records without bytes. Hashes are symbols:
+('leaf', key, value), ('inner', left, right) or ZEROS. Nothing here was made from the project's definitions; generate.py compares the two.
 """
 from dataclasses import dataclass, replace
 
@@ -39,21 +39,32 @@ def find(store, version, place):
     return None
 
 
+def covers(r, version):
+    return r.version <= version and (r.retired == 0 or version < r.retired)
+
+
+def root(store, version):
+    """The root record whose lifetime covers the version."""
+    for r in store.slots:
+        if r is not None and r.place == '' and covers(r, version):
+            return r
+    return None
+
+
 def tree(store, version):
     """The nodes of a version's tree by place, for a sound store."""
     nodes = {}
 
-    def follow(v, p):
-        r = find(store, v, p)
+    def follow(r):
         if r is None:
             return
-        nodes[p] = r
+        nodes[r.place] = r
         if r.leaf is None:
             for child, bit in ((r.left, '0'), (r.right, '1')):
                 if child[0] != 0:
-                    follow(child[0], p + bit)
+                    follow(find(store, child[0], r.place + bit))
 
-    follow(version, '')
+    follow(root(store, version))
     return nodes
 
 
@@ -65,14 +76,13 @@ def record_hash(r):
     return ('leaf',) + r.leaf if r.leaf is not None else ('inner', r.left[1], r.right[1])
 
 
-def apply(store, batch):
-    """batch: list of (key, value or None). Answer: a number of refusal, or (version, root, count); and the store after."""
+def apply(store, batch, new):
+    """batch: list of (key, value or None); new: the number given. Answer: a number of refusal, or (version, root, count); and the store after."""
     keys = [k for k, _ in batch]
     if any(not a < b for a, b in zip(keys, keys[1:])):
         return 5, store
-    if store.latest == TOP:
-        return 6, store
-    new = store.latest + 1
+    if not store.latest < new:
+        return 18, store
     old = tree(store, store.latest)
     before = grants_of(old)
     after = dict(before)
@@ -102,7 +112,7 @@ def apply(store, batch):
         now[place] = r
         return (version, record_hash(r))
 
-    root = build('')[1]
+    top = build('')[1]
     order = []
 
     def below(place):
@@ -127,7 +137,7 @@ def apply(store, batch):
             slots[i] = replace(r, retired=new)
     for i, r in zip(free, fresh):
         slots[i] = r
-    return (new, root, len(fresh)), Store(store.oldest, new, tuple(slots))
+    return (new, top, len(fresh)), Store(store.oldest, new, tuple(slots))
 
 
 def prune(store, n):
@@ -152,7 +162,7 @@ def child_record(store, child, place):
 
 def walk(store, version, key):
     """The inner nodes passed with the bit taken at each, and the leaf at the end or None."""
-    r = find(store, version, '')
+    r = root(store, version)
     trail = []
     if r is None:
         return trail, None
@@ -203,7 +213,7 @@ def kept(store, version):
 def prove(store, version, key):
     kept(store, version)
     # 2026-03: proving in an empty version is refused with 14, tested after 8.
-    if find(store, version, '') is None:
+    if root(store, version) is None:
         raise Refused(14)
     trail, end = walk(store, version, key)
     if end is not None and end.leaf[0] == key:
@@ -221,7 +231,7 @@ def read_key(store, version, key):
 
 def read_root(store, version):
     kept(store, version)
-    r = find(store, version, '')
+    r = root(store, version)
     return ZEROS if r is None else record_hash(r)
 
 

@@ -388,7 +388,7 @@ def show_draws_a_picture_where_dot_is():
 def stat_tells_sizes():
     s = desk()
     told = json.loads(answered(0, "stat", s, "--json"))
-    assert told == {"capacity": 20, "used": 10, "free": 10, "oldest": 0, "latest": 2, "kept": 3, "bytes": 2424, "publishings_left": 2}
+    assert told == {"capacity": 20, "used": 10, "free": 10, "oldest": 0, "latest": 2, "kept": 3, "publishings": 3, "bytes": 2424, "publishings_left": 2}
     out = answered(0, "stat", s)
     assert out.startswith("capacity  20 slots\nused      10\nfree      10\nkept      0 to 2, 3 versions\nbytes     2424\nleft      about 2 publishings, "), out
     answered(0, "format", "one", 1)
@@ -398,7 +398,8 @@ def stat_tells_sizes():
     assert json.loads(answered(0, "stat", "wide", "--json"))["kept"] == 2**32
     assert answered(0, "log", "wide", "--last", 2, "--full").count(ZERO) == 2
     answered(0, "check", "wide")
-    untouched("wide", 16, "latest is 4,294,967,295", "apply", "wide", "/dev/null")
+    untouched("wide", 28, "no number is above that", "apply", "wide", "/dev/null")
+    untouched("wide", 28, "no number is above that", "apply", "wide", "/dev/null", "--number", 2**32 - 1)
     answered(0, "prune", "wide", 2**32 - 1)
 
 
@@ -660,7 +661,7 @@ def any_bytes_and_words():
             )
         )
         done = subprocess.run([TOOL] + words, capture_output=True, timeout=60)
-        assert done.returncode in (0, 1, 2, 3, 4, *range(11, 25)), (words, done)
+        assert done.returncode in (0, 1, 2, 3, 4, *range(11, 25), 28), (words, done)
         silent = all(line.startswith(b"grants: by s.book") for line in done.stderr.splitlines())
         assert b"panicked" not in done.stderr and (done.returncode in (0, 1)) == silent, (words, done)
         if done.returncode != 0 or words[0] not in ("apply", "import", "prune", "grow"):
@@ -1429,6 +1430,95 @@ def history_of_a_key():
 
 
 @test
+def numbers_with_gaps():
+    answered(0, "format", "s", 40)
+    dated = lambda day, message: ("--date", "2026-05-%02dT08:00:00Z" % day, "--author", "mira", "--message", message)
+    told = json.loads(answered(0, "apply", "s", "-", "--number", 5, "--json", *dated(1, "spring"), input=FOUR))["published"]
+    assert [(v["version"], v["new_records"]) for v in told] == [(5, 7)]
+    assert answered(0, "apply", "s", "-", "--number=9", *dated(9, "less"), input=WITHDRAW).startswith("version 9, 3 new records, root ")
+    # Numbers up to the latest, in any case that would be accepted else; and without a number the next one.
+    for number_ in (0, 5, 7, 9):
+        untouched("s", 28, "refused with 18: the number isn't above latest. s is at version 9: give a higher number", "apply", "s", "-", "--number", number_, input=FOUR)
+    untouched("s", 2, "N is a number from 0 to 4294967295", "apply", "s", "-", "--number", 2**32, input=FOUR)
+    assert answered(0, "apply", "s", "-", "--dry-run", input="").startswith("would be version 10, 1 new record, ")
+    # A version between two publishings reads as the earlier one.
+    roots = {v: answered(0, "root", "s", v).strip() for v in range(10)}
+    assert {roots[v] for v in range(5)} == {ZERO} and {roots[v] for v in range(5, 9)} == {roots[5]} and roots[9] != roots[5]
+    for v in range(5, 9):
+        assert answered(0, "get", "s", B, v) == answered(0, "get", "s", B, 5)
+        assert answered(0, "prove", "s", B, v) == answered(0, "prove", "s", B, 5)
+        assert answered(0, "list", "s", v).splitlines()[1:] == answered(0, "list", "s", 5).splitlines()[1:]
+        assert answered(0, "diff", "s", v, 9).splitlines()[:-1] == answered(0, "diff", "s", 5, 9).splitlines()[:-1]
+        assert answered(0, "diff", "s", 5, v, "--limit", 1) == "version 5 to %d: 0 added, 0 removed, 0 changed\n" % v
+        assert answered(0, "prove", "s", B, v, "--out", "proof", "--force") and answered(0, "verify", roots[5], B, "proof").startswith("present ")
+    assert answered(0, "list", "s", 7).startswith("version 7 (2026-05-01 08:00, mira: spring): 4 grants, ")
+    assert answered(0, "show", "s", 7).startswith("version 7 (published as 5): 4 grants, 7 records, root %s\n" % roots[5])
+    assert answered(0, "show", "s", 5).startswith("version 5: 4 grants, ")
+    # The log has a line for each publishing.
+    log = lambda *more: json.loads(answered(0, "log", "s", "--json", *more))
+    names = ("version", "last", "published", "grants", "added", "removed", "changed", "new", "root", "message")
+    assert [[v[k] for k in names] for v in log()] == [
+        [0, 4, None, 0, 0, 0, 0, 0, ZERO, None],
+        [5, 8, 5, 4, 4, 0, 0, 7, roots[5], "spring"],
+        [9, 9, 9, 3, 0, 1, 1, 3, roots[9], "less"],
+    ]
+    assert [line.split("  ")[0].strip() or line.strip().split("  ")[0] for line in answered(0, "log", "s").splitlines()[1:]] == ["0 to 4", "5 to 8", "9"]
+    assert log("--last", 2) == log()[1:]
+    assert [h["version"] for h in json.loads(answered(0, "history", "s", C, "--json"))] == [0, 5, 9]
+    # By the book's dates.
+    for day, version in (("2026-04-30", 0), ("2026-05-01", 5), ("2026-05-08", 5), ("2026-05-09", 9)):
+        ran = grants("root", "s", "--at", day)
+        assert (ran.status, ran.out, ran.err) == (0, roots[version] + "\n", "grants: by s.book, version %d was the latest on %s\n" % (version, day)), ran
+    # A prune between two publishings keeps the earlier one; its root's record is older than the oldest version.
+    assert answered(0, "prune", "s", 7) == "0 records freed, versions 7 to 9 kept\n"
+    assert answered(0, "check", "s") == "s is sound, versions 7 to 9\n"
+    assert [[v[k] for k in names] for v in log()] == [[7, 8, 5, 4, None, None, None, 7, roots[5], "spring"], [9, 9, 9, 3, 0, 1, 1, 3, roots[9], "less"]]
+    ran = grants("root", "s", "--at", "2026-05-05")
+    assert (ran.status, ran.out) == (0, roots[5] + "\n") and "version 5 was the latest" in ran.err, ran
+    refused(4, "it was older than version 5, the oldest that s keeps", "root", "s", "--at", "2026-04-30")
+    refused(18, "s keeps versions 7 to 9", "root", "s", 6)
+    # Emptied, then a grant again, then the last number of all; nothing between is looked at.
+    answered(0, "apply", "s", "-", "--number", 12, *dated(12, "none"), input="- %s\n- %s\n- %s\n" % (A, C, D))
+    answered(0, "apply", "s", "-", "--number", 13, *dated(13, "still none"), input="")
+    answered(0, "apply", "s", "-", "--number", 15, *dated(15, "D"), input="+ %s %s\n" % (D, "04" * 32))
+    answered(0, "apply", "s", "-", "--number", 2**32 - 1, *dated(20, "last"), input="+ %s %s\n" % (A, "01" * 32))
+    spans = [(7, 8), (9, 11), (12, 12), (13, 14), (15, 2**32 - 2), (2**32 - 1, 2**32 - 1)]
+    assert [(v["version"], v["last"]) for v in log()] == spans
+    assert [(v["grants"], v["message"]) for v in log()] == [(4, "spring"), (3, "less"), (0, "none"), (0, "still none"), (1, "D"), (2, "last")]
+    # Without the book an empty publishing after an empty one is not seen.
+    assert [(v["version"], v["last"]) for v in log("--book", "/dev/null")] == spans[:2] + [(12, 14)] + spans[4:]
+    assert answered(0, "get", "s", D, 4 * 10**9) == "04" * 32 + "\n"
+    assert grants("get", "s", A, 4 * 10**9).out == "absent\n"
+    assert json.loads(answered(0, "stat", "s", "--json"))["publishings"] == 5
+    assert "\nkept      7 to 4294967295, 4294967289 versions, 5 publishings\n" in answered(0, "stat", "s")
+    # The same numbers and roots in a larger store.
+    shutil.copy("s", "t")
+    answered(0, "grow", "t", 300)
+    answered(0, "check", "t")
+    for first, last in spans:
+        for v in (first, last):
+            assert answered(0, "root", "t", v) == answered(0, "root", "s", v)
+    untouched("s", 28, "no number is above that", "apply", "s", "-", input=FOUR)
+    answered(0, "prune", "s", 13)
+    assert [(v["version"], v["last"]) for v in log()] == spans[3:]
+    # In parts: the last gets the number, those before it the numbers just below; all of them above the latest, or nothing is written.
+    answered(0, "format", "large", LARGEST)
+    write("many", many(2500))
+    answered(0, "apply", "large", "-", "--number", 10, input=FOUR)
+    for number_ in (0, 2, 10, 11, 12):
+        untouched("large", 28, "3 versions take as many numbers", "apply", "large", "many", "--split", "--number", number_)
+    assert [v["version"] for v in json.loads(answered(0, "apply", "large", "many", "--split", "--number", 13, "--json"))["published"]] == [11, 12, 13]
+    write("other", many(2500, 2))
+    told = json.loads(answered(0, "apply", "large", "other", "--split", "--number", 2**32 - 2, "--json", "--dry-run"))["published"]
+    assert [v["version"] for v in told] == [2**32 - 4, 2**32 - 3, 2**32 - 2]
+    assert [v["version"] for v in json.loads(answered(0, "apply", "large", "-", "--split", "--number", 20, "--json", input=FOUR))["published"]] == [20]
+    # Import takes a number too.
+    write("kept", "".join("+ %s %s\n" % (k, "09" * 32) for k in (A, B)))
+    assert [v["version"] for v in json.loads(answered(0, "import", "large", "kept", "--number", 40, "--json"))["published"]] == [38, 39, 40]
+    untouched("large", 28, "large is at version 40", "import", "large", write("one", "+ %s %s\n" % (A, "08" * 32)), "--number", 40)
+
+
+@test
 def a_store_grows():
     rng = random.Random(4)
     keys = [rng.randbytes(32).hex() for _ in range(30)]
@@ -1461,8 +1551,10 @@ def a_store_grows():
     bad = bytearray(read("s"))
     bad[24 + 60] ^= 1
     untouched(write("bad", bytes(bad)), 13, "bad is damaged", "grow", "bad", 900)
+    # All versions there can be, none of them with a record: no loop over them.
     write("wide", store_bytes(50, 2**32 - 1))
-    untouched("wide", 4, "its latest version is 4294967295", "grow", "wide", 60)
+    assert answered(0, "grow", "wide", 60) == "wide: 60 slots, 60 free; versions 0 to 4294967295 with their roots as they were\n"
+    assert read("wide") == store_bytes(60, 2**32 - 1)
     # More grants in the oldest kept version than one batch makes.
     answered(0, "format", "large", LARGEST)
     answered(0, "apply", "large", write("many", many(1500)), "--split")

@@ -36,9 +36,9 @@ async function publishing(tally, grants) {
   const store = await grants.format(20);
   const [chords, lyrics] = ['chords sonata', 'lyrics sonata'].map((name) => grants.name(name));
   const read = grants.name('read');
-  const first = store.apply([{ key: lyrics, value: toHex(read) }, { key: chords, value: read }]);
+  const first = store.apply(1, [{ key: lyrics, value: toHex(read) }, { key: chords, value: read }]);
   tally.equal('the first version', [first.version, first.newRecords, store.oldest, store.latest, store.capacity], [1, first.newRecords, 0, 1, 20]);
-  const second = store.apply([{ key: lyrics, value: null }]);
+  const second = store.applyNext([{ key: lyrics, value: null }]);
   tally.equal('its root', toHex(store.root(1)), toHex(first.root));
   tally.equal('get', store.get(1, lyrics), { present: true, value: read });
   tally.equal('get, absent', store.get(2, lyrics), { present: false });
@@ -46,8 +46,8 @@ async function publishing(tally, grants) {
   tally.equal('changes, undone', store.changes(2, 1), [{ key: lyrics, before: null, after: read }]);
   tally.equal('no changes', store.changes(2, 2), []);
   const other = await grants.format(20);
-  other.apply([{ key: lyrics, value: read }]);
-  other.apply([{ key: lyrics, value: lyrics }, { key: chords, value: read }]);
+  other.apply(1, [{ key: lyrics, value: read }]);
+  other.apply(2, [{ key: lyrics, value: lyrics }, { key: chords, value: read }]);
   tally.equal('another value', other.changes(1, 2).map(({ key, before, after }) => [toHex(key), before && toHex(before), toHex(after)]).sort(),
     [[toHex(lyrics), toHex(read), toHex(lyrics)], [toHex(chords), null, toHex(read)]].sort());
   const [then, now] = [store.prove(1, lyrics), store.prove(2, lyrics)];
@@ -60,6 +60,13 @@ async function publishing(tally, grants) {
   tally.equal('no bytes', refused(() => grants.verify('', '', '')), 12);
   for (const odd of ['abc', 'xy', ' ab', null, undefined, 7, [1, 2]]) tally.equal(`key ${odd}`, refused(() => grants.verify(first.root, odd, then)), 'TypeError');
   for (const odd of [-1, 1.5, 2 ** 32, NaN, '1', undefined, 1n]) tally.equal(`version ${odd}`, refused(() => store.get(odd, lyrics)), 'RangeError');
+  for (const odd of [-1, 1.5, 2 ** 32, NaN, '1', undefined, 1n]) tally.equal(`number ${odd}`, refused(() => store.apply(odd, [])), 'RangeError');
+  const gaps = await grants.format(20);
+  const five = gaps.apply(5, [{ key: lyrics, value: read }]);
+  const last = gaps.apply(4294967295, [{ key: lyrics, value: null }]);
+  tally.equal('numbers with a gap', [five.version, last.version, gaps.latest], [5, 4294967295, 4294967295]);
+  tally.equal('between', [toHex(gaps.root(4000000000)), gaps.get(4294967294, lyrics).present, gaps.get(4, lyrics).present], [toHex(five.root), true, false]);
+  tally.equal('no number left', refused(() => gaps.applyNext([])), 18);
   return { store, lyrics, then, first };
 }
 
@@ -69,9 +76,11 @@ async function refusing(tally, grants, { store, lyrics }) {
   const damaged = await grants.open(store.bytes().fill(255, 400, 401));
   const cases = [
     [3, () => damaged.check()],
-    [4, () => store.apply(new Uint8Array(71))],
-    [5, () => store.apply([{ key: lyrics, value: null }, { key: lyrics, value: lyrics }])],
-    [7, () => store.apply(Array.from({ length: 20 }, (_, i) => ({ key: grants.name(`${i}`), value: lyrics })))],
+    [4, () => store.apply(3, new Uint8Array(71))],
+    [5, () => store.apply(1, [{ key: lyrics, value: null }, { key: lyrics, value: lyrics }])],
+    [18, () => store.apply(2, [])],
+    [18, () => store.apply(0, [])],
+    [7, () => store.applyNext(Array.from({ length: 20 }, (_, i) => ({ key: grants.name(`${i}`), value: lyrics })))],
     [8, () => store.prune(3)],
     [8, () => store.root(4294967295)],
     [9, () => store.prove(1, lyrics, 71)],
@@ -119,7 +128,7 @@ async function memory(tally, grants, { lyrics, then, first }) {
   for (let i = 0; i < 20; i += 1) own.sha256(long);
   tally.equal('memory after twenty more', size(), large);
   const [one, other] = [await own.format(3), await own.format(3)];
-  one.apply([{ key: lyrics, value: lyrics }]);
+  one.apply(1, [{ key: lyrics, value: lyrics }]);
   tally.equal('two stores', [one.latest, other.latest], [1, 0]);
 }
 

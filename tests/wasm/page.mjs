@@ -22,12 +22,20 @@ const grants = await load();
 const store = await grants.format(20);
 const key = (name) => grants.name(name);
 const names = ['chords symphony', 'chords sonata', 'lyrics sonata', 'tuner symphony'];
-store.apply(names.map((name) => ({ key: key(name), value: key('read') })));
-store.apply([{ key: key('lyrics sonata'), value: null }, { key: key('chords sonata'), value: key('write') }]);
+store.apply(1, names.map((name) => ({ key: key(name), value: key('read') })));
+store.apply(2, [{ key: key('lyrics sonata'), value: null }, { key: key('chords sonata'), value: key('write') }]);
 const [old, now] = [1, 2].map((version) => toHex(store.root(version)));
 const proofs = { then: store.prove(1, key('lyrics sonata')), now: store.prove(2, key('lyrics sonata')) };
 const files = Object.fromEntries(Object.entries(proofs).map(([name, bytes]) => [name, file(name, bytes)]));
 const market = file('market', store.bytes());
+// The same grants under numbers with gaps, some 4,000,000,000 versions.
+const gaps = await grants.format(40);
+gaps.apply(5, names.map((name) => ({ key: key(name), value: key('read') })));
+gaps.apply(9, [{ key: key('lyrics sonata'), value: null }]);
+gaps.prune(7);
+gaps.apply(4000000000, names.map((name) => ({ key: key(name), value: null })));
+gaps.apply(4294967295, [{ key: key('chords sonata'), value: key('read') }]);
+const wide = file('wide', gaps.bytes());
 const tampered = file('tampered', store.bytes().fill(255, 400, 401));
 
 const browser = await Browser.start(program, `${folder}/profile`);
@@ -95,6 +103,15 @@ async function stores() {
   tally.equal('it has the focus', await browser.ask('document.activeElement.id'), 'result');
   await clicked('version 0');
   tally.holds('the empty version', (await text('tree')).includes('It holds no grant'));
+  await browser.drop(wide);
+  await browser.until(`document.getElementById('sound').textContent.includes('4294967295')`);
+  tally.equal('with gaps', await text('sound'), 'Sound: versions 7 to 4294967295, 40 slots.');
+  const rows = await browser.ask(`[...document.querySelectorAll('#versions tbody tr')].map((row) => row.innerText.split(/\\s*\\t\\s*/).slice(0, 2).join(': '))`);
+  tally.equal('a row for each publishing', rows, ['version 4294967295: 1', 'version 4000000000 to 4294967294: 0', 'version 9 to 3999999999: 3', 'version 7 to 8: 4']);
+  await clicked('version 9 to');
+  tally.holds('since the publishing before', /Since version 8: removed 4063e24a..7d73\./.test(await text('tree')));
+  await clicked('version 7 to');
+  tally.equal('the nodes of the publishing before oldest', await browser.ask(`document.querySelectorAll('#tree .new').length`), 7);
   await browser.drop(tampered);
   await browser.until(`document.getElementById('sound').textContent.startsWith('This store is not')`);
   tally.holds('a tampered store', (await text('sound')).includes("Refused with 3: the store isn't sound"));

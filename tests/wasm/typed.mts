@@ -14,7 +14,9 @@ export async function shown(root: string, key: Uint8Array, proof: ArrayBuffer): 
 export async function published(): Promise<number> {
   const grants = await load();
   const store: Store = await grants.format(20);
-  const { version, newRecords } = store.apply([{ key: '00', value: null }]);
+  const { version, newRecords } = store.apply(1, [{ key: '00', value: null }]);
+  // @ts-expect-error a publishing has a number
+  store.apply([{ key: '00', value: null }]);
   // @ts-expect-error a version is a number
   store.prove('1', grants.name('x'));
   // @ts-expect-error an absent key has no value

@@ -81,10 +81,11 @@ class Program {
     this.say(`        ${found.map((it) => it.text).join('  ')}`);
   }
 
-  apply(store, name, changes, root) {
+  // Under a number, or under the next one.
+  apply(store, name, changes, root, number) {
     let made;
     const done = this.tried(name, store, () => {
-      made = store.apply(changes);
+      made = number === undefined ? store.applyNext(changes) : store.apply(number, changes);
       const retired = this.slots(store, (it) => it.retired === made.version).length;
       return `version ${made.version}, new records ${made.newRecords}, retired since ${made.version}: ${retired}`;
     });
@@ -118,9 +119,50 @@ class Program {
     });
   }
 
+  root(store, version) {
+    this.tried(`root of ${version}`, store, () => toHex(store.root(version)), '');
+  }
+
+  get(store, name, k, version) {
+    this.tried(`get ${name} in version ${version}`, store, () => this.found(store.get(version, k)), '');
+  }
+
   look(store, version) {
-    this.tried(`get B in version ${version}`, store, () => this.found(store.get(version, key(B))), '');
+    this.get(store, 'B', key(B), version);
     this.prove(store, 'B', key(B), version, 316);
+  }
+
+  // The desk's grants under numbers with gaps.
+  async gaps(all, four) {
+    const store = await this.format(2424);
+    const two = inner(leaf(key(A), 1), leaf(key(D), 4));
+    const check = () => this.tried('check', store, () => (store.check(), 'sound'));
+    this.apply(store, 'insert A, B, C, D', all, four, 5);
+    this.apply(store, 'delete B and C', [remove(key(B)), remove(key(C))], two, 9);
+    for (const version of [4, 5, 7, 8, 9, 10]) this.root(store, version);
+    this.look(store, 7);
+    this.look(store, 9);
+    for (const [first, second, limit] of [[5, 8, 1], [7, 9, 7], [7, 9, 6]]) this.changes(store, first, second, limit, 288);
+    for (const number of [9, 7, 0]) this.apply(store, 'empty batch', [], two, number);
+    this.apply(store, 'D before A', Buffer.concat([batch([insert(key(D), 1)]), batch([insert(key(A), 1)])]), two, 9);
+    this.prune(store, 7);
+    for (const version of [6, 7]) this.root(store, version);
+    check();
+    this.apply(store, 'delete A and D', [remove(key(A)), remove(key(D))], zeros, 12);
+    this.apply(store, 'insert D', [insert(key(D), 4)], leaf(key(D), 4), 15);
+    for (const version of [11, 13]) this.root(store, version);
+    for (const version of [13, 15]) this.prove(store, 'D', key(D), version, 316);
+    this.prune(store, 13);
+    for (const version of [13, 15]) this.root(store, version);
+    check();
+    this.apply(store, 'insert A', [insert(key(A), 1)], two, 4294967295);
+    for (const version of [4000000000, 4294967294]) this.root(store, version);
+    for (const version of [4000000000, 4294967295]) this.get(store, 'A', key(A), version);
+    this.apply(store, 'empty batch', [], two, 4294967295);
+    this.apply(store, 'empty batch', [], two);
+    check();
+    const one = await this.format(144);
+    for (const number of [0, 1]) this.apply(one, 'insert both', [insert(key(A), 1), insert(key(F), 2)], zeros, number);
   }
 
   async run() {
@@ -173,6 +215,8 @@ class Program {
     this.apply(full, 'insert A, B, C, D', all, four);
     this.apply(full, 'empty batch', [], four);
     this.apply(full, 'delete A, B, C, D', [A, B, C, D].map((first) => remove(key(first))), zeros);
+    this.section = '2026-13';
+    await this.gaps(all, four);
     this.section = 'Closing cases';
     const large = await this.format(245664);
     const many = batch(Array.from({ length: 1025 }, (_, i) => insert(numbered(i), 1)));

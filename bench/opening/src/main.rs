@@ -22,7 +22,7 @@ const BAR: f64 = 2.0;
 
 extern "C" {
     fn grants_format(store: *mut u8, length: usize) -> u32;
-    fn grants_apply(store: *mut u8, length: usize, batch: *const u8, batch_length: usize, answer: *mut u8) -> u32;
+    fn grants_apply(store: *mut u8, length: usize, number: u32, batch: *const u8, batch_length: usize, answer: *mut u8) -> u32;
     fn grants_root(store: *const u8, length: usize, version: u32, root: *mut u8) -> u32;
     fn grants_prove(store: *const u8, length: usize, version: u32, key: *const u8, key_length: usize, room: *mut u8, room_length: usize, answer: *mut u8) -> u32;
     fn grants_verify(root: *const u8, root_length: usize, key: *const u8, key_length: usize, proof: *const u8, proof_length: usize, found: *mut u8) -> u32;
@@ -63,6 +63,7 @@ fn from_a_store(random: &mut Random, shared: u8, asked: &mut Vec<Asked>, most: u
     let keys: Vec<Bytes32> = (0..LEAVES).map(|i| key(random, shared, i)).collect();
     let mut version = 0;
     for part in keys.chunks(1_024) {
+        version += 1;
         let mut batch = vec![];
         for key in part {
             batch.extend(72u32.to_le_bytes());
@@ -71,9 +72,8 @@ fn from_a_store(random: &mut Random, shared: u8, asked: &mut Vec<Asked>, most: u
             batch.extend(random.hash());
         }
         let mut answer = [0; 40];
-        let number = unsafe { grants_apply(store.as_mut_ptr(), store.len(), batch.as_ptr(), batch.len(), answer.as_mut_ptr()) };
+        let number = unsafe { grants_apply(store.as_mut_ptr(), store.len(), version, batch.as_ptr(), batch.len(), answer.as_mut_ptr()) };
         assert_eq!(number, 0);
-        version = u32::from_le_bytes(answer[..4].try_into().unwrap());
     }
     let mut root = [0; 32];
     assert_eq!(unsafe { grants_root(store.as_ptr(), store.len(), version, root.as_mut_ptr()) }, 0);

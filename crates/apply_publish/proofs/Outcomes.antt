@@ -1,11 +1,10 @@
 -- The outcome of each way through apply: the steps over lent memory leave the store and give the answer of the definition. Assumes nothing.
-use Prim.Native.Nat.{ℕ, _+_, _<_, _≤_}
+use Prim.Native.Nat.{ℕ, _<_, _≤_}
 use mathlib.Core.Path.{_≡_, refl, ap, sym, _∙_, subst}
-use mathlib.Core.Bool.{true, false}
+use mathlib.Core.Bool.{true}
 use lib.ListN.{length}
-use borrow.Author.Tests.{lt-ltb, le-ltb, eq-eqb, ne-eqb}
+use borrow.Author.Tests.{lt-ltb, le-ltb}
 use Rattle.terms.specs.Bits.{Bytes, Byte, All}
-use Rattle.terms.specs.Form.{top32}
 use Rattle.terms.specs.Records.{Child, Store}
 use Rattle.meaning.specs.Tree.{unversioned, hash}
 use Rattle.meaning.specs.Store.{childOf, freeSlots, treeAtVersion}
@@ -28,44 +27,41 @@ use Rattle.apply_outcome.specs.Outcomes.{nodeChild, Did}
 use Rattle.apply_outcome.proofs.Saying.{says-child}
 use Rattle.promises.specs.Calls.{refuses, accepts}
 use Rattle.apply_ready.specs.Ready.{Ready}
-use Rattle.apply_publish.specs.Apply.{Applies}
+use Rattle.apply_publish.specs.Apply.{ApplyDoes}
 use Rattle.apply_ready.proofs.Ready.{shaped, older}
 
-module _ {s batch : Bytes} (w : Ready s batch) where
+module _ (new : ℕ) {s batch : Bytes} (w : Ready s batch) where
   abbrev pub st : Store
   st = storeOf s
 
-  pub refused-6 : st .latest ≡ top32 → Applies batch s (refused 6) s
+  pub refused-18 : new ≤ st .latest → ApplyDoes new batch s (refused 18) s
   unfolding batchOf refuse
-  refused-6 e = refuses {m = 6} (w .sound) (rw (w .form, w .run .order, eq-eqb (st .latest) top32 e))
+  refused-18 l = refuses {m = 18} (w .sound) (rw (w .form, w .run .order, le-ltb (st .latest) new l))
 
   -- the steps at the root
-  abbrev pub new : ℕ
-  new = st .latest + 1
-
   abbrev pub outcome : step.Outcome
   outcome = step.stepRoot leafHash innerHash new (treeAtVersion st (st .latest)) (asks batch)
 
-  module _ (bytes : All Byte s) (batchBytes : All Byte batch) (more : st .latest ≡ top32 → ⊥) where
-    by-steps : apply leafHash innerHash (batchOf batch) st ≡ applySteps leafHash innerHash new (asks batch) st
+  module _ (bytes : All Byte s) (batchBytes : All Byte batch) (above : st .latest < new) where
+    by-steps : apply leafHash innerHash new (batchOf batch) st ≡ applySteps leafHash innerHash new (asks batch) st
     unfolding batchOf
     by-steps =
-        rw (w .form, w .run .order, ne-eqb (st .latest) top32 more)
-        (sym (apply-by-steps leafHash innerHash new (asks batch) st (shaped w bytes) (older w bytes) (asks-whole batch batchBytes) (w .run .order)))
+        rw (w .form, w .run .order, lt-ltb (st .latest) new above)
+        (sym (apply-by-steps leafHash innerHash new (asks batch) st (shaped w bytes) (older w bytes above) (asks-whole batch batchBytes) (w .run .order)))
 
-    pub refused-7 : freeSlots (st .slots) < length (outcome .fresh) → Applies batch s (refused 7) s
+    pub refused-7 : freeSlots (st .slots) < length (outcome .fresh) → ApplyDoes new batch s (refused 7) s
     unfolding applySteps refuse
     refused-7 l =
         refuses {m = 7} (w .sound) (ap (λ (o : Result Applied). o .answer) by-steps ∙ rw (lt-ltb (freeSlots (st .slots)) (length (outcome .fresh)) l))
 
     module _ (room : length (outcome .fresh) ≤ freeSlots (st .slots)) where
-      made-answer : apply leafHash innerHash (batchOf batch) st .answer
+      made-answer : apply leafHash innerHash new (batchOf batch) st .answer
           ≡ accepted (record { version = new; root = hash leafHash innerHash (unversioned (outcome .node)); count = length (outcome .fresh) })
       unfolding applySteps
       made-answer =
           ap (λ (o : Result Applied). o .answer) by-steps ∙ rw (le-ltb (freeSlots (st .slots)) (length (outcome .fresh)) room)
 
-      made-store : apply leafHash innerHash (batchOf batch) st .store ≡ stepped leafHash innerHash new (asks batch) st
+      made-store : apply leafHash innerHash new (batchOf batch) st .store ≡ stepped leafHash innerHash new (asks batch) st
       unfolding applySteps
       made-store =
           ap (λ (o : Result Applied). o .store) by-steps ∙ rw (le-ltb (freeSlots (st .slots)) (length (outcome .fresh)) room)
@@ -73,12 +69,12 @@ module _ {s batch : Bytes} (w : Ready s batch) where
       -- the slots are written, and then latest
       pub made : {t u : Bytes} {r : declared.Outcome} (c : child.Child) {n : ℕ} → Did new true 0 s t outcome r → u ≡ withLatest new t →
           childSays c ≡ nodeChild (r .node) → n ≡ length (outcome .fresh) →
-          Applies batch s (accepted (record { version = new; root = hashBytes (c .hash); count = n })) u
+          ApplyDoes new batch s (accepted (record { version = new; root = hashBytes (c .hash); count = n })) u
       unfolding stepped putBounds putSlots childSays childOf
       made {t} {u} {r} c {n} d e f k =
           let root : hashBytes (c .hash) ≡ hash leafHash innerHash (unversioned (outcome .node)) =
           ap (λ (x : Child). x .hash) (f ∙ says-child true (r .node) (outcome .node) refl (d .node)) in
-          let after : storeBytes (apply leafHash innerHash (batchOf batch) st .store) ≡ u =
+          let after : storeBytes (apply leafHash innerHash new (batchOf batch) st .store) ≡ u =
           ap storeBytes made-store ∙ latest-put-bytes (putSlots (steps.written new outcome (st .slots)) st) new
           ∙ ap (withLatest new) (sym (d .bytes .bytes)) ∙ sym e in
-          rw (root, k) (subst (Applies batch s _) after (accepts (w .sound) made-answer))
+          rw (root, k) (subst (ApplyDoes new batch s _) after (accepts (w .sound) made-answer))

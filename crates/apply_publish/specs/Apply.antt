@@ -1,5 +1,6 @@
--- Document 01, 'Numbers of refusal': what applying a batch to bytes answers, and the bytes it leaves. Order: 1, 2; then 3; then 4, 5, 6, 7.
--- Assumes nothing.
+-- Documents 01, 'Numbers of refusal', and 02, 2026-13: what applying a batch to bytes as a number answers, and the bytes it leaves. Order: 1,
+-- 2; then 3; then 4, 5, 18, 7. Assumes nothing.
+use Prim.Native.Nat.{ℕ}
 use Rattle.terms.specs.Bits.{Bytes}
 use Rattle.meaning.specs.Calls.{Answer, refused, accepted, Applied, apply}
 use Rattle.hash.specs.Hash.{hashBytes}
@@ -14,6 +15,6 @@ unfoldable pub appliedSays : declared.Applied → Answer Applied
 appliedSays (Refused m) = refused m
 appliedSays (Made v root n) = accepted (record { version = v; root = hashBytes root; count = n })
 
--- Applying the bytes of a batch to the bytes s gives this answer and leaves these bytes.
-abbrev pub Applies : Bytes → Bytes → Answer Applied → Bytes → Type 0
-Applies batch s answer t = Does (apply leafHash innerHash (batchOf batch)) s answer t
+-- Applying the bytes of a batch to the bytes s as a number gives this answer and leaves these bytes.
+abbrev pub ApplyDoes : ℕ → Bytes → Bytes → Answer Applied → Bytes → Type 0
+ApplyDoes number batch s answer t = Does (apply leafHash innerHash number (batchOf batch)) s answer t

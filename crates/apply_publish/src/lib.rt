@@ -1,21 +1,18 @@
-// The next version of a sound store in lent memory, document 01. Room is known before the first byte is written: the steps are taken once
-// without writing, to count the new records, and once with.
+// The version that a batch makes of a sound store in lent memory, documents 01 and 02 (2026-13). Room is known before the first byte is
+// written: the steps are taken once without writing, to count the new records, and once with.
 use apply_guess::guess_all;
 use apply_outcome::child_of;
 use apply_ready::count_free;
 use apply_ready::root_version;
 use apply_root::at_root;
-use fields::get_u32;
-use fields::put_u32;
 use hash::Hash;
-use layout::sizes;
 use numbers::FEW_SLOTS;
-use numbers::NO_VERSION;
+use numbers::NOT_ABOVE;
 use place::Place;
+use store::latest_of;
+use store::put_latest;
 ghost use Rattle.apply_ready.specs.Ready.{Ready};
-ghost use Rattle.apply_publish.specs.Apply.{appliedSays, Applies};
-
-const LAST_NUMBER: u32 = 4294967295;
+ghost use Rattle.apply_publish.specs.Apply.{appliedSays, ApplyDoes};
 
 // A number of refusal, or the new version, its root, and the count of new records.
 pub enum Applied {
@@ -27,32 +24,31 @@ pub enum Applied {
     },
 }
 
-// Makes the next version of a sound store.
-pub fn publish(store: &mut [u8], batch: &[u8]) -> Applied
+// Makes the version of a number above latest of a sound store.
+pub fn publish(store: &mut [u8], number: u32, batch: &[u8]) -> Applied
     requires { ⌜ Ready (now store) (now batch) ⌝ }
-    ensures { λ r. ⌜ Applies (now (batch .entry)) (now (store .entry)) (appliedSays r) (now (store .exit)) ⌝ }
+    ensures { λ r. ⌜ ApplyDoes number (now (batch .entry)) (now (store .entry)) (appliedSays r) (now (store .exit)) ⌝ }
 {
-    let latest = get_u32(store, sizes::LATEST_AT);
-    if latest == LAST_NUMBER {
-        return Applied::Refused(NO_VERSION);
+    let latest = latest_of(store);
+    if number <= latest {
+        return Applied::Refused(NOT_ABOVE);
     }
-    let new = latest + 1;
     let top = Place::top();
     let old = root_version(store, latest);
     let mut guesses = [0u16; 8192];
     guess_all(store, &mut guesses);
-    let needs = at_root(store, &guesses, false, new, top, old, batch);
+    let needs = at_root(store, &guesses, false, number, top, old, batch);
     if count_free(store) < needs.reach {
         return Applied::Refused(FEW_SLOTS);
     }
-    let made = at_root(store, &guesses, true, new, top, old, batch);
-    put_u32(store, sizes::LATEST_AT, new);
+    let made = at_root(store, &guesses, true, number, top, old, batch);
+    put_latest(store, number);
     let node = made.node;
     let says = child_of(node);
     let root = says.hash;
     let count = needs.reach as u32;
     Applied::Made {
-        version: new,
+        version: number,
         root,
         count,
     }

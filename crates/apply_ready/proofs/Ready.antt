@@ -1,6 +1,6 @@
--- In a sound store the latest tree stands at the empty place, older than the next version, and each node is there once: the steps may be
--- taken. Assumes nothing.
-use Prim.Native.Nat.{ℕ, _+_, _-_, _<_}
+-- In a sound store the latest tree stands at the empty place, older than a number above latest, and each node is there once: the steps may
+-- be taken. Assumes nothing.
+use Prim.Native.Nat.{ℕ, _-_, _<_}
 use native.Mathlib.Omega.{arith}
 use mathlib.Core.Path.{_≡_, refl, ap, ap₂, sym, _∙_}
 use mathlib.Core.Logic.{inl, inr}
@@ -8,9 +8,7 @@ use mathlib.Core.Bool.{Bool, true, false}
 use mathlib.Core.List.{List, []}
 use mathlib.Core.Option.{Option, none, some}
 use Rattle.terms.specs.Bits.{Bytes, Byte, All, Place, longer}
-use Rattle.terms.specs.Fields.{field}
 use Rattle.terms.specs.Records.{Body, Record, Slot, Store}
-use Rattle.terms.proofs.Fields.{length-slice, all-slice}
 use Rattle.meaning.specs.Tree.{VTree, vnone, vleaf, vinner, unversioned, topVersion}
 use Rattle.meaning.specs.Store.{rootOf, treeFrom, treeAtVersion}
 use Rattle.meaning.specs.Sound.{Kept, Found, Stands}
@@ -24,9 +22,10 @@ use Rattle.nodehash.specs.Node.{leafHash, innerHash}
 use Rattle.place.specs.declared.Place as place
 use Rattle.place.specs.Place as places
 use Rattle.place.specs.Place.{placeOf}
-use Rattle.layout.specs.Sizes.{slotSize, slotAt, versionAt}
+use Rattle.layout.specs.Slots.{versionIn}
 use Rattle.layout.specs.Stores.{slotIn, storeOf}
 use Rattle.layout.proofs.Stores.{slot-at}
+use Rattle.store.proofs.Slots.{slot-long, slot-bytes}
 use Rattle.lookup.specs.declared.Found.the-variants.{At}
 use Rattle.lookup.specs.Lookup.{Located}
 use Rattle.lookup.proofs.Matching.{version-is}
@@ -42,12 +41,10 @@ use Rattle.apply_ready.specs.Ready.{Ready, rootVersion}
 
 -- the version in the slot of a record found is the record's
 pub found-version : {s : Bytes} → Stored s → All Byte s → (o : Option Record) (i : ℕ) → Located (storeOf s .slots) o (At i) →
-    field versionAt 4 (slotIn i s) ≡ rootVersion o
-unfolding slotIn
+    versionIn (slotIn i s) ≡ rootVersion o
 found-version {s} h bytes o i (l, (r, e, f)) =
-    let fits = slot-within h i l in
     let here = sym (slot-at s i (rw (stored-room h) l)) ∙ e in
-    version-is (slotIn i s) (length-slice (slotAt i) slotSize s fits) (all-slice (slotAt i) slotSize s bytes) r here ∙ ap rootVersion (sym f)
+    version-is (slotIn i s) (slot-long i s (slot-within h i l)) (slot-bytes i s bytes) r here ∙ ap rootVersion (sym f)
 
 -- a tree of records that are older is older
 module _ (st : Store) (m : ℕ) (below : (r : Record) → Has r (st .slots) → r .version < m) where
@@ -85,8 +82,8 @@ module _ {s batch : Bytes} (w : Ready s batch) (bytes : All Byte s) where
   pub shaped : Shaped [] (unversioned latestTree)
   shaped = kept-shaped leafHash innerHash st whole (st .latest) kept
 
-  pub older : Older (st .latest + 1) [] latestTree
-  older = stands-older st (st .latest + 1) (λ r h. omega (arith, whole .versions r h)) [] latestTree (whole .stands (st .latest) kept)
+  pub older : {n : ℕ} → st .latest < n → Older n [] latestTree
+  older {n} above = stands-older st n (λ r h. omega (arith, whole .versions r h)) [] latestTree (whole .stands (st .latest) kept)
 
   -- the version of its root
   top-is : rootVersion (rootOf st (st .latest)) ≡ topVersion latestTree
@@ -107,8 +104,8 @@ module _ {s batch : Bytes} (w : Ready s batch) (bytes : All Byte s) where
         ∙ ap₂ (treeFrom 256 (st .slots)) root-is (t .place)
         ∙ reads leafHash innerHash st (whole .formed) 256 [] latestTree refl (whole .stands (st .latest) kept)
 
-    pub here-root : (writes : Bool) {n : ℕ} → n ≡ st .latest + 1 → HereRoot n writes s p v batch
-    here-root writes {n} k = record {
+    pub here-root : (writes : Bool) {n : ℕ} → st .latest < n → HereRoot n writes s p v batch
+    here-root writes above = record {
       here = record {
         standing = record {
           stored = stored;
@@ -119,7 +116,7 @@ module _ {s batch : Bytes} (w : Ready s batch) (bytes : All Byte s) where
         starts = from-none writes (st .slots);
         number = omega arith;
         run = rw (t .place) (w .run);
-        older = rw (tree-is, t .place, k) older;
+        older = rw (tree-is, t .place) (older above);
         single = λ u q l. unique-single u q (st .slots) (whole .unique);
       };
       top = t .place;

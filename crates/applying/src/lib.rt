@@ -1,4 +1,4 @@
-// Applying a batch to a store in lent memory, document 01: the next version, or a number of refusal.
+// Applying a batch to a store in lent memory, documents 01 and 02 (2026-13): the version of the given number, or a number of refusal.
 use apply_publish::Applied;
 use apply_publish::publish;
 use batch::batch_form;
@@ -6,11 +6,11 @@ use batch::batch_order;
 use numbers::BAD_BATCH;
 use numbers::BAD_ORDER;
 use soundness::check;
-ghost use Rattle.apply_publish.specs.Apply.{appliedSays, Applies};
+ghost use Rattle.apply_publish.specs.Apply.{appliedSays, ApplyDoes};
 
-// Applies a batch to a store, where check accepts it; refused, nothing is written.
-pub fn apply(store: &mut [u8], batch: &[u8]) -> Applied
-    ensures { λ r. ⌜ Applies (now (batch .entry)) (now (store .entry)) (appliedSays r) (now (store .exit)) ⌝ }
+// Applies a batch to a store as a number, where check accepts it; refused, nothing is written.
+pub fn apply(store: &mut [u8], number: u32, batch: &[u8]) -> Applied
+    ensures { λ r. ⌜ ApplyDoes number (now (batch .entry)) (now (store .entry)) (appliedSays r) (now (store .exit)) ⌝ }
 {
     let refusal = check(store);
     if refusal != 0 {
@@ -22,5 +22,5 @@ pub fn apply(store: &mut [u8], batch: &[u8]) -> Applied
     if !batch_order(batch) {
         return Applied::Refused(BAD_ORDER);
     }
-    publish(store, batch)
+    publish(store, number, batch)
 }

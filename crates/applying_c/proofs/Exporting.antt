@@ -13,7 +13,7 @@ use Rattle.hash.proofs.Laws.{hash-whole, put-over}
 use Rattle.fields.specs.Written.{written}
 use Rattle.fields.proofs.Written.{length-written, part-written, fields-fill}
 use Rattle.promises.specs.Calls.{exports-refusal, exports-answer}
-use Rattle.apply_publish.specs.Apply.{appliedSays, Applies}
+use Rattle.apply_publish.specs.Apply.{appliedSays, ApplyDoes}
 use Rattle.apply_publish.specs.declared.Applied as declared
 use Rattle.apply_publish.specs.declared.Applied.the-variants.{Refused, Made}
 use Rattle.applying_c.specs.Export.{answerBytes, ApplyExports}
@@ -32,11 +32,11 @@ answer-put v n h f f₁ y f₂ l e g k =
     ∙ fields-fill (4 ∷ 32 ∷ 4 ∷ []) (le 4 v ∷ hashBytes h ∷ le 4 n ∷ []) f (length-le 4 v, (hash-whole h .0, (length-le 4 n, tt))) (sym l)
     ∙ ap (λ z. le 4 v ++ (hashBytes h ++ z)) (append-nil (le 4 n))
 
-module _ (batch : Bytes) {s f t : Bytes} {a : declared.Applied} (o : Applies batch s (appliedSays a) t) where
-  pub export-refused : {m : ℕ} → a ≡ Refused m → ApplyExports batch s f m t f
+module _ (number : ℕ) (batch : Bytes) {s f t : Bytes} {a : declared.Applied} (o : ApplyDoes number batch s (appliedSays a) t) where
+  pub export-refused : {m : ℕ} → a ≡ Refused m → ApplyExports number batch s f m t f
   unfolding appliedSays
-  export-refused {m} e = exports-refusal (subst (λ q. Applies batch s (appliedSays q) t) e o)
+  export-refused {m} e = exports-refusal (subst (λ q. ApplyDoes number batch s (appliedSays q) t) e o)
 
-  pub export-made : {v n : ℕ} {h : Hash} {g : Bytes} → a ≡ Made v h n → g ≡ answerBytes v (hashBytes h) n → ApplyExports batch s f 0 t g
+  pub export-made : {v n : ℕ} {h : Hash} {g : Bytes} → a ≡ Made v h n → g ≡ answerBytes v (hashBytes h) n → ApplyExports number batch s f 0 t g
   unfolding appliedSays
-  export-made e q = subst (ApplyExports batch s f 0 t) (sym q) (exports-answer (subst (λ r. Applies batch s (appliedSays r) t) e o))
+  export-made e q = subst (ApplyExports number batch s f 0 t) (sym q) (exports-answer (subst (λ r. ApplyDoes number batch s (appliedSays r) t) e o))

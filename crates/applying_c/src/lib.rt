@@ -20,13 +20,13 @@ fn put_answer(answer: &mut [u8], version: u32, root: Hash, count: u32)
     put_u32(answer, 36, count);
 }
 
-// Applies a batch to a store; version, root and count of new records go out in 40 bytes.
-pub fn grants_apply(store: &mut [u8], batch: &[u8], answer: &mut [u8; 40]) -> u32
-    ensures { λ r. ⌜ ApplyExports (now (batch .entry)) (now (store .entry)) (now (answer .entry)) r (now (store .exit)) (now (answer .exit)) ⌝ }
+// Applies a batch to a store as a number; version, root and count of new records go out in 40 bytes.
+pub fn grants_apply(store: &mut [u8], number: u32, batch: &[u8], answer: &mut [u8; 40]) -> u32
+    ensures { λ r. ⌜ ApplyExports number (now (batch .entry)) (now (store .entry)) (now (answer .entry)) r (now (store .exit)) (now (answer .exit)) ⌝ }
 {
-    let applied = apply(store, batch);
+    let applied = apply(store, number, batch);
     match applied {
-        Applied::Refused(number) => number,
+        Applied::Refused(refusal) => refusal,
         Applied::Made {
             version,
             root,

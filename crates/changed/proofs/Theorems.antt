@@ -2,24 +2,25 @@
 -- visits. Their trees are shaped, so their grants ascend. Assumes nothing.
 use Prim.Native.Nat.{ℕ, _+_, _*_, _≤_}
 use native.Mathlib.Omega.{arith}
-use mathlib.Core.Path.{_≡_}
+use mathlib.Core.Path.{_≡_, ap, _∙_}
 use mathlib.Core.List.{List, [], _∷_, map}
 use lib.ListN.{length}
 use Rattle.terms.specs.Bits.{Bytes}
 use Rattle.terms.specs.Records.{Store}
 use Rattle.meaning.specs.Tree.{unversioned, grantsIn}
-use Rattle.meaning.specs.Store.{treeAtVersion}
+use Rattle.meaning.specs.Store.{rootOf, treeFound, treeFrom, treeAtVersion}
 use Rattle.meaning.specs.Sound.{Sound, Kept}
 use Rattle.meaning.proofs.Runs.{Ascending}
 use Rattle.meaning.proofs.Shaped.{shaped-ascending}
 use Rattle.histories.proofs.Trees.{kept-shaped}
 use Rattle.histories.proofs.Whole.{sound-whole}
-use Rattle.changed.specs.Changes.{Change, changeKey, changed, undone}
+use Rattle.changed.specs.Changes.{Change, changeKey, changed, undone, items}
+use Rattle.changed.specs.Visits.{visits}
 use Rattle.changed.specs.Compare.{changesOf, visitsOf}
 use Rattle.changed.specs.Claims.{KeyOrder, WhatChanged}
 use Rattle.changed.proofs.Parts.{InOrder, part-changed, changed-order}
 use Rattle.changed.proofs.Lists.{changed-same, changed-undone, changed-applied}
-use Rattle.changed.proofs.Visits.{visits-comm, visits-by-slots}
+use Rattle.changed.proofs.Visits.{visits-comm, visits-same, visits-by-slots}
 
 key-order : (cs : List Change) → InOrder changeKey cs → KeyOrder cs
 key-order [] s = tt
@@ -27,6 +28,10 @@ key-order (c ∷ cs) s = (s .0, key-order cs (s .1))
 
 at-most : {n k : ℕ} → n ≤ 1 + 2 * k → k ≤ 16384 → n ≤ 32769
 at-most h l = omega arith
+
+same-root-same-tree : (st : Store) (v w : ℕ) → rootOf st v ≡ rootOf st w → treeAtVersion st v ≡ treeAtVersion st w
+unfolding treeAtVersion
+same-root-same-tree st v w e = ap (λ o. treeFound o (λ b x. treeFrom 255 (st .slots) x (b ∷ []))) e
 
 module _ (leafHash innerHash : Bytes → Bytes → Bytes) (st : Store) (sound : Sound leafHash innerHash st) where
   ascends : (v : ℕ) → Kept st v → Ascending (grantsIn (treeAtVersion st v))
@@ -36,6 +41,16 @@ module _ (leafHash innerHash : Bytes → Bytes → Bytes) (st : Store) (sound : 
   pub equal-versions-give-none : (v : ℕ) → Kept st v → changesOf st v v ≡ []
   unfolding changesOf
   equal-versions-give-none v k = changed-same (grantsIn (treeAtVersion st v)) (ascends v k)
+
+  -- Versions between two publishings share a root with the earlier one (2026-13): one visit, no record.
+  pub versions-that-share-a-root-give-none : (first second : ℕ) → Kept st second → rootOf st first ≡ rootOf st second →
+      (visitsOf st first second ≡ 1) × (items (changesOf st first second) ≡ [])
+  unfolding visitsOf changesOf
+  versions-that-share-a-root-give-none first second k e =
+      let same = same-root-same-tree st first second e in (
+        ap (λ t. visits t (treeAtVersion st second)) same ∙ visits-same (treeAtVersion st second),
+        ap (λ t. items (changed (grantsIn t) (grantsIn (treeAtVersion st second)))) same ∙ ap items (equal-versions-give-none second k),
+      )
 
   module _ (first second : ℕ) (a : Kept st first) (b : Kept st second) where
     -- The list says what changed, in key order, each key once; applied to the first version's grants it gives the second's.

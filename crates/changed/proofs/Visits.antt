@@ -71,6 +71,20 @@ visitsAt-comm (suc n) t u =
 pub visits-comm : (t u : VTree) → visits t u ≡ visits u t
 visits-comm t u = visits-count t u ∙ visitsAt-comm 256 t u ∙ sym (visits-count u t)
 
+-- a tree with itself: one visit
+deeper-same : (t : VTree) → noDeeper t t ≡ true
+unfolding noDeeper
+deeper-same vnone = refl
+deeper-same (vleaf v g) = rw (eq-eqb v v refl)
+deeper-same (vinner v l r) = rw (eq-eqb v v refl)
+
+visitsAt-same : (n : ℕ) (t : VTree) → visitsAt n t t ≡ 1
+visitsAt-same zero t = refl
+visitsAt-same (suc n) t = rw (deeper-same t)
+
+pub visits-same : (t : VTree) → visits t t ≡ 1
+visits-same t = visits-count t t ∙ visitsAt-same 256 t
+
 -- a leaf is no more than no node
 pub visits-leaf : (n v : ℕ) (g : Grant) (u : VTree) → visitsAt n (vleaf v g) u ≡ visitsAt n vnone u
 unfolding noDeeper

@@ -1,13 +1,10 @@
 -- A record's kept life, from the fields of its slot. Assumes nothing.
 use Prim.Native.Nat.{ℕ, _-_, max}
-use native.Mathlib.Omega.{arith}
 use mathlib.Core.Path.{_≡_, refl, sym, _∙_}
 use mathlib.Core.Bool.{Bool, true, false}
-use mathlib.Core.List.{[], _∷_}
-use lib.ListN.{length}
 use lib.Dec.{leb}
 use borrow.Author.Tests.{leb-true}
-use Rattle.terms.specs.Bits.{Bytes, Byte, All, Place}
+use Rattle.terms.specs.Bits.{Bytes, Byte, All}
 use Rattle.terms.specs.Records.{Record}
 use Rattle.meaning.specs.Sound.{At}
 use Rattle.meaning.specs.Local.{endsBefore}
@@ -15,15 +12,12 @@ use Rattle.local.specs.Test.{keptLife}
 use Rattle.layout.specs.Slots.{countIn, versionIn, sinceIn}
 use Rattle.layout.specs.Stores.{slotIn, storeOf, Has}
 use Rattle.lookup.proofs.Matching.{count-is}
+use Rattle.lookup.proofs.Rooting.{no-bits}
 use Rattle.kin.specs.declared.Kept as declared-kept
 use Rattle.kin.specs.Kin.{Keeps, endsAt}
 use Rattle.check_pass.specs.Passes.{Passed}
 use Rattle.check_pass.proofs.Records.{version-of, retired-of, read-long, read-bytes, read-as}
 use Rattle.check_cover.specs.Cover.{CoveredBy}
-
-no-bits : (p : Place) → length p ≡ 0 → p ≡ []
-no-bits [] e = refl
-no-bits (b ∷ p) e = absurd (omega arith)
 
 module _ (s : Bytes) (i : ℕ) (h : Has s i) where
   pub root-covered : All Byte s → {c : ℕ} → c ≡ countIn (slotIn i s) → c ≡ 0 → (sum : ℕ) → CoveredBy s sum i

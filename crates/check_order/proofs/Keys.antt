@@ -1,7 +1,7 @@
 -- The keys of two slots are compared field by field, and a table goes on entry by entry. Assumes nothing.
 use Prim.Native.Nat.{ℕ, suc, _+_, _-_, _<_, _≤_}
 use native.Mathlib.Omega.{arith}
-use mathlib.Core.Path.{_≡_, refl, ap, ap₂, sym, _∙_, subst}
+use mathlib.Core.Path.{_≡_, refl, ap, ap₂, sym, _∙_, subst, subst₂}
 use mathlib.Core.Bool.{Bool, true, false, _&&_, _||_}
 use mathlib.Core.List.{List, [], _∷_, _++_}
 use lib.ListN.{length, getD}
@@ -12,11 +12,12 @@ use Rattle.terms.proofs.Fields.{length-slice}
 use Rattle.terms.proofs.Order.{before-irrefl}
 use Rattle.terms.proofs.Tests.{is-false, same-bytes}
 use Rattle.layout.specs.Sizes.{slotSize}
-use Rattle.layout.specs.Slots.{countIn, bitsIn, versionIn}
+use Rattle.layout.specs.Slots.{countIn, bitsIn, versionIn, sinceIn}
 use Rattle.layout.specs.Stores.{slotIn, Has}
+use Rattle.kin.specs.Kin.{endsAt}
 use Rattle.check_pass.specs.Passes.{Passed}
 use Rattle.check_pass.proofs.Records.{version-of, read-as}
-use Rattle.check_order.specs.Order.{nodeKey, keyNo, Ascending, Named, NamedAt}
+use Rattle.check_order.specs.Order.{nodeKey, Stepwise, PartedNo, Named, NamedAt}
 
 shuffled : (a b c d e : Bool) → a || (b && (c || (d && e))) ≡ (a || (b && c)) || ((b && d) && e)
 shuffled true b c d e = refl
@@ -72,20 +73,27 @@ pub pass-named : (b : Bool) (t : List ℕ) (i : ℕ) {m : ℕ} (k : ℕ) → k <
 pass-named true t i {m} k h {w} f e = (k, h, sym f ∙ eqb-true w i (sym e))
 pass-named false t i k h f e = tt
 
-module _ (key : Bytes → Bytes) (s : Bytes) where
-  -- one entry more
-  pub next-up : (t : List ℕ) (k : ℕ) → 1 ≤ k → Ascending key s t k → {a b : ℕ} → a ≡ getD t (k - 1) 0 → b ≡ getD t k 0 →
-      before (keyNo key s a) (keyNo key s b) ≡ true → Ascending key s t (k + 1)
-  next-up t k h up {a} {b} e f g n l = go (leb (suc (suc n)) k) refl
-    where
-      go : (c : Bool) → leb (suc (suc n)) k ≡ c → before (keyNo key s (getD t n 0)) (keyNo key s (getD t (suc n) 0)) ≡ true
-      go true d = up n (leb-true (suc (suc n)) k d)
-      go false d =
-          let w = leb-false (suc (suc n)) k d in
-          let p : n ≡ k - 1 = omega arith in
-          let q : suc n ≡ k = omega arith in
-          subst (λ z. before (keyNo key s (getD t n 0)) (keyNo key s (getD t z 0)) ≡ true) (sym q)
-          (subst (λ z. before (keyNo key s (getD t z 0)) (keyNo key s (getD t k 0)) ≡ true) (sym p) (rw (← e, ← f) g))
+-- one entry more
+pub step-next : (P : ℕ → ℕ → Type 0) (t : List ℕ) (k : ℕ) → 1 ≤ k → Stepwise P t k → {a b : ℕ} → a ≡ getD t (k - 1) 0 → b ≡ getD t k 0 → P a b →
+    Stepwise P t (k + 1)
+step-next P t k h steps e f g n l = go (leb (suc (suc n)) k) refl
+  where
+    go : (c : Bool) → leb (suc (suc n)) k ≡ c → P (getD t n 0) (getD t (suc n) 0)
+    go true d = steps n (leb-true (suc (suc n)) k d)
+    go false d =
+        let w = leb-false (suc (suc n)) k d in
+        let p : k - 1 ≡ n = omega arith in
+        let q : k ≡ suc n = omega arith in
+        subst₂ P (e ∙ ap (λ z. getD t z 0) p) (f ∙ ap (λ z. getD t z 0) q) g
+
+-- a root, as it was read
+pub root-parted : (latest : ℕ) (s : Bytes) (i j : ℕ) {n e v : ℕ} → n ≡ sinceIn (slotIn i s) → e ≡ endsAt latest n → v ≡ versionIn (slotIn j s) →
+    (b : Bool) → b ≡ leb e v → Passed b (PartedNo latest s i j)
+root-parted latest s i j {e = e} {v = v} retired ends version true h = λ z. rw (← retired, ← ends, ← version) (leb-true e v (sym h))
+root-parted latest s i j retired ends version false h = tt
+
+pub below-parted : (latest : ℕ) (s : Bytes) (i j : ℕ) {c : ℕ} → c ≡ countIn (slotIn j s) → (c ≡ 0 → ⊥) → PartedNo latest s i j
+below-parted latest s i j e n z = absurd (n (e ∙ z))
 
 -- a slot of version 0 holds no record
 pub no-version : (s : Bytes) (i : ℕ) (t : List ℕ) (m : ℕ) → Has s i → {v : ℕ} → v ≡ versionIn (slotIn i s) → v ≡ 0 → NamedAt s t m i

@@ -9,8 +9,9 @@ use Rattle.terms.specs.Bits.{Bytes, Byte, All, before}
 use Rattle.terms.specs.Records.{Record, used}
 use Rattle.meaning.specs.Sound.{At}
 use Rattle.layout.specs.Sizes.{slotSize}
-use Rattle.layout.specs.Slots.{countIn, bitsIn, versionIn, slotOf}
-use Rattle.layout.specs.Stores.{slotIn, storeOf}
+use Rattle.layout.specs.Slots.{countIn, bitsIn, versionIn, sinceIn, slotOf}
+use Rattle.layout.specs.Stores.{slotIn, storeOf, Has}
+use Rattle.kin.specs.Kin.{endsAt}
 
 -- The key of the check: the bit count of the place, its bytes, the version. So the records of one level stand together, and the children
 -- on one side stand in the order of their parents.
@@ -31,9 +32,26 @@ ByNode key = (x y : Bytes) (r q : Record) → Holding x r → Holding y q → r 
 unfoldable pub keyNo : (Bytes → Bytes) → Bytes → ℕ → Bytes
 keyNo key s i = key (slotIn i s)
 
--- The first m entries of a table name slots in ascending order.
+-- Of the first m entries of a table, each stands in a relation to the next.
+abbrev pub Stepwise : (ℕ → ℕ → Type 0) → List ℕ → ℕ → Type 0
+Stepwise P t m = (k : ℕ) → suc k < m → P (getD t k 0) (getD t (suc k) 0)
+
+-- They name slots in ascending order.
 abbrev pub Ascending : (Bytes → Bytes) → Bytes → List ℕ → ℕ → Type 0
-Ascending key s t m = (k : ℕ) → suc k < m → before (keyNo key s (getD t k 0)) (keyNo key s (getD t (suc k) 0)) ≡ true
+Ascending key s t m = Stepwise (λ i j. before (keyNo key s i) (keyNo key s j) ≡ true) t m
+
+-- Where slot j holds a root, the life of slot i's record ends by its version.
+abbrev pub PartedNo : ℕ → Bytes → ℕ → ℕ → Type 0
+PartedNo latest s i j = countIn (slotIn j s) ≡ 0 → endsAt latest (sinceIn (slotIn i s)) ≤ versionIn (slotIn j s)
+
+-- Slot j of the store may stand after slot i: its key is greater, and two roots are parted.
+pub record Follows (latest : ℕ) (s : Bytes) (i j : ℕ) : Type 0 where
+  pub inside : Has s j
+  pub up : before (keyNo nodeKey s i) (keyNo nodeKey s j) ≡ true
+  pub parted : PartedNo latest s i j
+
+abbrev pub InOrder : ℕ → Bytes → List ℕ → ℕ → Type 0
+InOrder latest s t m = Stepwise (Follows latest s) t m
 
 -- Slot i is named by one of them.
 abbrev pub Named : List ℕ → ℕ → ℕ → Type 0

@@ -1,10 +1,12 @@
 // The order of a store's records by bit count, bits and version: whether one slot stands before another, whether a table's entries ascend,
-// and whether they name each record.
+// and whether they name each record. The roots stand first, by their versions; so that no two live together shows at each root and the next.
 use hash::hash_at;
 use hash::same_hash;
+use kin::ends_before;
 use place::before;
 use slots::bits_of;
 use store::count_at;
+use store::retired_at;
 use store::slot_count;
 use store::slot_of;
 use store::version_at;
@@ -16,7 +18,7 @@ ghost use Rattle.terms.specs.Bits.{before};
 ghost use Rattle.layout.specs.Headers.{sizeRight};
 ghost use Rattle.layout.specs.Stores.{Has};
 ghost use Rattle.check_pass.specs.Passes.{Room, Passed, Each};
-ghost use Rattle.check_order.specs.Order.{nodeKey, keyNo, Ascending, Named, NamedAt};
+ghost use Rattle.check_order.specs.Order.{nodeKey, keyNo, PartedNo, Follows, InOrder, Named, NamedAt};
 
 fn wide(x: u16) -> usize
     ensures { λ r. ⌜ r ≡ x ⌝ }
@@ -42,10 +44,21 @@ fn ahead(store: &[u8], i: usize, j: usize) -> bool
     before(x, y)
 }
 
-// Whether two entries name slots in order.
-fn in_order(store: &[u8], n: usize, a: usize, b: usize) -> bool
+// Whether, where slot j holds a root, the life of slot i's record ends by its version.
+fn parted(store: &[u8], latest: u32, i: usize, j: usize) -> bool
+    requires { ⌜ Has (now store) i × Has (now store) j ⌝ }
+    ensures { λ r. ⌜ Passed r (PartedNo latest (now (store .entry)) i j) ⌝ }
+{
+    if count_at(store, j) != 0 {
+        return true;
+    }
+    ends_before(latest, retired_at(store, i)) <= version_at(store, j) as u64
+}
+
+// Whether two entries name slots in order, two roots parted.
+fn in_order(store: &[u8], latest: u32, n: usize, a: usize, b: usize) -> bool
     requires { ⌜ Room (now store) n ⌝ }
-    ensures { λ r. ⌜ Passed r (before (keyNo nodeKey (now (store .entry)) a) (keyNo nodeKey (now (store .entry)) b) ≡ true) ⌝ }
+    ensures { λ r. ⌜ Passed r (Follows latest (now (store .entry)) a b) ⌝ }
 {
     if n <= a {
         return false;
@@ -53,18 +66,21 @@ fn in_order(store: &[u8], n: usize, a: usize, b: usize) -> bool
     if n <= b {
         return false;
     }
-    ahead(store, a, b)
+    if !ahead(store, a, b) {
+        return false;
+    }
+    parted(store, latest, a, b)
 }
 
-// How many of the first `many` entries of a table, from the first on, name slots in ascending order.
-pub fn ascending(store: &[u8], table: &[u16; 16384], many: usize) -> usize
+// How many of the first `many` entries of a table, from the first on, name slots in ascending order, roots parted.
+pub fn ascending(store: &[u8], latest: u32, table: &[u16; 16384], many: usize) -> usize
     requires { ⌜ (sizeRight (length (now store)) ≡ true) × (many ≤ 16384) ⌝ }
-    ensures { λ r. ⌜ Ascending nodeKey (now (store .entry)) (now (table .entry)) r ⌝ }
+    ensures { λ r. ⌜ InOrder latest (now (store .entry)) (now (table .entry)) r ⌝ }
 {
     let n = slot_count(store);
     let mut k = 1;
     while k < many {
-        if !in_order(store, n, wide(table[k - 1]), wide(table[k])) {
+        if !in_order(store, latest, n, wide(table[k - 1]), wide(table[k])) {
             return k;
         }
         k += 1;

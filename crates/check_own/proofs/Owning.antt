@@ -1,49 +1,35 @@
 -- What the own fields of a slot's bytes say is said of its record. Assumes nothing.
-use Prim.Native.Nat.{ℕ, suc, _≤_}
+use Prim.Native.Nat.{ℕ, _≤_}
 use native.Mathlib.Omega.{arith}
 use mathlib.Core.Path.{_≡_, refl, ap, sym, _∙_, subst}
 use mathlib.Core.Bool.{Bool, true, false}
 use lib.ListN.{length, take, drop}
-use lib.Dec.{eqb}
-use borrow.Author.Tests.{eqb-true}
 use Rattle.terms.specs.Bits.{Bytes, Byte, All, bits, begins, noneSet}
 use Rattle.terms.specs.Fields.{allZero}
 use Rattle.terms.specs.Records.{Body, Slot, free, used}
 use Rattle.meaning.specs.Sound.{At}
-use Rattle.meaning.specs.Local.{endsBefore}
-use Rattle.meaning.proofs.Finding.{used-eq}
+use Rattle.meaning.proofs.Finding.{used-eq, free-used, spoiled-used}
 use Rattle.local.specs.Test.{lifeTest}
 use Rattle.place.specs.declared.Place as declared-place
 use Rattle.place.specs.Place.{placeOf, Stands}
 use Rattle.layout.specs.Slots.{countIn, bitsIn, placeIn, versionIn, sinceIn, keyIn, leafIn, innerIn, recordIn, isLeaf, isInner, slotOf}
 use Rattle.layout.specs.Stores.{slotIn, storeOf, slotNo, Has}
 use Rattle.slots.proofs.Reading.{leaf-head}
-use Rattle.lookup.proofs.Matching.{says, count-is}
+use Rattle.lookup.proofs.Matching.{says}
 use Rattle.kin.specs.declared.Kept as declared-kept
-use Rattle.kin.specs.Kin.{Keeps, endsAt}
+use Rattle.kin.specs.Kin.{Keeps}
 use Rattle.store.proofs.Slots.{slot-is}
 use Rattle.check_slot.specs.Parts.{lifeRight}
 use Rattle.check_pass.specs.Passes.{Passed}
-use Rattle.check_pass.proofs.Records.{free-used, free-spoiled, used-spoiled, read-long, read-bytes}
+use Rattle.check_pass.proofs.Records.{free-spoiled, read-long, read-bytes}
 use Rattle.check_seen.specs.Seen.{keyTest, Own, OwnAt}
 use Rattle.check_own.specs.Own.{HeadOwn, LeafOwn}
 
 -- the head of a record, as it was read
-module _ (k : declared-kept.Kept) (x : Bytes) {v n c : ℕ} (version : v ≡ versionIn x) (retired : n ≡ sinceIn x) (count : c ≡ countIn x)
-    (late : v ≤ k .latest) (life : lifeRight k v n ≡ true) where
-  its-own : (c ≡ 0 → endsAt (k .latest) n ≡ suc v) → HeadOwn k x
-  its-own f = record {
-    latest = omega (arith, version, late);
-    life = rw (← version, ← retired) life;
-    root = λ z. rw (← version, ← retired) (f (count ∙ z));
-  }
-
-  pub below-own : (c ≡ 0 → ⊥) → HeadOwn k x
-  below-own f = its-own (λ z. absurd (f z))
-
-  pub root-own : (t : Bool) {e : ℕ} → t ≡ eqb e (suc v) → e ≡ endsAt (k .latest) n → Passed t (HeadOwn k x)
-  root-own true {e} f g = its-own (λ z. sym g ∙ eqb-true e (suc v) (sym f))
-  root-own false f g = tt
+pub head-own : (k : declared-kept.Kept) (x : Bytes) {v n : ℕ} → v ≡ versionIn x → n ≡ sinceIn x → v ≤ k .latest →
+    (t : Bool) → t ≡ lifeRight k v n → Passed t (HeadOwn k x)
+head-own k x version retired late true life = record { latest = omega (arith, version, late); life = rw (← version, ← retired) (sym life) }
+head-own k x version retired late false life = tt
 
 -- the place of a leaf in form can be read
 pub leaf-place : (x : Bytes) → isLeaf x ≡ true → {c : ℕ} → c ≡ countIn x → {y : Bytes} → y ≡ bitsIn x → length y ≡ 32 →
@@ -68,23 +54,22 @@ module _ {s : Bytes} {i : ℕ} (h : Has s i) (bytes : All Byte s) {k : declared-
   unfolding At slotOf
   free-own z =
       let e : slotOf (slotIn i s) ≡ free = rw z in
-      record { whole = λ y f. free-spoiled y (sym (is e) ∙ f); own = λ r a. absurd (free-used r (sym (is e) ∙ a .1)) }
+      record { whole = λ y f. free-spoiled y (sym (is e) ∙ f); own = λ r a. free-used r (sym (is e) ∙ a .1) }
 
   module _ (b : Body) (e : slotOf (slotIn i s) ≡ used (recordIn (slotIn i s) b)) (o : HeadOwn k (slotIn i s)) (key : keyTest (placeIn (slotIn i s)) b ≡ true) where
     fields-own : Own (storeOf s) (recordIn (slotIn i s) b)
-    unfolding recordIn lifeTest lifeRight endsBefore countIn
+    unfolding recordIn lifeTest lifeRight
     fields-own = record {
       some = says (slotIn i s) (read-long h refl) (read-bytes h refl bytes) (recordIn (slotIn i s) b) e .form .versioned .0;
       latest = omega (arith, o .latest, keeps .latest);
       life = rw (keeps .oldest, keeps .latest) (o .life);
       key = key;
-      root = λ z. rw (keeps .latest) (o .root (count-is (slotIn i s) (read-long h refl) (read-bytes h refl bytes) (recordIn (slotIn i s) b) e ∙ ap length z));
     }
 
     record-own : OwnAt (storeOf s) i
     unfolding At
     record-own = record {
-      whole = λ y f. used-spoiled (recordIn (slotIn i s) b) y (sym (is e) ∙ f);
+      whole = λ y f. spoiled-used y (recordIn (slotIn i s) b) (sym f ∙ is e);
       own = λ r a. subst (Own (storeOf s)) (used-eq (recordIn (slotIn i s) b) r (sym (is e) ∙ a .1)) fields-own;
     }
 

@@ -1,18 +1,16 @@
 -- What the own fields of a record's bytes must say. Assumes nothing.
-use Prim.Native.Nat.{suc, _≤_}
+use Prim.Native.Nat.{_≤_}
 use mathlib.Core.Path.{_≡_}
 use mathlib.Core.Bool.{true}
 use Rattle.terms.specs.Bits.{Bytes, begins}
-use Rattle.layout.specs.Slots.{countIn, placeIn, versionIn, sinceIn, keyIn}
+use Rattle.layout.specs.Slots.{placeIn, versionIn, sinceIn, keyIn}
 use Rattle.kin.specs.declared.Kept as declared-kept
-use Rattle.kin.specs.Kin.{endsAt}
 use Rattle.check_slot.specs.Parts.{lifeRight}
 
--- Version and life are right, and a root lives at its own version alone.
+-- Version and life are right.
 pub record HeadOwn (k : declared-kept.Kept) (x : Bytes) : Type 0 where
   pub latest : versionIn x ≤ k .latest
   pub life : lifeRight k (versionIn x) (sinceIn x) ≡ true
-  pub root : countIn x ≡ 0 → endsAt (k .latest) (sinceIn x) ≡ suc (versionIn x)
 
 -- A leaf's key begins with its place too.
 pub record LeafOwn (k : declared-kept.Kept) (x : Bytes) : Type 0 where

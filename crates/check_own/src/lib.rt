@@ -1,9 +1,7 @@
 // The first pass of the check: whether the own fields of each slot's record are right, by its bytes alone.
 use check_slot::life_right;
-use check_slot::root_right;
 use fields::all_zero;
 use kin::Kept;
-use kin::ends_before;
 use place::begins;
 use place::place_at;
 use slots::bits_of;
@@ -24,7 +22,7 @@ ghost use Rattle.check_pass.specs.Passes.{Passed, Each};
 ghost use Rattle.check_seen.specs.Seen.{OwnAt};
 ghost use Rattle.check_own.specs.Own.{HeadOwn, LeafOwn};
 
-// Whether version and life of slot i's record are right, and a root lives at its own version alone.
+// Whether version and life of slot i's record are right.
 fn head_right(store: &[u8], kept: Kept, i: usize) -> bool
     requires { ⌜ Has (now store) i ⌝ }
     ensures { λ r. ⌜ Passed r (HeadOwn kept (slotIn i (now (store .entry)))) ⌝ }
@@ -34,13 +32,7 @@ fn head_right(store: &[u8], kept: Kept, i: usize) -> bool
     if kept.latest < version {
         return false;
     }
-    if !life_right(kept, version, retired) {
-        return false;
-    }
-    if count_at(store, i) != 0 {
-        return true;
-    }
-    root_right(version, ends_before(kept.latest, retired))
+    life_right(kept, version, retired)
 }
 
 // The same of a leaf, and whether its key begins with its place.

@@ -1,19 +1,15 @@
 -- A pass goes from slot to slot. Assumes nothing.
 use Prim.Native.Nat.{ℕ, suc, _+_, _≤_}
 use native.Mathlib.Omega.{arith}
-use mathlib.Core.Path.{_≡_, refl, sym, subst}
-use mathlib.Core.Bool.{Bool, true, false}
+use mathlib.Core.Path.{_≡_, refl, subst}
+use mathlib.Core.Bool.{Bool, true, false, not}
 use lib.Dec.{leb}
-use borrow.Author.Tests.{leb-true, leb-false}
+use borrow.Author.Tests.{not-false, leb-true, leb-false}
 use Rattle.check_pass.specs.Passes.{Passed, Each}
 
--- a test that says whether passes where it is so
-pub pass-same : (b : Bool) {t : Bool} → b ≡ t → Passed b (t ≡ true)
-pass-same true e = sym e
-pass-same false e = tt
-
-pub passed-is : {b : Bool} {a : Type 0} → b ≡ true → Passed b a → a
-passed-is {b} {a} e = subst (λ c. Passed c a) e
+-- what is known once a test has not failed
+pub passed-so : (b : Bool) {a : Type 0} → not b ≡ false → Passed b a → a
+passed-so b {a} e = subst (λ c. Passed c a) (not-false b e)
 
 pub pass-map : (b : Bool) {x y : Type 0} → (x → y) → Passed b x → Passed b y
 pass-map true f p = f p

@@ -4,15 +4,14 @@ use native.Mathlib.Omega.{arith}
 use mathlib.Core.Path.{_≡_, refl, ap, sym, _∙_, subst}
 use mathlib.Core.Logic.{_⊎_, inl, inr, ⊎-elim}
 use mathlib.Core.Bool.{Bool, true, false, cond}
-use lib.ListN.{length, take}
-use lib.Seq.{take-all}
+use lib.ListN.{length}
 use borrow.Author.Tests.{eqb-true}
 use Rattle.terms.specs.Bits.{Bytes, Byte, All}
 use Rattle.terms.specs.Fields.{field, slice, allZero, zeroBytes}
 use Rattle.terms.specs.Records.{Record, free, used, spoiled}
 use Rattle.terms.proofs.Fields.{all-of-tests}
 use Rattle.meaning.specs.Sound.{At}
-use Rattle.meaning.proofs.Finding.{used-eq}
+use Rattle.meaning.proofs.Finding.{free-used, spoiled-used, used-eq}
 use Rattle.layout.specs.Sizes.{slotSize, mostSlots, leafKind, innerKind}
 use Rattle.layout.specs.Slots.{leafIn, innerIn, recordIn, headRight, isLeaf, isInner, versionIn, sinceIn, slotOf, slotBytes}
 use Rattle.layout.specs.Stores.{slotIn, storeOf, Has, SlotWithin}
@@ -31,18 +30,8 @@ room-within s r h = slot-within (room-has r h)
 pub slot-small : {s : Bytes} {i : ℕ} → Has s i → i < mostSlots
 slot-small {s} h = omega (arith, h .inside, size-says (length s) (h .size))
 
--- 32 bytes read as a hash are those bytes
-pub read-whole : {a y z : Bytes} → a ≡ take 32 y → length y ≡ 32 → y ≡ z → a ≡ z
-read-whole {a} {y} e l f = e ∙ take-all 32 y (omega (arith, l)) ∙ f
-
-pub free-used : (r : Record) → free ≡ used r → ⊥
-free-used r e = let z : _≡_ {A = ℕ} 0 1 = cc in omega arith
-
 pub free-spoiled : (x : Bytes) → free ≡ spoiled x → ⊥
 free-spoiled x e = let z : _≡_ {A = ℕ} 0 1 = cc in omega arith
-
-pub used-spoiled : (r : Record) (x : Bytes) → used r ≡ spoiled x → ⊥
-used-spoiled r x e = let z : _≡_ {A = ℕ} 0 1 = cc in omega arith
 
 leaf-kind : (x : Bytes) → isLeaf x ≡ true → kindIn x ≡ leafKind
 unfolding isLeaf headRight leafIn
@@ -65,10 +54,10 @@ record-cases x r = go (allZero x) (isLeaf x) (isInner x) refl refl refl
   where
     go : (a b c : Bool) → allZero x ≡ a → isLeaf x ≡ b → isInner x ≡ c →
         cond a free (cond b (used (recordIn x (leafIn x))) (cond c (used (recordIn x (innerIn x))) (spoiled x))) ≡ used r → LeafHere x r ⊎ InnerHere x r
-    go true b c z l i e = absurd (free-used r e)
+    go true b c z l i e = free-used r e
     go false true c z l i e = inl (leaf-kind x l, sym (used-eq (recordIn x (leafIn x)) r e))
     go false false true z l i e = inr (inner-kind x i, sym (used-eq (recordIn x (innerIn x)) r e), i)
-    go false false false z l i e = absurd (used-spoiled r x (sym e))
+    go false false false z l i e = spoiled-used x r e
 
 module _ (x : Bytes) (r : Record) (e : slotOf x ≡ used r) where
   pub version-of : r .version ≡ versionIn x

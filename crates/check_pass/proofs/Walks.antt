@@ -1,7 +1,7 @@
 -- A pass over the slots of a store of the right size: the slots before i have a property. Assumes nothing.
 use Prim.Native.Nat.{ℕ, _+_, _<_}
 use mathlib.Core.Path.{_≡_}
-use mathlib.Core.Bool.{true}
+use mathlib.Core.Bool.{Bool, true, false, not}
 use mathlib.Core.List.{List}
 use lib.ListN.{length}
 use Rattle.terms.specs.Bits.{Bytes}
@@ -10,8 +10,8 @@ use Rattle.layout.specs.Sizes.{roomOf}
 use Rattle.layout.specs.Headers.{sizeRight}
 use Rattle.layout.specs.Stores.{Has}
 use Rattle.store.proofs.Scans.{Scan, scan-start, scan-slot, scan-next}
-use Rattle.check_pass.specs.Passes.{Each}
-use Rattle.check_pass.proofs.Passes.{each-start, each-next}
+use Rattle.check_pass.specs.Passes.{Passed, Each}
+use Rattle.check_pass.proofs.Passes.{passed-so, each-start, each-next}
 
 abbrev Anything : List Slot → List Slot → Type 0
 Anything xs ys = Unit {0}
@@ -29,3 +29,7 @@ module _ {s : Bytes} {P : ℕ → Type 0} {n i : ℕ} (w : Walk s P n i) (h : i 
 
   pub walk-next : P i → Walk s P n (i + 1)
   walk-next p = record { scan = scan-next (w .scan) h Anything tt; each = each-next P i (w .each) p }
+
+  -- by a test of the slot that has not failed
+  pub walk-on : (b : Bool) → not b ≡ false → Passed b (P i) → Walk s P n (i + 1)
+  walk-on b e p = walk-next (passed-so b e p)

@@ -1,27 +1,35 @@
 -- The passes together: where none finds anything wrong, each slot passes. Assumes nothing.
 use Prim.Native.Nat.{ℕ, zero, suc, _<_, _≤_}
 use native.Mathlib.Omega.{arith}
-use mathlib.Core.Path.{_≡_, refl, subst}
-use mathlib.Core.Bool.{true}
+use mathlib.Core.Path.{_≡_, refl, sym, _∙_, subst}
+use mathlib.Core.Bool.{Bool, true, false, cond}
 use mathlib.Core.List.{List}
 use lib.ListN.{length, getD, replicate}
+use lib.Dec.{eqb}
+use borrow.Author.Tests.{eqb-false}
 use Rattle.terms.specs.Bits.{Bytes, Byte, All}
-use Rattle.terms.specs.Records.{Record}
+use Rattle.terms.specs.Records.{Record, used}
 use Rattle.meaning.specs.Sound.{At}
+use Rattle.meaning.specs.Local.{endsBefore}
 use Rattle.local.specs.Test.{slotsTest}
+use Rattle.local.proofs.Records.{slot-elim}
 use Rattle.nodehash.specs.Node.{leafHash, innerHash}
 use Rattle.layout.specs.Sizes.{mostSlots, roomOf}
-use Rattle.layout.specs.Headers.{sizeRight}
 use Rattle.layout.proofs.Headers.{size-says}
-use Rattle.layout.specs.Stores.{storeOf}
-use Rattle.store.proofs.Slots.{slots-many}
-use Rattle.check_order.specs.Order.{nodeKey, Ascending, NamedAt}
+use Rattle.layout.specs.Slots.{versionIn, sinceIn, slotOf}
+use Rattle.layout.specs.Stores.{slotIn, storeOf, slotNo, Has}
+use Rattle.store.proofs.Slots.{slots-many, slot-is}
+use Rattle.kin.specs.declared.Kept as declared-kept
+use Rattle.kin.specs.Kin.{endsAt}
+use Rattle.check_order.specs.Order.{nodeKey, InOrder, Named, NamedAt}
 use Rattle.check_order.proofs.Unique.{node-key-by-node, ascending-unique}
+use Rattle.check_order.proofs.Parting.{roots-parted}
 use Rattle.check_cover.specs.Cover.{CoveredAt}
-use Rattle.check_tie.specs.Side.{AllTied}
+use Rattle.check_tie.specs.Side.{Ready, AllTied}
 use Rattle.check_pass.specs.Passes.{Room, Each}
+use Rattle.check_pass.proofs.Records.{version-of, retired-of, free-zero, read-long, read-bytes, stands}
 use Rattle.check_seen.specs.Seen.{OwnAt}
-use Rattle.check_seen.proofs.Seen.{seen-passes}
+use Rattle.check_seen.proofs.Seen.{own-lives, seen-passes}
 use Rattle.check_sums.proofs.Sums.{under-start, under-end}
 use Rattle.check_quick.specs.declared.Look as declared
 use Rattle.check_quick.specs.declared.Look.the-variants.{Fine, Suspect}
@@ -49,12 +57,36 @@ module _ (s : Bytes) where
   unfolding At
   inside i r a = omega (arith, a .0, slots-many s)
 
-  -- the entries ascend, and each record is named
-  pub all-alone : sizeRight (length s) ≡ true → All Byte s → Each (OwnAt (storeOf s)) (roomOf (length s)) → (t : List ℕ) (m k n : ℕ) → m ≤ k → Ascending nodeKey s t k →
+  -- each life ends after the version it begins at; a free slot has version 0
+  lives : {k : declared-kept.Kept} → Ready s k → All Byte s → (i : ℕ) → Has s i → versionIn (slotIn i s) < endsAt (k .latest) (sinceIn (slotIn i s))
+  unfolding endsBefore
+  lives {k} ready bytes i h =
+      slot-elim (λ y. slotNo i s ≡ y → versionIn (slotIn i s) < endsAt (k .latest) (sinceIn (slotIn i s))) (slotNo i s)
+      (λ e. omega (arith, free-zero (slotIn i s) (read-long h refl) (read-bytes h refl bytes) (sym (slot-is h) ∙ e) .0, ends-some (k .latest) (sinceIn (slotIn i s))))
+      (λ x e f. absurd (ready .own i (h .inside) .whole x e))
+      (λ r e f.
+      let here : slotOf (slotIn i s) ≡ used r = sym (slot-is h) ∙ e in
+      rw (← version-of (slotIn i s) r here, ← retired-of (slotIn i s) r here, ← ready .keeps .latest)
+      (own-lives (storeOf s) r (ready .own i (h .inside) .own r (stands h refl r here)))) refl
+    where
+      ends-some : (l n : ℕ) → 0 < endsAt l n
+      ends-some l n = go (eqb n 0) refl
+        where
+          go : (b : Bool) → eqb n 0 ≡ b → 0 < cond b (suc l) n
+          go true e = omega arith
+          go false e = let f = eqb-false n 0 e in omega arith
+
+  -- the entries follow each other, and each record is named
+  pub all-alone : {kept : declared-kept.Kept} → Ready s kept → All Byte s → (t : List ℕ) (m k n : ℕ) → m ≤ k → InOrder (kept .latest) s t k →
       roomOf (length s) ≤ n → Each (NamedAt s t m) n → Alone (storeOf s)
-  all-alone size bytes own t m k n le up ln named =
-      ascending-unique nodeKey s t m (λ i h. up i (omega arith)) size bytes node-key-by-node (λ i r a.
-      named i (omega (arith, inside i r a)) r a (own i (inside i r a) .own r a .some))
+  all-alone {kept} ready bytes t m k n le steps ln named =
+      let order : InOrder (kept .latest) s t m = λ i h. steps i (omega arith) in
+      let all : (i : ℕ) (r : Record) → At (storeOf s) i r → Named t m i
+      = λ i r a. named i (omega (arith, inside i r a)) r a (ready .own i (inside i r a) .own r a .some) in
+      record {
+        unique = ascending-unique nodeKey s t m (λ i h. order i h .up) (ready .keeps .size) bytes node-key-by-node all;
+        parted = roots-parted (kept .latest) s t m order (lives ready bytes) (ready .keeps .size) bytes (ready .keeps .latest) all;
+      }
 
   -- the links, and the lives that were added up from nothing
   pub all-linked : (xs ys : List ℕ) → ((i : ℕ) → getD xs i 0 ≡ 0) → AllTied s (roomOf (length s)) xs ys → (n : ℕ) → roomOf (length s) ≤ n →
@@ -68,7 +100,7 @@ module _ (s : Bytes) where
   pub all-fine : (n : ℕ) → roomOf (length s) ≤ n → Each (OwnAt (storeOf s)) n → Alone (storeOf s) → Linked leafHash innerHash (storeOf s) →
       slotsTest leafHash innerHash (storeOf s) ≡ true
   all-fine n ln own alone linked =
-      seen-passes leafHash innerHash (storeOf s) alone
+      seen-passes leafHash innerHash (storeOf s) (alone .unique) (alone .parted)
       (λ i r a. record {
         own = own i (omega (arith, inside i r a)) .own r a;
         tied = linked .tied i r a;

@@ -15,15 +15,10 @@ use store::slot_count;
 ghost use mathlib.Core.Path.{_≡_};
 ghost use mathlib.Core.Bool.{true};
 ghost use Prim.Native.Nat.{_≤_, _<_};
-ghost use lib.ListN.{length};
 ghost use Rattle.local.specs.Test.{slotsTest};
 ghost use Rattle.nodehash.specs.Node.{leafHash, innerHash};
-ghost use Rattle.layout.specs.Sizes.{roomOf};
-ghost use Rattle.layout.specs.Headers.{sizeRight};
 ghost use Rattle.layout.specs.Stores.{storeOf, Has};
 ghost use Rattle.kin.specs.Kin.{Keeps};
-ghost use Rattle.check_pass.specs.Passes.{Each};
-ghost use Rattle.check_seen.specs.Seen.{OwnAt};
 ghost use Rattle.check_tie.specs.Side.{Ready};
 ghost use Rattle.check_quick.specs.Look.{Sure, Alone, Linked};
 
@@ -38,13 +33,19 @@ fn wide(x: u16) -> usize {
     x as usize
 }
 
-// The slots in order: whether no two records share their node.
-fn in_order(store: &[u8], many: usize, table: &[u16; 16384], ranks: &[u16; 16384]) -> Look
-    requires { ⌜ (sizeRight (length (now store)) ≡ true) × (many ≤ 16384) × Each (OwnAt (storeOf (now store))) (roomOf (length (now store))) ⌝ }
+// The slots in order: whether no two records share their node, and no two roots live together.
+fn in_order(
+    store: &[u8],
+    kept: Kept,
+    many: usize,
+    table: &[u16; 16384],
+    ranks: &[u16; 16384],
+) -> Look
+    requires { ⌜ Ready (now store) kept × (many ≤ 16384) ⌝ }
     ensures { λ r. ⌜ Sure r (Alone (storeOf (now (store .entry)))) ⌝ }
 {
     let n = slot_count(store);
-    let up = ascending(store, table, many);
+    let up = ascending(store, kept.latest, table, many);
     if up < many {
         return Look::Suspect(wide(table[up]));
     }
@@ -55,9 +56,9 @@ fn in_order(store: &[u8], many: usize, table: &[u16; 16384], ranks: &[u16; 16384
     Look::Fine
 }
 
-// Whether no two records share their node; and a guess at the slots of the children that they name.
-fn alone(store: &[u8], guess: &mut [u16; 32768]) -> Look
-    requires { ⌜ (sizeRight (length (now store)) ≡ true) × Each (OwnAt (storeOf (now store))) (roomOf (length (now store))) ⌝ }
+// Whether no two records share their node, and no two roots live together; and a guess at the slots of the children that they name.
+fn alone(store: &[u8], kept: Kept, guess: &mut [u16; 32768]) -> Look
+    requires { ⌜ Ready (now store) kept ⌝ }
     ensures { λ r. ⌜ Sure r (Alone (storeOf (now (store .entry)))) ⌝ }
 {
     let n = slot_count(store);
@@ -66,7 +67,7 @@ fn alone(store: &[u8], guess: &mut [u16; 32768]) -> Look
     let many = sort(store, n, &mut table, &mut ranks);
     rank(&table, many, &mut ranks);
     guessed(store, n, &table, many, guess);
-    in_order(store, many, &table, &ranks)
+    in_order(store, kept, many, &table, &ranks)
 }
 
 // Of a slot whose links are not right, the slot that fails the exact test: itself, or what was guessed for its children.
@@ -118,7 +119,7 @@ pub fn quick(store: &[u8], kept: Kept) -> Look
         return Look::Suspect(i);
     }
     let mut guess = [0u16; 32768];
-    let first = alone(store, &mut guess);
+    let first = alone(store, kept, &mut guess);
     match first {
         Look::Fine => linked(store, kept, &guess),
         Look::Suspect(i) => Look::Suspect(i),

@@ -2,25 +2,36 @@
 use Prim.Native.Nat.{ℕ, suc, _<_, _≤_}
 use native.Mathlib.Omega.{arith}
 use mathlib.Core.Path.{_≡_, refl, ap, ap₂, sym, _∙_, subst}
+use mathlib.Core.Logic.{_⊎_, inl, inr}
 use mathlib.Core.Bool.{Bool, true, false, cond, _&&_, _||_, true≢false}
 use lib.ListN.{length, getD}
 use mathlib.Core.List.{[]}
-use lib.Dec.{eqb, leb}
-use borrow.Author.Tests.{eqb-false, eq-eqb, le-leb}
-use Rattle.terms.specs.Bits.{Bytes, Side, left, right, longer, samePlace}
+use lib.Dec.{eqb, ltb}
+use borrow.Author.Tests.{eqb-false, ltb-true, ltb-false}
+use Rattle.terms.specs.Bits.{Bytes, Side, left, right, longer}
 use Rattle.terms.specs.Records.{Child, Body, leafBody, innerBody, Record, Slot, free, spoiled, Store}
 use Rattle.meaning.specs.Store.{find, childOn}
 use Rattle.meaning.specs.Sound.{At}
 use Rattle.meaning.specs.Local.{endsBefore, childVersion}
-use Rattle.terms.proofs.Tests.{same-place}
-use Rattle.local.specs.Test.{total, byRecord, keptLife, lifeAbove, lifeCovered, isSame, holders, names, isParent, linkOn, linkTest, childTest, bodyTest, isFound, recordTest, slotTest, slotsTest}
+use Rattle.local.specs.Test.{firstKept, lifeCovered, isSame, holders, names, isParent, linkOn, linkTest, childTest, bodyTest, isFound, recordTest, slotTest, slotsTest}
 use Rattle.meaning.proofs.Finding.{same-record, at-find}
 use Rattle.local.proofs.Scans.{at-every}
 use Rattle.local.proofs.Records.{slot-elim, each-record, record-total, record-one}
 use Rattle.local.proofs.Naming.{names-eq, parent-names}
 use Rattle.local.proofs.Says.{itself, equal, at-most, done, next}
-use Rattle.local.proofs.Tests.{node-counted, counted-node, counted-once}
-use Rattle.check_seen.specs.Seen.{keyTest, Seen}
+use Rattle.local.proofs.Lifetimes.{Lifetime}
+use Rattle.local.proofs.Tests.{node-counted, counted-node, counted-once, RootApart, covered-says, life-says}
+use Rattle.check_seen.specs.Seen.{keyTest, Own, Parted, Seen}
+
+-- a life ends after the record's version
+pub own-lives : (st : Store) (r : Record) → Own st r → r .version < endsBefore st r
+unfolding endsBefore
+own-lives st r o = go (eqb (r .retired) 0) refl (life-says st r .passed (o .life))
+  where
+    go : (b : Bool) → eqb (r .retired) 0 ≡ b → Lifetime st r → r .version < cond b (suc (st .latest)) (r .retired)
+    go true e l = omega (arith, o .latest)
+    go false e (inl z) = absurd (eqb-false (r .retired) 0 e z)
+    go false e (inr l) = l .0
 
 or-left : (a b : Bool) → a || b ≡ false → a ≡ false
 or-left true b h = h
@@ -41,7 +52,7 @@ module _ (leafHash innerHash : Bytes → Bytes → Bytes) (st : Store) where
       go (innerBody c d) = rw (or-left (names left q r) (names right q r) h, or-right (names left q r) (names right q r) h)
 
   module _ (unique : (i j : ℕ) (r q : Record) → At st i r → At st j q → r .version ≡ q .version → r .place ≡ q .place → i ≡ j)
-      (seen : (i : ℕ) (r : Record) → At st i r → Seen leafHash innerHash st r) where
+      (parted : Parted st) (seen : (i : ℕ) (r : Record) → At st i r → Seen leafHash innerHash st r) where
     once : (i : ℕ) (r : Record) → At st i r → holders r (st .slots) ≡ 1
     unfolding holders
     once i r a =
@@ -88,15 +99,19 @@ module _ (leafHash innerHash : Bytes → Bytes → Bytes) (st : Store) where
         go (leafBody k x) e h = h
         go (innerBody l m) e h = rw (child-found j q c left l m e, child-found j q c right l m e)
 
-    -- a root by its own fields, another record by its parents
-    life-covered : (i : ℕ) (r : Record) → At st i r → lifeCovered st r ≡ true
-    unfolding lifeCovered
-    life-covered i r a = go (samePlace (r .place) []) refl
+    -- two roots are of one version, or the earlier one ends before the later one begins
+    apart : (i j : ℕ) (r q : Record) → At st i r → At st j q → r .place ≡ [] → RootApart st r q
+    apart i j r q a c e f = go (ltb (r .version) (q .version)) (ltb (q .version) (r .version)) refl refl
       where
-        go : (t : Bool) → samePlace (r .place) [] ≡ t →
-            cond t (eqb (endsBefore st r) (suc (r .version))) (leb (keptLife st r) (total (byRecord 0 (lifeAbove st r)) (st .slots))) ≡ true
-        go true e = eq-eqb (endsBefore st r) (suc (r .version)) (seen i r a .own .root (same-place (r .place) [] e))
-        go false e = le-leb _ _ (seen i r a .covered (λ z. true≢false (sym (ap (λ p. samePlace p []) z) ∙ e)))
+        go : (s t : Bool) → ltb (r .version) (q .version) ≡ s → ltb (q .version) (r .version) ≡ t →
+            (q .version ≡ r .version) ⊎ ((endsBefore st q ≤ firstKept st r) ⊎ (endsBefore st r ≤ firstKept st q))
+        go true t k l = inr (inr (omega (arith, parted i j r q a c e f (ltb-true _ _ k))))
+        go false true k l = inr (inl (omega (arith, parted j i q r c a f e (ltb-true _ _ l))))
+        go false false k l = inl (omega (arith, ltb-false (r .version) (q .version) k, ltb-false (q .version) (r .version) l))
+
+    -- a root by the other roots, another record by its parents
+    life-covered : (i : ℕ) (r : Record) → At st i r → lifeCovered st r ≡ true
+    life-covered i r a = covered-says st r .passes ((λ e j q c. apart i j r q a c e), seen i r a .covered)
 
     passed : (i : ℕ) (r : Record) → At st i r → recordTest leafHash innerHash st r ≡ true
     unfolding recordTest
@@ -113,7 +128,7 @@ module _ (leafHash innerHash : Bytes → Bytes → Bytes) (st : Store) where
     abbrev Passing : Slot → Type 0
     Passing y = slotTest leafHash innerHash st y ≡ true
 
-    -- Where no slot is spoiled, no two records share their node and each record was seen to be right, the slots pass.
+    -- Where no slot is spoiled, no two records share their node, the roots are parted and each record was seen to be right, the slots pass.
     pub seen-passes : ((i : ℕ) (x : Bytes) → i < length (st .slots) → getD (st .slots) i free ≡ spoiled x → ⊥) → slotsTest leafHash innerHash st ≡ true
     unfolding slotsTest At
     seen-passes whole =

@@ -1,4 +1,5 @@
--- What stands above a record: nothing above a root, which no record names; else its parents, one bit shorter. Assumes nothing.
+-- What stands above a record: nothing above a root, which no record names and which the other roots leave room; else its parents, one bit
+-- shorter. Assumes nothing.
 use Prim.Native.Nat.{ℕ, zero, suc, _-_, _<_, max}
 use native.Mathlib.Omega.{arith}
 use mathlib.Core.Path.{_≡_, refl, ap, sym, _∙_}
@@ -6,7 +7,6 @@ use mathlib.Core.Bool.{Bool, true, false}
 use mathlib.Core.List.{[]}
 use lib.ListN.{length, take}
 use lib.Seq.{take-suc}
-use lib.Dec.{eqb}
 use Rattle.terms.specs.Bits.{Bytes, Side, Place, bits, bit, longer, samePlace}
 use Rattle.terms.specs.Records.{Body, free}
 use Rattle.terms.proofs.Tests.{is-false, same-place}
@@ -22,7 +22,9 @@ use Rattle.place.specs.Place.{placeOf, Stands}
 use Rattle.place.proofs.Places.{proper-whole, proper-count}
 use Rattle.layout.specs.Stores.{storeOf, slotNo}
 use Rattle.kin.specs.declared.Kept as declared-kept
-use Rattle.kin.specs.Kin.{endsAt, Is, ParentsSay}
+use Rattle.kin.specs.Kin.{endsAt, clearOf}
+use Rattle.kin.specs.Parents.{Is, ParentsSay}
+use Rattle.kin.proofs.Roots.{root-clear}
 use Rattle.kin.proofs.Naming.{none-said}
 use Rattle.check_slot.specs.declared.Head as declared
 use Rattle.check_slot.specs.Parts.{recordOn, Headed, AboveSays}
@@ -49,12 +51,15 @@ module _ {s : Bytes} {k : declared-kept.Kept} {h : declared.Head} (w : Headed s 
         omega (arith, ap length (names-eq b q (recordOn h o) n .1), length-longer b (q .place), place-long))) .0)
 
     root-covered : {ends : ℕ} → ends ≡ endsAt (k .latest) (h .retired) →
-        lifeCovered (storeOf s) (recordOn h o) ≡ eqb ends (suc (h .version))
+        lifeCovered (storeOf s) (recordOn h o) ≡ every (byRecord true (clearOf (storeOf s) (h .version) ends)) (storeOf s .slots)
     unfolding lifeCovered
-    root-covered e = rw (ends-is e o, empty)
+    root-covered e =
+        rw (ap (λ p. samePlace p []) empty)
+        (ap (λ f. every (byRecord true f) (storeOf s .slots)) (root-clear (storeOf s) (recordOn h o))
+        ∙ ap (λ n. every (byRecord true (clearOf (storeOf s) (h .version) n)) (storeOf s .slots)) (ends-is e o))
 
   pub root-says : h .place .count ≡ 0 → (leaf : Bool) (hash : Hash) {ends : ℕ} → ends ≡ endsAt (k .latest) (h .retired) → {t : Bool} →
-      t ≡ eqb ends (suc (h .version)) → AboveSays s h leaf hash t
+      t ≡ every (byRecord true (clearOf (storeOf s) (h .version) ends)) (storeOf s .slots) → AboveSays s h leaf hash t
   root-says z leaf hash e f o kind hashed = f ∙ sym (rw (no-parents z o, root-covered z o e))
 
   -- a record below the root

@@ -1,4 +1,4 @@
--- Slot by slot: what a slot that was read says decides its test, and the test of all goes from slot to slot. Assumes nothing.
+-- What a slot that was read says decides its test. Assumes nothing.
 use Prim.Native.Nat.{ℕ, _+_, _<_, _≤_}
 use native.Mathlib.Omega.{arith}
 use mathlib.Core.Path.{_≡_, refl, ap, sym, _∙_, subst}
@@ -71,31 +71,3 @@ module _ {s : Bytes} {i : ℕ} (h : Has s i) {x : Bytes} (here : x ≡ slotIn i 
     pub inner-short : (a b : declared-child.Child) → t .kind ≡ Inner a b → t .place .count < 256
     unfolding kindSays recordSays
     inner-short a b e = omega (arith, form e .short, proper-count (t .place) (read .proper))
-
--- the slots before i pass, so those to come decide
-abbrev Rest : Bytes → List Slot → List Slot → Type 0
-Rest s xs ys = slotsTest leafHash innerHash (storeOf s) ≡ every (slotTest leafHash innerHash (storeOf s)) ys
-
-abbrev pub Passed : Bytes → ℕ → ℕ → Type 0
-Passed s n i = Scan s (Rest s) n i
-
-pub pass-start : (s : Bytes) → sizeRight (length s) ≡ true → {n : ℕ} → n ≡ roomOf (length s) → Passed s n 0
-unfolding slotsTest
-pass-start s e m = scan-start s (Rest s) e m refl
-
-module _ {s : Bytes} {n i : ℕ} (w : Passed s n i) (h : i < n) {t : Bool} (e : t ≡ slotTest leafHash innerHash (storeOf s) (slotNo i s)) where
-  pub pass-next : t ≡ true → Passed s n (i + 1)
-  pass-next f =
-      let here : slotTest leafHash innerHash (storeOf s) (slotNo i s) ≡ true = sym e ∙ f in
-      let on : every (slotTest leafHash innerHash (storeOf s)) (slotNo i s ∷ drop (i + 1) (storeOf s .slots))
-      ≡ every (slotTest leafHash innerHash (storeOf s)) (drop (i + 1) (storeOf s .slots)) = rw here in
-      scan-next w h (Rest s) (scan-here w h ∙ on)
-
-  pub pass-off : t ≡ false → false ≡ slotsTest leafHash innerHash (storeOf s)
-  pass-off f =
-      let here : slotTest leafHash innerHash (storeOf s) (slotNo i s) ≡ false = sym e ∙ f in
-      let off : every (slotTest leafHash innerHash (storeOf s)) (slotNo i s ∷ drop (i + 1) (storeOf s .slots)) ≡ false = rw here in
-      sym (scan-here w h ∙ off)
-
-pub pass-end : {s : Bytes} {n i : ℕ} → Passed s n i → n ≤ i → true ≡ slotsTest leafHash innerHash (storeOf s)
-pass-end w h = sym (scan-end w h)

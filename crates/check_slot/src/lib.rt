@@ -1,5 +1,5 @@
 // The exact test of one slot, document 01, 'Sound': its record is looked at with a pass over the slots for its node, its children and its
-// parents; no version is tried, and the record is hashed once.
+// parents, or, of a root, the other roots; no version is tried, and the record is hashed once.
 use hash::Hash;
 use kin::Below;
 use kin::Kept;
@@ -9,6 +9,7 @@ use kin::front;
 use kin::holders;
 use kin::kept_life;
 use kin::parents_right;
+use kin::roots_apart;
 use nodehash::inner_hash;
 use nodehash::leaf_hash;
 use place::Place;
@@ -23,9 +24,8 @@ use store::slot_count;
 use store::slot_of;
 ghost use mathlib.Core.Path.{_≡_};
 ghost use mathlib.Core.Bool.{true, _&&_};
-ghost use Prim.Native.Nat.{suc, _<_};
+ghost use Prim.Native.Nat.{_<_};
 ghost use lib.ListN.{length};
-ghost use lib.Dec.{eqb};
 ghost use Rattle.terms.specs.Bits.{left, right};
 ghost use Rattle.terms.specs.Records.{innerBody};
 ghost use Rattle.local.specs.Test.{recordTest, slotTest, slotsTest};
@@ -77,14 +77,7 @@ fn alone_right(store: &[u8], kept: Kept, head: Head) -> bool
     holders(store, head.version, place) == 1
 }
 
-// Whether a root record lives at its own version alone.
-pub fn root_right(version: u32, ends: u64) -> bool
-    ensures { λ r. ⌜ r ≡ eqb ends (suc version) ⌝ }
-{
-    ends == version as u64 + 1
-}
-
-// Whether a record of that kind and hash is right below its parents, or as a root.
+// Whether a record of that kind and hash is right below its parents, or as a root beside the other roots.
 fn above_right(store: &[u8], kept: Kept, head: Head, leaf: bool, hash: Hash) -> bool
     requires { ⌜ Headed (now store) kept head ⌝ }
     ensures { λ r. ⌜ AboveSays (now (store .entry)) head leaf hash r ⌝ }
@@ -94,7 +87,7 @@ fn above_right(store: &[u8], kept: Kept, head: Head, leaf: bool, hash: Hash) -> 
     let count = place.count;
     let ends = ends_before(kept.latest, head.retired);
     if count == 0 {
-        return root_right(version, ends);
+        return roots_apart(store, kept, version, ends);
     }
     let bits = place.bits;
     let up = front(&bits, count - 1);

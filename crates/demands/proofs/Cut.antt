@@ -6,12 +6,12 @@ use mathlib.Core.Bool.{true, false}
 use mathlib.Core.List.{List, [], _∷_, map}
 use lib.ListN.{length, getD}
 use Rattle.terms.specs.Bits.{Bytes, Byte, All}
-use Rattle.terms.specs.Fields.{zeroBytes}
+use Rattle.terms.specs.Fields.{le, num, zeroBytes}
 use Rattle.terms.specs.Records.{Record, Slot, free, used, spoiled, Store}
 use Rattle.terms.specs.Form.{top32}
 use Rattle.terms.proofs.Fields.{num-le}
 use Rattle.meaning.specs.Store.{onRecord, retiredBy, pruneRecord, pruned}
-use Rattle.meaning.specs.Sound.{At, Sound}
+use Rattle.meaning.specs.Sound.{At, Kept, Sound}
 use Rattle.meaning.specs.Calls.{accepted, refuse, prune}
 use Rattle.histories.specs.Claims.{AfterPrune}
 use Rattle.histories.proofs.Pruning.{cut}
@@ -19,6 +19,7 @@ use Rattle.histories.proofs.Calls.{prune-cases}
 use Rattle.histories.proofs.Theorems.{prune-keeps-sound}
 use Rattle.nodehash.specs.Node.{leafHash, innerHash}
 use Rattle.layout.specs.Slots.{slotBytes}
+use Rattle.layout.specs.Sizes.{slotSize}
 use Rattle.layout.specs.Stores.{slotIn, storeOf, storeBytes}
 use Rattle.layout.proofs.Stores.{slot-in}
 use Rattle.promises.proofs.Calls.{sound-form, sound-back}
@@ -27,6 +28,7 @@ use Rattle.grants.specs.Contracts.{Prunes}
 use Rattle.demands.specs.Claims.{Pruned}
 use Rattle.demands.proofs.Stored.{stored-is, stored-sound}
 use Rattle.demands.proofs.Refusals.{no-refusal, never-0, prune-refusals, does-numbers}
+use Rattle.demands.proofs.Showing.{same-tree-reads-as}
 use Rattle.demands.proofs.Versions.{free-most}
 
 -- an entry of a list that was mapped
@@ -51,6 +53,10 @@ unfolding refuse cut
 cut-by n st a e =
     prune-cases (λ o. o .answer ≡ accepted a → o .store .slots ≡ pruned n (st .slots)) n st (λ h f. no-refusal (sym f)) (λ h f. refl) e
 
+kept-by : (n : ℕ) (st : Store) (a : ℕ) → prune n st .answer ≡ accepted a → Kept st n
+unfolding refuse
+kept-by n st a e = prune-cases (λ o. o .answer ≡ accepted a → Kept st n) n st (λ h f. no-refusal (sym f)) (λ h f. h) e
+
 module _ (n : ℕ) (s : Bytes) (bytes : All Byte s) (w : SoundBytes s) (a : ℕ) (e : prune n (storeOf s) .answer ≡ accepted a) where
   st″ : Store
   st″ = prune n (storeOf s) .store
@@ -70,7 +76,7 @@ module _ (n : ℕ) (s : Bytes) (bytes : All Byte s) (w : SoundBytes s) (a : ℕ)
       ∙ ap (λ xs. slotBytes (getD xs i free)) (cut-by n (storeOf s) a e)
       ∙ ap slotBytes (mapped (onRecord (pruneRecord n)) (storeOf s .slots) i h)
 
-  slot-freed : (i : ℕ) (r : Record) → At (storeOf s) i r → retiredBy n r ≡ true → slotIn i (storeBytes st″) ≡ zeroBytes 120
+  slot-freed : (i : ℕ) (r : Record) → At (storeOf s) i r → retiredBy n r ≡ true → slotIn i (storeBytes st″) ≡ zeroBytes slotSize
   unfolding At slotBytes
   slot-freed i r h f =
       slot-left i (h .0) ∙ ap (λ x. slotBytes (onRecord (pruneRecord n) x)) (h .1) ∙ ap slotBytes (pruned-free n r f)
@@ -94,11 +100,17 @@ accepted-prune-frees n {s} bytes w = go w refl
         let made = prune-keeps-sound leafHash innerHash n (storeOf s) a (w .sound) e in
         let few : a ≤ top32 = omega (arith, made .count, made .capacity, free-most (st .slots), w .sound .size .1) in
         let said = stored-is st (made .sound) in
+        let after : AfterPrune leafHash innerHash n (storeOf s) (num (le 4 a)) (storeOf (storeBytes st)) =
+        subst₂ (λ k x. AfterPrune leafHash innerHash n (storeOf s) k x) (sym (num-le 4 a (omega arith))) (sym said) made in
+        let here : Kept (storeOf s) n = kept-by n (storeOf s) a e in
         record {
           was = w;
           sound = stored-sound st (made .sound);
           bytes = ap storeBytes (sym said);
-          after = subst₂ (λ k x. AfterPrune leafHash innerHash n (storeOf s) k x) (sym (num-le 4 a (omega arith))) (sym said) made;
+          after = after;
+          reads = λ v k.
+              same-tree-reads-as (stored-sound st (made .sound)) w k
+              (omega (arith, here .0, after .oldest, k .0), omega (arith, after .latest, k .1)) (after .trees v k);
           frees = λ i r h f. slot-freed n s bytes w a e i r h f;
           keeps = λ i h f. slot-kept n s bytes w a e i h f;
         }

@@ -13,14 +13,15 @@ use borrow.Author.Tests.{eqb-true, ltb-true, leb-true}
 use Rattle.terms.specs.Bits.{Bytes, Byte, Whole32, All}
 use Rattle.terms.specs.Fields.{le}
 use Rattle.terms.specs.Records.{Ask, insert, delete, Store}
-use Rattle.terms.specs.Form.{AskForm}
+use Rattle.terms.specs.Form.{top32, AskForm}
 use Rattle.terms.proofs.Tests.{and-left, and-right}
 use Rattle.meaning.specs.Store.{formatted}
 use Rattle.meaning.specs.Sound.{Sound}
 use Rattle.meaning.specs.Calls.{Answer, refused, accepted, Result, Applied, apply, prune}
 use Rattle.meaning.specs.Answers.{numberOf}
-use Rattle.meaning.specs.Desk.{Row, applies, prunes, RowHolds, table, A, B, C, D, a, b, c, d, s₁}
-use Rattle.meaning.proofs.Desk.{desk}
+use Rattle.meaning.specs.Reading.{readRoot}
+use Rattle.meaning.specs.Desk.{Row, applies, prunes, reads, RowHolds, table, gaps, notAbove, A, B, C, D, a, b, c, d, s₁, g₅, g₉}
+use Rattle.meaning.proofs.Desk.{desk, desk-gaps, not-above}
 use Rattle.histories.proofs.Theorems.{formatted-is-sound, prune-keeps-sound, apply-keeps-sound, refused-apply-writes-nothing, refused-prune-writes-nothing}
 use Rattle.nodehash.specs.Node.{leafHash, innerHash}
 use Rattle.layout.specs.Stores.{storeOf, storeBytes}
@@ -28,9 +29,11 @@ use Rattle.batch.specs.Batch.{asksBytes}
 use Rattle.batch.proofs.Batches.{batch-of-bytes}
 use Rattle.promises.specs.Calls.{refuses, accepts, Exports, exports-refusal, exports-answer}
 use Rattle.promises.proofs.Calls.{one-export}
+use Rattle.reads.specs.Reads.{rootAnswer}
+use Rattle.reads_c.specs.Export.{rootBytes}
 use Rattle.applying_c.specs.Export.{told}
 use Rattle.grants.specs.Contracts.{Applies}
-use Rattle.demands.specs.Desk.{toldOf, RowOverBytes, DeskOverBytes}
+use Rattle.demands.specs.Desk.{toldOf, RowOverBytes, DeskOverBytes, GapsOverBytes, NotAboveOverBytes}
 use Rattle.demands.proofs.Hashes.{leaf-hash-whole, inner-hash-whole}
 use Rattle.demands.proofs.Stored.{stored-is, stored-sound}
 
@@ -92,19 +95,38 @@ module _ {R : Type 0} (call : Store → Result R) (told : R → Bytes) (st : Sto
 
 -- a row on a sound store, with a batch in form
 abbrev RowReady : Row → Type 0
-RowReady (applies st batch answer end) = Sound leafHash innerHash st × (asksTest batch ≡ true) × (leb (length batch) 1024 ≡ true)
+RowReady (applies st number batch answer end) =
+    Sound leafHash innerHash st × (asksTest batch ≡ true) × (leb (length batch) 1024 ≡ true) × (leb number top32 ≡ true)
 RowReady (prunes st n answer end) = Sound leafHash innerHash st
+RowReady (reads st v answer) = Sound leafHash innerHash st
+
+-- a root read on the bytes of a sound store
+root-said : (st : Store) → Sound leafHash innerHash st → (v : ℕ) → rootAnswer (storeBytes st) v ≡ readRoot leafHash innerHash st v
+unfolding rootAnswer
+root-said st s v = rw (stored-sound st s .headed) (ap (λ x. readRoot leafHash innerHash x v) (stored-is st s))
+
+same-told : (answer : Answer Bytes) (f : Bytes) → rootBytes answer f ≡ toldOf (λ root. root) answer f
+same-told (refused n) f = refl
+same-told (accepted root) f = refl
 
 row-over-bytes : (row : Row) → RowHolds leafHash innerHash row → RowReady row → RowOverBytes row
-row-over-bytes (applies st batch answer end) e w = λ f r t g.
+row-over-bytes (applies st number batch answer end) e w = λ f r t g.
     let is = batch-of-bytes batch (asks-by batch (w .1)) (leb-true (length batch) 1024 (w .2)) in
-    subst (λ o. Exports (apply leafHash innerHash o) told (storeBytes st) f r t g
+    subst (λ o. Exports (apply leafHash innerHash number o) told (storeBytes st) f r t g
     ↔ ((r ≡ numberOf answer) × (t ≡ storeBytes end) × (g ≡ toldOf told answer f))) (sym is)
-    (exports-exactly (apply leafHash innerHash (some batch)) told st (w .0) answer end e
-    (λ n h. sym (ap (λ o. o .store) e) ∙ refused-apply-writes-nothing leafHash innerHash (some batch) st n (ap (λ o. o .answer) e ∙ h)) f r t g)
+    (exports-exactly (apply leafHash innerHash number (some batch)) told st (w .0) answer end e
+    (λ n h. sym (ap (λ o. o .store) e) ∙ refused-apply-writes-nothing leafHash innerHash number (some batch) st n (ap (λ o. o .answer) e ∙ h)) f r t g)
 row-over-bytes (prunes st n answer end) e w = λ f r t g.
     exports-exactly (prune n) (le 4) st w answer end e
     (λ m h. sym (ap (λ o. o .store) e) ∙ refused-prune-writes-nothing leafHash innerHash n st m (ap (λ o. o .answer) e ∙ h)) f r t g
+row-over-bytes (reads st v answer) e w = λ f r g.
+    let is = root-said st w v ∙ e in (
+      λ x. (x .answer ∙ ap (λ a. numberOf a) is, x .root ∙ ap (λ a. rootBytes a f) is ∙ same-told answer f),
+      λ x. record {
+        answer = x .0 ∙ ap (λ a. numberOf a) (sym is);
+        root = x .1 ∙ sym (same-told answer f) ∙ ap (λ a. rootBytes a f) (sym is);
+      },
+    )
 
 rows-over-bytes : (rows : List Row) → All (RowHolds leafHash innerHash) rows → All RowReady rows → All RowOverBytes rows
 rows-over-bytes [] h w = tt
@@ -112,19 +134,21 @@ rows-over-bytes (row ∷ rows) h w = (row-over-bytes row (h .0) (w .0), rows-ove
 
 -- the store after a row is sound
 abbrev SoundAfter : Row → Type 0
-SoundAfter (applies st batch answer end) = Sound leafHash innerHash end
+SoundAfter (applies st number batch answer end) = Sound leafHash innerHash end
 SoundAfter (prunes st n answer end) = Sound leafHash innerHash end
+SoundAfter (reads st v answer) = Sound leafHash innerHash st
 
 sound-after : (row : Row) → RowHolds leafHash innerHash row → RowReady row → SoundAfter row
-sound-after (applies st batch answer end) e w = go answer e
+sound-after (applies st number batch answer end) e w = go answer e
   where
-    go : (a : Answer Applied) → apply leafHash innerHash (some batch) st ≡ record { answer = a; store = end } → Sound leafHash innerHash end
+    go : (a : Answer Applied) → apply leafHash innerHash number (some batch) st ≡ record { answer = a; store = end } → Sound leafHash innerHash end
     go (refused n) e =
         subst (Sound leafHash innerHash)
-        (sym (refused-apply-writes-nothing leafHash innerHash (some batch) st n (ap (λ o. o .answer) e)) ∙ ap (λ o. o .store) e) (w .0)
+        (sym (refused-apply-writes-nothing leafHash innerHash number (some batch) st n (ap (λ o. o .answer) e)) ∙ ap (λ o. o .store) e) (w .0)
     go (accepted a) e =
         subst (Sound leafHash innerHash) (ap (λ o. o .store) e)
-        (apply-keeps-sound leafHash innerHash leaf-hash-whole inner-hash-whole batch st a (w .0) (asks-by batch (w .1)) (ap (λ o. o .answer) e) .sound)
+        (apply-keeps-sound leafHash innerHash leaf-hash-whole inner-hash-whole number batch st a (w .0) (leb-true number top32 (w .3)) (asks-by batch (w .1))
+        (ap (λ o. o .answer) e) .sound)
 sound-after (prunes st n answer end) e w = go answer e
   where
     go : (a : Answer ℕ) → prune n st ≡ record { answer = a; store = end } → Sound leafHash innerHash end
@@ -133,16 +157,23 @@ sound-after (prunes st n answer end) e w = go answer e
         (sym (refused-prune-writes-nothing leafHash innerHash n st m (ap (λ o. o .answer) e)) ∙ ap (λ o. o .store) e) w
     go (accepted a) e =
         subst (Sound leafHash innerHash) (ap (λ o. o .store) e) (prune-keeps-sound leafHash innerHash n st a w (ap (λ o. o .answer) e) .sound)
+sound-after (reads st v answer) e w = w
 
--- the rows by number; those past the table are of no use
+-- the rows by number; those past a table are of no use
+abbrev rowOf : List Row → ℕ → Row
+rowOf rows i = getD rows i (prunes (formatted 20) 0 (refused 0) (formatted 20))
+
 abbrev rowAt : ℕ → Row
-rowAt i = getD (table leafHash innerHash) i (prunes (formatted 20) 0 (refused 0) (formatted 20))
+rowAt i = rowOf (table leafHash innerHash) i
+
+abbrev gapAt : ℕ → Row
+gapAt i = rowOf (gaps leafHash innerHash) i
 
 s20 : Sound leafHash innerHash (formatted 20)
 s20 = formatted-is-sound leafHash innerHash 20 (omega arith) (omega arith)
 
 m1 : Sound leafHash innerHash (s₁ leafHash innerHash)
-m1 = sound-after (rowAt 0) (desk leafHash innerHash .0) (s20, refl, refl)
+m1 = sound-after (rowAt 0) (desk leafHash innerHash .0) (s20, refl, refl, refl)
 
 -- Each row of the desk's table is what the contracts say of the bytes.
 pub desk-over-bytes : DeskOverBytes
@@ -150,44 +181,44 @@ desk-over-bytes =
     let h = desk leafHash innerHash in
     let fresh = formatted-is-sound leafHash innerHash in
     let s7 = fresh 7 (omega arith) (omega arith) in
-    let m2 = sound-after (rowAt 1) (h .1 .0) (m1, refl, refl) in
-    let m3 = sound-after (rowAt 2) (h .1 .1 .0) (m2, refl, refl) in
-    let m4 = sound-after (rowAt 3) (h .1 .1 .1 .0) (m3, refl, refl) in
-    let m5 = sound-after (rowAt 4) (h .1 .1 .1 .1 .0) (m4, refl, refl) in
-    let m6 = sound-after (rowAt 5) (h .1 .1 .1 .1 .1 .0) (m5, refl, refl) in
+    let m2 = sound-after (rowAt 1) (h .1 .0) (m1, refl, refl, refl) in
+    let m3 = sound-after (rowAt 2) (h .1 .1 .0) (m2, refl, refl, refl) in
+    let m4 = sound-after (rowAt 3) (h .1 .1 .1 .0) (m3, refl, refl, refl) in
+    let m5 = sound-after (rowAt 4) (h .1 .1 .1 .1 .0) (m4, refl, refl, refl) in
+    let m6 = sound-after (rowAt 5) (h .1 .1 .1 .1 .1 .0) (m5, refl, refl, refl) in
     let m7 = sound-after (rowAt 6) (h .1 .1 .1 .1 .1 .1 .0) m6 in
-    let m8 = sound-after (rowAt 7) (h .1 .1 .1 .1 .1 .1 .1 .0) (m7, refl, refl) in
-    let full = sound-after (rowAt 12) (h .1 .1 .1 .1 .1 .1 .1 .1 .1 .1 .1 .1 .0) (s7, refl, refl) in
+    let m8 = sound-after (rowAt 7) (h .1 .1 .1 .1 .1 .1 .1 .0) (m7, refl, refl, refl) in
+    let full = sound-after (rowAt 12) (h .1 .1 .1 .1 .1 .1 .1 .1 .1 .1 .1 .1 .0) (s7, refl, refl, refl) in
     rows-over-bytes (table leafHash innerHash) h (
-      (s20, refl, refl),
+      (s20, refl, refl, refl),
       (
-        (m1, refl, refl),
+        (m1, refl, refl, refl),
         (
-          (m2, refl, refl),
+          (m2, refl, refl, refl),
           (
-            (m3, refl, refl),
+            (m3, refl, refl, refl),
             (
-              (m4, refl, refl),
+              (m4, refl, refl, refl),
               (
-                (m5, refl, refl),
+                (m5, refl, refl, refl),
                 (
                   m6,
                   (
-                    (m7, refl, refl),
+                    (m7, refl, refl, refl),
                     (
-                      (s20, refl, refl),
+                      (s20, refl, refl, refl),
                       (
-                        (fresh 5 (omega arith) (omega arith), refl, refl),
+                        (fresh 5 (omega arith) (omega arith), refl, refl, refl),
                         (
                           m8,
                           (
                             m8,
                             (
-                              (s7, refl, refl),
+                              (s7, refl, refl, refl),
                               (
-                                (full, refl, refl),
+                                (full, refl, refl, refl),
                                 (
-                                  (full, refl, refl),
+                                  (full, refl, refl, refl),
                                   tt,
                                 ),
                               ),
@@ -205,9 +236,37 @@ desk-over-bytes =
       ),
     )
 
+-- The stores of the rows with gaps.
+s2 : Sound leafHash innerHash (formatted 2)
+s2 = formatted-is-sound leafHash innerHash 2 (omega arith) (omega arith)
+
+g5 : Sound leafHash innerHash (g₅ leafHash innerHash)
+g5 = sound-after (gapAt 0) (desk-gaps leafHash innerHash .0) (s20, refl, refl, refl)
+
+g9 : Sound leafHash innerHash (g₉ leafHash innerHash)
+g9 = sound-after (gapAt 2) (desk-gaps leafHash innerHash .1 .1 .0) (g5, refl, refl, refl)
+
+-- Each row with a gap is what the contracts say of the bytes,
+pub gaps-over-bytes : GapsOverBytes
+gaps-over-bytes =
+    let h = desk-gaps leafHash innerHash in
+    let g7 = sound-after (gapAt 4) (h .1 .1 .1 .1 .0) g9 in
+    let g12 = sound-after (gapAt 7) (h .1 .1 .1 .1 .1 .1 .1 .0) (g9, refl, refl, refl) in
+    let g15 = sound-after (gapAt 8) (h .1 .1 .1 .1 .1 .1 .1 .1 .0) (g12, refl, refl, refl) in
+    let g13 = sound-after (gapAt 11) (h .1 .1 .1 .1 .1 .1 .1 .1 .1 .1 .1 .0) g15 in
+    rows-over-bytes (gaps leafHash innerHash) h
+    ((s20, refl, refl, refl), (g5, ((g5, refl, refl, refl), (g9, (g9, (g7, (g7, ((g9, refl, refl, refl), ((g12, refl, refl, refl), (g15, (g15, (g15, (g13, ((s2, refl, refl, refl), tt))))))))))))))
+
+-- and each row whose number is not above latest.
+pub not-above-over-bytes : NotAboveOverBytes
+not-above-over-bytes =
+    let last = sound-after (gapAt 13) (desk-gaps leafHash innerHash .1 .1 .1 .1 .1 .1 .1 .1 .1 .1 .1 .1 .1 .0) (s2, refl, refl, refl) in
+    rows-over-bytes (notAbove leafHash innerHash) (not-above leafHash innerHash)
+    ((g9, refl, refl, refl), ((g9, refl, refl, refl), ((s20, refl, refl, refl), ((last, refl, refl, refl), tt))))
+
 -- So writing nothing fails at M1: the bytes that the contract leaves are not those that were lent.
 pub writing-nothing-fails-at-M1 : {f t g : Bytes} {r : ℕ} →
-    Applies (asksBytes (insert A a ∷ insert B b ∷ insert C c ∷ insert D d ∷ [])) (storeBytes (formatted 20)) f r t g →
+    Applies 1 (asksBytes (insert A a ∷ insert B b ∷ insert C c ∷ insert D d ∷ [])) (storeBytes (formatted 20)) f r t g →
     t ≡ storeBytes (formatted 20) → ⊥
 unfolding formatted
 writing-nothing-fails-at-M1 {f} {t} {g} {r} w e =

@@ -75,11 +75,12 @@ export-first : {A : Type 0} (call : Store → Result A) {told : A → Bytes} (s 
 export-first call s more f (exports-refusal {m} d) = does-first call s more (refused m) f d
 export-first call s more f (exports-answer {a} d) = does-first call s more (accepted a) f d
 
--- Apply: 1, 2, 3, 4, 5, 6, 7.
-pub apply-exactly : (batch : Bytes) {s f t g : Bytes} {r : ℕ} → All Byte batch → Applies batch s f r t g → Exactly (applyRows batch s) r
-apply-exactly batch {s} {r = r} h w =
-    exactly (applyRows batch s) r refl
-    (export-first (apply leafHash innerHash (batchOf batch)) s (batchRows batch s) (batch-first batch h s) w)
+-- Apply: 1, 2, 3, 4, 5, 18, 7.
+pub apply-exactly : (number : ℕ) (batch : Bytes) {s f t g : Bytes} {r : ℕ} → All Byte batch → Applies number batch s f r t g →
+    Exactly (applyRows number batch s) r
+apply-exactly number batch {s} {r = r} h w =
+    exactly (applyRows number batch s) r refl
+    (export-first (apply leafHash innerHash number (batchOf batch)) s (batchRows number batch s) (batch-first batch h number s) w)
 
 -- Prune: 1, 2, 3, 8.
 pub prune-exactly : (n : ℕ) {s f t g : Bytes} {r : ℕ} → Prunes n s f r t g → Exactly (pruneRows n s) r

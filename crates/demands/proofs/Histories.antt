@@ -13,6 +13,7 @@ use borrow.Author.Tests.{eq-eqb, ne-eqb}
 use Rattle.terms.specs.Bits.{Bytes, Byte, All, Whole32}
 use Rattle.terms.specs.Fields.{num}
 use Rattle.terms.specs.Records.{Grant, Ask, Store, zeros}
+use Rattle.terms.specs.Form.{top32}
 use Rattle.meaning.specs.Tree.{grantsAt, treeOf, hash}
 use Rattle.meaning.specs.Store.{formatted}
 use Rattle.meaning.specs.Sound.{Kept}
@@ -31,7 +32,7 @@ use Rattle.batch.specs.Batch.{batchOf}
 use Rattle.batch.proofs.Batches.{batch-of-back}
 use Rattle.format.specs.Format.{formatAnswer, formatBytes}
 use Rattle.promises.specs.Calls.{SoundBytes, wrong-header, not-sound, refuses, accepts, Exports, exports-refusal, exports-answer}
-use Rattle.grants.specs.Contracts.{ReadsRoot, ReadsKey, Proves, Verifies}
+use Rattle.grants.specs.Contracts.{Formats, ReadsRoot, ReadsKey, Proves, Verifies}
 use Rattle.meaning.specs.Answers.{foundBytes}
 use Rattle.demands.specs.Calls.{Called, formats, applies, prunes, checks, reads-root, reads-key, proves, compares, verifies, hashes, Calls, none-yet, then-called, Life}
 use Rattle.demands.specs.Claims.{grantsOfVersion, AfterHistory}
@@ -42,9 +43,9 @@ use Rattle.demands.proofs.Showing.{root-of-tree, key-of-grants, sound-i
 use Rattle.demands.proofs.Refusals.{never-0, apply-refusals, prune-refusals}
 
 -- what is kept from call to call
-record Keeping (s : Bytes) (es : List Entry) : Type 0 where
-  bytes : s ≡ storeBytes (storeOf s)
-  keeps : Keeps leafHash innerHash (storeOf s) es
+pub record Keeping (s : Bytes) (es : List Entry) : Type 0 where
+  pub bytes : s ≡ storeBytes (storeOf s)
+  pub keeps : Keeps leafHash innerHash (storeOf s) es
 
 -- the bytes of a store keep what the store does
 of-store : (st : Store) (es : List Entry) → Keeps leafHash innerHash st es → Keeping (storeBytes st) es
@@ -54,23 +55,23 @@ of-store st es k =
 
 module _ {s : Bytes} {es : List Entry} (k : Keeping s es) where
   -- they are those of a sound store
-  sound-bytes : SoundBytes s
+  pub sound-bytes : SoundBytes s
   sound-bytes = subst SoundBytes (sym (k .bytes)) (stored-sound (storeOf s) (k .keeps .sound))
 
-  size-right : sizeRight (length s) ≡ true
+  pub size-right : sizeRight (length s) ≡ true
   size-right =
       let w = sound-bytes in
       let a = headers.accepted s (w .capacity) (w .oldest) (w .latest) (w .headed) in
       size-right-of (length s) (w .capacity) (a .size) (a .some) (a .fits)
 
-fresh-keeps : (s : Bytes) → sizeRight (length s) ≡ true → Keeping (formatBytes s) (entry 0 [] ∷ [])
+pub fresh-keeps : (s : Bytes) → sizeRight (length s) ≡ true → Keeping (formatBytes s) (entry 0 [] ∷ [])
 unfolding formatBytes
 fresh-keeps s e =
     let z = size-says (length s) e in
     rw e (of-store (formatted (roomOf (length s))) (entry 0 [] ∷ []) (keeps-formatted leafHash innerHash (roomOf (length s)) (z .1, z .2)))
 
 -- a header is refused or accepted
-not-headed : {A : Type 0} {h : Headed} {m c o l : ℕ} → h ≡ refusal m → h ≡ header c o l → A
+pub not-headed : {A : Type 0} {h : Headed} {m c o l : ℕ} → h ≡ refusal m → h ≡ header c o l → A
 not-headed e f = let z : _≡_ {A = ℕ} 0 1 = cc in absurd (omega arith)
 
 -- a call that tests soundness, refused or accepted
@@ -83,26 +84,26 @@ export-keeps (exports-refusal (not-sound e n)) k never then = absurd (n (k .keep
 export-keeps (exports-refusal {m} (refuses w e)) k never then = rw (ne-eqb m 0 (never m e)) k
 export-keeps {now = now} (exports-answer {a} (accepts w e)) k never then = of-store _ now (then a e)
 
-asks-form : (batch : Bytes) → All Byte batch → CallForm (applying (batchOf batch))
-asks-form batch h = go (batchOf batch) refl
+pub asks-form : (number : ℕ) (batch : Bytes) → number ≤ top32 → All Byte batch → CallForm (applying number (batchOf batch))
+asks-form number batch small h = go (batchOf batch) refl
   where
-    go : (o : Option (List Ask)) → batchOf batch ≡ o → CallForm (applying o)
+    go : (o : Option (List Ask)) → batchOf batch ≡ o → CallForm (applying number o)
     go none e = tt
-    go (some asks) e = batch-of-back batch asks h e .2
+    go (some asks) e = (small, batch-of-back batch asks h e .2)
 
 -- each public call
-called-keeps : {s t : Bytes} {e : Call × Bool} (es : List Entry) → Called s e t → Keeping s es →
+pub called-keeps : {s t : Bytes} {e : Call × Bool} (es : List Entry) → Called s e t → Keeping s es →
     Keeping t (cond (e .1) (noted (e .0) es) es)
 unfolding formatAnswer
 called-keeps {s} {t} es (formats {r} w) k =
     let z : r ≡ 0 = w .answer ∙ ap (λ b. cond b 0 1) (size-right k) in
     let fresh : Keeping t (noted formatting es) = subst (λ x. Keeping x (entry 0 [] ∷ [])) (sym (w .bytes)) (fresh-keeps s (size-right k)) in
     subst (λ b. Keeping t (cond b (noted formatting es) es)) (sym (eq-eqb r 0 z)) fresh
-called-keeps {s} es (applies batch h w) k =
-    export-keeps w k (λ m e. never-0 (4 ∷ 5 ∷ 6 ∷ 7 ∷ []) refl (apply-refusals (batchOf batch) (storeOf s) m e))
+called-keeps {s} es (applies number batch small h w) k =
+    export-keeps w k (λ m e. never-0 (4 ∷ 5 ∷ 18 ∷ 7 ∷ []) refl (apply-refusals number (batchOf batch) (storeOf s) m e))
     (λ a e.
-    let f = asks-form batch h in
-    let kept = keeps-calls leafHash innerHash leaf-hash-whole inner-hash-whole (applying (batchOf batch) ∷ []) (storeOf s) es (f, tt) (k .keeps) in
+    let f = asks-form number batch small h in
+    let kept = keeps-calls leafHash innerHash leaf-hash-whole inner-hash-whole (applying number (batchOf batch) ∷ []) (storeOf s) es (f, tt) (k .keeps) in
     rw e at kept)
 called-keeps {s} es (prunes {n} w) k =
     export-keeps w k (λ m e. never-0 (8 ∷ []) refl (prune-refusals n (storeOf s) m e))
@@ -160,12 +161,21 @@ no-grants-zeros : hash leafHash innerHash (treeOf []) ≡ zeros
 unfolding treeOf grantsAt
 no-grants-zeros = refl
 
+-- a store before the first call
+pub formatted-keeps : {before t : Bytes} → Formats before 0 t → (sizeRight (length before) ≡ true) × Keeping t (entry 0 [] ∷ [])
+unfolding formatAnswer
+formatted-keeps {before} w =
+    let size = right _ (w .answer) in
+    (size, subst (λ x. Keeping x (entry 0 [] ∷ [])) (sym (w .bytes)) (fresh-keeps before size))
+  where
+    right : (b : Bool) → _≡_ {A = ℕ} 0 (cond b 0 1) → b ≡ true
+    right true e = refl
+    right false e = absurd (omega arith)
+
 -- Demand 3. After any sequence of public calls a store that only they wrote is sound and holds what its history gives it.
 pub store-after-history : {history : List (Call × Bool)} {t : Bytes} → Life history t → AfterHistory history t
-unfolding formatAnswer
 store-after-history {t = t} life =
-    let start = subst (λ x. Keeping x (entry 0 [] ∷ [])) (sym (life .formatted .bytes)) (fresh-keeps (life .before) (right _ (life .formatted .answer))) in
-    let k = calls-keep (entry 0 [] ∷ []) (life .calls) start in
+    let k = calls-keep (entry 0 [] ∷ []) (life .calls) (formatted-keeps (life .formatted) .1) in
     let h = keeps-holds leafHash innerHash (storeOf t) _ (k .keeps) in
     record {
       sound = sound-bytes k;
@@ -180,7 +190,3 @@ store-after-history {t = t} life =
       paths = paths-have-at-most-256-steps leafHash innerHash (storeOf t) (k .keeps .sound);
       proofs = λ w. told-short w;
     }
-  where
-    right : (b : Bool) → _≡_ {A = ℕ} 0 (cond b 0 1) → b ≡ true
-    right true e = refl
-    right false e = absurd (omega arith)

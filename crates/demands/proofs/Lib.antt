@@ -11,5 +11,6 @@ pub mod Shortest
 pub mod Versions
 pub mod Cut
 pub mod Histories
+pub mod Gaps
 pub mod Desk
 pub mod Changed

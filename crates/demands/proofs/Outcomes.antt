@@ -17,8 +17,9 @@ module _ {s : Bytes} {a b : ℕ} where
   pub one-check : Checks s a → Checks s b → a ≡ b
   one-check x y = one-answer s a b x y
 
-  pub one-apply : (batch : Bytes) {f t u g h : Bytes} → Applies batch s f a t g → Applies batch s f b u h → (a ≡ b) × (t ≡ u) × (g ≡ h)
-  one-apply batch x y = one-export x y
+  pub one-apply : (number : ℕ) (batch : Bytes) {f t u g h : Bytes} → Applies number batch s f a t g → Applies number batch s f b u h →
+      (a ≡ b) × (t ≡ u) × (g ≡ h)
+  one-apply number batch x y = one-export x y
 
   pub one-prune : (n : ℕ) {f t u g h : Bytes} → Prunes n s f a t g → Prunes n s f b u h → (a ≡ b) × (t ≡ u) × (g ≡ h)
   one-prune n x y = one-export x y

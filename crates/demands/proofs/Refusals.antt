@@ -17,7 +17,7 @@ use Rattle.meaning.specs.Calls.{Answer, refused, accepted, Result, isKept, appl
 use Rattle.meaning.specs.Reading.{Verdict, End, broken, atLeaf, atGap, walk, seen}
 use Rattle.meaning.specs.Proving.{Sought, lostWay, nobody, somebody, neighbour, absenceFrom, absenceAt, proveEnd, proveSeen, proof, proofLength, fitted, prove}
 use Rattle.meaning.proofs.Empty.{proof-by-searches}
-use Rattle.histories.specs.Claims.{ApplyRefuses, not-in-form, not-ascending, no-version-left, no-room}
+use Rattle.histories.specs.Claims.{ApplyRefuses, not-in-form, not-ascending, not-above-latest, no-room}
 use Rattle.histories.proofs.Theorems.{apply-refuses-exactly, prune-refuses-exactly}
 use Rattle.nodehash.specs.Node.{leafHash, innerHash}
 use Rattle.layout.specs.Headers.{Headed, refusal, header, sizeRight, headerOf}
@@ -45,7 +45,7 @@ OneOf (m ∷ ms) n = (n ≡ m) ⊎ OneOf ms n
 pub clash : {A : Type 0} → _≡_ {A = ℕ} 0 1 → A
 clash e = absurd (omega arith)
 
-with-number : {A : Type 0} {m n : ℕ} → _≡_ {A = Answer A} (refused m) (refused n) → n ≡ m
+pub with-number : {A : Type 0} {m n : ℕ} → _≡_ {A = Answer A} (refused m) (refused n) → n ≡ m
 with-number e = cc
 
 pub no-refusal : {A B : Type 0} {a : A} {n : ℕ} → _≡_ {A = Answer A} (accepted a) (refused n) → B
@@ -67,7 +67,7 @@ never-0 (m ∷ ms) h (inr o) z = never-0 ms (and-right (not (eqb m 0)) (nonzero 
 
 -- an answer by its number
 module _ {A : Type 0} where
-  refused-of : (a : Answer A) → (numberOf a ≡ 0 → ⊥) → (n : ℕ) × (a ≡ refused n)
+  pub refused-of : (a : Answer A) → (numberOf a ≡ 0 → ⊥) → (n : ℕ) × (a ≡ refused n)
   refused-of (refused n) f = (n, refl)
   refused-of (accepted x) f = absurd (f refl)
 
@@ -110,22 +110,22 @@ module _ {A : Type 0} {call : Store → Result A} {s : Bytes} where
   export-writes-nothing (exports-refusal d) h = (refused-writes-nothing d, refl)
   export-writes-nothing (exports-answer d) h = absurd (h refl)
 
--- Apply: 4, 5, 6, 7.
-pub apply-refusals : (asks : Option (List Ask)) (st : Store) (n : ℕ) → apply leafHash innerHash asks st .answer ≡ refused n →
-    OneOf (4 ∷ 5 ∷ 6 ∷ 7 ∷ []) n
-apply-refusals asks st n e = go (apply-refuses-exactly leafHash innerHash asks st n .0 e)
+-- Apply: 4, 5, 18, 7.
+pub apply-refusals : (number : ℕ) (asks : Option (List Ask)) (st : Store) (n : ℕ) →
+    apply leafHash innerHash number asks st .answer ≡ refused n → OneOf (4 ∷ 5 ∷ 18 ∷ 7 ∷ []) n
+apply-refusals number asks st n e = go (apply-refuses-exactly leafHash innerHash number asks st n .0 e)
   where
-    go : {o : Option (List Ask)} {m : ℕ} → ApplyRefuses leafHash innerHash st o m → OneOf (4 ∷ 5 ∷ 6 ∷ 7 ∷ []) m
+    go : {o : Option (List Ask)} {m : ℕ} → ApplyRefuses leafHash innerHash number st o m → OneOf (4 ∷ 5 ∷ 18 ∷ 7 ∷ []) m
     go not-in-form = inl refl
     go (not-ascending a) = inr (inl refl)
-    go (no-version-left a l) = inr (inr (inl refl))
+    go (not-above-latest a l) = inr (inr (inl refl))
     go (no-room a l f) = inr (inr (inr (inl refl)))
 
 -- Prune: 8.
 pub prune-refusals : (n : ℕ) (st : Store) (m : ℕ) → prune n st .answer ≡ refused m → OneOf (8 ∷ []) m
 prune-refusals n st m e = inl (prune-refuses-exactly leafHash innerHash n st m .0 e .0)
 
-module _ (batch : Bytes) {s f t g : Bytes} {r : ℕ} (w : Applies batch s f r t g) where
+module _ (number : ℕ) (batch : Bytes) {s f t g : Bytes} {r : ℕ} (w : Applies number batch s f r t g) where
   pub refused-apply-writes-nothing : (r ≡ 0 → ⊥) → (t ≡ s) × (g ≡ f)
   refused-apply-writes-nothing = export-writes-nothing w
 

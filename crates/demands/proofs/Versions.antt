@@ -1,6 +1,6 @@
 -- Demand 2, an accepted batch: the bytes that are left are those of the store that the definition leaves, and what is told is the definition's
 -- answer, field by field. Assumes nothing.
-use Prim.Native.Nat.{ℕ, _+_, _≤_}
+use Prim.Native.Nat.{ℕ, _≤_, _<_}
 use native.Mathlib.Omega.{arith}
 use mathlib.Core.Path.{_≡_, refl, ap, sym, _∙_, subst}
 use mathlib.Core.List.{List, [], _∷_, _++_, append-nil}
@@ -27,30 +27,30 @@ use Rattle.promises.specs.Calls.{SoundBytes, accepts, exports-refusal, exports-
 use Rattle.applying_c.specs.Export.{answerBytes, told}
 use Rattle.meaning.specs.Answers.{foundBytes}
 use Rattle.grants.specs.Contracts.{Applies, ReadsRoot, ReadsKey}
-use Rattle.demands.specs.Claims.{treeOfVersion, grantsOfVersion, latestOf, NextVersion}
+use Rattle.demands.specs.Claims.{treeOfVersion, grantsOfVersion, latestOf, ReadsAs, NextVersion}
 use Rattle.demands.proofs.Hashes.{leaf-hash-whole, inner-hash-whole, hash-whole}
 use Rattle.demands.proofs.Stored.{stored-is, stored-sound}
 use Rattle.demands.proofs.Refusals.{no-refusal, never-0, apply-refusals, does-numbers}
-use Rattle.demands.proofs.Showing.{root-of-tree, key-of-grants}
+use Rattle.demands.proofs.Showing.{root-of-tree, key-of-grants, same-tree-reads-as}
 
 -- what an accepted batch makes, on the store of the bytes
-record Makes (batch s t g : Bytes) : Type 0 where
+record Makes (number : ℕ) (batch s t g : Bytes) : Type 0 where
   asks : List Ask
   asked : batchOf batch ≡ some asks
   was : SoundBytes s
   answer : Applied
-  accepted-as : apply leafHash innerHash (some asks) (storeOf s) .answer ≡ accepted answer
-  bytes : t ≡ storeBytes (apply leafHash innerHash (some asks) (storeOf s) .store)
+  accepted-as : apply leafHash innerHash number (some asks) (storeOf s) .answer ≡ accepted answer
+  bytes : t ≡ storeBytes (apply leafHash innerHash number (some asks) (storeOf s) .store)
   told-as : g ≡ told answer
 
-makes : (batch : Bytes) {s f t g : Bytes} {r : ℕ} → Applies batch s f r t g → r ≡ 0 → Makes batch s t g
+makes : (number : ℕ) (batch : Bytes) {s f t g : Bytes} {r : ℕ} → Applies number batch s f r t g → r ≡ 0 → Makes number batch s t g
 unfolding refuse
-makes batch {s} (exports-refusal d) z =
-    absurd (never-0 (1 ∷ 2 ∷ 3 ∷ 4 ∷ 5 ∷ 6 ∷ 7 ∷ []) refl (does-numbers (4 ∷ 5 ∷ 6 ∷ 7 ∷ []) (apply-refusals (batchOf batch)) d) z)
-makes batch {s} (exports-answer {a} (accepts w e)) z = go (batchOf batch) refl e
+makes number batch {s} (exports-refusal d) z =
+    absurd (never-0 (1 ∷ 2 ∷ 3 ∷ 4 ∷ 5 ∷ 18 ∷ 7 ∷ []) refl (does-numbers (4 ∷ 5 ∷ 18 ∷ 7 ∷ []) (apply-refusals number (batchOf batch)) d) z)
+makes number batch {s} (exports-answer {a} (accepts w e)) z = go (batchOf batch) refl e
   where
-    go : (o : Option (List Ask)) → batchOf batch ≡ o → apply leafHash innerHash o (storeOf s) .answer ≡ accepted a →
-        Makes batch s (storeBytes (apply leafHash innerHash (batchOf batch) (storeOf s) .store)) (told a)
+    go : (o : Option (List Ask)) → batchOf batch ≡ o → apply leafHash innerHash number o (storeOf s) .answer ≡ accepted a →
+        Makes number batch s (storeBytes (apply leafHash innerHash number (batchOf batch) (storeOf s) .store)) (told a)
     go none f h = no-refusal (sym h)
     go (some asks) f h = record {
       asks = asks;
@@ -58,7 +58,7 @@ makes batch {s} (exports-answer {a} (accepts w e)) z = go (batchOf batch) refl e
       was = w;
       answer = a;
       accepted-as = h;
-      bytes = ap (λ o. storeBytes (apply leafHash innerHash o (storeOf s) .store)) f;
+      bytes = ap (λ o. storeBytes (apply leafHash innerHash number o (storeOf s) .store)) f;
       told-as = refl;
     }
 
@@ -91,23 +91,23 @@ free-most (used r ∷ s) = let h = free-most s in omega arith
 free-most (spoiled x ∷ s) = let h = free-most s in omega arith
 
 -- the count is that of the records that the new tree needs
-count-is : (asks : List Ask) (st : Store) (a : Applied) → apply leafHash innerHash (some asks) st .answer ≡ accepted a →
-    a .count ≡ length (recordsNeeded leafHash innerHash asks st)
+count-is : (number : ℕ) (asks : List Ask) (st : Store) (a : Applied) → apply leafHash innerHash number (some asks) st .answer ≡ accepted a →
+    a .count ≡ length (recordsNeeded leafHash innerHash number asks st)
 unfolding refuse
-count-is asks st a =
-    apply-cases leafHash innerHash (λ o. o .answer ≡ accepted a → a .count ≡ length (recordsNeeded leafHash innerHash asks st)) asks st
+count-is number asks st a =
+    apply-cases leafHash innerHash (λ o. o .answer ≡ accepted a → a .count ≡ length (recordsNeeded leafHash innerHash number asks st)) number asks st
     (λ b e. no-refusal (sym e)) (λ b m e. no-refusal (sym e)) (λ b m h e. no-refusal (sym e)) (λ b m room e. same e)
   where
     same : {x : Applied} → _≡_ {A = Answer Applied} (accepted x) (accepted a) → a .count ≡ x .count
     same e = cc
 
-module _ {batch s t g : Bytes} (bytes : All Byte batch) (m : Makes batch s t g) where
+module _ {number : ℕ} {batch s t g : Bytes} (small : number ≤ top32) (bytes : All Byte batch) (m : Makes number batch s t g) where
   abbrev st′ : Store
-  st′ = apply leafHash innerHash (some (m .asks)) (storeOf s) .store
+  st′ = apply leafHash innerHash number (some (m .asks)) (storeOf s) .store
 
-  made : AfterApply leafHash innerHash (m .asks) (storeOf s) (m .answer) st′
+  made : AfterApply leafHash innerHash number (m .asks) (storeOf s) (m .answer) st′
   made =
-      apply-keeps-sound leafHash innerHash leaf-hash-whole inner-hash-whole (m .asks) (storeOf s) (m .answer) (m .was .sound)
+      apply-keeps-sound leafHash innerHash leaf-hash-whole inner-hash-whole number (m .asks) (storeOf s) (m .answer) (m .was .sound) small
       (batch-of-back batch (m .asks) bytes (m .asked) .2) (m .accepted-as)
 
   sound : SoundBytes t
@@ -116,8 +116,8 @@ module _ {batch s t g : Bytes} (bytes : All Byte batch) (m : Makes batch s t g) 
   store-is : storeOf t ≡ st′
   store-is = ap storeOf (m .bytes) ∙ stored-is st′ (made .sound)
 
-  after : AfterApply leafHash innerHash (m .asks) (storeOf s) (m .answer) (storeOf t)
-  after = subst (AfterApply leafHash innerHash (m .asks) (storeOf s) (m .answer)) (sym store-is) made
+  after : AfterApply leafHash innerHash number (m .asks) (storeOf s) (m .answer) (storeOf t)
+  after = subst (AfterApply leafHash innerHash number (m .asks) (storeOf s) (m .answer)) (sym store-is) made
 
   kept : Kept (storeOf t) (latestOf t)
   kept = (sound .sound .header .0, omega arith)
@@ -129,24 +129,21 @@ module _ {batch s t g : Bytes} (bytes : All Byte batch) (m : Makes batch s t g) 
   root32 = ap length (after .root) ∙ hash-whole (unversioned (treeOfVersion t (latestOf t))) .0
 
   version : field 0 4 g ≡ latestOf t
-  version =
-      let small = sound .sound .header .1 in
-      version-told (m .answer) (m .told-as) root32 (omega (arith, after .version)) ∙ after .version
+  version = version-told (m .answer) (m .told-as) root32 (omega (arith, after .version, after .latest)) ∙ after .version
 
   root : slice 4 32 g ≡ hash leafHash innerHash (unversioned (treeOfVersion t (latestOf t)))
   root = root-told (m .answer) (m .told-as) root32 ∙ after .root
 
-  needed : recordsNeeded leafHash innerHash (m .asks) (storeOf s)
+  needed : recordsNeeded leafHash innerHash number (m .asks) (storeOf s)
       ≡ newRecords leafHash innerHash (latestOf t) (treeOfVersion t (latestOf t))
   needed =
-      let next : latestOf s + 1 ≡ latestOf t = omega (arith, after .latest) in
-      ap (λ v. newRecords leafHash innerHash v (nextTree v (treeOfVersion s (latestOf s)) (m .asks))) next
+      ap (λ v. newRecords leafHash innerHash v (nextTree v (treeOfVersion s (latestOf s)) (m .asks))) (sym (after .latest))
       ∙ ap (newRecords leafHash innerHash (latestOf t)) (sym (after .tree))
 
   count : field 36 4 g ≡ length (newRecords leafHash innerHash (latestOf t) (treeOfVersion t (latestOf t)))
   count =
       let few : m .answer .count ≤ top32 = omega (arith, after .count, free-most (storeOf s .slots), m .was .sound .size .1) in
-      count-told (m .answer) (m .told-as) root32 few ∙ count-is (m .asks) (storeOf s) (m .answer) (m .accepted-as) ∙ ap length needed
+      count-told (m .answer) (m .told-as) root32 few ∙ count-is number (m .asks) (storeOf s) (m .answer) (m .accepted-as) ∙ ap length needed
 
   root-read : {f h : Bytes} {r : ℕ} → ReadsRoot t (field 0 4 g) f r h → (r ≡ 0) × (h ≡ slice 4 32 g)
   root-read {f} {h} {r} x = let e = root-of-tree sound kept (subst (λ v. ReadsRoot t v f r h) version x) in (e .0, e .1 ∙ sym root)
@@ -157,7 +154,17 @@ module _ {batch s t g : Bytes} (bytes : All Byte batch) (m : Makes batch s t g) 
       let e = key-of-grants sound kept whole (subst (λ v. ReadsKey t v k f r h) version x) in
       (e .0, e .1 ∙ ap (λ gs. foundBytes (answerOf k gs)) (after .grants))
 
-  next-version : NextVersion batch s t g
+  older-reads : (v : ℕ) → Kept (storeOf s) v → ReadsAs t v s v
+  older-reads v k =
+      same-tree-reads-as sound (m .was) (omega (arith, after .oldest, k .0), omega (arith, after .above, k .1)) k (after .older v k)
+
+  between-reads : (v : ℕ) → latestOf s ≤ v → v < number → ReadsAs t v s (latestOf s)
+  between-reads v l h =
+      let header = m .was .sound .header .0 in
+      same-tree-reads-as sound (m .was) (omega (arith, after .oldest), omega (arith, after .latest)) (header, omega arith)
+      (after .between v l (omega (arith, after .latest)))
+
+  next-version : NextVersion number batch s t g
   next-version = record {
     asks = m .asks;
     asked = m .asked;
@@ -167,16 +174,20 @@ module _ {batch s t g : Bytes} (bytes : All Byte batch) (m : Makes batch s t g) 
     answer = m .answer;
     answered = m .told-as;
     after = after;
-    version = version ∙ omega (arith, after .latest);
-    latest = omega (arith, after .latest);
+    version = version ∙ after .latest;
+    latest = after .latest;
+    above = omega (arith, after .above, after .latest);
     grants = after .grants;
     tree = tree;
     root = root ∙ ap (hash leafHash innerHash) tree;
     count = count;
     reads-root = root-read;
     reads-key = key-read;
+    older = older-reads;
+    between = between-reads;
   }
 
--- An accepted batch makes the next version.
-pub accepted-batch-makes-next-version : (batch : Bytes) {s f t g : Bytes} → All Byte batch → Applies batch s f 0 t g → NextVersion batch s t g
-accepted-batch-makes-next-version batch bytes w = next-version bytes (makes batch w refl)
+-- An accepted batch makes the version of its number.
+pub accepted-batch-makes-next-version : (number : ℕ) (batch : Bytes) {s f t g : Bytes} → number ≤ top32 → All Byte batch →
+    Applies number batch s f 0 t g → NextVersion number batch s t g
+accepted-batch-makes-next-version number batch small bytes w = next-version small bytes (makes number batch w refl)

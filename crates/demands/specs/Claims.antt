@@ -1,5 +1,5 @@
 -- What the demands claim of the public calls, in the words of their contracts. Assumes nothing.
-use Prim.Native.Nat.{ℕ, _+_, _≤_, _<_}
+use Prim.Native.Nat.{ℕ, _≤_, _<_}
 use mathlib.Core.Path.{_≡_}
 use mathlib.Core.Logic.{_↔_}
 use mathlib.Core.Bool.{Bool, true, false}
@@ -81,8 +81,15 @@ pub record AfterHistory (history : List (Call × Bool)) (t : Bytes) : Type 0 whe
   -- no proof is longer than 17,080 bytes
   pub proofs : {v : ℕ} {k room f u g : Bytes} → Proves t v k room f 0 u g → num g ≤ 17080
 
--- Demand 2: a batch was applied to the bytes s and accepted; t are the bytes left, and g what was told: version 4, root 32, count 4.
-pub record NextVersion (batch s t g : Bytes) : Type 0 where
+-- Document 02, 2026-13: version v of the bytes t reads as version w of the bytes s.
+pub record ReadsAs (t : Bytes) (v : ℕ) (s : Bytes) (w : ℕ) : Type 0 where
+  pub root : {f h f₁ h₁ : Bytes} {r r₁ : ℕ} → ReadsRoot t v f r h → ReadsRoot s w f₁ r₁ h₁ → (r ≡ 0) × (r₁ ≡ 0) × (h ≡ h₁)
+  pub key : {k f h f₁ h₁ : Bytes} {r r₁ : ℕ} → Whole32 k → ReadsKey t v k f r h → ReadsKey s w k f₁ r₁ h₁ →
+      (r ≡ 0) × (r₁ ≡ 0) × (h ≡ h₁)
+
+-- Demand 2: a batch was applied to the bytes s as a number and accepted; t are the bytes left, and g what was told: version 4, root 32, count
+-- 4. By 2026-13 the next version is that of the given number.
+pub record NextVersion (number : ℕ) (batch s t g : Bytes) : Type 0 where
   pub asks : List Ask
   pub asked : batchOf batch ≡ some asks
   pub was : SoundBytes s
@@ -91,10 +98,11 @@ pub record NextVersion (batch s t g : Bytes) : Type 0 where
   -- the new tree with its node versions, the retired nodes, and nothing else
   pub answer : Applied
   pub answered : g ≡ told answer
-  pub after : AfterApply leafHash innerHash asks (storeOf s) answer (storeOf t)
-  -- the new version is the next, and its grants are the old ones with the batch
-  pub version : field 0 4 g ≡ latestOf s + 1
-  pub latest : latestOf t ≡ latestOf s + 1
+  pub after : AfterApply leafHash innerHash number asks (storeOf s) answer (storeOf t)
+  -- the new version has the given number, which is above latest, and its grants are the old ones with the batch
+  pub version : field 0 4 g ≡ number
+  pub latest : latestOf t ≡ number
+  pub above : latestOf s < number
   pub grants : grantsOfVersion t (latestOf t) ≡ grantsWith asks s
   pub tree : unversioned (treeOfVersion t (latestOf t)) ≡ treeOf (grantsWith asks s)
   -- the root is that of those grants, and the count that of the new records
@@ -104,14 +112,19 @@ pub record NextVersion (batch s t g : Bytes) : Type 0 where
   pub reads-root : {f h : Bytes} {r : ℕ} → ReadsRoot t (field 0 4 g) f r h → (r ≡ 0) × (h ≡ slice 4 32 g)
   pub reads-key : {k f h : Bytes} {r : ℕ} → Whole32 k → ReadsKey t (field 0 4 g) k f r h →
       (r ≡ 0) × (h ≡ foundBytes (answerOf k (grantsWith asks s)))
+  -- each older version reads as it did, and each one between as the latest before
+  pub older : (v : ℕ) → Kept (storeOf s) v → ReadsAs t v s v
+  pub between : (v : ℕ) → latestOf s ≤ v → v < number → ReadsAs t v s (latestOf s)
 
--- Pruning the bytes s to n was accepted; t are the bytes left, and g what was told: the count of records freed.
+-- Pruning the bytes s to n was accepted; t are the bytes left, and g what was told: the count of records freed. Versions that were not
+-- published are kept like any other.
 pub record Pruned (n : ℕ) (s t g : Bytes) : Type 0 where
   pub was : SoundBytes s
   pub sound : SoundBytes t
   pub bytes : t ≡ storeBytes (storeOf t)
   -- the versions still kept have their trees, and as many slots more are free as was told
   pub after : AfterPrune leafHash innerHash n (storeOf s) (num g) (storeOf t)
+  pub reads : (v : ℕ) → Kept (storeOf t) v → ReadsAs t v s v
   -- the slot of every record retired since n or earlier is free, 120 zero bytes; every other slot has the bytes it had
   pub frees : (i : ℕ) (r : Record) → At (storeOf s) i r → retiredBy n r ≡ true → slotIn i t ≡ zeroBytes slotSize
   pub keeps : (i : ℕ) → i < length (storeOf s .slots) → ((r : Record) → At (storeOf s) i r → retiredBy n r ≡ false) → slotIn i t ≡ slotIn i s

@@ -1,4 +1,5 @@
--- Document 01, 'The desk's example', over the bytes: what the contracts of apply and prune say of each row of the table. Assumes nothing.
+-- Document 01, 'The desk's example', over the bytes: what the contracts of apply, prune and the root read say of each row of the
+-- table; and of the rows with gaps between the numbers, and of numbers that are not above latest (2026-13). Assumes nothing.
 use Prim.Native.Nat.{ℕ}
 use mathlib.Core.Path.{_≡_}
 use mathlib.Core.Logic.{_↔_}
@@ -6,12 +7,12 @@ use Rattle.terms.specs.Bits.{Bytes, All}
 use Rattle.terms.specs.Fields.{le}
 use Rattle.meaning.specs.Calls.{Answer, refused, accepted}
 use Rattle.meaning.specs.Answers.{numberOf}
-use Rattle.meaning.specs.Desk.{Row, applies, prunes, table}
+use Rattle.meaning.specs.Desk.{Row, applies, prunes, reads, table, gaps, notAbove}
 use Rattle.nodehash.specs.Node.{leafHash, innerHash}
 use Rattle.layout.specs.Stores.{storeBytes}
 use Rattle.batch.specs.Batch.{asksBytes}
 use Rattle.applying_c.specs.Export.{told}
-use Rattle.grants.specs.Contracts.{Applies, Prunes}
+use Rattle.grants.specs.Contracts.{Applies, Prunes, ReadsRoot}
 
 -- What is left of the array f for an answer: what is told, or f where the call is refused.
 abbrev pub toldOf : {A : Type 0} → (A → Bytes) → Answer A → Bytes → Bytes
@@ -21,11 +22,19 @@ toldOf tell (accepted a) f = tell a
 -- On the bytes of the row's store the call answers what the row says, tells it, and leaves the bytes of the row's store after it; and the
 -- contract allows that.
 abbrev pub RowOverBytes : Row → Type 0
-RowOverBytes (applies st batch answer end) = (f : Bytes) (r : ℕ) (t g : Bytes) →
-    Applies (asksBytes batch) (storeBytes st) f r t g ↔ ((r ≡ numberOf answer) × (t ≡ storeBytes end) × (g ≡ toldOf told answer f))
+RowOverBytes (applies st number batch answer end) = (f : Bytes) (r : ℕ) (t g : Bytes) →
+    Applies number (asksBytes batch) (storeBytes st) f r t g ↔ ((r ≡ numberOf answer) × (t ≡ storeBytes end) × (g ≡ toldOf told answer f))
 RowOverBytes (prunes st n answer end) = (f : Bytes) (r : ℕ) (t g : Bytes) →
     Prunes n (storeBytes st) f r t g ↔ ((r ≡ numberOf answer) × (t ≡ storeBytes end) × (g ≡ toldOf (le 4) answer f))
+RowOverBytes (reads st v answer) = (f : Bytes) (r : ℕ) (g : Bytes) →
+    ReadsRoot (storeBytes st) v f r g ↔ ((r ≡ numberOf answer) × (g ≡ toldOf (λ root. root) answer f))
 
--- The table over the bytes, its hashes those of nodes.
+-- The tables over the bytes, their hashes those of nodes.
 abbrev pub DeskOverBytes : Type 0
 DeskOverBytes = All RowOverBytes (table leafHash innerHash)
+
+abbrev pub GapsOverBytes : Type 0
+GapsOverBytes = All RowOverBytes (gaps leafHash innerHash)
+
+abbrev pub NotAboveOverBytes : Type 0
+NotAboveOverBytes = All RowOverBytes (notAbove leafHash innerHash)

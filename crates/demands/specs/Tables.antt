@@ -1,5 +1,6 @@
 -- Document 01, 'Numbers of refusal': the table of each public call. 'Order: 12; then 1, 2; apply 3, 4, 5, 6, 7; prune 3, 8; reads 8, 3, 9;
--- the proof check 10, 11. Format gives only 1.' By 2026-03 proving tests for 14 after 8. Assumes nothing.
+-- the proof check 10, 11. Format gives only 1.' By 2026-03 proving tests for 14 after 8; by 2026-13 apply tests for 18 where 6 was. Assumes
+-- nothing.
 use Prim.Native.Nat.{ℕ}
 use mathlib.Core.List.{[], _∷_, _++_}
 use Rattle.terms.specs.Bits.{Bytes}
@@ -19,9 +20,9 @@ formatRows s = (1, WrongLength s) ∷ []
 abbrev pub checkRows : Bytes → Table
 checkRows s = soundRows s
 
--- Apply: 1, 2, 3; then 4, 5, 6, 7.
-abbrev pub applyRows : Bytes → Bytes → Table
-applyRows batch s = soundRows s ++ batchRows batch s
+-- Apply: 1, 2, 3; then 4, 5, 18, 7.
+abbrev pub applyRows : ℕ → Bytes → Bytes → Table
+applyRows number batch s = soundRows s ++ batchRows number batch s
 
 -- Prune: 1, 2, 3; then 8.
 abbrev pub pruneRows : ℕ → Bytes → Table

@@ -22,9 +22,10 @@ pub record Formats (s : Bytes) (r : ℕ) (t : Bytes) : Type 0 where
 abbrev pub Checks : Bytes → ℕ → Type 0
 Checks s r = Checked s r
 
--- Applying the bytes of a batch to the bytes s answers r and leaves the bytes t; the array f for version, root and count is left as g.
-abbrev pub Applies : Bytes → Bytes → Bytes → ℕ → Bytes → Bytes → Type 0
-Applies batch s f r t g = apply.ApplyExports batch s f r t g
+-- Applying the bytes of a batch to the bytes s as a number answers r and leaves the bytes t; the array f for version, root and count is left
+-- as g.
+abbrev pub Applies : ℕ → Bytes → Bytes → Bytes → ℕ → Bytes → Bytes → Type 0
+Applies number batch s f r t g = apply.ApplyExports number batch s f r t g
 
 -- Pruning the bytes s to version n answers r and leaves the bytes t; the array f for the count is left as g.
 abbrev pub Prunes : ℕ → Bytes → Bytes → ℕ → Bytes → Bytes → Type 0

@@ -18,12 +18,17 @@ pub extern "C" fn grants_check(store: &[u8]) -> u32
     soundness::check(store)
 }
 
-// Makes the next version of a batch; answer: version, root and count of new records, little-endian.
+// Makes the version of a number above latest of a batch; answer: version, root and count of new records, little-endian.
 #[no_mangle]
-pub extern "C" fn grants_apply(store: &mut [u8], batch: &[u8], answer: &mut [u8; 40]) -> u32
-    ensures { λ r. ⌜ Applies (now (batch .entry)) (now (store .entry)) (now (answer .entry)) r (now (store .exit)) (now (answer .exit)) ⌝ }
+pub extern "C" fn grants_apply(
+    store: &mut [u8],
+    number: u32,
+    batch: &[u8],
+    answer: &mut [u8; 40],
+) -> u32
+    ensures { λ r. ⌜ Applies number (now (batch .entry)) (now (store .entry)) (now (answer .entry)) r (now (store .exit)) (now (answer .exit)) ⌝ }
 {
-    applying_c::grants_apply(store, batch, answer)
+    applying_c::grants_apply(store, number, batch, answer)
 }
 
 // Frees every record retired since a version or earlier; freed: how many, little-endian.

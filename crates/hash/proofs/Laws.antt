@@ -30,6 +30,10 @@ all-drop zero x h = h
 all-drop (suc n) [] h = tt
 all-drop (suc n) (b ∷ x) (h, hx) = all-drop n x hx
 
+-- 32 bytes read as a hash are those bytes.
+pub read-whole : {a y z : Bytes} → a ≡ take 32 y → length y ≡ 32 → y ≡ z → a ≡ z
+read-whole {a} {y} e l f = e ∙ take-all 32 y (omega (arith, l)) ∙ f
+
 -- The bytes of any hash are 32 bytes.
 pub hash-whole : (h : Hash) → Whole32 (hashBytes h)
 unfolding hashBytes

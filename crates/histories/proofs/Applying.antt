@@ -1,6 +1,7 @@
--- A store after a new tree is written is sound, with the new tree and the trees it had. Each record afterwards has stayed, has ended with
--- the new version, or is fresh; and the new tree grows from the latest one. Nothing here speaks of batches. Assumes nothing.
-use Prim.Native.Nat.{ℕ, suc, _<_, _≤_}
+-- A store after a new tree is written is sound, with the new tree and the trees it had; up to the new version the latest tree lasts. Each
+-- record afterwards has stayed, has ended with the new version, or is fresh; and the new tree grows from the latest one. Nothing here
+-- speaks of batches. Assumes nothing.
+use Prim.Native.Nat.{ℕ, _<_, _≤_}
 use native.Mathlib.Omega.{arith}
 use mathlib.Core.Path.{_≡_, refl, ap, ap₂, sym, _∙_, subst}
 use mathlib.Core.Logic.{_⊎_, inl, inr, _↔_}
@@ -18,23 +19,15 @@ use Rattle.terms.proofs.Members.{In, all-in}
 use Rattle.meaning.specs.Tree.{VTree, vinner, unversioned}
 use Rattle.meaning.specs.Store.{find, treeAtVersion, freeSlots, marked, hasNode, retire, retiredBy, recordsOf, newRecords, settled}
 use Rattle.meaning.specs.Sound.{At, Kept, Found, NodeOf, Lives, Hashes32, Stands}
-use Rattle.meaning.proofs.Finding.{some-inner, none-not}
-use Rattle.meaning.proofs.Roots.{top-own}
+use Rattle.meaning.proofs.Finding.{some-inner}
 use Rattle.meaning.proofs.Shaped.{Shaped, no-lone-leaf}
 use Rattle.histories.proofs.Slots.{Has, Unique, unique-find}
 use Rattle.histories.proofs.Writing.{contents, turned, turned-node, retire-at, placed-at, has-retire, spoiled-retire, find-retire, unique-retire, free-retire, has-placed, spoiled-placed, placed-has, length-written, New, Older, find-older, unique-placed}
-use Rattle.histories.proofs.Standing.{Formed, Exact, own-roots, Alike, stands-alike, node-found, reads-root, kid-stands}
-use Rattle.histories.proofs.Whole.{Lifetime, life-later, retired-later, not-retired, Whole}
+use Rattle.histories.proofs.Standing.{Formed, Exact, Alike, stands-alike, node-found, reads-root, kid-stands}
+use Rattle.histories.proofs.Whole.{Lifetime, retired-later, not-retired, Whole}
 use Rattle.histories.proofs.Nodes.{recordsAt, top-record, kid-records, Origin, origin, origin-node, hasNode-node, node-hasNode, new-distinct, new-in, in-new}
 use Rattle.histories.proofs.Growing.{Grows, grow-same, grow-none, grow-leaf, grow-inner, grows-node, Grown}
 use Rattle.histories.proofs.Forms.{record-form}
-
-pub last-or : (v m : ℕ) → v ≤ suc m → (v ≤ m) ⊎ (v ≡ suc m)
-last-or v m h = go (leb v m) refl
-  where
-    go : (b : Bool) → leb v m ≡ b → (v ≤ m) ⊎ (v ≡ suc m)
-    go true e = inl (leb-true v m e)
-    go false e = inr (omega (arith, leb-false v m e))
 
 module _ (leafHash innerHash : Bytes → Bytes → Bytes) where
   -- the new tree stands where its new records are found and the old tree stands
@@ -57,7 +50,7 @@ module _ (leafHash innerHash : Bytes → Bytes → Bytes) where
       )
 
   module _ (lh : Hashes32 leafHash) (ih : Hashes32 innerHash) (st : Store) (w : Whole leafHash innerHash st)
-      (new : ℕ) (fresh-is : new ≡ suc (st .latest)) (small : new ≤ top32) (now : VTree) (g : Grown new (treeAtVersion st (st .latest)) now)
+      (new : ℕ) (above : st .latest < new) (small : new ≤ top32) (now : VTree) (g : Grown new (treeAtVersion st (st .latest)) now)
       (room : length (newRecords leafHash innerHash new now) ≤ freeSlots (st .slots)) where
     abbrev old : VTree
     old = treeAtVersion st (st .latest)
@@ -154,16 +147,47 @@ module _ (leafHash innerHash : Bytes → Bytes → Bytes) where
             subst (At st′ i) (ap₂ (λ x y. cond (x && not y) (marked new r) r) e there) (turned-at i r a)
         go false e = subst (At st′ i) (ap (λ x. cond (x && not (hasNode r after)) (marked new r) r) e) (turned-at i r a)
 
-    -- the nodes of the kept trees have versions from 1 to latest, those of the new tree from 1 to the new version
-    old-number : (v : ℕ) → Kept st v → (x : ℕ) (q : Place) → NodeOf x q (treeAtVersion st v) [] → (1 ≤ x) × (x < new)
-    old-number v k x q n =
-        let f = node-found leafHash innerHash st x q [] (treeAtVersion st v) (w .stands v k) n in
+    -- t stands in the old store as the tree of v, a version before the new one
+    record Was (v : ℕ) (t : VTree) : Type 0 where
+      earlier : v < new
+      stands : Stands leafHash innerHash st [] t
+      exact : Exact (st .slots) v t
+
+    -- what lives at latest is not retired at all
+    unretired : (r : Record) → Has r (st .slots) → retiredBy (st .latest) r ≡ false → r .retired ≡ 0
+    unretired r h e = elim (w .lifetimes r h) [
+      | inl z ↦ z
+      | inr z ↦ absurd (omega (arith, z .0, z .2, retired-later (st .latest) r e (omega (arith, z .0))))
+    ]
+
+    was-kept : (v : ℕ) → Kept st v → Was v (treeAtVersion st v)
+    was-kept v k = record { earlier = omega (arith, k .1); stands = w .stands v k; exact = w .exact v k }
+
+    -- the latest tree lasts up to the new version
+    was-latest : (v : ℕ) → st .latest ≤ v → v < new → Was v old
+    was-latest v l h = record {
+      earlier = h;
+      stands = w .stands (st .latest) last-kept;
+      exact = λ r i. (
+        λ n.
+            let alive = w .exact (st .latest) last-kept r i .0 n in
+            (omega (arith, alive .0), not-retired v r (λ o. absurd (omega (arith, unretired r i (alive .1))))),
+        λ z.
+            w .exact (st .latest) last-kept r i .1
+            (w .versions r i .1, not-retired (st .latest) r (λ o. omega (arith, retired-later v r (z .1) o))),
+      );
+    }
+
+    -- the nodes of the old trees have versions from 1 to latest, those of the new tree from 1 to the new version
+    old-number : {v : ℕ} {t : VTree} → Was v t → (x : ℕ) (q : Place) → NodeOf x q t [] → (1 ≤ x) × (x < new)
+    old-number {t = t} was x q n =
+        let f = node-found leafHash innerHash st x q [] t (was .stands) n in
         let u = w .versions (f .0) (f .1) in (omega (arith, f .2), omega (arith, f .2))
 
     new-number : (x : ℕ) (q : Place) → NodeOf x q now [] → (1 ≤ x) × (x ≤ top32)
     new-number x q n = elim (grows-node new x q [] (g .grows) n) [
       | inl e ↦ (omega arith, omega arith)
-      | inr m ↦ let u = old-number (st .latest) last-kept x q m in (u .0, omega (arith, u .1))
+      | inr m ↦ let u = old-number (was-kept (st .latest) last-kept) x q m in (u .0, omega (arith, u .1))
     ]
 
     formed′ : Formed (st′ .slots)
@@ -192,30 +216,30 @@ module _ (leafHash innerHash : Bytes → Bytes → Bytes) where
         subst (Lifetime (st .oldest) new) e (inr (omega arith, omega arith, omega arith))
     lifetimes′ r (fresh h e) = inl (origin leafHash innerHash r [] now h .is .retired)
 
-    alike : (v : ℕ) → Kept st v → Alike st st′ (treeAtVersion st v) []
+    stands-old : {v : ℕ} {t : VTree} → Was v t → Stands leafHash innerHash st′ [] t
     unfolding Alike
-    alike v k x q n = find-old x q (old-number v k x q n .1)
-
-    stands-old : (v : ℕ) → Kept st v → Stands leafHash innerHash st′ [] (treeAtVersion st v)
-    stands-old v k = stands-alike leafHash innerHash st st′ [] (treeAtVersion st v) (alike v k) (w .stands v k)
+    stands-old {t = t} was =
+        stands-alike leafHash innerHash st st′ [] t (λ x q n. find-old x q (old-number was x q n .1)) (was .stands)
 
     stands-now : Stands leafHash innerHash st′ [] now
     stands-now =
-        grows-stands st′ new [] (g .grows) (stands-old (st .latest) last-kept) (g .shaped)
+        grows-stands st′ new [] (g .grows) (stands-old (was-kept (st .latest) last-kept)) (g .shaped)
         (λ x h e. find-fresh x (in-new leafHash innerHash new now x h e))
 
     -- at an older version a record lives as before; one that ended now was there to the end
-    exact-old : (v : ℕ) → Kept st v → (r : Record) → Came r → NodeOf (r .version) (r .place) (treeAtVersion st v) [] ↔ Lives v r
+    exact-old : {v : ℕ} {t : VTree} → Was v t → (r : Record) → Came r → NodeOf (r .version) (r .place) t [] ↔ Lives v r
     unfolding marked
-    exact-old v k r (stayed h f) = w .exact v k r h
-    exact-old v k r (ended q h e a b) =
+    exact-old was r (stayed h f) = was .exact r h
+    exact-old {v} {t} was r (ended q h e a b) =
         let there = w .exact (st .latest) last-kept q h .0 a in
-        subst (λ x. NodeOf (x .version) (x .place) (treeAtVersion st v) [] ↔ Lives v x) e (
-          λ n. (w .exact v k q h .0 n .0, not-retired v (marked new q) (λ o. omega arith)),
-          λ z. w .exact v k q h .1 (z .0, not-retired v q (λ o. omega (arith, retired-later (st .latest) q (there .1) o))),
+        subst (λ x. NodeOf (x .version) (x .place) t [] ↔ Lives v x) e (
+          λ n. (was .exact q h .0 n .0, not-retired v (marked new q) (λ o. was .earlier)),
+          λ z. was .exact q h .1 (z .0, not-retired v q (λ o. absurd (omega (arith, unretired q h (there .1))))),
         )
-    exact-old v k r (fresh h e) =
-        (λ n. absurd (omega (arith, old-number v k (r .version) (r .place) n .1)), λ z. absurd (omega (arith, z .0)))
+    exact-old was r (fresh h e) = (
+      λ n. absurd (omega (arith, old-number was (r .version) (r .place) n .1)),
+      λ z. absurd (omega (arith, z .0, was .earlier)),
+    )
 
     -- at the new version live those that stayed in the tree, and the fresh ones
     exact-now : (r : Record) → Came r → NodeOf (r .version) (r .place) now [] ↔ Lives new r
@@ -224,11 +248,7 @@ module _ (leafHash innerHash : Bytes → Bytes → Bytes) where
       where
         alive : NodeOf (r .version) (r .place) old [] → retiredBy new r ≡ false
         alive n =
-            let l = w .exact (st .latest) last-kept r h .0 n in
-            not-retired new r (λ o. elim (w .lifetimes r h) [
-              | inl e ↦ absurd (omega arith)
-              | inr e ↦ absurd (omega (arith, e .2, retired-later (st .latest) r (l .1) o))
-            ])
+            let l = w .exact (st .latest) last-kept r h .0 n in not-retired new r (λ o. absurd (omega (arith, unretired r h (l .1))))
 
         there : NodeOf (r .version) (r .place) now [] → Lives new r
         there n =
@@ -248,31 +268,32 @@ module _ (leafHash innerHash : Bytes → Bytes → Bytes) where
         let t : r .retired ≡ 0 = o .is .retired in
         (λ n. (omega arith, not-retired new r (λ x. absurd (omega arith))), λ z. origin-node leafHash innerHash r [] now o)
 
-    later′ : (r : Record) → Has r (st′ .slots) → (r .retired ≡ 0) ⊎ (r .version < r .retired)
-    later′ r h = life-later (st .oldest) new r (lifetimes′ r (came r h))
+    -- the older versions have their trees, those up to the new one the latest, and the new one the new tree
+    tree-was : {v : ℕ} {t : VTree} → Was v t → treeAtVersion st′ v ≡ t
+    tree-was {v} {t} was = reads-root leafHash innerHash st′ formed′ unique′ v t (stands-old was) (λ r h. exact-old was r (came r h))
 
-    -- the older versions have their trees
     pub tree-old : (v : ℕ) → Kept st v → treeAtVersion st′ v ≡ treeAtVersion st v
-    tree-old v k =
-        let exact : Exact (st′ .slots) v (treeAtVersion st v) = λ r h. exact-old v k r (came r h) in
-        reads-root leafHash innerHash st′ formed′ unique′ v (treeAtVersion st v) (stands-old v k) exact
-        (own-roots (st′ .slots) v (treeAtVersion st v) later′ exact (top-own st v))
+    tree-old v k = tree-was (was-kept v k)
 
-    -- the new version has the new tree
+    pub tree-between : (v : ℕ) → st .latest ≤ v → v < new → treeAtVersion st′ v ≡ old
+    tree-between v l h = tree-was (was-latest v l h)
+
     pub tree-new : treeAtVersion st′ new ≡ now
-    tree-new =
-        let exact : Exact (st′ .slots) new now = λ r h. exact-now r (came r h) in
-        reads-root leafHash innerHash st′ formed′ unique′ new now stands-now exact
-        (own-roots (st′ .slots) new now later′ exact (λ s. elim (g .top) [ inl e ↦ none-not now s e | inr e ↦ e ]))
+    tree-new = reads-root leafHash innerHash st′ formed′ unique′ new now stands-now (λ r h. exact-now r (came r h))
 
-    -- what holds of the older versions and of the new one holds of all that are kept
-    each : (P : ℕ → VTree → Type 0) → ((v : ℕ) → Kept st v → P v (treeAtVersion st v)) → P new now → (v : ℕ) → st .oldest ≤ v → v ≤ new →
+    -- what holds of the older trees and of the new one holds of all that are kept
+    each : (P : ℕ → VTree → Type 0) → ((v : ℕ) (t : VTree) → Was v t → P v t) → P new now → (v : ℕ) → st .oldest ≤ v → v ≤ new →
         P v (treeAtVersion st′ v)
-    each P f k v l h = go (last-or v (st .latest) (omega arith))
+    each P f k v l h = go (leb v (st .latest)) (leb new v) refl refl
       where
-        go : (v ≤ st .latest) ⊎ (v ≡ suc (st .latest)) → P v (treeAtVersion st′ v)
-        go (inl m) = subst (P v) (sym (tree-old v (l, m))) (f v (l, m))
-        go (inr m) = subst (λ x. P x (treeAtVersion st′ x)) (fresh-is ∙ sym m) (subst (P new) (sym tree-new) k)
+        go : (a b : Bool) → leb v (st .latest) ≡ a → leb new v ≡ b → P v (treeAtVersion st′ v)
+        go true b c e = let kept : Kept st v = (l, leb-true v (st .latest) c) in subst (P v) (sym (tree-old v kept)) (f v _ (was-kept v kept))
+        go false true c e =
+            subst (λ x. P x (treeAtVersion st′ x)) (omega (arith, leb-true new v e)) (subst (P new) (sym tree-new) k)
+        go false false c e =
+            let past : st .latest ≤ v = omega (arith, leb-false v (st .latest) c) in
+            let short : v < new = leb-false new v e in
+            subst (P v) (sym (tree-between v past short)) (f v _ (was-latest v past short))
 
     pub settled-whole : Whole leafHash innerHash st′
     unfolding settled
@@ -284,8 +305,8 @@ module _ (leafHash innerHash : Bytes → Bytes → Bytes) where
       unique = unique′;
       versions = λ r h. versions′ r (came r h);
       lifetimes = λ r h. lifetimes′ r (came r h);
-      stands = λ v k. each (λ v t. Stands leafHash innerHash st′ [] t) stands-old stands-now v (k .0) (k .1);
+      stands = λ v k. each (λ v t. Stands leafHash innerHash st′ [] t) (λ v t was. stands-old was) stands-now v (k .0) (k .1);
       exact = λ v k r h.
-          each (λ v t. NodeOf (r .version) (r .place) t [] ↔ Lives v r) (λ v l. exact-old v l r (came r h)) (exact-now r (came r h))
+          each (λ v t. NodeOf (r .version) (r .place) t [] ↔ Lives v r) (λ v t was. exact-old was r (came r h)) (exact-now r (came r h))
           v (k .0) (k .1);
     }

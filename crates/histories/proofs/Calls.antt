@@ -1,14 +1,14 @@
 -- What apply and prune answer and leave, by cases; and that an accepted call keeps the store sound and does what is claimed.
 -- Assumes nothing.
-use Prim.Native.Nat.{ℕ, suc, _+_, _-_, _≤_, _<_}
+use Prim.Native.Nat.{ℕ, _-_, _≤_, _<_}
 use native.Mathlib.Omega.{arith}
 use mathlib.Core.Path.{_≡_, refl, ap, sym, _∙_, subst}
 use mathlib.Core.Bool.{Bool, true, false, cond, _&&_}
 use mathlib.Core.List.{List, []}
 use mathlib.Core.Option.{some}
 use lib.ListN.{length, length-map}
-use lib.Dec.{leb, ltb, eqb}
-use borrow.Author.Tests.{leb-true, leb-false, ltb-true, ltb-false, eqb-true, eqb-false}
+use lib.Dec.{leb, ltb}
+use borrow.Author.Tests.{leb-true, leb-false, ltb-true, ltb-false}
 use Rattle.terms.specs.Bits.{Bytes, All}
 use Rattle.terms.specs.Records.{Ask, Record, Store}
 use Rattle.terms.specs.Form.{AskForm, top32}
@@ -22,7 +22,7 @@ use Rattle.histories.proofs.Whole.{Whole, sound-whole, whole-sound}
 use Rattle.histories.proofs.Pruning.{cut, cut-tree, cut-whole}
 use Rattle.histories.proofs.Growing.{Grown, next-grown, next-grants}
 use Rattle.histories.proofs.Trees.{kept-shaped}
-use Rattle.histories.proofs.Applying.{ends-at, stays-at, tree-old, tree-new, settled-whole}
+use Rattle.histories.proofs.Applying.{ends-at, stays-at, tree-old, tree-between, tree-new, settled-whole}
 
 -- prune
 
@@ -57,82 +57,83 @@ module _ (leafHash innerHash : Bytes → Bytes → Bytes) where
 
   -- apply
 
-  -- the tree that a batch makes, the records it needs, the answer and the store that it leaves
-  abbrev pub treeMade : List Ask → Store → VTree
-  treeMade batch st = nextTree (st .latest + 1) (treeAtVersion st (st .latest)) batch
+  -- the tree that a batch makes as the version of a number, the records it needs, the answer and the store that it leaves
+  abbrev pub treeMade : ℕ → List Ask → Store → VTree
+  treeMade number batch st = nextTree number (treeAtVersion st (st .latest)) batch
 
-  abbrev pub recordsNeeded : List Ask → Store → List Record
-  recordsNeeded batch st = newRecords leafHash innerHash (st .latest + 1) (treeMade batch st)
+  abbrev pub recordsNeeded : ℕ → List Ask → Store → List Record
+  recordsNeeded number batch st = newRecords leafHash innerHash number (treeMade number batch st)
 
-  abbrev pub answerTo : List Ask → Store → Applied
-  answerTo batch st = record {
-    version = st .latest + 1;
-    root = hash leafHash innerHash (unversioned (treeMade batch st));
-    count = length (recordsNeeded batch st);
+  abbrev pub answerTo : ℕ → List Ask → Store → Applied
+  answerTo number batch st = record {
+    version = number;
+    root = hash leafHash innerHash (unversioned (treeMade number batch st));
+    count = length (recordsNeeded number batch st);
   }
 
-  abbrev pub storeAfter : List Ask → Store → Store
-  storeAfter batch st = settled leafHash innerHash (st .latest + 1) (treeAtVersion st (st .latest)) (treeMade batch st) st
+  abbrev pub storeAfter : ℕ → List Ask → Store → Store
+  storeAfter number batch st =
+      settled leafHash innerHash number (treeAtVersion st (st .latest)) (treeMade number batch st) st
 
-  pub apply-cases : (P : Result Applied → Type 0) (batch : List Ask) (st : Store) →
+  pub apply-cases : (P : Result Applied → Type 0) (number : ℕ) (batch : List Ask) (st : Store) →
       (ascending batch ≡ false → P (refuse 5 st)) →
-      (ascending batch ≡ true → st .latest ≡ top32 → P (refuse 6 st)) →
-      (ascending batch ≡ true → (st .latest ≡ top32 → ⊥) → freeSlots (st .slots) < length (recordsNeeded batch st) → P (refuse 7 st)) →
-      (ascending batch ≡ true → (st .latest ≡ top32 → ⊥) → length (recordsNeeded batch st) ≤ freeSlots (st .slots) →
-      P (record { answer = accepted (answerTo batch st); store = storeAfter batch st })) →
-      P (apply leafHash innerHash (some batch) st)
+      (ascending batch ≡ true → number ≤ st .latest → P (refuse 18 st)) →
+      (ascending batch ≡ true → st .latest < number → freeSlots (st .slots) < length (recordsNeeded number batch st) → P (refuse 7 st)) →
+      (ascending batch ≡ true → st .latest < number → length (recordsNeeded number batch st) ≤ freeSlots (st .slots) →
+      P (record { answer = accepted (answerTo number batch st); store = storeAfter number batch st })) →
+      P (apply leafHash innerHash number (some batch) st)
   unfolding applyAs publish
-  apply-cases P batch st f₅ f₆ f₇ g = order (ascending batch) refl
+  apply-cases P number batch st f₅ f₁₈ f₇ g = order (ascending batch) refl
     where
-      space : ascending batch ≡ true → (st .latest ≡ top32 → ⊥) →
-          (b : Bool) → ltb (freeSlots (st .slots)) (length (recordsNeeded batch st)) ≡ b →
-          P (cond b (refuse 7 st) (record { answer = accepted (answerTo batch st); store = storeAfter batch st }))
+      space : ascending batch ≡ true → st .latest < number →
+          (b : Bool) → ltb (freeSlots (st .slots)) (length (recordsNeeded number batch st)) ≡ b →
+          P (cond b (refuse 7 st) (record { answer = accepted (answerTo number batch st); store = storeAfter number batch st }))
       space o m true e = f₇ o m (ltb-true _ _ e)
       space o m false e = g o m (ltb-false _ _ e)
 
-      number : ascending batch ≡ true → (b : Bool) → eqb (st .latest) top32 ≡ b →
-          P (cond b (refuse 6 st) (applyAs leafHash innerHash (st .latest + 1) batch st))
-      number o true e = f₆ o (eqb-true (st .latest) top32 e)
-      number o false e = space o (eqb-false (st .latest) top32 e) _ refl
+      above : ascending batch ≡ true → (b : Bool) → ltb (st .latest) number ≡ b →
+          P (cond b (applyAs leafHash innerHash number batch st) (refuse 18 st))
+      above o true e = space o (ltb-true (st .latest) number e) _ refl
+      above o false e = f₁₈ o (ltb-false (st .latest) number e)
 
       order : (b : Bool) → ascending batch ≡ b →
-          P (cond b (cond (eqb (st .latest) top32) (refuse 6 st) (applyAs leafHash innerHash (st .latest + 1) batch st)) (refuse 5 st))
-      order true e = number e _ refl
+          P (cond b (cond (ltb (st .latest) number) (applyAs leafHash innerHash number batch st) (refuse 18 st)) (refuse 5 st))
+      order true e = above e _ refl
       order false e = f₅ e
 
-  pub settled-after : Hashes32 leafHash → Hashes32 innerHash → (batch : List Ask) (st : Store) → Sound leafHash innerHash st →
-      All AskForm batch → (st .latest ≡ top32 → ⊥) → length (recordsNeeded batch st) ≤ freeSlots (st .slots) →
-      AfterApply leafHash innerHash batch st (answerTo batch st) (storeAfter batch st)
+  pub settled-after : Hashes32 leafHash → Hashes32 innerHash → (number : ℕ) (batch : List Ask) (st : Store) → Sound leafHash innerHash st →
+      number ≤ top32 → All AskForm batch → st .latest < number → length (recordsNeeded number batch st) ≤ freeSlots (st .slots) →
+      AfterApply leafHash innerHash number batch st (answerTo number batch st) (storeAfter number batch st)
   unfolding settled
-  settled-after lh ih batch st s ok m room =
+  settled-after lh ih number batch st s small ok above room =
       let w : Whole leafHash innerHash st = sound-whole leafHash innerHash st s in
-      let new : ℕ = st .latest + 1 in
       let old : VTree = treeAtVersion st (st .latest) in
+      let made : VTree = treeMade number batch st in
       let kept : Kept st (st .latest) = (s .header .0, omega arith) in
       let shape = kept-shaped leafHash innerHash st w (st .latest) kept in
-      let grown : Grown new old (treeMade batch st) = next-grown new old shape batch ok in
-      let next : new ≡ suc (st .latest) = omega arith in
-      let small : new ≤ top32 = omega (arith, s .header .1) in
-      let tree : treeAtVersion (storeAfter batch st) new ≡ treeMade batch st =
-      tree-new leafHash innerHash lh ih st w new next small (treeMade batch st) grown room in
+      let grown : Grown number old made = next-grown number old shape batch ok in
+      let tree : treeAtVersion (storeAfter number batch st) number ≡ made =
+      tree-new leafHash innerHash lh ih st w number above small made grown room in
       let before : List Record = recordsOf leafHash innerHash old in
-      let after : List Record = recordsOf leafHash innerHash (treeMade batch st) in
+      let after : List Record = recordsOf leafHash innerHash made in
       record {
-        sound = whole-sound leafHash innerHash (storeAfter batch st)
-            (settled-whole leafHash innerHash lh ih st w new next small (treeMade batch st) grown room);
-        capacity = length-written (recordsNeeded batch st) new before after (st .slots);
+        sound = whole-sound leafHash innerHash (storeAfter number batch st)
+            (settled-whole leafHash innerHash lh ih st w number above small made grown room);
+        capacity = length-written (recordsNeeded number batch st) number before after (st .slots);
         oldest = refl;
-        latest = next;
+        latest = refl;
+        above = above;
         tree = tree;
-        grants = ap grantsIn tree ∙ next-grants new old shape batch ok;
-        older = tree-old leafHash innerHash lh ih st w new next small (treeMade batch st) grown room;
+        grants = ap grantsIn tree ∙ next-grants number old shape batch ok;
+        older = tree-old leafHash innerHash lh ih st w number above small made grown room;
+        between = tree-between leafHash innerHash lh ih st w number above small made grown room;
         ends = λ i r a n m.
-            ends-at leafHash innerHash lh ih st w new next small (treeMade batch st) grown room i r a n
+            ends-at leafHash innerHash lh ih st w number above small made grown room i r a n
             (λ k. m (subst (λ t. NodeOf (r .version) (r .place) t []) (sym tree) k));
         stays = λ i r a f.
-            stays-at leafHash innerHash lh ih st w new next small (treeMade batch st) grown room i r a
+            stays-at leafHash innerHash lh ih st w number above small made grown room i r a
             (λ n. subst (λ t. NodeOf (r .version) (r .place) t []) tree (f n));
         version = refl;
         root = ap (λ t. hash leafHash innerHash (unversioned t)) (sym tree);
-        count = free-written (recordsNeeded batch st) new before after (st .slots) room;
+        count = free-written (recordsNeeded number batch st) number before after (st .slots) room;
       }

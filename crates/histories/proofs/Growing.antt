@@ -90,10 +90,14 @@ root-top new vnone = inl refl
 root-top new (vleaf v g) = inr refl
 root-top new (vinner v l r) = inr refl
 
+pub next-top : (new : ℕ) (old : VTree) (batch : List Ask) →
+    (nextTree new old batch ≡ vnone) ⊎ (topVersion (nextTree new old batch) ≡ new)
+unfolding nextTree
+next-top new old batch = root-top new (versioned new old (treeOf (withBatch batch (grantsIn old))))
+
 -- the tree after a batch
 pub record Grown (new : ℕ) (old now : VTree) : Type 0 where
   pub grows : Grows new old now
-  pub top : (now ≡ vnone) ⊎ (topVersion now ≡ new)
   pub shaped : Shaped [] (unversioned now)
 
 module _ (new : ℕ) (old : VTree) (s : Shaped [] (unversioned old)) (batch : List Ask) (ok : All AskForm batch) where
@@ -117,7 +121,6 @@ module _ (new : ℕ) (old : VTree) (s : Shaped [] (unversioned old)) (batch : Li
   unfolding nextTree after
   next-grown = record {
     grows = root-grows new (versioned-grows new 256 [] old (treeOf after) refl s (treeOf-shaped after after-ascending after-form));
-    top = root-top new (versioned new old (treeOf after));
     shaped = rw next-tree (treeOf-shaped after after-ascending after-form);
   }
 

@@ -1,6 +1,6 @@
 -- After any list of calls a store is sound and holds what the calls have granted: each call keeps this, and so does their list.
 -- Assumes nothing.
-use Prim.Native.Nat.{ℕ, zero, suc, _+_, _-_, _≤_}
+use Prim.Native.Nat.{ℕ, zero, suc, _+_, _-_, _≤_, _<_}
 use native.Mathlib.Omega.{arith}
 use mathlib.Core.Path.{_≡_, refl, ap, ap₂, sym, _∙_, subst}
 use mathlib.Core.Logic.{_⊎_, inl, inr}
@@ -16,15 +16,14 @@ use Rattle.meaning.specs.Tree.{grantsIn}
 use Rattle.meaning.specs.Store.{formatted, treeAtVersion}
 use Rattle.meaning.specs.Sound.{mostSlots, Kept, Hashes32, Sound}
 use Rattle.meaning.specs.Calls.{Applied, refuse}
-use Rattle.meaning.specs.History.{Call, formatting, applying, pruning, looking, CallForm, isAccepted, after, took, run, history, Entry, entry, keptBy, noted, ledger, grantsOf, heldFrom, held, Holds}
+use Rattle.meaning.specs.History.{Call, formatting, applying, pruning, looking, CallForm, isAccepted, after, took, run, history, Entry, entry, keptBy, lasting, noted, ledger, grantsOf, heldFrom, held, Holds}
 use Rattle.meaning.proofs.Shaped.{shaped-treeOf}
 use Rattle.histories.specs.Claims.{AfterApply, AfterPrune}
 use Rattle.histories.proofs.Whole.{sound-whole, whole-sound}
 use Rattle.histories.proofs.Pruning.{formatted-tree, formatted-whole}
 use Rattle.histories.proofs.Trees.{kept-shaped}
-use Rattle.histories.proofs.Applying.{last-or}
 use Rattle.histories.proofs.Calls.{prune-cases, cut-after, apply-cases, settled-after}
-use Rattle.histories.proofs.Ledger.{grants-here, grants-there, kept-first, grants-kept, grants-dropped}
+use Rattle.histories.proofs.Ledger.{grants-here, grants-there, grants-lasting, grants-unlasting, kept-first, grants-kept, grants-dropped}
 
 -- the grants that a version of a store holds
 abbrev holding : Store → ℕ → List Grant
@@ -35,6 +34,13 @@ abbrev newest : Store → Entry
 newest st = entry (st .latest) (holding st (st .latest))
 
 -- what a store holds by itself
+
+last-or : (v m : ℕ) → v ≤ suc m → (v ≤ m) ⊎ (v ≡ suc m)
+last-or v m h = go (leb v m) refl
+  where
+    go : (b : Bool) → leb v m ≡ b → (v ≤ m) ⊎ (v ≡ suc m)
+    go true e = inl (leb-true v m e)
+    go false e = inr (omega (arith, leb-false v m e))
 
 from-gives : (st : Store) (o n v : ℕ) → o ≤ v → v ≤ o + n → grantsOf v (heldFrom st o n) ≡ some (holding st v)
 from-gives st o zero v l h = let e : o ≡ v = omega arith in grants-here v (entry o (holding st o)) [] e ∙ ap (λ x. some (holding st x)) e
@@ -126,44 +132,66 @@ module _ (leafHash innerHash : Bytes → Bytes → Bytes) where
       go v f false e = grants-dropped v n es (leb-false n v e)
 
   -- a batch
-  keeps-applied : (batch : List Ask) (st st′ : Store) (es : List Entry) {answer : Applied} → Keeps st es →
-      AfterApply leafHash innerHash batch st answer st′ →
-      Keeps st′ (noted (applying (some batch)) es)
-  keeps-applied batch st st′ es k a = subst (Keeps st′) (sym is-noted) (record {
+  keeps-applied : (number : ℕ) (batch : List Ask) (st st′ : Store) (es : List Entry) {answer : Applied} → Keeps st es →
+      AfterApply leafHash innerHash number batch st answer st′ →
+      Keeps st′ (noted (applying number (some batch)) es)
+  keeps-applied number batch st st′ es k a = subst (Keeps st′) (sym is-noted) (record {
     sound = a .sound;
-    first = (es, refl);
-    gives = λ v h. gives-at v (h .0) (last-or v (st .latest) (omega (arith, a .latest, h .1)));
+    first = (older, refl);
+    gives = gives-at;
     only = λ v f.
-        grants-there v (newest st′) es (λ e. f (omega (arith, a .sound .header .0), omega arith))
-        ∙ k .only v (λ h. f (omega (arith, a .oldest, h .0), omega (arith, a .latest, h .1)));
+        grants-there v (newest st′) older (λ e. f (omega (arith, a .sound .header .0), omega arith))
+        ∙ unlasting v (λ l h. f (omega (arith, a .oldest, k .sound .header .0), omega (arith, a .latest)))
+        ∙ k .only v (λ h. f (omega (arith, a .oldest, h .0), omega (arith, a .above, h .1)));
   })
     where
-      is-noted : noted (applying (some batch)) es ≡ newest st′ ∷ es
-      is-noted =
-          ap (noted (applying (some batch))) (k .first .1)
-          ∙ ap₂ _∷_ (ap₂ (λ v gs. entry v gs) (sym (a .latest)) (sym (a .grants))) (sym (k .first .1))
+      -- the versions before the new one
+      older : List Entry
+      older = lasting (number - suc (st .latest)) (newest st) (k .first .0)
 
-      gives-at : (v : ℕ) → st′ .oldest ≤ v → (v ≤ st .latest) ⊎ (v ≡ suc (st .latest)) →
-          grantsOf v (newest st′ ∷ es) ≡ some (holding st′ v)
-      gives-at v l (inl h) =
-          let kept : Kept st v = (omega (arith, a .oldest), h) in
-          grants-there v (newest st′) es (λ z. omega (arith, a .latest))
-          ∙ k .gives v kept
-          ∙ ap (λ t. some (grantsIn t)) (sym (a .older v kept))
-      gives-at v l (inr h) =
-          let e : st′ .latest ≡ v = a .latest ∙ sym h in grants-here v (newest st′) es e ∙ ap (λ x. some (holding st′ x)) e
+      is-noted : noted (applying number (some batch)) es ≡ newest st′ ∷ older
+      is-noted =
+          ap (noted (applying number (some batch))) (k .first .1)
+          ∙ ap (_∷ older) (ap₂ (λ v gs. entry v gs) (sym (a .latest)) (sym (a .grants)))
+
+      unlasting : (v : ℕ) → (st .latest < v → v < number → ⊥) → grantsOf v older ≡ grantsOf v es
+      unlasting v f =
+          grants-unlasting v (number - suc (st .latest)) (newest st) (k .first .0) (λ l h. f l (omega arith))
+          ∙ ap (grantsOf v) (sym (k .first .1))
+
+      gives-at : (v : ℕ) → Kept st′ v → grantsOf v (newest st′ ∷ older) ≡ some (holding st′ v)
+      gives-at v h = go (leb v (st .latest)) (leb (st′ .latest) v) refl refl
+        where
+          go : (b c : Bool) → leb v (st .latest) ≡ b → leb (st′ .latest) v ≡ c →
+              grantsOf v (newest st′ ∷ older) ≡ some (holding st′ v)
+          go true c p q =
+              let kept : Kept st v = (omega (arith, a .oldest, h .0), leb-true v (st .latest) p) in
+              grants-there v (newest st′) older (λ z. omega (arith, a .above, kept .1))
+              ∙ unlasting v (λ l _. absurd (omega (arith, kept .1)))
+              ∙ k .gives v kept
+              ∙ ap (λ t. some (grantsIn t)) (sym (a .older v kept))
+          go false true p q =
+              let e : st′ .latest ≡ v = omega (arith, h .1, leb-true (st′ .latest) v q) in
+              grants-here v (newest st′) older e ∙ ap (λ x. some (holding st′ x)) e
+          go false false p q =
+              let past = leb-false v (st .latest) p in
+              let short = leb-false (st′ .latest) v q in
+              grants-there v (newest st′) older (λ z. omega arith)
+              ∙ grants-lasting v (number - suc (st .latest)) (newest st) (k .first .0) (omega arith) (omega (arith, a .latest))
+              ∙ ap (λ t. some (grantsIn t)) (sym (a .between v (omega arith) short))
 
   module _ (lh : Hashes32 leafHash) (ih : Hashes32 innerHash) where
-    keeps-call : (c : Call) (st : Store) (es : List Entry) → CallForm c → Keeps st es →
+    pub keeps-call : (c : Call) (st : Store) (es : List Entry) → CallForm c → Keeps st es →
         Keeps (after leafHash innerHash c st) (cond (took leafHash innerHash c st) (noted c es) es)
     unfolding refuse
     keeps-call formatting st es f k = keeps-formatted (length (st .slots)) (k .sound .size)
-    keeps-call (applying none) st es f k = k
-    keeps-call (applying (some batch)) st es f k =
+    keeps-call (applying number none) st es f k = k
+    keeps-call (applying number (some batch)) st es f k =
         apply-cases leafHash innerHash
-        (λ o. Keeps (o .store) (cond (isAccepted (o .answer)) (noted (applying (some batch)) es) es)) batch st
+        (λ o. Keeps (o .store) (cond (isAccepted (o .answer)) (noted (applying number (some batch)) es) es)) number batch st
         (λ e. k) (λ o e. k) (λ o m e. k)
-        (λ o m room. keeps-applied batch st _ es k (settled-after leafHash innerHash lh ih batch st (k .sound) f m room))
+        (λ o m room.
+        keeps-applied number batch st _ es k (settled-after leafHash innerHash lh ih number batch st (k .sound) (f .0) (f .1) m room))
     keeps-call (pruning n) st es f k =
         prune-cases (λ o. Keeps (o .store) (cond (isAccepted (o .answer)) (noted (pruning n) es) es)) n st
         (λ h. k) (λ h. keeps-pruned n st _ es k h (cut-after leafHash innerHash n st (k .sound) h))

@@ -1,14 +1,15 @@
--- The grants of a version in a ledger, when an entry is put before it or the older ones are left out. Assumes nothing.
-use Prim.Native.Nat.{ℕ, _<_, _≤_}
+-- The grants of a version in a ledger, when an entry is put before it, when one lasts, or when the older ones are left out. Assumes
+-- nothing.
+use Prim.Native.Nat.{ℕ, zero, suc, _+_, _<_, _≤_}
 use native.Mathlib.Omega.{arith}
 use mathlib.Core.Path.{_≡_, refl, sym, _∙_}
 use mathlib.Core.Bool.{Bool, true, false, cond, true≢false}
 use mathlib.Core.List.{List, [], _∷_}
 use mathlib.Core.Option.{none, some}
 use lib.Dec.{eqb}
-use borrow.Author.Tests.{le-leb, lt-leb, eqb-true, eq-eqb, ne-eqb}
+use borrow.Author.Tests.{le-leb, lt-leb, eqb-true, eqb-false, eq-eqb, ne-eqb}
 use Rattle.terms.specs.Bits.{filter}
-use Rattle.meaning.specs.History.{Entry, keptBy, grantsOf}
+use Rattle.meaning.specs.History.{Entry, entry, lasting, keptBy, grantsOf}
 
 -- the first entry
 
@@ -17,6 +18,25 @@ grants-here v e es h = rw (eq-eqb (e .version) v h)
 
 pub grants-there : (v : ℕ) (e : Entry) (es : List Entry) → (e .version ≡ v → ⊥) → grantsOf v (e ∷ es) ≡ grantsOf v es
 grants-there v e es h = rw (ne-eqb (e .version) v h)
+
+-- an entry that lasts n versions more
+
+pub grants-lasting : (v n : ℕ) (e : Entry) (es : List Entry) → e .version ≤ v → v ≤ e .version + n →
+    grantsOf v (lasting n e es) ≡ some (e .grants)
+grants-lasting v zero e es l h = grants-here v e es (omega arith)
+grants-lasting v (suc n) e es l h = go (eqb (e .version + suc n) v) refl (λ k. grants-lasting v n e es l k)
+  where
+    go : (b : Bool) → eqb (e .version + suc n) v ≡ b → (v ≤ e .version + n → grantsOf v (lasting n e es) ≡ some (e .grants)) →
+        cond b (some (e .grants)) (grantsOf v (lasting n e es)) ≡ some (e .grants)
+    go true p ih = refl
+    go false p ih = ih (omega (arith, eqb-false (e .version + suc n) v p))
+
+pub grants-unlasting : (v n : ℕ) (e : Entry) (es : List Entry) → (e .version < v → v ≤ e .version + n → ⊥) →
+    grantsOf v (lasting n e es) ≡ grantsOf v (e ∷ es)
+grants-unlasting v zero e es f = refl
+grants-unlasting v (suc n) e es f =
+    grants-there v (entry (e .version + suc n) (e .grants)) (lasting n e es) (λ p. f (omega arith) (omega arith))
+    ∙ grants-unlasting v n e es (λ l h. f l (omega arith))
 
 -- without the versions below n
 

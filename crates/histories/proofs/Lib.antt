@@ -12,4 +12,5 @@ pub mod Unchanged
 pub mod Calls
 pub mod Ledger
 pub mod Histories
+pub mod Gaps
 pub mod Theorems

@@ -14,11 +14,11 @@ use Rattle.meaning.specs.Tree.{vnone}
 use Rattle.meaning.specs.Store.{formatted, find, rootOf, treeAtVersion, onRecord, pruneRecord, pruned}
 use Rattle.meaning.specs.Sound.{mostSlots, Kept, NodeOf, Stands}
 use Rattle.meaning.proofs.Finding.{free-used}
-use Rattle.meaning.proofs.Roots.{root-none, top-own}
+use Rattle.meaning.proofs.Roots.{root-none}
 use Rattle.histories.proofs.Slots.{Has, free-spoiled, find-has, Unique, root-has}
 use Rattle.histories.proofs.Writing.{contents, has-pruned, spoiled-pruned, find-pruned, unique-pruned}
-use Rattle.histories.proofs.Standing.{Formed, Exact, own-roots, Alike, stands-alike, reads-root}
-use Rattle.histories.proofs.Whole.{Lifetime, life-later, retired-later, not-retired, Whole}
+use Rattle.histories.proofs.Standing.{Formed, Exact, Alike, stands-alike, reads-root}
+use Rattle.histories.proofs.Whole.{Lifetime, retired-later, not-retired, Whole}
 
 -- formatting
 
@@ -98,8 +98,6 @@ module _ (leafHash innerHash : Bytes → Bytes → Bytes) (st : Store) (w : Whol
   cut-tree v l =
       reads-root leafHash innerHash (cut n st) cut-formed (unique-pruned n (st .slots) (w .unique)) v (treeAtVersion st v) (cut-stands v l)
       (cut-exact v l)
-      (own-roots (pruned n (st .slots)) v (treeAtVersion st v)
-      (λ r h. life-later (st .oldest) (st .latest) r (w .lifetimes r (has-pruned r n (st .slots) h .0))) (cut-exact v l) (top-own st v))
 
   cut-life : (r : Record) → Has r (pruned n (st .slots)) → Lifetime (st .oldest) (st .latest) r → Lifetime n (st .latest) r
   cut-life r h (inl e) = inl e

@@ -11,8 +11,8 @@ use Rattle.terms.specs.Bits.{Bytes, Place}
 use Rattle.terms.specs.Records.{Record, Slot, free, used, spoiled, Store}
 use Rattle.terms.proofs.Tests.{is-false}
 use Rattle.terms.proofs.Members.{In, getD-in, in-getD}
-use Rattle.meaning.specs.Store.{find, isNode, RootFor, rootOf}
-use Rattle.meaning.specs.Sound.{At}
+use Rattle.meaning.specs.Store.{find, isNode, rootOf}
+use Rattle.meaning.specs.Sound.{At, Lives}
 use Rattle.meaning.proofs.Finding.{Hit, miss, hit, hits, found-in, isNode-eq, isNode-refl, free-used, spoiled-used, used-eq}
 use Rattle.meaning.proofs.Roots.{root-at, no-root}
 
@@ -109,11 +109,11 @@ unique-find s r h k = go _ (hits s (r .version) (r .place))
         let e : i ≡ m .0 = unique-at s h i (m .0) q′ r l g (m .1) (m .2) (w .0) (w .1) in
         ap some (used-eq q′ r (sym g ∙ ap (λ x. getD s x free) e ∙ m .2))
 
--- the root of a version is a record at the empty place that is root for it; where none is found, there is none
-pub root-has : (st : Store) (v : ℕ) (r : Record) → rootOf st v ≡ some r → Has r (st .slots) × (r .place ≡ []) × RootFor v r
+-- the root of a version is a root record that lives then; where none is found, there is none
+pub root-has : (st : Store) (v : ℕ) (r : Record) → rootOf st v ≡ some r → Has r (st .slots) × (r .place ≡ []) × Lives v r
 unfolding At
-root-has st v r e = let (i, a, p, f) = root-at st v r e in (getD-in (st .slots) i free (used r) (a .0) (a .1), p, f)
+root-has st v r e = let (i, a, p, l) = root-at st v r e in (getD-in (st .slots) i free (used r) (a .0) (a .1), p, l)
 
-pub root-not : (st : Store) (v : ℕ) → rootOf st v ≡ none → (r : Record) → Has r (st .slots) → r .place ≡ [] → RootFor v r → ⊥
+pub root-not : (st : Store) (v : ℕ) → rootOf st v ≡ none → (r : Record) → Has r (st .slots) → r .place ≡ [] → Lives v r → ⊥
 unfolding At
-root-not st v e r h p f = let m = in-getD (st .slots) free (used r) h in no-root st v e (m .0) r (m .1, m .2) p f
+root-not st v e r h p l = let m = in-getD (st .slots) free (used r) h in no-root st v e (m .0) r (m .1, m .2) p l

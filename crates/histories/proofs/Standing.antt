@@ -1,9 +1,9 @@
 -- A tree that stands in a store is what is read there: each node is found, and its record names its children. So a tree goes over to
 -- another store that finds the same at its nodes; and it is the tree of the version at which its nodes live. Assumes nothing.
-use Prim.Native.Nat.{ℕ, zero, suc, _+_, _<_, _≤_}
+use Prim.Native.Nat.{ℕ, zero, suc, _+_, _≤_}
 use native.Mathlib.Omega.{arith}
 use mathlib.Core.Path.{_≡_, refl, ap, ap₂, sym, _∙_, subst, subst₂}
-use mathlib.Core.Logic.{_⊎_, inl, inr, _↔_}
+use mathlib.Core.Logic.{inl, inr, _↔_}
 use mathlib.Core.Bool.{true, false}
 use mathlib.Core.List.{List, [], _∷_}
 use mathlib.Core.Option.{Option, none, some, Option·none-ne-some}
@@ -14,11 +14,10 @@ use Rattle.terms.specs.Records.{grant, Body, leafBody, Record, Slot, Store}
 use Rattle.terms.specs.Form.{placeLimit, RecordForm}
 use Rattle.terms.proofs.Places.{length-longer}
 use Rattle.meaning.specs.Tree.{VTree, vnone, vleaf, vinner, topVersion, kid}
-use Rattle.meaning.specs.Store.{find, RootFor, rootOf, treeBelow, treeFound, treeFrom, treeAtVersion, childOf}
+use Rattle.meaning.specs.Store.{find, rootOf, treeBelow, treeFound, treeFrom, treeAtVersion, childOf}
 use Rattle.meaning.specs.Sound.{Found, Stands, NodeOf, Lives}
-use Rattle.meaning.proofs.Finding.{Some}
 use Rattle.meaning.proofs.Nodes.{node-top}
-use Rattle.meaning.proofs.Roots.{root-for, root-lives, root-none}
+use Rattle.meaning.proofs.Roots.{root-none}
 use Rattle.histories.proofs.Slots.{Has, find-has, Unique, unique-find, root-has, root-not}
 use Rattle.histories.proofs.Writing.{contents}
 
@@ -66,20 +65,6 @@ read-root st v n r m e f h =
 -- the nodes of a tree are the records that live at v
 abbrev pub Exact : List Slot → ℕ → VTree → Type 0
 Exact s v t = (r : Record) → Has r s → NodeOf (r .version) (r .place) t [] ↔ Lives v r
-
--- the records at the empty place that are root for v are those that live at v
-abbrev pub OwnRoots : List Slot → ℕ → Type 0
-OwnRoots s v = (r : Record) → Has r s → r .place ≡ [] → RootFor v r ↔ Lives v r
-
--- so it is where v stands at the top of such a tree, and records are retired later than their version or not at all
-pub own-roots : (s : List Slot) (v : ℕ) (t : VTree) → ((r : Record) → Has r s → (r .retired ≡ 0) ⊎ (r .version < r .retired)) →
-    Exact s v t → (Some t → topVersion t ≡ v) → OwnRoots s v
-own-roots s v t later exact top r h p = (
-  root-lives v r (later r h),
-  λ l.
-      let n = node-top (r .version) t [] (subst (λ q. NodeOf (r .version) q t []) p (exact r h .1 l)) in
-      root-for v r (sym (n .1) ∙ top (n .0)),
-)
 
 -- two stores that find the same, but for retirement, at the nodes of a tree
 unfoldable pub Alike : Store → Store → VTree → Place → Type 0
@@ -141,13 +126,13 @@ module _ (leafHash innerHash : Bytes → Bytes → Bytes) where
 
   -- a tree that stands is that of v, where its nodes are the records that live at v: its top is the one root among them
   pub reads-root : (st : Store) → Formed (st .slots) → Unique (st .slots) → (v : ℕ) (t : VTree) → Stands leafHash innerHash st [] t →
-      Exact (st .slots) v t → OwnRoots (st .slots) v → treeAtVersion st v ≡ t
-  reads-root st z u v t s exact own = go _ refl
+      Exact (st .slots) v t → treeAtVersion st v ≡ t
+  reads-root st z u v t s exact = go _ refl
     where
       lives-not : (n : NodeOf (topVersion t) [] t []) → rootOf st v ≡ none → ⊥
       lives-not n e =
           let (q, h, w, p) = node-found st (topVersion t) [] [] t s n in
-          root-not st v e q h p (own q h p .1 (exact q h .0 (subst₂ (λ x y. NodeOf x y t []) (sym w) (sym p) n)))
+          root-not st v e q h p (exact q h .0 (subst₂ (λ x y. NodeOf x y t []) (sym w) (sym p) n))
 
       empty : (o : VTree) → o ≡ t → rootOf st v ≡ none → o ≡ vnone
       empty vnone k e = refl
@@ -157,8 +142,8 @@ module _ (leafHash innerHash : Bytes → Bytes → Bytes) where
       go : (o : Option Record) → rootOf st v ≡ o → treeAtVersion st v ≡ t
       go none e = root-none st v e ∙ sym (empty t refl e)
       go (some r) e =
-          let (h, p, f) = root-has st v r e in
-          let top = node-top (r .version) t [] (subst (λ q. NodeOf (r .version) q t []) p (exact r h .1 (own r h p .0 f))) in
+          let (h, p, l) = root-has st v r e in
+          let top = node-top (r .version) t [] (subst (λ q. NodeOf (r .version) q t []) p (exact r h .1 l)) in
           let found = ap (λ q. find (r .version) q (st .slots)) (sym p) ∙ unique-find (st .slots) r u h in
           read-root st v 255 r refl e found (z r h .versioned .0)
           ∙ ap (λ w. treeFrom 256 (st .slots) w []) (sym (top .1)) ∙ reads st z 256 [] t refl s

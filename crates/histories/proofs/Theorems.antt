@@ -1,33 +1,37 @@
 -- The theorems on what a store holds, in the words of `Sound`, the calls and `Holds`: what accepted calls do, what refused ones leave, and
 -- demand 3 over every list of calls. Assumes nothing.
-use Prim.Native.Nat.{ℕ, _≤_}
+use Prim.Native.Nat.{ℕ, _≤_, _<_}
 use native.Mathlib.Omega.{arith}
-use mathlib.Core.Path.{_≡_, refl, ap, sym, _∙_, subst}
-use mathlib.Core.Logic.{_↔_}
-use mathlib.Core.Bool.{true, false, true≢false}
+use mathlib.Core.Path.{_≡_, refl, ap, ap₂, sym, _∙_, subst}
+use mathlib.Core.Logic.{inl, _↔_}
+use mathlib.Core.Bool.{Bool, true, false, cond, true≢false}
 use mathlib.Core.List.{List, [], _∷_, _++_}
 use mathlib.Core.Option.{Option, none, some}
 use lib.ListN.{length}
 use borrow.Author.Tests.{le-leb}
 use Rattle.terms.specs.Bits.{Bytes, Place, All}
 use Rattle.terms.specs.Records.{Grant, Ask, Body, leafBody, innerBody, Record, Store}
-use Rattle.terms.specs.Form.{placeLimit, GrantForm, AskForm}
-use Rattle.meaning.specs.Tree.{treeOf, hash, unversioned, grantsIn, newRoot, nextTree}
-use Rattle.meaning.specs.Store.{formatted, treeAtVersion}
+use Rattle.terms.specs.Form.{top32, placeLimit, GrantForm, AskForm}
+use Rattle.meaning.specs.Tree.{VTree, vnone, vleaf, vinner, treeOf, hash, grantsAt, unversioned, grantsIn, newRoot, nextTree}
+use Rattle.meaning.specs.Store.{formatted, rootOf, treeAtVersion}
 use Rattle.meaning.specs.Sound.{mostSlots, At, Kept, NodeOf, Lives, Hashes32, Sound}
 use Rattle.meaning.specs.Calls.{Answer, refused, accepted, refuse, isKept, Applied, ascending, prune, apply}
-use Rattle.meaning.specs.Reading.{readRoot}
+use Rattle.meaning.specs.Reading.{Seen, seenAt, seenRoot, seen, walk, readEnd, readKey, rootHash, readRoot}
+use Rattle.meaning.specs.Proving.{proveSeen, hasRoot, proof}
 use Rattle.meaning.specs.History.{Call, formatting, applying, pruning, looking, CallForm, isAccepted, after, took, run, history, Entry, entry, ledger, grantsOf, held, Holds}
+use Rattle.meaning.proofs.Finding.{none-not}
+use Rattle.meaning.proofs.Roots.{root-at, root-none, root-some, top-root}
 use Rattle.meaning.proofs.Runs.{Ascending}
 use Rattle.meaning.proofs.Shaped.{Shaped, shaped-form, shaped-ascending, shaped-treeOf}
-use Rattle.histories.specs.Claims.{NoChange, ApplyRefuses, not-in-form, not-ascending, no-version-left, no-room, AfterApply, AfterPrune}
+use Rattle.histories.specs.Claims.{NoChange, NoGaps, rootIn01, ReadAlike, ApplyRefuses, not-in-form, not-ascending, not-above-latest, no-room, AfterApply, AfterPrune}
 use Rattle.histories.proofs.Standing.{node-found}
 use Rattle.histories.proofs.Whole.{sound-whole, whole-sound}
-use Rattle.histories.proofs.Pruning.{cut, formatted-whole}
+use Rattle.histories.proofs.Pruning.{cut, formatted-tree, formatted-whole}
 use Rattle.histories.proofs.Trees.{kept-shaped, root-hash}
 use Rattle.histories.proofs.Unchanged.{unchanged-without, unchanged-tree}
 use Rattle.histories.proofs.Calls.{prune-cases, cut-after, storeAfter, apply-cases, settled-after}
 use Rattle.histories.proofs.Histories.{keeps-holds, keeps-held, keeps-formatted, keeps-calls}
+use Rattle.histories.proofs.Gaps.{own-calls, own-roots}
 
 -- an answer is refused or accepted, with one number or result
 not-both : {A B : Type 0} {n : ℕ} {x : A} → _≡_ {A = Answer A} (refused n) (accepted x) → B
@@ -46,6 +50,43 @@ not-accepted (accepted x) e = absurd (true≢false e)
 most-bits : (b : Body) → placeLimit b ≤ 256
 most-bits (leafBody k x) = omega arith
 most-bits (innerBody l r) = omega arith
+
+-- the tree of no grants is none
+tree-of-none : treeOf [] ≡ unversioned vnone
+unfolding treeOf grantsAt
+tree-of-none = refl
+
+no-grants : (t : VTree) → unversioned t ≡ unversioned vnone → t ≡ vnone
+no-grants vnone e = refl
+no-grants (vleaf v g) e = let z : _≡_ {A = ℕ} 0 1 = cc in absurd (omega arith)
+no-grants (vinner v l r) e = let z : _≡_ {A = ℕ} 0 1 = cc in absurd (omega arith)
+
+no-tree-no-root : (st : Store) (v : ℕ) → treeAtVersion st v ≡ vnone → rootOf st v ≡ none
+no-tree-no-root st v e = go _ refl
+  where
+    go : (o : Option Record) → rootOf st v ≡ o → o ≡ none
+    go none f = refl
+    go (some r) f = none-not (treeAtVersion st v) (root-some st v r f .0) e
+
+kept-yes : (st : Store) (v : ℕ) → Kept st v → isKept st v ≡ true
+unfolding isKept
+kept-yes st v k = rw (le-leb (st .oldest) v (k .0), le-leb v (st .latest) (k .1))
+
+seen-alike : (st : Store) (v w : ℕ) → rootOf st v ≡ rootOf st w → seen st v ≡ seen st w
+unfolding seen
+seen-alike st v w e = ap (λ o. seenRoot o (λ b d. seenAt 255 (st .slots) (b ∷ []) d)) e
+
+-- versions that are both kept, or both not, and have one root, read alike
+read-alike : (leafHash innerHash : Bytes → Bytes → Bytes) (st : Store) (v w : ℕ) → isKept st v ≡ isKept st w → rootOf st v ≡ rootOf st w →
+    ReadAlike leafHash innerHash st v w
+unfolding readRoot readKey proof
+read-alike leafHash innerHash st v w k e = record {
+  root = ap₂ (λ b o. cond b (accepted (rootHash leafHash innerHash o)) (refused 8)) k e;
+  keys = λ x. ap₂ (λ b z. cond b (readEnd x (walk x 0 [] z)) (refused 8)) k (seen-alike st v w e);
+  proofs = λ x.
+      ap₂ (λ b (z : Bool × Seen). cond b (cond (z .0) (proveSeen x (z .1)) (refused 14)) (refused 8)) k
+      (ap₂ (λ b z. (b, z)) (ap hasRoot e) (seen-alike st v w e));
+}
 
 module _ (leafHash innerHash : Bytes → Bytes → Bytes) where
   -- Formatting: a fresh store is sound.
@@ -70,6 +111,14 @@ module _ (leafHash innerHash : Bytes → Bytes → Bytes) where
       let form = sound-whole leafHash innerHash st s .formed (r .0) (r .1) in
       omega (arith, form .short, most-bits (r .0 .body), ap length (r .3))
 
+  -- A root read of a kept version answers the hash of its tree.
+  root-read-is-hash : (st : Store) → Sound leafHash innerHash st → (v : ℕ) → Kept st v →
+      readRoot leafHash innerHash st v ≡ accepted (hash leafHash innerHash (unversioned (treeAtVersion st v)))
+  unfolding readRoot
+  root-read-is-hash st s v k =
+      rw (kept-yes st v k)
+      (ap accepted (root-hash leafHash innerHash st (sound-whole leafHash innerHash st s) v k))
+
   -- Pruning, accepted.
   pub prune-keeps-sound : (n : ℕ) (st : Store) (freed : ℕ) → Sound leafHash innerHash st → prune n st .answer ≡ accepted freed →
       AfterPrune leafHash innerHash n st freed (prune n st .store)
@@ -79,24 +128,88 @@ module _ (leafHash innerHash : Bytes → Bytes → Bytes) where
       (λ k e. subst (λ x. AfterPrune leafHash innerHash n st x (cut n st)) (same-result e) (cut-after leafHash innerHash n st s k))
 
   -- A batch, accepted.
-  pub apply-keeps-sound : Hashes32 leafHash → Hashes32 innerHash → (batch : List Ask) (st : Store) (answer : Applied) →
-      Sound leafHash innerHash st → All AskForm batch → apply leafHash innerHash (some batch) st .answer ≡ accepted answer →
-      AfterApply leafHash innerHash batch st answer (apply leafHash innerHash (some batch) st .store)
+  pub apply-keeps-sound : Hashes32 leafHash → Hashes32 innerHash → (number : ℕ) (batch : List Ask) (st : Store) (answer : Applied) →
+      Sound leafHash innerHash st → number ≤ top32 → All AskForm batch →
+      apply leafHash innerHash number (some batch) st .answer ≡ accepted answer →
+      AfterApply leafHash innerHash number batch st answer (apply leafHash innerHash number (some batch) st .store)
   unfolding refuse
-  apply-keeps-sound lh ih batch st answer s ok =
-      apply-cases leafHash innerHash (λ o. o .answer ≡ accepted answer → AfterApply leafHash innerHash batch st answer (o .store)) batch st
-      (λ a e. not-both e) (λ a m e. not-both e) (λ a m h e. not-both e)
+  apply-keeps-sound lh ih number batch st answer s small ok =
+      apply-cases leafHash innerHash (λ o. o .answer ≡ accepted answer → AfterApply leafHash innerHash number batch st answer (o .store))
+      number batch st (λ a e. not-both e) (λ a m e. not-both e) (λ a m h e. not-both e)
       (λ a m room e.
-      subst (λ x. AfterApply leafHash innerHash batch st x (storeAfter leafHash innerHash batch st)) (same-result e)
-      (settled-after leafHash innerHash lh ih batch st s ok m room))
+      subst (λ x. AfterApply leafHash innerHash number batch st x (storeAfter leafHash innerHash number batch st)) (same-result e)
+      (settled-after leafHash innerHash lh ih number batch st s small ok m room))
+
+  -- In a sound store, kept versions with one tree have one root.
+  same-tree-same-root : (st : Store) → Sound leafHash innerHash st → (v w : ℕ) → Kept st v → Kept st w →
+      treeAtVersion st v ≡ treeAtVersion st w → rootOf st v ≡ rootOf st w
+  same-tree-same-root st s v w k l e = go _ refl
+    where
+      go : (o : Option Record) → rootOf st v ≡ o → rootOf st v ≡ rootOf st w
+      go none f = f ∙ sym (no-tree-no-root st w (sym e ∙ root-none st v f))
+      go (some r) f =
+          let (i, a, p, alive) = root-at st v r f in
+          let node = subst (λ t. NodeOf (r .version) (r .place) t []) e (s .exact v k i r a .1 alive) in
+          f ∙ sym (top-root st w (s .unique) i r a p node)
+
+  -- A version between two publishings reads as the earlier one: its root is that one's.
+  pub between-reads-as-the-earlier : (number : ℕ) (batch : List Ask) (st : Store) (answer : Applied) (st′ : Store) →
+      Sound leafHash innerHash st → AfterApply leafHash innerHash number batch st answer st′ →
+      (v : ℕ) → st .latest ≤ v → v < number →
+      (rootOf st′ v ≡ rootOf st′ (st .latest)) × ReadAlike leafHash innerHash st′ v (st .latest)
+  between-reads-as-the-earlier number batch st answer st′ s a v l h = (
+    same,
+    read-alike leafHash innerHash st′ v (st .latest) (kept-yes st′ v kept ∙ sym (kept-yes st′ (st .latest) last)) same,
+  )
+    where
+      kept : Kept st′ v
+      kept = (omega (arith, a .oldest, s .header .0), omega (arith, a .latest))
+
+      last : Kept st′ (st .latest)
+      last = (omega (arith, a .oldest, s .header .0), omega (arith, a .above))
+
+      same : rootOf st′ v ≡ rootOf st′ (st .latest)
+      same =
+          same-tree-same-root st′ (a .sound) v (st .latest) kept last
+          (a .between v l (omega (arith, a .latest)) ∙ sym (a .between (st .latest) (omega arith) (a .above)))
+
+  -- A prune between two publishings keeps the earlier tree.
+  pub prune-between-keeps-the-earlier-tree : {number : ℕ} {batch : List Ask} {st : Store} {answer : Applied} {st′ : Store} →
+      AfterApply leafHash innerHash number batch st answer st′ →
+      {n freed : ℕ} {st″ : Store} → AfterPrune leafHash innerHash n st′ freed st″ → st .latest ≤ n → n < number →
+      treeAtVersion st″ n ≡ treeAtVersion st (st .latest)
+  prune-between-keeps-the-earlier-tree a {n} p l h =
+      p .trees n (omega (arith, p .oldest), omega (arith, p .latest, a .latest)) ∙ a .between n l (omega (arith, a .latest))
+
+  -- A kept version that holds no grant has no root, and no record lives then.
+  pub empty-versions-have-no-root-and-no-record : (st : Store) → Sound leafHash innerHash st → (v : ℕ) → Kept st v →
+      grantsIn (treeAtVersion st v) ≡ [] →
+      (rootOf st v ≡ none) × ((i : ℕ) (r : Record) → At st i r → Lives v r → ⊥)
+  empty-versions-have-no-root-and-no-record st s v k e = (
+    no-tree-no-root st v is-none,
+    λ i r a l. subst (λ t. NodeOf (r .version) (r .place) t []) is-none (s .exact v k i r a .1 l),
+  )
+    where
+      is-none : treeAtVersion st v ≡ vnone
+      is-none = no-grants _ (sound-tree-of-grants st s v k .0 ∙ ap treeOf e ∙ tree-of-none)
+
+  -- So it is in an empty stretch: from a publishing that leaves no grant up to the next one.
+  pub empty-stretches-have-no-root-and-no-record : (number : ℕ) (batch : List Ask) (st : Store) (answer : Applied) (st′ : Store) →
+      Sound leafHash innerHash st → AfterApply leafHash innerHash number batch st answer st′ →
+      grantsIn (treeAtVersion st (st .latest)) ≡ [] →
+      (v : ℕ) → st .latest ≤ v → v < number →
+      (rootOf st′ v ≡ none) × ((i : ℕ) (r : Record) → At st′ i r → Lives v r → ⊥)
+  empty-stretches-have-no-root-and-no-record number batch st answer st′ s a e v l h =
+      empty-versions-have-no-root-and-no-record st′ (a .sound) v (omega (arith, a .oldest, s .header .0), omega (arith, a .latest))
+      (ap grantsIn (a .between v l (omega (arith, a .latest))) ∙ e)
 
   -- Refused calls leave the store as it was.
-  pub refused-apply-writes-nothing : (batch : Option (List Ask)) (st : Store) (n : ℕ) →
-      apply leafHash innerHash batch st .answer ≡ refused n → apply leafHash innerHash batch st .store ≡ st
+  pub refused-apply-writes-nothing : (number : ℕ) (batch : Option (List Ask)) (st : Store) (n : ℕ) →
+      apply leafHash innerHash number batch st .answer ≡ refused n → apply leafHash innerHash number batch st .store ≡ st
   unfolding refuse
-  refused-apply-writes-nothing none st n e = refl
-  refused-apply-writes-nothing (some batch) st n e =
-      apply-cases leafHash innerHash (λ o. o .answer ≡ refused n → o .store ≡ st) batch st (λ a k. refl) (λ a m k. refl)
+  refused-apply-writes-nothing number none st n e = refl
+  refused-apply-writes-nothing number (some batch) st n e =
+      apply-cases leafHash innerHash (λ o. o .answer ≡ refused n → o .store ≡ st) number batch st (λ a k. refl) (λ a m k. refl)
       (λ a m h k. refl) (λ a m room k. not-both (sym k)) e
 
   pub refused-prune-writes-nothing : (n : ℕ) (st : Store) (m : ℕ) → prune n st .answer ≡ refused m → prune n st .store ≡ st
@@ -104,35 +217,39 @@ module _ (leafHash innerHash : Bytes → Bytes → Bytes) where
   refused-prune-writes-nothing n st m e =
       prune-cases (λ o. o .answer ≡ refused m → o .store ≡ st) n st (λ h k. refl) (λ h k. not-both (sym k)) e
 
-  -- 4 to 7 are given by apply exactly as the rows say, 8 by prune exactly if the version isn't kept; and no other number.
-  pub apply-refuses-exactly : (batch : Option (List Ask)) (st : Store) (n : ℕ) →
-      (apply leafHash innerHash batch st .answer ≡ refused n) ↔ ApplyRefuses leafHash innerHash st batch n
+  -- 4, 5, 18 and 7 are given by apply exactly as the rows say, 8 by prune exactly if the version isn't kept; and no other number.
+  pub apply-refuses-exactly : (number : ℕ) (batch : Option (List Ask)) (st : Store) (n : ℕ) →
+      (apply leafHash innerHash number batch st .answer ≡ refused n) ↔ ApplyRefuses leafHash innerHash number st batch n
   unfolding refuse
-  apply-refuses-exactly none st n =
-      (λ e. subst (ApplyRefuses leafHash innerHash st none) (same-number e) not-in-form, λ r. none-row r)
+  apply-refuses-exactly number none st n =
+      (λ e. subst (ApplyRefuses leafHash innerHash number st none) (same-number e) not-in-form, λ r. none-row r)
     where
-      none-row : {m : ℕ} → ApplyRefuses leafHash innerHash st none m → _≡_ {A = Answer Applied} (refused 4) (refused m)
+      none-row : {m : ℕ} → ApplyRefuses leafHash innerHash number st none m → _≡_ {A = Answer Applied} (refused 4) (refused m)
       none-row not-in-form = refl
-  apply-refuses-exactly (some batch) st n = (there, back)
+  apply-refuses-exactly number (some batch) st n = (there, back)
     where
-      there : apply leafHash innerHash (some batch) st .answer ≡ refused n → ApplyRefuses leafHash innerHash st (some batch) n
+      Row : ℕ → Type 0
+      Row m = ApplyRefuses leafHash innerHash number st (some batch) m
+
+      there : apply leafHash innerHash number (some batch) st .answer ≡ refused n → Row n
       there =
-          apply-cases leafHash innerHash (λ o. o .answer ≡ refused n → ApplyRefuses leafHash innerHash st (some batch) n) batch st
-          (λ a e. subst (ApplyRefuses leafHash innerHash st (some batch)) (same-number e) (not-ascending a))
-          (λ a l e. subst (ApplyRefuses leafHash innerHash st (some batch)) (same-number e) (no-version-left a l))
-          (λ a l f e. subst (ApplyRefuses leafHash innerHash st (some batch)) (same-number e) (no-room a l f))
+          apply-cases leafHash innerHash (λ o. o .answer ≡ refused n → Row n) number batch st
+          (λ a e. subst Row (same-number e) (not-ascending a))
+          (λ a l e. subst Row (same-number e) (not-above-latest a l))
+          (λ a l f e. subst Row (same-number e) (no-room a l f))
           (λ a l f e. not-both (sym e))
 
-      back : {m : ℕ} → ApplyRefuses leafHash innerHash st (some batch) m → apply leafHash innerHash (some batch) st .answer ≡ refused m
+      back : {m : ℕ} → ApplyRefuses leafHash innerHash number st (some batch) m →
+          apply leafHash innerHash number (some batch) st .answer ≡ refused m
       back (not-ascending a) =
-          apply-cases leafHash innerHash (λ o. o .answer ≡ refused 5) batch st (λ b. refl) (λ b l. absurd (true≢false (sym b ∙ a)))
+          apply-cases leafHash innerHash (λ o. o .answer ≡ refused 5) number batch st (λ b. refl) (λ b l. absurd (true≢false (sym b ∙ a)))
           (λ b l f. absurd (true≢false (sym b ∙ a))) (λ b l f. absurd (true≢false (sym b ∙ a)))
-      back (no-version-left a l) =
-          apply-cases leafHash innerHash (λ o. o .answer ≡ refused 6) batch st (λ b. absurd (true≢false (sym a ∙ b))) (λ b m. refl)
-          (λ b m f. absurd (m l)) (λ b m f. absurd (m l))
+      back (not-above-latest a l) =
+          apply-cases leafHash innerHash (λ o. o .answer ≡ refused 18) number batch st (λ b. absurd (true≢false (sym a ∙ b)))
+          (λ b m. refl) (λ b m f. absurd (omega arith)) (λ b m f. absurd (omega arith))
       back (no-room a l f) =
-          apply-cases leafHash innerHash (λ o. o .answer ≡ refused 7) batch st (λ b. absurd (true≢false (sym a ∙ b))) (λ b m. absurd (l m))
-          (λ b m g. refl) (λ b m g. absurd (omega arith))
+          apply-cases leafHash innerHash (λ o. o .answer ≡ refused 7) number batch st (λ b. absurd (true≢false (sym a ∙ b)))
+          (λ b m. absurd (omega arith)) (λ b m g. refl) (λ b m g. absurd (omega arith))
 
   pub prune-refuses-exactly : (n : ℕ) (st : Store) (m : ℕ) → (prune n st .answer ≡ refused m) ↔ ((m ≡ 8) × (Kept st n → ⊥))
   unfolding refuse
@@ -171,10 +288,22 @@ module _ (leafHash innerHash : Bytes → Bytes → Bytes) where
   sound-histories-hold lh ih st s calls f =
       keeps-holds leafHash innerHash _ _ (keeps-calls leafHash innerHash lh ih calls st (held st) f (keeps-held leafHash innerHash st s))
 
+  -- Where each batch is given latest + 1, roots are as in document 01: the root of a kept version v is the record of version v at the
+  -- empty place, or none.
+  pub without-gaps-roots-are-as-in-01 : Hashes32 leafHash → Hashes32 innerHash → (n : ℕ) → 1 ≤ n → n ≤ mostSlots → (calls : List Call) →
+      All CallForm calls → NoGaps leafHash innerHash calls (formatted n) →
+      (v : ℕ) → Kept (run leafHash innerHash calls (formatted n)) v →
+      rootOf (run leafHash innerHash calls (formatted n)) v ≡ rootIn01 (run leafHash innerHash calls (formatted n)) v
+  without-gaps-roots-are-as-in-01 lh ih n h k calls f gap =
+      own-roots leafHash innerHash _ (histories-hold lh ih n h k calls f .sound)
+      (own-calls leafHash innerHash lh ih calls (formatted n) _ f gap (keeps-formatted leafHash innerHash n (h, k))
+      (λ v _. inl (formatted-tree n v)))
+
   -- A call that isn't accepted leaves the store as it was.
   pub not-accepted-changes-nothing : (c : Call) (st : Store) → took leafHash innerHash c st ≡ false → after leafHash innerHash c st ≡ st
   not-accepted-changes-nothing formatting st e = absurd (true≢false e)
-  not-accepted-changes-nothing (applying batch) st e = let r = not-accepted _ e in refused-apply-writes-nothing batch st (r .0) (r .1)
+  not-accepted-changes-nothing (applying number batch) st e =
+      let r = not-accepted _ e in refused-apply-writes-nothing number batch st (r .0) (r .1)
   not-accepted-changes-nothing (pruning n) st e = let r = not-accepted _ e in refused-prune-writes-nothing n st (r .0) (r .1)
   not-accepted-changes-nothing looking st e = refl
 
@@ -186,12 +315,6 @@ module _ (leafHash innerHash : Bytes → Bytes → Bytes) where
   -- A root read answers the hash of the tree of what the calls have granted.
   pub root-read-of-the-ledger : (st : Store) (es : List Entry) → Holds leafHash innerHash st es → (v : ℕ) → Kept st v →
       (gs : List Grant) × (grantsOf v es ≡ some gs) × (readRoot leafHash innerHash st v ≡ accepted (hash leafHash innerHash (treeOf gs)))
-  unfolding readRoot isKept
   root-read-of-the-ledger st es h v k =
-      let g = h .gives v k in (
-        g .0,
-        g .1,
-        rw (le-leb (st .oldest) v (k .0), le-leb v (st .latest) (k .1))
-            (ap accepted
-            (root-hash leafHash innerHash st (sound-whole leafHash innerHash st (h .sound)) v k ∙ ap (hash leafHash innerHash) (g .2))),
-      )
+      let g = h .gives v k in
+      (g .0, g .1, root-read-is-hash st (h .sound) v k ∙ ap (λ t. accepted (hash leafHash innerHash t)) (g .2))

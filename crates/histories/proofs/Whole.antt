@@ -22,11 +22,6 @@ use Rattle.histories.proofs.Standing.{Formed, Exact}
 abbrev pub Lifetime : ℕ → ℕ → Record → Type 0
 Lifetime oldest latest r = (r .retired ≡ 0) ⊎ ((r .version < r .retired) × (oldest < r .retired) × (r .retired ≤ latest))
 
--- so it is retired later than its version, or not at all
-pub life-later : (oldest latest : ℕ) (r : Record) → Lifetime oldest latest r → (r .retired ≡ 0) ⊎ (r .version < r .retired)
-life-later oldest latest r (inl z) = inl z
-life-later oldest latest r (inr z) = inr (z .0)
-
 -- not retired by v: where it is retired at all, it is so since a later version
 pub retired-later : (v : ℕ) (r : Record) → retiredBy v r ≡ false → 1 ≤ r .retired → v < r .retired
 unfolding retiredBy

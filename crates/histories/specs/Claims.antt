@@ -1,47 +1,72 @@
--- What is claimed of apply and prune: when they refuse, and of the store after they accept. Assumes nothing.
-use Prim.Native.Nat.{ℕ, suc, _+_, _<_}
+-- What is claimed of apply and prune: when they refuse, and of the store after they accept; what it is to read alike; when numbers leave no
+-- gap, and document 01's rule for roots. Assumes nothing.
+use Prim.Native.Nat.{ℕ, suc, _+_, _<_, _≤_}
 use mathlib.Core.Path.{_≡_}
 use mathlib.Core.Bool.{true, false}
-use mathlib.Core.List.{List, []}
+use mathlib.Core.List.{List, [], _∷_}
 use mathlib.Core.Option.{Option, none, some}
 use lib.ListN.{length}
 use Rattle.terms.specs.Bits.{Bytes}
 use Rattle.terms.specs.Records.{Grant, Ask, insert, delete, Record, Store}
-use Rattle.terms.specs.Form.{top32}
 use Rattle.meaning.specs.Tree.{withBatch, hash, unversioned, grantsIn, nextTree}
-use Rattle.meaning.specs.Store.{treeAtVersion, freeSlots, marked, newRecords}
+use Rattle.meaning.specs.Store.{find, treeAtVersion, freeSlots, marked, newRecords}
 use Rattle.meaning.specs.Sound.{At, Kept, NodeOf, Sound}
 use Rattle.meaning.specs.Calls.{Applied, ascending}
-use Rattle.meaning.specs.Reading.{answerOf, present, absent}
+use Rattle.meaning.specs.Reading.{answerOf, present, absent, readKey, readRoot}
+use Rattle.meaning.specs.Proving.{proof}
+use Rattle.meaning.specs.History.{Call, formatting, applying, pruning, looking, after}
 
 -- An ask that is no change: an insert of the value already there, a delete of an absent key.
 abbrev pub NoChange : List Grant → Ask → Type 0
 NoChange gs (insert k x) = answerOf k gs ≡ present x
 NoChange gs (delete k) = answerOf k gs ≡ absent
 
+-- A call leaves no gap: a batch is given latest + 1 (or less, and is refused).
+abbrev pub NoGap : Call → Store → Type 0
+NoGap formatting st = Unit {0}
+NoGap (applying number batch) st = number ≤ suc (st .latest)
+NoGap (pruning n) st = Unit {0}
+NoGap looking st = Unit {0}
+
+-- Document 01's rule: the root of a version is the record (version, empty place), if any; the lowest is the one found.
+abbrev pub rootIn01 : Store → ℕ → Option Record
+rootIn01 st v = find v [] (st .slots)
+
 module _ (leafHash innerHash : Bytes → Bytes → Bytes) where
-  -- Rows 4 to 7 of the numbers of refusal, each after those before it.
-  pub data ApplyRefuses (st : Store) : Option (List Ask) → ℕ → Type 0 where
-    not-in-form : ApplyRefuses st none 4
-    not-ascending : {batch : List Ask} → ascending batch ≡ false → ApplyRefuses st (some batch) 5
-    no-version-left : {batch : List Ask} → ascending batch ≡ true → st .latest ≡ top32 → ApplyRefuses st (some batch) 6
+  -- Nor does any call of a list.
+  abbrev pub NoGaps : List Call → Store → Type 0
+  NoGaps [] st = Unit {0}
+  NoGaps (c ∷ calls) st = NoGap c st × NoGaps calls (after leafHash innerHash c st)
+
+  -- Two versions of a store read alike: the root, each key, each proof.
+  pub record ReadAlike (st : Store) (v w : ℕ) : Type 0 where
+    pub root : readRoot leafHash innerHash st v ≡ readRoot leafHash innerHash st w
+    pub keys : (k : Bytes) → readKey st v k ≡ readKey st w k
+    pub proofs : (k : Bytes) → proof st v k ≡ proof st w k
+
+  -- Rows 4, 5, 18 and 7 of the numbers of refusal, each after those before it.
+  pub data ApplyRefuses (number : ℕ) (st : Store) : Option (List Ask) → ℕ → Type 0 where
+    not-in-form : ApplyRefuses number st none 4
+    not-ascending : {batch : List Ask} → ascending batch ≡ false → ApplyRefuses number st (some batch) 5
+    not-above-latest : {batch : List Ask} → ascending batch ≡ true → number ≤ st .latest → ApplyRefuses number st (some batch) 18
     no-room : {batch : List Ask} →
         ascending batch ≡ true →
-        (st .latest ≡ top32 → ⊥) →
-        freeSlots (st .slots)
-        < length (newRecords leafHash innerHash (st .latest + 1) (nextTree (st .latest + 1) (treeAtVersion st (st .latest)) batch)) →
-        ApplyRefuses st (some batch) 7
+        st .latest < number →
+        freeSlots (st .slots) < length (newRecords leafHash innerHash number (nextTree number (treeAtVersion st (st .latest)) batch)) →
+        ApplyRefuses number st (some batch) 7
 
-  -- st′ is st with a batch applied, and this was answered: the new version's tree is that of the batch, the older ones have their trees,
-  -- and as many slots fewer are free as the answer counts.
-  pub record AfterApply (batch : List Ask) (st : Store) (answer : Applied) (st′ : Store) : Type 0 where
+  -- st′ is st with a batch applied as the version of a number, and this was answered: the new version's tree is that of the batch, the
+  -- older ones have their trees, those between have the tree of the latest before, and as many slots fewer are free as the answer counts.
+  pub record AfterApply (number : ℕ) (batch : List Ask) (st : Store) (answer : Applied) (st′ : Store) : Type 0 where
     pub sound : Sound leafHash innerHash st′
     pub capacity : length (st′ .slots) ≡ length (st .slots)
     pub oldest : st′ .oldest ≡ st .oldest
-    pub latest : st′ .latest ≡ suc (st .latest)
+    pub latest : st′ .latest ≡ number
+    pub above : st .latest < st′ .latest
     pub tree : treeAtVersion st′ (st′ .latest) ≡ nextTree (st′ .latest) (treeAtVersion st (st .latest)) batch
     pub grants : grantsIn (treeAtVersion st′ (st′ .latest)) ≡ withBatch batch (grantsIn (treeAtVersion st (st .latest)))
     pub older : (v : ℕ) → Kept st v → treeAtVersion st′ v ≡ treeAtVersion st v
+    pub between : (v : ℕ) → st .latest ≤ v → v < st′ .latest → treeAtVersion st′ v ≡ treeAtVersion st (st .latest)
     -- a record of the old tree alone is marked retired since the new version, any other old record is as it was
     pub ends : (i : ℕ) (r : Record) → At st i r → NodeOf (r .version) (r .place) (treeAtVersion st (st .latest)) [] →
         (NodeOf (r .version) (r .place) (treeAtVersion st′ (st′ .latest)) [] → ⊥) → At st′ i (marked (st′ .latest) r)

@@ -1,3 +1,5 @@
+pub mod Scanning
 pub mod Holding
+pub mod Roots
 pub mod Naming
 pub mod Summing

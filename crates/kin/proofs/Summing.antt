@@ -18,7 +18,7 @@ use Rattle.store.proofs.Scans.{Scan, scan-start, scan-here, scan-next, scan-end
 use Rattle.kin.specs.declared.Below as declared-below
 use Rattle.kin.specs.declared.Said as declared-said
 use Rattle.kin.specs.declared.Said.the-variants.{Lived, Wrong}
-use Rattle.kin.specs.Kin.{Is, Short, SlotSays, ParentsSay}
+use Rattle.kin.specs.Parents.{Is, Short, SlotSays, ParentsSay}
 
 abbrev linked : Bytes → Record → Slot → Bool
 linked s r = byRecord true (linkTest leafHash innerHash (storeOf s) r)

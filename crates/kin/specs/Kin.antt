@@ -1,28 +1,18 @@
 -- One record among those of its store, as the code looks at it: what the helpers of the check promise each other. No public promise
 -- reaches this file. Assumes nothing.
-use Prim.Native.Nat.{ℕ, suc, _≤_, max}
+use Prim.Native.Nat.{ℕ, suc, max}
 use mathlib.Core.Path.{_≡_}
-use mathlib.Core.Bool.{Bool, true, false, cond, not, _&&_}
-use mathlib.Core.List.{List, [], _∷_}
+use mathlib.Core.Bool.{Bool, true, false, cond, not, _||_}
+use mathlib.Core.List.{[]}
 use lib.ListN.{length}
 use lib.Dec.{eqb, leb}
-use Rattle.terms.specs.Bits.{Bytes, Side, Place, longer, sameBytes}
+use Rattle.terms.specs.Bits.{Bytes, Place, samePlace}
 use Rattle.terms.specs.Records.{Body, leafBody, innerBody, Record, Store}
 use Rattle.meaning.specs.Store.{isNode}
-use Rattle.meaning.specs.Reading.{bodyHash}
 use Rattle.meaning.specs.Local.{endsBefore}
-use Rattle.local.specs.Test.{every, total, byRecord, linkTest, lifeAbove}
-use Rattle.hash.specs.Hash.{hashBytes}
-use Rattle.nodehash.specs.Node.{leafHash, innerHash}
-use Rattle.place.specs.Place.{placeOf}
 use Rattle.layout.specs.Headers.{sizeRight}
-use Rattle.layout.specs.Slots.{countIn, bitsIn, kidOn}
-use Rattle.layout.specs.Stores.{storeOf, slotNo}
-use Rattle.slots.specs.declared.Child as declared-child
+use Rattle.layout.specs.Stores.{storeOf}
 use Rattle.kin.specs.declared.Kept as declared-kept
-use Rattle.kin.specs.declared.Below as declared-below
-use Rattle.kin.specs.declared.Said as declared-said
-use Rattle.kin.specs.declared.Said.the-variants.{Lived, Wrong}
 
 -- The header of a store of the right size says which versions are kept.
 pub record Keeps (s : Bytes) (k : declared-kept.Kept) : Type 0 where
@@ -38,53 +28,15 @@ countNode v p q = cond (isNode v p q) 1 0
 abbrev pub endsAt : ℕ → ℕ → ℕ
 endsAt latest n = cond (eqb n 0) (suc latest) n
 
+-- The lives from v on and before e, and from w on and before f: they begin at one version, or have no kept version in common.
+unfoldable pub livesApart : ℕ → ℕ → ℕ → ℕ → ℕ → Bool
+livesApart oldest v e w f = eqb w v || (leb f (max oldest v) || leb e (max oldest w))
+
+-- A record is no root, or lives apart from the root that lives from v on and before e.
+unfoldable pub clearOf : Store → ℕ → ℕ → Record → Bool
+clearOf st v e q = not (samePlace (q .place) []) || livesApart (st .oldest) v e (q .version) (endsBefore st q)
+
 -- The body is a leaf's.
 abbrev pub isLeafBody : Body → Bool
 isLeafBody (leafBody k x) = true
 isLeafBody (innerBody l r) = false
-
--- A record of the store that stands below the root, as its parents are asked about it.
-pub record Is (st : Store) (b : declared-below.Below) (r : Record) : Type 0 where
-  pub place : r .place ≡ longer (b .right) (placeOf (b .up))
-  pub version : r .version ≡ b .version
-  pub some : 1 ≤ b .version
-  pub ends : endsBefore st r ≡ b .ends
-  pub kind : isLeafBody (r .body) ≡ b .leaf
-  pub hash : bodyHash leafHash innerHash (r .body) ≡ hashBytes (b .hash)
-
--- The fields of 120 bytes are those of an inner record that names it.
-unfoldable pub couldName : declared-below.Below → Bytes → Bool
-couldName b x =
-    eqb (countIn x) (b .up .count) && (eqb (kidOn (b .right) x .version) (b .version) && sameBytes (bitsIn x) (b .up .bits))
-
--- What a parent with this version and end of life says of it, naming the child c beside one of the version v.
-abbrev pub linkTests : declared-kept.Kept → declared-below.Below → ℕ → ℕ → declared-child.Child → ℕ → List Bool
-linkTests k b version ends c v =
-    sameBytes (hashBytes (b .hash)) (hashBytes (c .hash))
-    ∷ leb (b .version) (max (k .oldest) version)
-    ∷ leb ends (b .ends)
-    ∷ not (cond (b .leaf) (eqb v 0) false)
-    ∷ []
-
--- What is said where a test stands for whether it is right, and n for the kept life of a parent.
-abbrev pub SaidOf : Bool → ℕ → declared-said.Said → Type 0
-SaidOf t n (Lived m) = (t ≡ true) × (n ≡ m)
-SaidOf t n Wrong = t ≡ false
-
--- No life is longer than there are versions.
-abbrev pub Short : declared-said.Said → Type 0
-Short (Lived m) = m ≤ 4294967296
-Short Wrong = Unit {0}
-
--- What slot j says of each record that is the one below.
-abbrev pub SlotSays : Bytes → ℕ → declared-below.Below → declared-said.Said → Type 0
-SlotSays s j b t =
-    (r : Record) → Is (storeOf s) b r → SaidOf (byRecord true (linkTest leafHash innerHash (storeOf s) r) (slotNo j s)) (byRecord 0 (lifeAbove (storeOf s) r) (slotNo j s)) t
-
--- All that its parents say of it is right, and their kept lives add up to a life.
-abbrev pub ParentsSay : Bytes → declared-below.Below → ℕ → Bool → Type 0
-ParentsSay s b life t =
-    (r : Record) → Is (storeOf s) b r →
-    t
-    ≡ (every (byRecord true (linkTest leafHash innerHash (storeOf s) r)) (storeOf s .slots)
-    && leb life (total (byRecord 0 (lifeAbove (storeOf s) r)) (storeOf s .slots)))

@@ -1,1 +1,2 @@
 pub mod Kin
+pub mod Parents

@@ -1,4 +1,4 @@
-// One record among those of its store, document 01, 'Sound': its life, the slots that hold its node, its children, and its parents.
+// One record among those of its store, document 01, 'Sound': its life, the slots that hold its node, the other roots, its children, its parents.
 use hash::Hash;
 use hash::same_hash;
 use lookup::Found;
@@ -13,22 +13,24 @@ use slots::bits_of;
 use slots::read_slot;
 use store::child_version_at;
 use store::count_at;
+use store::retired_at;
 use store::slot_count;
 use store::slot_of;
 use store::version_at;
 ghost use mathlib.Core.Path.{_≡_};
-ghost use mathlib.Core.Bool.{true, false, cond, _||_};
+ghost use mathlib.Core.Bool.{true, _||_, false, cond};
 ghost use Prim.Native.Nat.{_-_, _≤_, _<_, max};
 ghost use lib.ListN.{length, take};
 ghost use lib.Dec.{eqb};
 ghost use Rattle.terms.specs.Bits.{bits};
-ghost use Rattle.terms.specs.Fields.{allOf};
 ghost use Rattle.meaning.specs.Store.{find};
-ghost use Rattle.local.specs.Test.{total, byRecord, isFound};
+ghost use Rattle.local.specs.Test.{every, total, byRecord, isFound};
 ghost use Rattle.place.specs.Place.{placeOf, Proper, Stands, Grown};
 ghost use Rattle.layout.specs.Headers.{sizeRight};
-ghost use Rattle.layout.specs.Stores.{slotIn, storeOf, slotNo, Has};
-ghost use Rattle.kin.specs.Kin.{Keeps, countNode, endsAt, linkTests, couldName, SaidOf, Short, SlotSays, ParentsSay};
+ghost use Rattle.layout.specs.Stores.{storeOf, slotNo, Has, slotIn};
+ghost use Rattle.kin.specs.Kin.{Keeps, countNode, endsAt, livesApart, clearOf};
+ghost use Rattle.terms.specs.Fields.{allOf};
+ghost use Rattle.kin.specs.Parents.{linkTests, couldName, SaidOf, Short, SlotSays, ParentsSay};
 
 // The kept versions of a store.
 pub struct Kept {
@@ -102,6 +104,50 @@ pub fn holders(store: &[u8], version: u32, place: Place) -> usize
         j += 1;
     }
     count
+}
+
+// Whether two lives, each from a version to an end, have no kept version in common, or begin at one version.
+fn lives_apart(oldest: u32, version: u32, ends: u64, other: u32, end: u64) -> bool
+    ensures { λ r. ⌜ r ≡ livesApart oldest version ends other end ⌝ }
+{
+    if other == version {
+        return true;
+    }
+    if end <= later(oldest, version) as u64 {
+        return true;
+    }
+    ends <= later(oldest, other) as u64
+}
+
+// Whether slot j holds no other root record that lives when the root of that version and end of life does: the cheap fields first.
+fn root_apart(store: &[u8], j: usize, kept: Kept, version: u32, ends: u64) -> bool
+    requires { ⌜ Has (now store) j × Keeps (now store) kept ⌝ }
+    ensures { λ r. ⌜ r ≡ byRecord true (clearOf (storeOf (now (store .entry))) version ends) (slotNo j (now (store .entry))) ⌝ }
+{
+    if count_at(store, j) != 0 {
+        return true;
+    }
+    let end = ends_before(kept.latest, retired_at(store, j));
+    if lives_apart(kept.oldest, version, ends, version_at(store, j), end) {
+        return true;
+    }
+    !holds_record(slot_of(store, j))
+}
+
+// Whether no other root record lives when the root of that version and end of life does.
+pub fn roots_apart(store: &[u8], kept: Kept, version: u32, ends: u64) -> bool
+    requires { ⌜ Keeps (now store) kept ⌝ }
+    ensures { λ r. ⌜ r ≡ every (byRecord true (clearOf (storeOf (now (store .entry))) version ends)) (storeOf (now (store .entry)) .slots) ⌝ }
+{
+    let n = slot_count(store);
+    let mut j = 0;
+    while j < n {
+        if !root_apart(store, j, kept, version, ends) {
+            return false;
+        }
+        j += 1;
+    }
+    true
 }
 
 // Whether a child is missing or found.

@@ -1,10 +1,12 @@
 -- The test decides soundness: it passes exactly the sound stores. A record passes its tests exactly if it is right by itself; what a rule
 -- asks of a record's children, the test asks of a record's parents. Assumes nothing.
-use Prim.Native.Nat.{ℕ, suc, _-_, _<_, _≤_}
+use Prim.Native.Nat.{ℕ, _<_, _≤_, max}
 use native.Mathlib.Omega.{arith}
 use mathlib.Core.Path.{_≡_, refl, ap, ap₂, sym, _∙_, subst}
-use mathlib.Core.Logic.{inl, inr, _↔_}
-use mathlib.Core.Bool.{true, not, false≢true}
+use mathlib.Core.Logic.{_⊎_, inl, inr, _↔_}
+use mathlib.Core.Bool.{Bool, true, false, not, false≢true}
+use lib.Dec.{leb}
+use borrow.Author.Tests.{leb-true, leb-false}
 use lib.ListN.{length, getD}
 use Rattle.terms.specs.Bits.{Bytes, Side, left, right, Place, longer}
 use Rattle.terms.specs.Records.{Child, Body, leafBody, innerBody, Record, Slot, free, spoiled, Store}
@@ -16,7 +18,7 @@ use Rattle.meaning.specs.Sound.{At, Sound, mostSlots}
 use Rattle.meaning.specs.Local.{Local, Linked, missing, found, BodyFits, childVersion, endsBefore}
 use Rattle.local.specs.Test.{firstKept, isSame, holders, names, isParent, linkTest, recordTest, slotTest, slotsTest, formTest, localTest}
 use Rattle.meaning.proofs.Finding.{found-at, same-record, at-find}
-use Rattle.meaning.proofs.Roots.{own-version, root-for, root-at, own-root}
+use Rattle.meaning.proofs.Roots.{own-root}
 use Rattle.local.proofs.Lifetimes.{Lifetime, Living, living-lives, lives-living, life-ends}
 use Rattle.local.proofs.Standing.{linked-on}
 use Rattle.local.proofs.LocalIsGlobal.{local-is-global}
@@ -26,7 +28,7 @@ use Rattle.local.proofs.Naming.{names-eq, eq-names, parent-names, names
 use Rattle.local.proofs.Parents.{Kin, named-is-summed}
 use Rattle.local.proofs.Says.{Says, says, itself, equal, at-most, done, next}
 use Rattle.local.proofs.InForm.{form-says}
-use Rattle.local.proofs.Tests.{node-counted, counted-node, counted-once, ChildFound, BodyFound, body-says, head-says, Covered, covered-says, life-says, Link, link-says}
+use Rattle.local.proofs.Tests.{node-counted, counted-node, counted-once, ChildFound, BodyFound, body-says, head-says, RootApart, Covered, covered-says, life-says, Link, link-says}
 
 module _ (leafHash innerHash : Bytes → Bytes → Bytes) (st : Store) where
   -- the child on a side is linked
@@ -121,9 +123,11 @@ module _ (leafHash innerHash : Bytes → Bytes → Bytes) (st : Store) where
       versions = λ i r a. (formed i r a .versioned .0, passed i r a .latest);
       lifetimes = λ i r a. passed i r a .life;
       roots = λ v low i j r q a c e f k l.
-          let x = passed i r a .covered .0 e in
-          let y = passed j q c .covered .0 f in
-          passed-unique i j r q a c (omega arith) (e ∙ sym f);
+          elim (passed i r a .covered .0 e j q c f) [
+            | inl x ↦ passed-unique i j r q a c (sym x) (e ∙ sym f)
+            | inr (inl x) ↦ absurd (omega arith)
+            | inr (inr x) ↦ absurd (omega arith)
+          ];
       outlives = outlives (λ i r a. formed i r a .versioned .0) (λ i r a. passed i r a .links);
     }
 
@@ -139,11 +143,8 @@ module _ (leafHash innerHash : Bytes → Bytes → Bytes) (st : Store) where
     unique = passed-unique formed passed;
     versions = λ i r a. (formed i r a .versioned .0, passed i r a .latest);
     lifetimes = λ i r a. passed i r a .life;
-    roots = λ v k i r a e l.
-        let alone = passed i r a .covered .0 e in
-        let its : r .version ≡ v = omega (arith, lives-living st r v (k .1) l) in
-        own-root st v i r a e (root-for v r its)
-        (λ j q c f m. passed-unique formed passed j i q r c a (own-version v q m ∙ sym its) (f ∙ sym e));
+    roots = λ v k i r a e l. own-root st v i r a e l (λ j q c f m.
+        passed-kin formed passed (header .0) .roots v (k .0) j i q r c a f e (lives-living st q v (k .1) m) (lives-living st r v (k .1) l));
     bodies = λ i r a. passed-bodies formed passed i r a (r .body) refl (passed i r a .body);
     parents = named-is-summed st (passed-kin formed passed (header .0)) .1 (λ i r a. passed i r a .covered .1);
   }
@@ -193,13 +194,21 @@ module _ (leafHash innerHash : Bytes → Bytes → Bytes) (st : Store) where
     local-one v low i j r q a c e f k l =
         Option·some-injective r q (sym (local-root v low i r a e k) ∙ local-root v low j q c f l)
 
-    -- a root record lives at the last version of its life, so that is its own
-    local-alone : (i : ℕ) (r : Record) → At st i r → r .place ≡ [] → endsBefore st r ≡ suc (r .version)
-    local-alone i r a e =
-        let f = life-ends st r (ok .header .0) (ok .versions i r a .1) (ok .lifetimes i r a) in
-        let last = endsBefore st r - 1 in
-        let root = root-at st last r (local-root last (omega arith) i r a e (omega arith, omega arith)) in
-        omega (arith, own-version last r (root .3))
+    -- so their lives do not meet
+    local-apart : (i : ℕ) (r : Record) → At st i r → r .place ≡ [] → (j : ℕ) (q : Record) → At st j q → RootApart st r q
+    local-apart i r a e j q c f = go (leb (endsBefore st q) (firstKept st r)) (leb (endsBefore st r) (firstKept st q)) refl refl
+      where
+        go : (s t : Bool) → leb (endsBefore st q) (firstKept st r) ≡ s → leb (endsBefore st r) (firstKept st q) ≡ t →
+            (q .version ≡ r .version) ⊎ ((endsBefore st q ≤ firstKept st r) ⊎ (endsBefore st r ≤ firstKept st q))
+        go true t x y = inr (inl (leb-true _ _ x))
+        go false true x y = inr (inr (leb-true _ _ y))
+        go false false x y =
+            let g = life-ends st r (ok .header .0) (ok .versions i r a .1) (ok .lifetimes i r a) in
+            let h = life-ends st q (ok .header .0) (ok .versions j q c .1) (ok .lifetimes j q c) in
+            let m : max (st .oldest) (r .version) < endsBefore st q = leb-false (endsBefore st q) (firstKept st r) x in
+            let n : max (st .oldest) (q .version) < endsBefore st r = leb-false (endsBefore st r) (firstKept st q) y in
+            inl (ap (λ z. z .version) (sym (local-one (max (max (st .oldest) (r .version)) (q .version)) (omega arith) i j r q a c e f
+            (omega arith, omega arith) (omega arith, omega arith))))
 
     local-kin : Kin st
     local-kin = record {
@@ -218,7 +227,7 @@ module _ (leafHash innerHash : Bytes → Bytes → Bytes) (st : Store) where
       once = held-once i r a;
       body = bodies-found r (r .body) (ok .bodies i r a);
       links = local-links i r a;
-      covered = (local-alone i r a, named-is-summed st local-kin .0 (ok .parents) i r a);
+      covered = (local-apart i r a, named-is-summed st local-kin .0 (ok .parents) i r a);
     }
 
   -- Of a store with a right size and header, whose records are in form, the slots pass exactly if it is sound.

@@ -12,8 +12,8 @@ use Rattle.terms.specs.Fields.{allOf}
 use Rattle.meaning.specs.Store.{formatted, marked, onRecord}
 use Rattle.meaning.specs.Local.{endsBefore}
 use Rattle.meaning.specs.Computed.{computed}
-use Rattle.meaning.specs.Desk.{s₁, s₂, s₃, s₄, s₅, s₆, s₇, s₈, s₉, s₁₂}
-use Rattle.local.specs.Test.{isSame, holders, lifeTest, childTest, names, keptLife, isParent, lifeAbove, lifeCovered, whole32Test, childFormTest, formTest, headTest, linkTest, recordTest, slotsTest, localTest}
+use Rattle.meaning.specs.Desk.{s₁, s₂, s₃, s₄, s₅, s₆, s₇, s₈, s₉, s₁₂, g₅, g₉, g₇, g₁₂, g₁₅, g₁₃}
+use Rattle.local.specs.Test.{isSame, holders, lifeTest, childTest, names, keptLife, isParent, lifeAbove, apart, rootApart, lifeCovered, whole32Test, childFormTest, formTest, headTest, linkTest, recordTest, slotsTest, localTest}
 
 abbrev pub toyLeaf : Bytes → Bytes → Bytes
 toyLeaf k x = take 31 k ++ take 1 x
@@ -92,9 +92,13 @@ late = altered 3 (λ r. used (marked 2 r)) (record {
       ∷ [];
 })
 
--- a root record that is not retired and not of the latest version
+-- a root record that is not retired and not of the latest version: versions 1 and 2 share it
 abbrev lingering : Store
 lingering = record { oldest = 0; latest = 2; slots = leafOf [] 1 k0 ∷ [] }
+
+-- two root records: both live at version 2
+abbrev paired : Store
+paired = record { oldest = 0; latest = 2; slots = leafOf [] 1 k0 ∷ leafOf [] 2 k0 ∷ [] }
 
 abbrev pub good : List Store
 good =
@@ -108,13 +112,21 @@ good =
     ∷ s₈ toyLeaf toyInner
     ∷ s₉ toyLeaf toyInner
     ∷ s₁₂ toyLeaf toyInner
+    ∷ g₅ toyLeaf toyInner
+    ∷ g₉ toyLeaf toyInner
+    ∷ g₇ toyLeaf toyInner
+    ∷ g₁₂ toyLeaf toyInner
+    ∷ g₁₅ toyLeaf toyInner
+    ∷ g₁₃ toyLeaf toyInner
     ∷ newer
+    ∷ lingering
+    ∷ altered 0 (λ r. used (marked 2 r)) paired
     ∷ numbered 0 top32 (formatted 3)
     ∷ []
 
 -- In turn: a leaf that lives on after its parents, one that ends before its parent, one that begins after it, a child gone, another
--- value, another hash beside it, a node twice, a root that lives on, one that does so alone, a root gone, a lone leaf, a leaf in a wrong
--- place, a slot that is not in form, a version above latest, a root below oldest, oldest above latest.
+-- value, another hash beside it, a node twice, a root that lives on beside the next one, two leaves that do so, a root gone, a lone leaf,
+-- a leaf in a wrong place, a slot that is not in form, a version above latest, records retired by oldest, oldest above latest.
 abbrev pub damaged : List Store
 damaged =
     altered 0 (λ r. used (marked 0 r)) M2
@@ -125,7 +137,7 @@ damaged =
     ∷ altered 8 (with-body (innerBody (child 1 k1) (child 2 k1))) M2
     ∷ put 12 (getD (M2 .slots) 2 free) M2
     ∷ altered 6 (λ r. used (marked 0 r)) M2
-    ∷ lingering
+    ∷ paired
     ∷ altered 6 (λ r. free) M2
     ∷ lonely
     ∷ misplaced
@@ -142,12 +154,13 @@ abbrev pub Fails : Store → Type 0
 Fails st = localTest toyLeaf toyInner st ≡ false
 
 pub good-passes : All Passes good
-unfolding computed endsBefore allOf isSame holders lifeTest childTest names keptLife isParent lifeAbove lifeCovered whole32Test
+unfolding computed endsBefore allOf isSame holders lifeTest childTest names keptLife isParent lifeAbove apart rootApart lifeCovered whole32Test
     childFormTest formTest headTest linkTest recordTest slotsTest localTest
-good-passes = (refl, (refl, (refl, (refl, (refl, (refl, (refl, (refl, (refl, (refl, (refl, (refl, tt))))))))))))
+good-passes =
+    (refl, (refl, (refl, (refl, (refl, (refl, (refl, (refl, (refl, (refl, (refl, (refl, (refl, (refl, (refl, (refl, (refl, (refl, (refl, (refl, tt))))))))))))))))))))
 
 pub damaged-fails : All Fails damaged
-unfolding computed endsBefore allOf isSame holders lifeTest childTest names keptLife isParent lifeAbove lifeCovered whole32Test
+unfolding computed endsBefore allOf isSame holders lifeTest childTest names keptLife isParent lifeAbove apart rootApart lifeCovered whole32Test
     childFormTest formTest headTest linkTest recordTest slotsTest localTest
 damaged-fails =
     (refl, (refl, (refl, (refl, (refl, (refl, (refl, (refl, (refl, (refl, (refl, (refl, (refl, (refl, (refl, (refl, tt))))))))))))))))

@@ -13,7 +13,7 @@ use Rattle.terms.specs.Records.{Record, Store}
 use Rattle.meaning.specs.Store.{retiredBy, rootOf}
 use Rattle.meaning.specs.Sound.{At, Kept, Lives}
 use Rattle.meaning.specs.Local.{endsBefore, childVersion}
-use Rattle.meaning.proofs.Roots.{root-at, root-lives}
+use Rattle.meaning.proofs.Roots.{root-at}
 
 -- at v a record has begun and not ended
 abbrev pub Living : Store → ℕ → Record → Type 0
@@ -69,8 +69,5 @@ module _ (st : Store) (r : Record) where
       go (inr e) (inr k) = (omega arith, omega arith, omega arith)
 
 -- the root of a kept version lives then
-pub root-living : (st : Store) → ((i : ℕ) (r : Record) → At st i r → Lifetime st r) →
-    (v : ℕ) → Kept st v → (r : Record) → rootOf st v ≡ some r → Living st v r
-root-living st lifetimes v k r e =
-    let (i, a, p, f) = root-at st v r e in
-    lives-living st r v (k .1) (root-lives v r (elim (lifetimes i r a) [ inl z ↦ inl z | inr z ↦ inr (z .0) ]) f)
+pub root-living : (st : Store) (v : ℕ) → Kept st v → (r : Record) → rootOf st v ≡ some r → Living st v r
+root-living st v k r e = lives-living st r v (k .1) (root-at st v r e .3)

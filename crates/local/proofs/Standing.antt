@@ -233,7 +233,7 @@ module _ (leafHash innerHash : Bytes → Bytes → Bytes) (st : Store) (ok : Loc
         go n e (inl k) = absurd (subst (λ t. HasNode q t []) k nd)
         go n e (inr k) =
             below-lives n (k .0) (k .1) (k .2) (omega (arith, ap length (k .4)))
-            (root-living st (ok .lifetimes) v (low, high) (k .1) (k .3)) j q at
+            (root-living st v (low, high) (k .1) (k .3)) j q at
             (subst₂ (λ t p. HasNode q t p) (sym (root-tree st (ok .unique) (ok .versions) n v (k .0) (k .1) e (k .2) (k .3) (k .4))) (sym (k .4)) nd)
 
   limit : (o : Body) → placeLimit o ≤ 256

@@ -1,6 +1,6 @@
 -- What the tests of one record say: that it stands once, its life and its children, what its parents say of it, and that they cover its
 -- life. Assumes nothing.
-use Prim.Native.Nat.{ℕ, suc, _≤_}
+use Prim.Native.Nat.{ℕ, _≤_}
 use native.Mathlib.Omega.{arith}
 use mathlib.Core.Path.{_≡_, refl, subst₂}
 use mathlib.Core.Logic.{_⊎_}
@@ -13,12 +13,13 @@ use Rattle.terms.specs.Records.{Child, Body, leafBody, innerBody, Record, Store
 use Rattle.terms.specs.Form.{top32}
 use Rattle.meaning.specs.Store.{childOn, find, isNode}
 use Rattle.meaning.specs.Reading.{bodyHash}
-use Rattle.meaning.specs.Sound.{mostSlots}
+use Rattle.meaning.specs.Sound.{At, mostSlots}
 use Rattle.meaning.specs.Local.{endsBefore, LoneLeaf}
 use Rattle.meaning.proofs.Finding.{isNode-eq, isNode-refl}
-use Rattle.local.specs.Test.{total, byRecord, firstKept, names, loneLeaf, linkOn, linkTest, lifeTest, lifeCovered, keptLife, lifeAbove, isSame, isFound, childTest, bodyTest, headTest}
+use Rattle.local.specs.Test.{total, byRecord, firstKept, names, loneLeaf, linkOn, linkTest, lifeTest, apart, rootApart, lifeCovered, keptLife, lifeAbove, isSame, isFound, childTest, bodyTest, headTest}
 use Rattle.local.proofs.Lifetimes.{Lifetime}
 use Rattle.local.proofs.Parents.{AddsUp}
+use Rattle.local.proofs.Records.{each-record}
 use Rattle.local.proofs.Says.{Says, says, itself, equal, at-most, less, either, neither, asked, branch, same, same-place-says, on-sides, done, next, both}
 
 pub life-says : (st : Store) (r : Record) → Says (lifeTest st r) (Lifetime st r)
@@ -29,16 +30,27 @@ life-says st r =
     (next (at-most (r .retired) (st .latest)) done)) .all)
     (λ h. (h .0, h .1 .0, h .1 .1 .0)) (λ h. (h .0, (h .1, (h .2, tt)))))
 
--- a root lives at its own version alone; the lifetimes of another record's parents add up to its own
+-- q is no other root record that lives when r does
+abbrev pub RootApart : Store → Record → Record → Type 0
+RootApart st r q =
+    q .place ≡ [] → (q .version ≡ r .version) ⊎ ((endsBefore st q ≤ firstKept st r) ⊎ (endsBefore st r ≤ firstKept st q))
+
+root-apart-says : (st : Store) (r q : Record) → Says (rootApart st r q) (RootApart st r q)
+unfolding rootApart apart
+root-apart-says st r q =
+    asked (same-place-says (q .place) [])
+    (either (equal (q .version) (r .version)) (either (at-most (endsBefore st q) (firstKept st r)) (at-most (endsBefore st r) (firstKept st q))))
+
+-- the lives of root records do not meet; the lifetimes of another record's parents add up to its own
 abbrev pub Covered : Store → Record → Type 0
 Covered st r =
-    (r .place ≡ [] → endsBefore st r ≡ suc (r .version)) × ((r .place ≡ [] → ⊥) → AddsUp st r)
+    (r .place ≡ [] → (j : ℕ) (q : Record) → At st j q → RootApart st r q) × ((r .place ≡ [] → ⊥) → AddsUp st r)
 
 pub covered-says : (st : Store) (r : Record) → Says (lifeCovered st r) (Covered st r)
 unfolding lifeCovered
 covered-says st r =
     branch (same-place-says (r .place) [])
-    (equal (endsBefore st r) (suc (r .version)))
+    (each-record st (rootApart st r) (RootApart st r) (root-apart-says st r))
     (at-most (keptLife st r) (total (byRecord 0 (lifeAbove st r)) (st .slots)))
 
 -- a record's node, counted

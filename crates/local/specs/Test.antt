@@ -1,7 +1,7 @@
 -- Soundness as a test that a loop over the slots can run. Of each record it looks at its own fields, counts the slots that hold its node,
 -- finds its children, and goes once over its parents: what they say of it, and whether their lifetimes add up to its own. No version is
 -- tried, and each record is hashed once. No public promise reaches this file: that it decides 'Sound' is a theorem. Assumes nothing.
-use Prim.Native.Nat.{ℕ, suc, _+_, _-_, max}
+use Prim.Native.Nat.{ℕ, _+_, _-_, max}
 use mathlib.Core.Bool.{Bool, true, false, cond, not, _&&_, _||_}
 use mathlib.Core.List.{List, [], _∷_}
 use mathlib.Core.Option.{Option, none, some}
@@ -83,11 +83,19 @@ isParent r q = names left q r || names right q r
 unfoldable pub lifeAbove : Store → Record → Record → ℕ
 lifeAbove st r q = cond (isParent r q) (keptLife st q) 0
 
--- A root record lives at its own version alone; the lifetimes of another record's parents add up to its own.
+-- The kept lives of two records do not meet.
+unfoldable pub apart : Store → Record → Record → Bool
+apart st r q = leb (endsBefore st q) (firstKept st r) || leb (endsBefore st r) (firstKept st q)
+
+-- q is no other root record that lives when r does.
+unfoldable pub rootApart : Store → Record → Record → Bool
+rootApart st r q = not (samePlace (q .place) []) || (eqb (q .version) (r .version) || apart st r q)
+
+-- The lives of root records do not meet; the lifetimes of another record's parents add up to its own.
 unfoldable pub lifeCovered : Store → Record → Bool
 lifeCovered st r =
     cond (samePlace (r .place) [])
-    (eqb (endsBefore st r) (suc (r .version)))
+    (every (byRecord true (rootApart st r)) (st .slots))
     (leb (keptLife st r) (total (byRecord 0 (lifeAbove st r)) (st .slots)))
 
 -- A key, value or hash of 32 bytes.

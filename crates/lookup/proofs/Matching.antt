@@ -19,7 +19,7 @@ use Rattle.terms.proofs.Fields.{length-slice, all-of-tests}
 use Rattle.meaning.specs.Store.{isNode}
 use Rattle.meaning.proofs.Finding.{isNode-eq}
 use Rattle.layout.specs.Slots.{slotOf, slotBytes, recordBytes, countIn, headRight, isLeaf, isInner, leafIn, innerIn, recordIn, SlotForm}
-use Rattle.layout.proofs.Slots.{slot-back, slot-form, count-says, version-says, bits-say}
+use Rattle.layout.proofs.Slots.{slot-back, slot-form, count-says, version-says, retired-says, bits-say}
 use Rattle.lookup.specs.Lookup.{isUsed}
 
 -- 120 bytes that are read as a record
@@ -37,6 +37,9 @@ says x l h r e = record {
 module _ (x : Bytes) (l : length x ≡ 120) (h : All Byte x) (r : Record) (e : slotOf x ≡ used r) where
   pub version-is : field 40 4 x ≡ r .version
   version-is = let s = says x l h r e in ap (field 40 4) (sym (s .bytes)) ∙ version-says r (s .form)
+
+  pub retired-is : field 44 4 x ≡ r .retired
+  retired-is = let s = says x l h r e in ap (field 44 4) (sym (s .bytes)) ∙ retired-says r (s .form)
 
   pub count-is : field 6 2 x ≡ length (r .place)
   unfolding countIn

@@ -1,13 +1,14 @@
 -- Document 01, 'Reading and proving': the lowest slot that matches is the one found. Assumes nothing.
 use Prim.Native.Nat.{ℕ, _<_}
 use mathlib.Core.Path.{_≡_}
-use mathlib.Core.Bool.{Bool, true, false}
+use mathlib.Core.Bool.{Bool, true, false, _&&_, not}
 use mathlib.Core.List.{List}
 use mathlib.Core.Option.{Option, none, some}
 use lib.ListN.{length, getD}
+use lib.Dec.{leb}
 use Rattle.terms.specs.Bits.{Place}
 use Rattle.terms.specs.Records.{Record, Slot, free, used, spoiled, Store}
-use Rattle.meaning.specs.Store.{find, rootOf}
+use Rattle.meaning.specs.Store.{find, isRoot, rootOf}
 use Rattle.lookup.specs.declared.Found as declared
 use Rattle.lookup.specs.declared.Found.the-variants.{At, Nothing}
 
@@ -16,6 +17,16 @@ abbrev pub isUsed : Slot → Bool
 isUsed free = false
 isUsed (used r) = true
 isUsed (spoiled x) = false
+
+-- A lifetime from a version on, retired since another (0: not retired), covers v.
+unfoldable pub covers : ℕ → ℕ → ℕ → Bool
+covers from since v = leb from v && not (leb 1 since && leb since v)
+
+-- A slot holds a root record whose lifetime covers v.
+abbrev pub rootHere : ℕ → Slot → Bool
+rootHere v free = false
+rootHere v (used r) = isRoot v r
+rootHere v (spoiled x) = false
 
 -- What a search found, where this is the record: the number of a slot that holds it, or nothing.
 abbrev pub Located : List Slot → Option Record → declared.Found → Type 0

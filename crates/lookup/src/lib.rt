@@ -5,7 +5,11 @@ use layout::sizes;
 use place::Place;
 use slots::is_inner;
 use slots::is_leaf;
+use store::count_at;
+use store::retired_at;
 use store::slot_count;
+use store::slot_of;
+use store::version_at;
 ghost use mathlib.Core.Path.{_≡_};
 ghost use mathlib.Core.Bool.{true};
 ghost use lib.ListN.{length};
@@ -13,8 +17,8 @@ ghost use Rattle.place.specs.Place.{placeOf, Proper};
 ghost use Rattle.layout.specs.Sizes.{slotSize};
 ghost use Rattle.layout.specs.Headers.{sizeRight};
 ghost use Rattle.layout.specs.Slots.{slotOf};
-ghost use Rattle.layout.specs.Stores.{storeOf};
-ghost use Rattle.lookup.specs.Lookup.{isUsed, FoundIn, RootIn};
+ghost use Rattle.layout.specs.Stores.{storeOf, slotNo, Has};
+ghost use Rattle.lookup.specs.Lookup.{isUsed, covers, rootHere, FoundIn, RootIn};
 
 // Whether 120 bytes are a record in form.
 pub fn holds_record(s: &[u8]) -> bool
@@ -71,10 +75,45 @@ pub fn find(store: &[u8], version: u32, place: Place) -> Found
     }
 }
 
-// The root of a version.
+// Whether a lifetime from one version, retired since another, covers a version.
+pub fn covers(from: u32, since: u32, version: u32) -> bool
+    ensures { λ r. ⌜ r ≡ covers from since version ⌝ }
+{
+    if version < from {
+        return false;
+    }
+    if since == 0 {
+        return true;
+    }
+    version < since
+}
+
+// Whether slot i holds a root record whose lifetime covers a version: the cheap fields first.
+fn root_here(store: &[u8], i: usize, version: u32) -> bool
+    requires { ⌜ Has (now store) i ⌝ }
+    ensures { λ r. ⌜ r ≡ rootHere version (slotNo i (now (store .entry))) ⌝ }
+{
+    if count_at(store, i) != 0 {
+        return false;
+    }
+    if !covers(version_at(store, i), retired_at(store, i), version) {
+        return false;
+    }
+    holds_record(slot_of(store, i))
+}
+
+// The root of a version: the lowest slot with a root record whose lifetime covers it.
 pub fn find_root(store: &[u8], version: u32) -> Found
     requires { ⌜ sizeRight (length (now store)) ≡ true ⌝ }
     ensures { λ r. ⌜ RootIn (storeOf (now (store .entry))) version r ⌝ }
 {
-    find(store, version, Place::top())
+    let n = slot_count(store);
+    let mut j = 0;
+    while j < n {
+        if root_here(store, j, version) {
+            return Found::At(j);
+        }
+        j += 1;
+    }
+    Found::Nothing
 }

@@ -1,23 +1,31 @@
--- The desk's table holds, and its history grants what it says, by computing. Assumes nothing.
+-- The desk's tables hold, and its history with gaps grants what it says, by computing. Assumes nothing.
 use mathlib.Core.Path.{_≡_, refl}
 use mathlib.Core.List.{[], _∷_}
 use Rattle.terms.specs.Bits.{Bytes, All}
 use Rattle.meaning.specs.Computed.{computed}
 use Rattle.meaning.specs.Store.{formatted}
 use Rattle.meaning.specs.History.{run, history, entry, ledger}
-use Rattle.meaning.specs.Desk.{RowHolds, table, calls, granted, s₈}
+use Rattle.meaning.specs.Desk.{RowHolds, table, gaps, notAbove, gapCalls, gapGranted, g₇}
 
 pub desk : (leafHash innerHash : Bytes → Bytes → Bytes) → All (RowHolds leafHash innerHash) (table leafHash innerHash)
 unfolding computed
 desk leafHash innerHash =
     (refl, (refl, (refl, (refl, (refl, (refl, (refl, (refl, (refl, (refl, (refl, (refl, (refl, (refl, (refl, tt)))))))))))))))
 
-pub desk-history : (leafHash innerHash : Bytes → Bytes → Bytes) →
-    ledger (history leafHash innerHash calls (formatted 20)) (entry 0 [] ∷ []) ≡ granted
+pub desk-gaps : (leafHash innerHash : Bytes → Bytes → Bytes) → All (RowHolds leafHash innerHash) (gaps leafHash innerHash)
 unfolding computed
-desk-history leafHash innerHash = refl
+desk-gaps leafHash innerHash =
+    (refl, (refl, (refl, (refl, (refl, (refl, (refl, (refl, (refl, (refl, (refl, (refl, (refl, (refl, tt))))))))))))))
 
--- the refused calls and the read have changed nothing: the store is that of the table after M8
-pub desk-store : (leafHash innerHash : Bytes → Bytes → Bytes) → run leafHash innerHash calls (formatted 20) ≡ s₈ leafHash innerHash
+pub not-above : (leafHash innerHash : Bytes → Bytes → Bytes) → All (RowHolds leafHash innerHash) (notAbove leafHash innerHash)
 unfolding computed
-desk-store leafHash innerHash = refl
+not-above leafHash innerHash = (refl, (refl, (refl, (refl, tt))))
+
+pub gap-history : (leafHash innerHash : Bytes → Bytes → Bytes) →
+    ledger (history leafHash innerHash gapCalls (formatted 20)) (entry 0 [] ∷ []) ≡ gapGranted
+unfolding computed
+gap-history leafHash innerHash = refl
+
+pub gap-store : (leafHash innerHash : Bytes → Bytes → Bytes) → run leafHash innerHash gapCalls (formatted 20) ≡ g₇ leafHash innerHash
+unfolding computed
+gap-store leafHash innerHash = refl

@@ -15,7 +15,7 @@ use Rattle.meaning.specs.Reading.{Verdict, present, absent, readKey, rea
 use Rattle.meaning.specs.Store.{rootOf}
 use Rattle.meaning.specs.Proving.{step, presenceOf, absenceOf, proof, proofLength, prove}
 use Rattle.meaning.specs.Checking.{checked}
-use Rattle.meaning.specs.Desk.{keyOf, A, B, C, D, E, F, a, b, c, d, c′, lf, nd, store, hA, hB, hC, hD, hF, h01, h0, root₁, s₁, s₂, s₆, s₉}
+use Rattle.meaning.specs.Desk.{keyOf, A, B, C, D, E, F, a, b, c, d, c′, lf, nd, store, hA, hB, hC, hD, hF, h01, h0, root₁, s₁, s₂, s₆, s₉, g₁₅}
 use Rattle.meaning.specs.Computed.{computed}
 
 -- a key between B and C, and one right of all
@@ -169,6 +169,21 @@ pub proofs-accepted : map (λ v. map (shownOf (s₆ toyLeaf toyInner) v) keys) (
     ≡ map (λ v. map (saidOf (s₆ toyLeaf toyInner) v) keys) (0 ∷ 1 ∷ 2 ∷ 3 ∷ 4 ∷ 5 ∷ 6 ∷ [])
 unfolding computed
 proofs-accepted = refl
+
+-- and in versions with gaps between the numbers: before 5, between 5, 9 and 12, in the empty stretch, at 15
+abbrev spread : List ℕ
+spread = 4 ∷ 5 ∷ 7 ∷ 9 ∷ 11 ∷ 12 ∷ 14 ∷ 15 ∷ []
+
+pub proofs-with-gaps-accepted : map (λ v. map (shownOf (g₁₅ toyLeaf toyInner) v) keys) spread
+    ≡ map (λ v. map (saidOf (g₁₅ toyLeaf toyInner) v) keys) spread
+unfolding computed
+proofs-with-gaps-accepted = refl
+
+pub reads-with-gaps : map (λ v. readKey (g₁₅ toyLeaf toyInner) v C) spread
+    ≡ accepted absent ∷ accepted (present c) ∷ accepted (present c) ∷ accepted (present c′) ∷ accepted (present c′) ∷ accepted absent
+    ∷ accepted absent ∷ accepted absent ∷ []
+unfolding computed
+reads-with-gaps = refl
 
 pub proofs-of-M9-accepted : map (shownOf (s₉ toyLeaf toyInner) 1) keys ≡ map (saidOf (s₉ toyLeaf toyInner) 1) keys
 unfolding computed

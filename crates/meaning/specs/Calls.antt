@@ -1,14 +1,14 @@
--- Document 01, 'Numbers of refusal': what format, apply and prune answer and leave. 1, 2 and 12 are refused before there is a store or a
--- key to speak of, and 3 by soundness, in the calls that test it; here the store is sound. Assumes nothing.
-use Prim.Native.Nat.{ℕ, _+_, _-_}
+-- Document 01, 'Numbers of refusal', with versions named as in 2026-13: what format, apply and prune answer and leave. 1, 2 and 12 are
+-- refused before there is a store or a key to speak of, and 3 by soundness, in the calls that test it; here the store is sound. Assumes
+-- nothing.
+use Prim.Native.Nat.{ℕ, _-_}
 use mathlib.Core.Bool.{Bool, true, cond, _&&_}
 use mathlib.Core.List.{List, [], _∷_}
 use mathlib.Core.Option.{Option, none, some}
 use lib.ListN.{length}
-use lib.Dec.{eqb, leb, ltb}
+use lib.Dec.{leb, ltb}
 use Rattle.terms.specs.Bits.{Bytes, before}
 use Rattle.terms.specs.Records.{Ask, askKey, Store}
-use Rattle.terms.specs.Form.{top32}
 use Rattle.meaning.specs.Tree.{VTree, unversioned, hash, nextTree}
 use Rattle.meaning.specs.Store.{treeAtVersion, freeSlots, newRecords, settled, pruned}
 
@@ -71,8 +71,9 @@ module _ (leafHash innerHash : Bytes → Bytes → Bytes) where
   unfoldable pub applyAs : ℕ → List Ask → Store → Result Applied
   applyAs new batch st = publish new (treeAtVersion st (st .latest)) (nextTree new (treeAtVersion st (st .latest)) batch) st
 
-  -- Apply, of a batch in form (else 4): keys not strictly ascending 5, no further version 6, too few free slots 7. A batch makes latest + 1.
-  abbrev pub apply : Option (List Ask) → Store → Result Applied
-  apply none st = refuse 4 st
-  apply (some batch) st =
-      cond (ascending batch) (cond (eqb (st .latest) top32) (refuse 6 st) (applyAs (st .latest + 1) batch st)) (refuse 5 st)
+  -- Apply, of a batch in form (else 4): keys not strictly ascending 5, a number not above latest 18, too few free slots 7. The batch makes
+  -- the version of that number.
+  abbrev pub apply : ℕ → Option (List Ask) → Store → Result Applied
+  apply number none st = refuse 4 st
+  apply number (some batch) st =
+      cond (ascending batch) (cond (ltb (st .latest) number) (applyAs number batch st) (refuse 18 st)) (refuse 5 st)

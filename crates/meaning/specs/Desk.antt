@@ -1,5 +1,6 @@
--- Document 01, 'The desk's example': M1 to M12 without M10 as one table, for any two hash functions. A begins 00, B 010, C 011, D 1; other
--- bits zero. A row has the store before, the call, its answer and the store after; hashes are names. Assumes nothing.
+-- Document 01, 'The desk's example': M1 to M12 without M10 as one table, for any two hash functions, each batch with the number latest + 1;
+-- and a second table with gaps between the numbers (2026-13). A begins 00, B 010, C 011, D 1; other bits zero. A row has the store before,
+-- the call, its answer and the store after; hashes are names. Assumes nothing.
 use Prim.Native.Nat.{ℕ}
 use mathlib.Core.Path.{_≡_}
 use mathlib.Core.Bool.{Bool, true, false}
@@ -7,15 +8,18 @@ use mathlib.Core.List.{List, [], _∷_, _++_}
 use mathlib.Core.Option.{none, some}
 use lib.ListN.{replicate}
 use Rattle.terms.specs.Bits.{Bytes, Place}
-use Rattle.terms.specs.Records.{grant, Ask, insert, delete, Store, Slot, free, used, leafBody, innerBody, child, zeros}
+use Rattle.terms.specs.Records.{Grant, grant, Ask, insert, delete, Store, Slot, free, used, leafBody, innerBody, child, zeros}
+use Rattle.terms.specs.Form.{top32}
 use Rattle.meaning.specs.Store.{formatted}
 use Rattle.meaning.specs.Calls.{Answer, refused, accepted, Applied, apply, prune}
+use Rattle.meaning.specs.Reading.{readRoot}
 use Rattle.meaning.specs.History.{Call, applying, pruning, looking, Entry, entry}
 
--- A row: a batch on a store, or a pruning.
+-- A row: a batch on a store with its number, a pruning, or a version's root read.
 pub data Row : Type 0 where
-  applies : Store → List Ask → Answer Applied → Store → Row
+  applies : Store → ℕ → List Ask → Answer Applied → Store → Row
   prunes : Store → ℕ → Answer ℕ → Store → Row
+  reads : Store → ℕ → Answer Bytes → Row
 
 -- a key: its first byte, then zeros, then its last byte
 abbrev pub keyOf : ℕ → ℕ → Bytes
@@ -105,17 +109,17 @@ two = insert A a ∷ insert F b ∷ []
 -- M1 to M8 and M11 as the calls of one history; between M3 and M4 come a batch out of order and one that isn't in form, after M4 a read.
 abbrev pub calls : List Call
 calls =
-    applying (some four)
-    ∷ applying (some (delete B ∷ insert C c′ ∷ []))
-    ∷ applying (some [])
-    ∷ applying (some (insert D e ∷ insert C e ∷ []))
-    ∷ applying none
-    ∷ applying (some (delete A ∷ []))
+    applying 1 (some four)
+    ∷ applying 2 (some (delete B ∷ insert C c′ ∷ []))
+    ∷ applying 3 (some [])
+    ∷ applying 4 (some (insert D e ∷ insert C e ∷ []))
+    ∷ applying 4 none
+    ∷ applying 4 (some (delete A ∷ []))
     ∷ looking
-    ∷ applying (some (delete D ∷ []))
-    ∷ applying (some (delete C ∷ []))
+    ∷ applying 5 (some (delete D ∷ []))
+    ∷ applying 6 (some (delete C ∷ []))
     ∷ pruning 4
-    ∷ applying (some (insert E e ∷ []))
+    ∷ applying 7 (some (insert E e ∷ []))
     ∷ pruning 4
     ∷ pruning 8
     ∷ []
@@ -124,11 +128,27 @@ calls =
 abbrev pub granted : List Entry
 granted = entry 7 (grant E e ∷ []) ∷ entry 6 [] ∷ entry 5 (grant C c′ ∷ []) ∷ entry 4 (grant C c′ ∷ grant D d ∷ []) ∷ []
 
+-- A history with gaps, and what it grants: version 8 holds what 5 held, and so does 7, to which it is pruned.
+abbrev pub gapCalls : List Call
+gapCalls =
+    applying 5 (some four)
+    ∷ applying 9 (some (delete B ∷ insert C c′ ∷ []))
+    ∷ applying 9 (some [])
+    ∷ pruning 7
+    ∷ []
+
+abbrev granted₅ : List Grant
+granted₅ = grant A a ∷ grant B b ∷ grant C c ∷ grant D d ∷ []
+
+abbrev pub gapGranted : List Entry
+gapGranted = entry 9 (grant A a ∷ grant C c′ ∷ grant D d ∷ []) ∷ entry 8 granted₅ ∷ entry 7 granted₅ ∷ []
+
 module _ (leafHash innerHash : Bytes → Bytes → Bytes) where
   -- The call's answer and the store after it are the row's.
   abbrev pub RowHolds : Row → Type 0
-  RowHolds (applies st batch answer end) = apply leafHash innerHash (some batch) st ≡ record { answer = answer; store = end }
+  RowHolds (applies st number batch answer end) = apply leafHash innerHash number (some batch) st ≡ record { answer = answer; store = end }
   RowHolds (prunes st n answer end) = prune n st ≡ record { answer = answer; store = end }
+  RowHolds (reads st v root) = readRoot leafHash innerHash st v ≡ root
 
   abbrev pub hA : Bytes
   hA = leafHash A a
@@ -227,19 +247,79 @@ module _ (leafHash innerHash : Bytes → Bytes → Bytes) where
 
   abbrev pub table : List Row
   table =
-      applies (formatted 20) four (made 1 root₁ 7) s₁
-      ∷ applies s₁ (delete B ∷ insert C c′ ∷ []) (made 2 root₂ 3) s₂
-      ∷ applies s₂ [] (made 3 root₂ 1) s₃
-      ∷ applies s₃ (delete A ∷ []) (made 4 root₄ 2) s₄
-      ∷ applies s₄ (delete D ∷ []) (made 5 hC′ 1) s₅
-      ∷ applies s₅ (delete C ∷ []) (made 6 zeros 0) s₆
+      applies (formatted 20) 1 four (made 1 root₁ 7) s₁
+      ∷ applies s₁ 2 (delete B ∷ insert C c′ ∷ []) (made 2 root₂ 3) s₂
+      ∷ applies s₂ 3 [] (made 3 root₂ 1) s₃
+      ∷ applies s₃ 4 (delete A ∷ []) (made 4 root₄ 2) s₄
+      ∷ applies s₄ 5 (delete D ∷ []) (made 5 hC′ 1) s₅
+      ∷ applies s₅ 6 (delete C ∷ []) (made 6 zeros 0) s₆
       ∷ prunes s₆ 4 (accepted 10) s₇
-      ∷ applies s₇ (insert E e ∷ []) (made 7 (leafHash E e) 1) s₈
-      ∷ applies (formatted 20) two (made 1 (innerHash r1 zeros) 6) s₉
-      ∷ applies (formatted 5) two (refused 7) (formatted 5)
+      ∷ applies s₇ 7 (insert E e ∷ []) (made 7 (leafHash E e) 1) s₈
+      ∷ applies (formatted 20) 1 two (made 1 (innerHash r1 zeros) 6) s₉
+      ∷ applies (formatted 5) 1 two (refused 7) (formatted 5)
       ∷ prunes s₈ 4 (accepted 0) s₈
       ∷ prunes s₈ 8 (refused 8) s₈
-      ∷ applies (formatted 7) four (made 1 root₁ 7) (store 0 1 seven)
-      ∷ applies (store 0 1 seven) [] (refused 7) (store 0 1 seven)
-      ∷ applies (store 0 1 seven) (delete A ∷ delete B ∷ delete C ∷ delete D ∷ []) (made 2 zeros 0) s₁₂
+      ∷ applies (formatted 7) 1 four (made 1 root₁ 7) (store 0 1 seven)
+      ∷ applies (store 0 1 seven) 2 [] (refused 7) (store 0 1 seven)
+      ∷ applies (store 0 1 seven) 2 (delete A ∷ delete B ∷ delete C ∷ delete D ∷ []) (made 2 zeros 0) s₁₂
+      ∷ []
+
+  -- The same with gaps: M1's batch as version 5, M2's as 9, all withdrawn as 12, and M8's as 15.
+  abbrev pub g₅ : Store
+  g₅ = store 0 5
+      (lf p010 5 0 B b ∷ lf p011 5 0 C c ∷ lf p00 5 0 A a ∷ nd p01 5 0 5 hB 5 hC ∷ nd p0 5 0 5 hA 5 h01 ∷ lf p1 5 0 D d ∷ nd [] 5 0 5 h0 5 hD
+      ∷ replicate 13 free)
+
+  abbrev nine : List Slot
+  nine =
+      lf p010 5 9 B b ∷ lf p011 5 9 C c ∷ lf p00 5 0 A a ∷ nd p01 5 9 5 hB 5 hC ∷ nd p0 5 9 5 hA 5 h01 ∷ lf p1 5 0 D d ∷ nd [] 5 9 5 h0 5 hD
+      ∷ lf p01 9 0 C c′ ∷ nd p0 9 0 5 hA 9 hC′ ∷ nd [] 9 0 9 h0′ 5 hD ∷ replicate 10 free
+
+  abbrev pub g₉ : Store
+  g₉ = store 0 9 nine
+
+  -- pruned to 7, between 5 and 9
+  abbrev pub g₇ : Store
+  g₇ = store 7 9 nine
+
+  abbrev withdrawn : List Slot
+  withdrawn =
+      lf p010 5 9 B b ∷ lf p011 5 9 C c ∷ lf p00 5 12 A a ∷ nd p01 5 9 5 hB 5 hC ∷ nd p0 5 9 5 hA 5 h01 ∷ lf p1 5 12 D d ∷ nd [] 5 9 5 h0 5 hD
+      ∷ lf p01 9 12 C c′ ∷ nd p0 9 12 5 hA 9 hC′ ∷ nd [] 9 12 9 h0′ 5 hD ∷ []
+
+  abbrev pub g₁₂ : Store
+  g₁₂ = store 0 12 (withdrawn ++ replicate 10 free)
+
+  abbrev pub g₁₅ : Store
+  g₁₅ = store 0 15 (withdrawn ++ lf [] 15 0 E e ∷ replicate 9 free)
+
+  -- pruned to 13, in the empty stretch
+  abbrev pub g₁₃ : Store
+  g₁₃ = store 13 15 (replicate 10 free ++ lf [] 15 0 E e ∷ replicate 9 free)
+
+  abbrev pub gaps : List Row
+  gaps =
+      applies (formatted 20) 5 four (made 5 root₁ 7) g₅
+      ∷ reads g₅ 4 (accepted zeros)
+      ∷ applies g₅ 9 (delete B ∷ insert C c′ ∷ []) (made 9 root₂ 3) g₉
+      ∷ reads g₉ 7 (accepted root₁)
+      ∷ prunes g₉ 7 (accepted 0) g₇
+      ∷ reads g₇ 6 (refused 8)
+      ∷ reads g₇ 7 (accepted root₁)
+      ∷ applies g₉ 12 (delete A ∷ delete C ∷ delete D ∷ []) (made 12 zeros 0) g₁₂
+      ∷ applies g₁₂ 15 (insert E e ∷ []) (made 15 (leafHash E e) 1) g₁₅
+      ∷ reads g₁₅ 11 (accepted root₂)
+      ∷ reads g₁₅ 14 (accepted zeros)
+      ∷ prunes g₁₅ 13 (accepted 10) g₁₃
+      ∷ reads g₁₃ 13 (accepted zeros)
+      ∷ applies (formatted 2) top32 [] (made top32 zeros 0) (store 0 top32 (replicate 2 free))
+      ∷ []
+
+  -- Numbers that are not above latest.
+  abbrev pub notAbove : List Row
+  notAbove =
+      applies g₉ 9 [] (refused 18) g₉
+      ∷ applies g₉ 0 (delete B ∷ []) (refused 18) g₉
+      ∷ applies (formatted 20) 0 four (refused 18) (formatted 20)
+      ∷ applies (store 0 top32 (replicate 2 free)) top32 [] (refused 18) (store 0 top32 (replicate 2 free))
       ∷ []

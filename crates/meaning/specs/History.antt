@@ -1,6 +1,6 @@
 -- Demand 3: histories. The calls on a store, and the grants that a history gives to each version, told from the calls and from which of
 -- them were accepted. Assumes nothing.
-use Prim.Native.Nat.{ℕ, zero, suc, _+_, _-_}
+use Prim.Native.Nat.{ℕ, zero, suc, _+_, _-_, _≤_}
 use mathlib.Core.Path.{_≡_}
 use mathlib.Core.Bool.{Bool, true, false, cond}
 use mathlib.Core.List.{List, [], _∷_}
@@ -9,26 +9,34 @@ use lib.ListN.{length}
 use lib.Dec.{eqb, leb}
 use Rattle.terms.specs.Bits.{Bytes, All, filter}
 use Rattle.terms.specs.Records.{Grant, Ask, Store}
-use Rattle.terms.specs.Form.{AskForm}
+use Rattle.terms.specs.Form.{AskForm, top32}
 use Rattle.meaning.specs.Tree.{withBatch, treeOf, unversioned, grantsIn}
 use Rattle.meaning.specs.Store.{formatted, treeAtVersion}
 use Rattle.meaning.specs.Sound.{Sound, Kept}
 use Rattle.meaning.specs.Calls.{Answer, refused, accepted, apply, prune}
 
+-- The grants of a version.
+pub record Entry : Type 0 where
+  pub version : ℕ
+  pub grants : List Grant
+
+abbrev pub entry : ℕ → List Grant → Entry
+entry v gs = record { version = v; grants = gs }
+
 -- A call on a store, with its arguments.
 pub data Call : Type 0 where
   formatting : Call
-  -- the batch as decoded; none where it isn't whole records in form
-  applying : Option (List Ask) → Call
+  -- the number given, and the batch as decoded; none where it isn't whole records in form
+  applying : ℕ → Option (List Ask) → Call
   pruning : ℕ → Call
   -- check, the reads, proving, and any call refused for its sizes or its header: nothing is written
   looking : Call
 
--- The asks of a batch are in form, as those decoded from bytes are.
+-- The asks of a batch are in form, as those decoded from bytes are, and its number has four bytes.
 abbrev pub CallForm : Call → Type 0
 CallForm formatting = Unit {0}
-CallForm (applying none) = Unit {0}
-CallForm (applying (some batch)) = All AskForm batch
+CallForm (applying number none) = Unit {0}
+CallForm (applying number (some batch)) = (number ≤ top32) × All AskForm batch
 CallForm (pruning n) = Unit {0}
 CallForm looking = Unit {0}
 
@@ -40,14 +48,14 @@ module _ (leafHash innerHash : Bytes → Bytes → Bytes) where
   -- The store after a call.
   abbrev pub after : Call → Store → Store
   after formatting st = formatted (length (st .slots))
-  after (applying batch) st = apply leafHash innerHash batch st .store
+  after (applying number batch) st = apply leafHash innerHash number batch st .store
   after (pruning n) st = prune n st .store
   after looking st = st
 
   -- The call was accepted, so it may have changed what the store holds.
   abbrev pub took : Call → Store → Bool
   took formatting st = true
-  took (applying batch) st = isAccepted (apply leafHash innerHash batch st .answer)
+  took (applying number batch) st = isAccepted (apply leafHash innerHash number batch st .answer)
   took (pruning n) st = isAccepted (prune n st .answer)
   took looking st = false
 
@@ -61,24 +69,23 @@ module _ (leafHash innerHash : Bytes → Bytes → Bytes) where
   history [] st = []
   history (c ∷ calls) st = (c, took c st) ∷ history calls (after c st)
 
--- The grants of a version.
-pub record Entry : Type 0 where
-  pub version : ℕ
-  pub grants : List Grant
-
-abbrev pub entry : ℕ → List Grant → Entry
-entry v gs = record { version = v; grants = gs }
-
 unfoldable pub keptBy : ℕ → Entry → Bool
 keptBy n e = leb n (e .version)
 
--- What an accepted call does to the grants by version, the newest first: formatting starts anew with the empty version 0, a batch makes
--- the next version (there always is a newest one), pruning forgets what is older.
+-- The next n versions after an entry's hold what it holds.
+abbrev pub lasting : ℕ → Entry → List Entry → List Entry
+lasting zero e es = e ∷ es
+lasting (suc n) e es = entry (e .version + suc n) (e .grants) ∷ lasting n e es
+
+-- What an accepted call does to the grants by version, the newest first: formatting starts anew with the empty version 0; a batch makes
+-- the version of its number, and those between it and the newest one (there always is one) hold what that holds; pruning forgets what is
+-- older.
 abbrev pub noted : Call → List Entry → List Entry
 noted formatting es = entry 0 [] ∷ []
-noted (applying none) es = es
-noted (applying (some batch)) [] = []
-noted (applying (some batch)) (e ∷ es) = entry (suc (e .version)) (withBatch batch (e .grants)) ∷ e ∷ es
+noted (applying number none) es = es
+noted (applying number (some batch)) [] = []
+noted (applying number (some batch)) (e ∷ es) =
+    entry number (withBatch batch (e .grants)) ∷ lasting (number - suc (e .version)) e es
 noted (pruning n) es = filter (keptBy n) es
 noted looking es = es
 

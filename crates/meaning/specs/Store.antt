@@ -29,15 +29,15 @@ lowest test (spoiled x ∷ s) = lowest test s
 abbrev pub find : ℕ → Place → List Slot → Option Record
 find v p s = lowest (isNode v p) s
 
--- A record at the empty place is the root for the version that it has.
-unfoldable pub RootFor : ℕ → Record → Type 0
-RootFor v r = r .version ≡ v
+-- Retired by v: retired since v or earlier.
+unfoldable pub retiredBy : ℕ → Record → Bool
+retiredBy v r = leb 1 (r .retired) && leb (r .retired) v
 
--- The record is (v, empty place).
+-- A root record whose lifetime covers v.
 unfoldable pub isRoot : ℕ → Record → Bool
-isRoot v r = isNode v [] r
+isRoot v r = samePlace (r .place) [] && (leb (r .version) v && not (retiredBy v r))
 
--- The root of a version is such a record, if any; the lowest is the one found.
+-- The root of a version is such a record, if any (2026-13); the lowest is the one found.
 unfoldable pub rootOf : Store → ℕ → Option Record
 rootOf st v = lowest (isRoot v) (st .slots)
 
@@ -99,10 +99,6 @@ retireIn new old now r = used (cond (hasNode r old && not (hasNode r now)) (mark
 
 abbrev pub retire : ℕ → List Record → List Record → List Slot → List Slot
 retire new old now s = map (onRecord (retireIn new old now)) s
-
--- Retired by v: retired since v or earlier.
-unfoldable pub retiredBy : ℕ → Record → Bool
-retiredBy v r = leb 1 (r .retired) && leb (r .retired) v
 
 -- Pruning to n frees every record retired since n or earlier.
 unfoldable pub pruneRecord : ℕ → Record → Slot

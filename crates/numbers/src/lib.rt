@@ -14,9 +14,6 @@ pub const BAD_BATCH: u32 = 4;
 // 5: keys not strictly ascending.
 pub const BAD_ORDER: u32 = 5;
 
-// 6: latest is the last number there is.
-pub const NO_VERSION: u32 = 6;
-
 // 7: fewer free slots than new records.
 pub const FEW_SLOTS: u32 = 7;
 
@@ -40,3 +37,6 @@ pub const TOO_MANY_VISITS: u32 = 13;
 
 // 14: proving in an empty version: there is no neighbour to show.
 pub const EMPTY_VERSION: u32 = 14;
+
+// 18: the number is not above latest.
+pub const NOT_ABOVE: u32 = 18;

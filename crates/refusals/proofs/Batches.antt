@@ -1,4 +1,4 @@
--- Rows 4 to 7: what a sound store answers to a batch is what they deserve. Assumes nothing.
+-- Rows 4, 5, 18 and 7: what a sound store answers to a batch is what they deserve. Assumes nothing.
 use Prim.Native.Nat.{ℕ}
 use native.Mathlib.Omega.{arith}
 use mathlib.Core.Path.{_≡_, refl, ap, sym, _∙_, subst}
@@ -43,27 +43,29 @@ module _ (batch : Bytes) (bytes : All Byte batch) where
       go false e = no-asks e
 
   -- a batch on a sound store
-  pub batch-first : (s : Bytes) → First (batchRows batch s) (numberOf (apply leafHash innerHash (batchOf batch) (storeOf s) .answer))
+  pub batch-first : (number : ℕ) (s : Bytes) →
+      First (batchRows number batch s) (numberOf (apply leafHash innerHash number (batchOf batch) (storeOf s) .answer))
   unfolding refuse newCount
-  batch-first s = go (batchOf batch) refl
+  batch-first number s = go (batchOf batch) refl
     where
-      go : (o : Option (List Ask)) → batchOf batch ≡ o → First (batchRows batch s) (numberOf (apply leafHash innerHash o (storeOf s) .answer))
-      go none e = inl (λ as′ w. no-asks (sym e ∙ asked-as as′ w), refl)
+      go : (o : Option (List Ask)) → batchOf batch ≡ o →
+          First (batchRows number batch s) (numberOf (apply leafHash innerHash number o (storeOf s) .answer))
+      go none e = let off-form : BatchOffForm batch = λ as′ w. no-asks (sym e ∙ asked-as as′ w) in inl (off-form, refl)
       go (some as′) e =
           let w = asked as′ e in
           let same : (bs : List Ask) → AskedBy batch bs → bs ≡ as′ = λ bs x. same-asks (sym (asked-as bs x) ∙ e) in
           let in-form : BatchOffForm batch → ⊥ = λ f. f as′ w in
           let rising : ascending as′ ≡ true → NotAscending batch → ⊥ =
           λ a x. true≢false (sym a ∙ ap ascending (read-asks as′ e) ∙ x) in
-          apply-cases leafHash innerHash (λ out. First (batchRows batch s) (numberOf (out .answer))) as′ (storeOf s)
+          apply-cases leafHash innerHash (λ out. First (batchRows number batch s) (numberOf (out .answer))) number as′ (storeOf s)
           (λ a. inr (in-form, inl (ap ascending (sym (read-asks as′ e)) ∙ a, refl)))
           (λ a m. inr (in-form, inr (rising a, inl (m, refl))))
-          (λ a m f. inr (in-form, inr (rising a, inr (m, inl ((as′, w, f), refl)))))
+          (λ a m f. inr (in-form, inr (rising a, inr (λ l. absurd (omega arith), inl ((as′, w, f), refl)))))
           (λ a m f.
           inr (
             in-form,
             inr (
               rising a,
-              inr (m, inr (λ x. absurd (omega (arith, f, ap (newCount s) (same (x .0) (x .1)), x .2)), refl)),
+              inr (λ l. absurd (omega arith), inr (λ x. absurd (omega (arith, f, ap (newCount number s) (same (x .0) (x .1)), x .2)), refl)),
             ),
           ))

@@ -1,18 +1,19 @@
--- Document 01, 'Numbers of refusal', and 14 of 2026-03: rows in the order in which they are tested, as far as the calls share them or the definitions of
--- `meaning` test them. Assumes nothing.
+-- Document 01, 'Numbers of refusal', 14 of 2026-03 and 18 of 2026-13: rows in the order in which they are tested, as far as the calls
+-- share them or the definitions of `meaning` test them. Assumes nothing.
 use Prim.Native.Nat.{ℕ}
 use mathlib.Core.List.{[], _∷_}
 use Rattle.terms.specs.Bits.{Bytes}
 use Rattle.refusals.specs.Exactly.{Table}
-use Rattle.refusals.specs.Rows.{WrongLength, WrongHeader, LostToGet, LostToProve, BatchOffForm, NotAscending, NoVersionLeft, TooFewFree, NotKept, TooLong, ProofOffForm, DoesNotHold, EmptyVersion, NotBothKept, TooManyVisits, ListTooLong}
+use Rattle.refusals.specs.Rows.{WrongLength, WrongHeader, LostToGet, LostToProve, BatchOffForm, NotAscending, NotAbove, TooFewFree, NotKept, TooLong, ProofOffForm, DoesNotHold, EmptyVersion, NotBothKept, TooManyVisits, ListTooLong}
 
 -- 1, 2.
 abbrev pub headerRows : Bytes → Table
 headerRows s = (1, WrongLength s) ∷ (2, WrongHeader s) ∷ []
 
--- Apply's own: 4, 5, 6, 7.
-abbrev pub batchRows : Bytes → Bytes → Table
-batchRows batch s = (4, BatchOffForm batch) ∷ (5, NotAscending batch) ∷ (6, NoVersionLeft s) ∷ (7, TooFewFree batch s) ∷ []
+-- Apply's own: 4, 5, 18, 7. 18 is tested where 01 tests 6, which is dropped.
+abbrev pub batchRows : ℕ → Bytes → Bytes → Table
+batchRows number batch s =
+    (4, BatchOffForm batch) ∷ (5, NotAscending batch) ∷ (18, NotAbove number s) ∷ (7, TooFewFree number batch s) ∷ []
 
 -- 8, of prune and of the reads.
 abbrev pub versionRows : Bytes → ℕ → Table

@@ -1,4 +1,4 @@
--- Document 01, 'Numbers of refusal', and 14 of 2026-03: the rows, each a proposition in its words. Assumes nothing.
+-- Document 01, 'Numbers of refusal', 14 of 2026-03 and 18 of 2026-13: the rows, each a proposition in its words. Assumes nothing.
 use Prim.Native.Nat.{ℕ, _+_, _*_, _≤_, _<_}
 use mathlib.Core.Path.{_≡_}
 use mathlib.Core.Bool.{false}
@@ -8,7 +8,7 @@ use lib.ListN.{length}
 use Rattle.terms.specs.Bits.{Bytes, All}
 use Rattle.terms.specs.Fields.{field, slice, zeroBytes}
 use Rattle.terms.specs.Records.{Ask, Proof}
-use Rattle.terms.specs.Form.{AskForm, top32}
+use Rattle.terms.specs.Form.{AskForm}
 use Rattle.meaning.specs.Tree.{nextTree}
 use Rattle.meaning.specs.Store.{rootOf, treeAtVersion, freeSlots, newRecords}
 use Rattle.meaning.specs.Sound.{Kept, Sound}
@@ -67,19 +67,18 @@ BatchOffForm batch = (as′ : List Ask) → AskedBy batch as′ → ⊥
 abbrev pub NotAscending : Bytes → Type 0
 NotAscending batch = ascending (asks batch) ≡ false
 
--- 6: latest is 4,294,967,295.
-abbrev pub NoVersionLeft : Bytes → Type 0
-NoVersionLeft s = storeOf s .latest ≡ top32
+-- 18: the number given is not above latest (2026-13).
+abbrev pub NotAbove : ℕ → Bytes → Type 0
+NotAbove number s = number ≤ storeOf s .latest
 
--- How many new records a batch makes of the latest tree.
-unfoldable pub newCount : Bytes → List Ask → ℕ
-newCount s as′ =
-    let st = storeOf s in
-    let new = st .latest + 1 in length (newRecords leafHash innerHash new (nextTree new (treeAtVersion st (st .latest)) as′))
+-- How many new records a batch makes of the latest tree, as the version of a number.
+unfoldable pub newCount : ℕ → Bytes → List Ask → ℕ
+newCount number s as′ =
+    let st = storeOf s in length (newRecords leafHash innerHash number (nextTree number (treeAtVersion st (st .latest)) as′))
 
 -- 7: fewer free slots than new records.
-abbrev pub TooFewFree : Bytes → Bytes → Type 0
-TooFewFree batch s = (as′ : List Ask) × AskedBy batch as′ × (freeSlots (storeOf s .slots) < newCount s as′)
+abbrev pub TooFewFree : ℕ → Bytes → Bytes → Type 0
+TooFewFree number batch s = (as′ : List Ask) × AskedBy batch as′ × (freeSlots (storeOf s .slots) < newCount number s as′)
 
 -- 8: the version isn't in oldest to latest.
 abbrev pub NotKept : Bytes → ℕ → Type 0

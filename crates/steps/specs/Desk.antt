@@ -6,14 +6,15 @@ use lib.ListN.{replicate}
 use Rattle.terms.specs.Bits.{Bytes}
 use Rattle.terms.specs.Records.{Ask, insert, delete, Store}
 use Rattle.meaning.specs.Calls.{applyAs}
-use Rattle.meaning.specs.Desk.{Row, applies, prunes, keyOf, s₁, s₈}
+use Rattle.meaning.specs.Desk.{Row, applies, prunes, reads, keyOf, s₁, s₈}
 use Rattle.steps.specs.Apply.{applySteps}
 
 module _ (leafHash innerHash : Bytes → Bytes → Bytes) where
   -- The steps give the row's answer and store.
   abbrev pub RowSteps : Row → Type 0
-  RowSteps (applies st batch answer end) = applySteps leafHash innerHash (st .latest + 1) batch st ≡ record { answer = answer; store = end }
+  RowSteps (applies st number batch answer end) = applySteps leafHash innerHash number batch st ≡ record { answer = answer; store = end }
   RowSteps (prunes st n answer end) = Unit {0}
+  RowSteps (reads st v root) = Unit {0}
 
   -- They give what apply gives.
   abbrev pub StepsAgree : Store × List Ask → Type 0

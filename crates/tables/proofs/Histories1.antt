@@ -1,4 +1,4 @@
--- Random histories, part 1. Written by tests/tables/generate.py; compared with a second reading of document 01. Assumes nothing.
+-- Random histories, part 1. Written by tests/tables/generate.py; compared with a second reading of document 01 with 2026-13. Assumes nothing.
 use mathlib.Core.Path.{_≡_, refl}
 use mathlib.Core.Bool.{true, false}
 use mathlib.Core.List.{List, [], _∷_}
@@ -14,326 +14,311 @@ use Rattle.tables.specs.Tables.{Game, game, GameHolds, applying, pruning
 
 module _ (leafHash innerHash : Bytes → Bytes → Bytes) where
   abbrev h0 : Bytes
-  h0 = leafHash (keyOf 16 0) (valueOf 4)
+  h0 = leafHash (keyOf 64 0) (valueOf 1)
 
   abbrev h1 : Bytes
-  h1 = leafHash (keyOf 64 0) (valueOf 2)
+  h1 = leafHash (keyOf 192 0) (valueOf 3)
 
   abbrev h2 : Bytes
-  h2 = innerHash h0 h1
+  h2 = leafHash (keyOf 192 0) (valueOf 4)
 
   abbrev h3 : Bytes
-  h3 = leafHash (keyOf 192 0) (valueOf 4)
+  h3 = innerHash h0 h1
 
   abbrev h4 : Bytes
-  h4 = leafHash (keyOf 64 0) (valueOf 1)
+  h4 = innerHash h0 h2
 
   abbrev h5 : Bytes
-  h5 = leafHash (keyOf 16 0) (valueOf 2)
+  h5 = leafHash (keyOf 255 0) (valueOf 1)
 
   abbrev h6 : Bytes
-  h6 = innerHash h5 h4
+  h6 = leafHash (keyOf 8 0) (valueOf 3)
 
   abbrev h7 : Bytes
-  h7 = innerHash h6 zeros
+  h7 = leafHash (keyOf 255 0) (valueOf 2)
 
   abbrev h8 : Bytes
-  h8 = innerHash h2 h3
+  h8 = innerHash h6 h7
 
   abbrev h9 : Bytes
-  h9 = leafHash (keyOf 192 0) (valueOf 3)
+  h9 = leafHash (keyOf 16 0) (valueOf 3)
 
   abbrev h10 : Bytes
-  h10 = leafHash (keyOf 0 0) (valueOf 2)
+  h10 = leafHash (keyOf 144 0) (valueOf 3)
 
   abbrev h11 : Bytes
-  h11 = leafHash (keyOf 96 0) (valueOf 1)
+  h11 = leafHash (keyOf 16 0) (valueOf 2)
 
   abbrev h12 : Bytes
-  h12 = innerHash h10 h11
+  h12 = leafHash (keyOf 144 0) (valueOf 1)
 
   abbrev h13 : Bytes
-  h13 = leafHash (keyOf 8 0) (valueOf 4)
+  h13 = innerHash h11 h12
 
   abbrev h14 : Bytes
-  h14 = innerHash h10 h13
+  h14 = innerHash h9 h10
 
   abbrev h15 : Bytes
-  h15 = innerHash h14 zeros
+  h15 = leafHash (keyOf 254 0) (valueOf 3)
 
   abbrev h16 : Bytes
-  h16 = innerHash h15 zeros
+  h16 = leafHash (keyOf 96 0) (valueOf 1)
 
   abbrev h17 : Bytes
-  h17 = innerHash h16 zeros
+  h17 = innerHash h12 h15
 
   abbrev h18 : Bytes
-  h18 = leafHash (keyOf 0 0) (valueOf 4)
+  h18 = leafHash (keyOf 254 0) (valueOf 4)
 
   abbrev h19 : Bytes
-  h19 = innerHash h18 h13
+  h19 = innerHash h12 h18
 
   abbrev h20 : Bytes
-  h20 = innerHash h19 zeros
+  h20 = innerHash h16 h17
 
   abbrev h21 : Bytes
-  h21 = innerHash h20 zeros
+  h21 = innerHash h16 h19
 
   abbrev h22 : Bytes
-  h22 = innerHash h21 zeros
+  h22 = leafHash (keyOf 64 0) (valueOf 4)
 
   abbrev h23 : Bytes
-  h23 = leafHash (keyOf 96 0) (valueOf 2)
+  h23 = leafHash (keyOf 255 0) (valueOf 4)
 
   abbrev h24 : Bytes
-  h24 = innerHash h12 zeros
+  h24 = innerHash h22 h7
 
   abbrev h25 : Bytes
-  h25 = innerHash h17 zeros
+  h25 = innerHash h22 h23
 
   abbrev h26 : Bytes
-  h26 = innerHash h22 zeros
+  h26 = leafHash (keyOf 128 0) (valueOf 1)
 
   abbrev h27 : Bytes
-  h27 = leafHash (keyOf 144 0) (valueOf 3)
+  h27 = innerHash h26 h15
 
   abbrev h28 : Bytes
-  h28 = innerHash h0 h27
+  h28 = innerHash zeros h27
 
   abbrev h29 : Bytes
-  h29 = leafHash (keyOf 64 0) (valueOf 3)
+  h29 = leafHash (keyOf 128 0) (valueOf 2)
 
   abbrev h30 : Bytes
-  h30 = leafHash (keyOf 96 0) (valueOf 3)
+  h30 = innerHash h22 h29
 
   abbrev h31 : Bytes
-  h31 = innerHash h29 h30
+  h31 = leafHash (keyOf 96 0) (valueOf 3)
 
   abbrev h32 : Bytes
-  h32 = innerHash zeros h31
+  h32 = leafHash (keyOf 0 0) (valueOf 1)
 
   abbrev h33 : Bytes
-  h33 = leafHash (keyOf 192 0) (valueOf 2)
+  h33 = innerHash h0 h31
 
   abbrev h34 : Bytes
-  h34 = innerHash h32 h3
+  h34 = innerHash h32 h33
 
   abbrev h35 : Bytes
-  h35 = innerHash h32 zeros
+  h35 = leafHash (keyOf 0 0) (valueOf 4)
 
   abbrev h36 : Bytes
-  h36 = innerHash h32 h33
+  h36 = leafHash (keyOf 254 0) (valueOf 2)
 
   abbrev h37 : Bytes
-  h37 = innerHash h13 h5
+  h37 = innerHash h34 h10
 
   abbrev h38 : Bytes
-  h38 = innerHash h37 zeros
+  h38 = innerHash h34 zeros
 
   abbrev h39 : Bytes
-  h39 = innerHash h38 zeros
+  h39 = innerHash h35 h36
 
   abbrev h40 : Bytes
-  h40 = innerHash h39 zeros
+  h40 = leafHash (keyOf 64 0) (valueOf 3)
 
   abbrev h41 : Bytes
-  h41 = leafHash (keyOf 96 0) (valueOf 4)
+  h41 = leafHash (keyOf 104 0) (valueOf 3)
 
   abbrev h42 : Bytes
-  h42 = leafHash (keyOf 104 0) (valueOf 3)
+  h42 = innerHash h40 h41
 
   abbrev h43 : Bytes
-  h43 = innerHash h41 h42
+  h43 = innerHash zeros h42
 
   abbrev h44 : Bytes
-  h44 = innerHash h43 zeros
+  h44 = leafHash (keyOf 128 0) (valueOf 3)
 
   abbrev h45 : Bytes
-  h45 = innerHash zeros h44
+  h45 = leafHash (keyOf 128 0) (valueOf 4)
 
   abbrev h46 : Bytes
-  h46 = innerHash zeros h45
+  h46 = leafHash (keyOf 64 0) (valueOf 2)
 
   abbrev h47 : Bytes
-  h47 = innerHash h46 zeros
+  h47 = innerHash h46 h41
 
   abbrev h48 : Bytes
-  h48 = leafHash (keyOf 8 0) (valueOf 3)
+  h48 = innerHash zeros h47
 
   abbrev h49 : Bytes
-  h49 = leafHash (keyOf 64 0) (valueOf 4)
+  h49 = innerHash h45 h7
 
   abbrev h50 : Bytes
-  h50 = leafHash (keyOf 255 0) (valueOf 1)
+  h50 = innerHash h43 h44
 
   abbrev h51 : Bytes
-  h51 = innerHash h1 h3
+  h51 = innerHash h43 h45
 
   abbrev h52 : Bytes
-  h52 = leafHash (keyOf 16 0) (valueOf 1)
+  h52 = innerHash h48 h49
 
   abbrev h53 : Bytes
-  h53 = innerHash h52 h4
+  h53 = innerHash h32 h11
 
   abbrev h54 : Bytes
-  h54 = leafHash (keyOf 16 0) (valueOf 3)
+  h54 = innerHash h53 zeros
 
   abbrev h55 : Bytes
-  h55 = leafHash (keyOf 144 0) (valueOf 1)
+  h55 = innerHash h54 zeros
 
   abbrev h56 : Bytes
-  h56 = innerHash h53 zeros
+  h56 = leafHash (keyOf 254 0) (valueOf 1)
 
   abbrev h57 : Bytes
-  h57 = innerHash h54 h55
+  h57 = innerHash h6 h11
 
   abbrev h58 : Bytes
-  h58 = leafHash (keyOf 0 0) (valueOf 3)
+  h58 = innerHash h57 zeros
 
   abbrev h59 : Bytes
-  h59 = innerHash h58 h33
+  h59 = innerHash h58 zeros
 
   abbrev h60 : Bytes
-  h60 = leafHash (keyOf 128 0) (valueOf 1)
+  h60 = leafHash (keyOf 8 0) (valueOf 4)
 
   abbrev h61 : Bytes
-  h61 = leafHash (keyOf 104 0) (valueOf 4)
+  h61 = innerHash h60 h15
 
   abbrev h62 : Bytes
-  h62 = innerHash h61 h50
+  h62 = innerHash h59 h56
 
   abbrev h63 : Bytes
-  h63 = innerHash h49 h9
+  h63 = innerHash h55 h56
 
   abbrev h64 : Bytes
-  h64 = innerHash h29 h9
+  h64 = innerHash h2 h7
 
   abbrev h65 : Bytes
-  h65 = leafHash (keyOf 254 0) (valueOf 3)
+  h65 = innerHash h45 h64
 
   abbrev h66 : Bytes
-  h66 = leafHash (keyOf 254 0) (valueOf 4)
+  h66 = innerHash zeros h64
 
   abbrev h67 : Bytes
-  h67 = innerHash h13 h65
+  h67 = innerHash zeros h65
 
   abbrev h68 : Bytes
-  h68 = leafHash (keyOf 254 0) (valueOf 1)
+  h68 = innerHash zeros h66
 
   abbrev h69 : Bytes
-  h69 = innerHash h18 h66
+  h69 = leafHash (keyOf 16 0) (valueOf 1)
 
   abbrev h70 : Bytes
-  h70 = leafHash (keyOf 104 0) (valueOf 2)
+  h70 = leafHash (keyOf 96 0) (valueOf 2)
 
   abbrev h71 : Bytes
-  h71 = innerHash h42 h60
+  h71 = innerHash h69 h70
 
   abbrev h72 : Bytes
-  h72 = leafHash (keyOf 8 0) (valueOf 2)
+  h72 = innerHash h71 h45
 
   abbrev h73 : Bytes
-  h73 = leafHash (keyOf 144 0) (valueOf 2)
+  h73 = innerHash h70 h45
 
   abbrev h74 : Bytes
-  h74 = innerHash h72 h27
+  h74 = innerHash h69 h31
 
   abbrev h75 : Bytes
-  h75 = innerHash h72 h73
+  h75 = leafHash (keyOf 255 0) (valueOf 3)
 
   abbrev h76 : Bytes
-  h76 = innerHash h1 h55
+  h76 = innerHash h74 h75
 
   abbrev h77 : Bytes
-  h77 = leafHash (keyOf 128 0) (valueOf 4)
+  h77 = leafHash (keyOf 104 0) (valueOf 1)
 
   abbrev h78 : Bytes
-  h78 = innerHash h72 h49
+  h78 = innerHash h77 h26
 
   abbrev h79 : Bytes
-  h79 = leafHash (keyOf 8 0) (valueOf 1)
+  h79 = leafHash (keyOf 144 0) (valueOf 2)
 
   abbrev h80 : Bytes
-  h80 = innerHash h49 h77
+  h80 = innerHash h26 h79
 
   abbrev h81 : Bytes
-  h81 = innerHash h78 h77
+  h81 = innerHash h80 zeros
 
   abbrev h82 : Bytes
-  h82 = innerHash h1 h61
+  h82 = innerHash h81 zeros
 
   abbrev h83 : Bytes
-  h83 = innerHash zeros h82
+  h83 = innerHash h22 h82
 
   abbrev h84 : Bytes
-  h84 = innerHash h83 zeros
+  h84 = leafHash (keyOf 104 0) (valueOf 2)
 
   abbrev h85 : Bytes
-  h85 = leafHash (keyOf 254 0) (valueOf 2)
+  h85 = leafHash (keyOf 104 0) (valueOf 4)
 
   abbrev h86 : Bytes
-  h86 = innerHash h61 h85
+  h86 = innerHash h84 h75
 
   abbrev h87 : Bytes
-  h87 = leafHash (keyOf 0 0) (valueOf 1)
+  h87 = innerHash h85 h75
 
   abbrev h88 : Bytes
-  h88 = leafHash (keyOf 104 0) (valueOf 1)
+  h88 = leafHash (keyOf 192 0) (valueOf 2)
 
   abbrev h89 : Bytes
-  h89 = innerHash h87 h88
+  h89 = leafHash (keyOf 192 0) (valueOf 1)
 
   abbrev h90 : Bytes
-  h90 = innerHash h89 zeros
+  h90 = innerHash h12 h89
 
   abbrev h91 : Bytes
-  h91 = innerHash h73 h85
+  h91 = innerHash h32 h12
 
   abbrev h92 : Bytes
-  h92 = innerHash h11 h91
+  h92 = innerHash zeros h90
 
   abbrev h93 : Bytes
-  h93 = leafHash (keyOf 255 0) (valueOf 3)
+  h93 = innerHash h69 h0
 
   abbrev h94 : Bytes
-  h94 = innerHash h5 h23
+  h94 = innerHash h93 zeros
 
   abbrev h95 : Bytes
-  h95 = innerHash h87 h5
+  h95 = innerHash h93 h26
 
   abbrev h96 : Bytes
-  h96 = innerHash h95 zeros
+  h96 = leafHash (keyOf 0 0) (valueOf 3)
 
   abbrev h97 : Bytes
-  h97 = innerHash h96 zeros
-
-  abbrev h98 : Bytes
-  h98 = innerHash h94 zeros
-
-  abbrev h99 : Bytes
-  h99 = innerHash h97 zeros
-
-  abbrev h100 : Bytes
-  h100 = innerHash h72 h70
-
-  abbrev h101 : Bytes
-  h101 = innerHash h100 zeros
-
-  abbrev h102 : Bytes
-  h102 = innerHash h100 h33
+  h97 = innerHash h96 h29
 
   abbrev end0 : Store
   end0 =
-      storeOf 4 5
-      (leafSlot (false ∷ false ∷ []) 4 0 (keyOf 16 0) (valueOf 4)
-      ∷ leafSlot (false ∷ true ∷ []) 4 0 (keyOf 64 0) (valueOf 2)
-      ∷ innerSlot (false ∷ []) 4 0 4 h0 4 h1
-      ∷ leafSlot (true ∷ []) 4 0 (keyOf 192 0) (valueOf 4)
-      ∷ innerSlot ([]) 4 5 4 h2 4 h3
-      ∷ innerSlot ([]) 5 0 4 h2 4 h3
+      storeOf 5 10
+      (free
       ∷ free
-      ∷ free
-      ∷ free
+      ∷ leafSlot ([]) 5 6 (keyOf 64 0) (valueOf 1)
+      ∷ leafSlot ([]) 6 7 (keyOf 64 0) (valueOf 1)
+      ∷ leafSlot (false ∷ []) 7 0 (keyOf 64 0) (valueOf 1)
+      ∷ leafSlot (true ∷ []) 7 10 (keyOf 192 0) (valueOf 3)
+      ∷ innerSlot ([]) 7 10 7 h0 7 h1
+      ∷ leafSlot (true ∷ []) 10 0 (keyOf 192 0) (valueOf 4)
+      ∷ innerSlot ([]) 10 0 7 h0 10 h2
       ∷ free
       ∷ free
       ∷ free
@@ -345,9 +330,9 @@ module _ (leafHash innerHash : Bytes → Bytes → Bytes) where
 
   abbrev end1 : Store
   end1 =
-      storeOf 4 4
-      (free
-      ∷ free
+      storeOf 0 6
+      (leafSlot ([]) 1 2 (keyOf 255 0) (valueOf 1)
+      ∷ leafSlot ([]) 2 3 (keyOf 255 0) (valueOf 1)
       ∷ free
       ∷ free
       ∷ free
@@ -362,28 +347,12 @@ module _ (leafHash innerHash : Bytes → Bytes → Bytes) where
 
   abbrev end2 : Store
   end2 =
-      storeOf 1 7
-      (leafSlot ([]) 2 3 (keyOf 96 0) (valueOf 2)
-      ∷ leafSlot ([]) 3 4 (keyOf 96 0) (valueOf 2)
-      ∷ leafSlot (false ∷ false ∷ []) 4 6 (keyOf 0 0) (valueOf 2)
-      ∷ leafSlot (false ∷ true ∷ []) 4 6 (keyOf 96 0) (valueOf 1)
-      ∷ innerSlot (false ∷ []) 4 6 4 h10 4 h11
-      ∷ innerSlot ([]) 4 5 4 h12 0 zeros
-      ∷ innerSlot ([]) 5 6 4 h12 0 zeros
-      ∷ leafSlot (false ∷ false ∷ false ∷ false ∷ false ∷ []) 6 7 (keyOf 0 0) (valueOf 2)
-      ∷ leafSlot (false ∷ false ∷ false ∷ false ∷ true ∷ []) 6 0 (keyOf 8 0) (valueOf 4)
-      ∷ innerSlot (false ∷ false ∷ false ∷ false ∷ []) 6 7 6 h10 6 h13
-      ∷ innerSlot (false ∷ false ∷ false ∷ []) 6 7 6 h14 0 zeros
-      ∷ innerSlot (false ∷ false ∷ []) 6 7 6 h15 0 zeros
-      ∷ innerSlot (false ∷ []) 6 7 6 h16 0 zeros
-      ∷ innerSlot ([]) 6 7 6 h17 0 zeros
-      ∷ leafSlot (false ∷ false ∷ false ∷ false ∷ false ∷ []) 7 0 (keyOf 0 0) (valueOf 4)
-      ∷ innerSlot (false ∷ false ∷ false ∷ false ∷ []) 7 0 7 h18 6 h13
-      ∷ innerSlot (false ∷ false ∷ false ∷ []) 7 0 7 h19 0 zeros
-      ∷ innerSlot (false ∷ false ∷ []) 7 0 7 h20 0 zeros
-      ∷ innerSlot (false ∷ []) 7 0 7 h21 0 zeros
-      ∷ innerSlot ([]) 7 0 7 h22 0 zeros
-      ∷ free
+      storeOf 4 14
+      (leafSlot ([]) 7 11 (keyOf 8 0) (valueOf 3)
+      ∷ leafSlot (false ∷ []) 11 14 (keyOf 8 0) (valueOf 3)
+      ∷ leafSlot (true ∷ []) 11 14 (keyOf 255 0) (valueOf 2)
+      ∷ innerSlot ([]) 11 14 11 h6 11 h7
+      ∷ leafSlot ([]) 14 0 (keyOf 255 0) (valueOf 2)
       ∷ free
       ∷ free
       ∷ free
@@ -391,87 +360,71 @@ module _ (leafHash innerHash : Bytes → Bytes → Bytes) where
 
   abbrev end3 : Store
   end3 =
-      storeOf 4294967293 4294967295
-      (leafSlot (false ∷ []) 4294967294 0 (keyOf 16 0) (valueOf 4)
-      ∷ leafSlot (true ∷ []) 4294967294 0 (keyOf 144 0) (valueOf 3)
-      ∷ innerSlot ([]) 4294967294 4294967295 4294967294 h0 4294967294 h27
-      ∷ innerSlot ([]) 4294967295 0 4294967294 h0 4294967294 h27
+      storeOf 4294967295 4294967295
+      (free
       ∷ free
       ∷ free
+      ∷ leafSlot (false ∷ []) 4294967295 0 (keyOf 16 0) (valueOf 3)
+      ∷ leafSlot (true ∷ []) 4294967295 0 (keyOf 144 0) (valueOf 3)
+      ∷ innerSlot ([]) 4294967295 0 4294967295 h9 4294967295 h10
       ∷ free
       ∷ free
       ∷ [])
 
   abbrev end4 : Store
   end4 =
-      storeOf 3 5
-      (free
-      ∷ leafSlot (false ∷ true ∷ false ∷ []) 2 0 (keyOf 64 0) (valueOf 3)
-      ∷ leafSlot (false ∷ true ∷ true ∷ []) 2 0 (keyOf 96 0) (valueOf 3)
-      ∷ innerSlot (false ∷ true ∷ []) 2 0 2 h29 2 h30
-      ∷ innerSlot (false ∷ []) 2 0 0 zeros 2 h31
-      ∷ free
-      ∷ free
-      ∷ innerSlot ([]) 3 4 2 h32 0 zeros
-      ∷ leafSlot (true ∷ []) 4 0 (keyOf 192 0) (valueOf 2)
-      ∷ innerSlot ([]) 4 5 2 h32 4 h33
-      ∷ innerSlot ([]) 5 0 2 h32 4 h33
-      ∷ free
-      ∷ free
-      ∷ free
-      ∷ free
-      ∷ free
+      storeOf 1 2
+      (leafSlot (true ∷ false ∷ []) 1 0 (keyOf 144 0) (valueOf 1)
+      ∷ leafSlot (true ∷ true ∷ []) 1 2 (keyOf 254 0) (valueOf 3)
+      ∷ leafSlot (false ∷ []) 1 0 (keyOf 96 0) (valueOf 1)
+      ∷ innerSlot (true ∷ []) 1 2 1 h12 1 h15
+      ∷ innerSlot ([]) 1 2 1 h16 1 h17
+      ∷ leafSlot (true ∷ true ∷ []) 2 0 (keyOf 254 0) (valueOf 4)
+      ∷ innerSlot (true ∷ []) 2 0 1 h12 2 h18
+      ∷ innerSlot ([]) 2 0 1 h16 2 h19
       ∷ [])
 
   abbrev end5 : Store
   end5 =
-      storeOf 0 3
-      (leafSlot ([]) 1 2 (keyOf 16 0) (valueOf 2)
-      ∷ leafSlot (false ∷ false ∷ false ∷ false ∷ []) 2 0 (keyOf 8 0) (valueOf 4)
-      ∷ leafSlot (false ∷ false ∷ false ∷ true ∷ []) 2 0 (keyOf 16 0) (valueOf 2)
-      ∷ innerSlot (false ∷ false ∷ false ∷ []) 2 0 2 h13 2 h5
-      ∷ innerSlot (false ∷ false ∷ []) 2 0 2 h37 0 zeros
-      ∷ innerSlot (false ∷ []) 2 0 2 h38 0 zeros
-      ∷ innerSlot ([]) 2 3 2 h39 0 zeros
-      ∷ innerSlot ([]) 3 0 2 h39 0 zeros
+      storeOf 0 2
+      (leafSlot (false ∷ []) 1 0 (keyOf 64 0) (valueOf 4)
+      ∷ leafSlot (true ∷ []) 1 2 (keyOf 255 0) (valueOf 2)
+      ∷ innerSlot ([]) 1 2 1 h22 1 h7
+      ∷ leafSlot (true ∷ []) 2 0 (keyOf 255 0) (valueOf 4)
+      ∷ innerSlot ([]) 2 0 1 h22 2 h23
+      ∷ free
+      ∷ free
+      ∷ free
       ∷ [])
 
   abbrev end6 : Store
   end6 =
-      storeOf 2 3
-      (leafSlot (false ∷ true ∷ true ∷ false ∷ false ∷ []) 2 0 (keyOf 96 0) (valueOf 4)
-      ∷ leafSlot (false ∷ true ∷ true ∷ false ∷ true ∷ []) 2 0 (keyOf 104 0) (valueOf 3)
-      ∷ innerSlot (false ∷ true ∷ true ∷ false ∷ []) 2 0 2 h41 2 h42
-      ∷ innerSlot (false ∷ true ∷ true ∷ []) 2 0 2 h43 0 zeros
-      ∷ innerSlot (false ∷ true ∷ []) 2 0 0 zeros 2 h44
-      ∷ innerSlot (false ∷ []) 2 0 0 zeros 2 h45
-      ∷ innerSlot ([]) 2 3 2 h46 0 zeros
-      ∷ innerSlot ([]) 3 0 2 h46 0 zeros
+      storeOf 12 14
+      (leafSlot ([]) 10 14 (keyOf 254 0) (valueOf 3)
+      ∷ leafSlot (true ∷ false ∷ []) 14 0 (keyOf 128 0) (valueOf 1)
+      ∷ leafSlot (true ∷ true ∷ []) 14 0 (keyOf 254 0) (valueOf 3)
+      ∷ innerSlot (true ∷ []) 14 0 14 h26 14 h15
+      ∷ innerSlot ([]) 14 0 0 zeros 14 h27
+      ∷ free
+      ∷ free
+      ∷ free
       ∷ [])
 
   abbrev end7 : Store
   end7 =
-      storeOf 2 3
-      (leafSlot ([]) 2 3 (keyOf 8 0) (valueOf 3)
-      ∷ leafSlot ([]) 3 0 (keyOf 8 0) (valueOf 3)
+      storeOf 4294967295 4294967295
+      (leafSlot (false ∷ []) 4294967294 0 (keyOf 64 0) (valueOf 4)
+      ∷ leafSlot (true ∷ []) 4294967294 0 (keyOf 128 0) (valueOf 2)
       ∷ free
-      ∷ free
-      ∷ free
-      ∷ free
-      ∷ free
-      ∷ free
-      ∷ free
-      ∷ free
-      ∷ free
-      ∷ free
+      ∷ innerSlot ([]) 4294967295 0 4294967294 h22 4294967294 h29
       ∷ [])
 
   abbrev end8 : Store
   end8 =
-      storeOf 0 5
-      (leafSlot ([]) 1 2 (keyOf 96 0) (valueOf 4)
-      ∷ leafSlot ([]) 4 5 (keyOf 96 0) (valueOf 3)
-      ∷ leafSlot ([]) 5 0 (keyOf 96 0) (valueOf 3)
+      storeOf 4294967294 4294967295
+      (leafSlot ([]) 4294967294 4294967295 (keyOf 192 0) (valueOf 3)
+      ∷ leafSlot ([]) 4294967295 0 (keyOf 192 0) (valueOf 3)
+      ∷ free
       ∷ free
       ∷ free
       ∷ free
@@ -485,72 +438,68 @@ module _ (leafHash innerHash : Bytes → Bytes → Bytes) where
 
   abbrev end9 : Store
   end9 =
-      storeOf 2 6
-      (leafSlot ([]) 4 5 (keyOf 64 0) (valueOf 4)
-      ∷ leafSlot ([]) 2 3 (keyOf 64 0) (valueOf 3)
-      ∷ leafSlot ([]) 3 4 (keyOf 64 0) (valueOf 4)
-      ∷ leafSlot ([]) 5 6 (keyOf 64 0) (valueOf 4)
-      ∷ free
-      ∷ free
-      ∷ free
-      ∷ free
-      ∷ free
-      ∷ free
-      ∷ free
-      ∷ free
+      storeOf 0 15
+      (leafSlot (false ∷ true ∷ false ∷ []) 5 14 (keyOf 64 0) (valueOf 1)
+      ∷ leafSlot (false ∷ true ∷ true ∷ []) 5 14 (keyOf 96 0) (valueOf 3)
+      ∷ leafSlot (false ∷ false ∷ []) 5 14 (keyOf 0 0) (valueOf 1)
+      ∷ innerSlot (false ∷ true ∷ []) 5 14 5 h0 5 h31
+      ∷ innerSlot (false ∷ []) 5 14 5 h32 5 h33
+      ∷ leafSlot (true ∷ []) 5 9 (keyOf 144 0) (valueOf 3)
+      ∷ innerSlot ([]) 5 9 5 h34 5 h10
+      ∷ innerSlot ([]) 9 14 5 h34 0 zeros
+      ∷ leafSlot ([]) 14 15 (keyOf 0 0) (valueOf 4)
+      ∷ leafSlot (false ∷ []) 15 0 (keyOf 0 0) (valueOf 4)
+      ∷ leafSlot (true ∷ []) 15 0 (keyOf 254 0) (valueOf 2)
+      ∷ innerSlot ([]) 15 0 15 h35 15 h36
       ∷ [])
 
   abbrev end10 : Store
   end10 =
-      storeOf 0 2
-      (leafSlot ([]) 1 2 (keyOf 255 0) (valueOf 1)
-      ∷ leafSlot (false ∷ []) 2 0 (keyOf 64 0) (valueOf 2)
-      ∷ leafSlot (true ∷ []) 2 0 (keyOf 192 0) (valueOf 4)
-      ∷ innerSlot ([]) 2 0 2 h1 2 h3
+      storeOf 5 5
+      (free
+      ∷ free
+      ∷ free
+      ∷ free
+      ∷ free
+      ∷ free
+      ∷ free
+      ∷ free
+      ∷ free
+      ∷ free
+      ∷ free
+      ∷ free
+      ∷ free
+      ∷ free
+      ∷ free
+      ∷ free
       ∷ [])
 
   abbrev end11 : Store
   end11 =
-      storeOf 0 4
-      (leafSlot ([]) 2 3 (keyOf 64 0) (valueOf 1)
-      ∷ leafSlot (false ∷ false ∷ []) 3 4 (keyOf 16 0) (valueOf 1)
-      ∷ leafSlot (false ∷ true ∷ []) 3 4 (keyOf 64 0) (valueOf 1)
-      ∷ innerSlot (false ∷ []) 3 4 3 h52 3 h4
-      ∷ innerSlot ([]) 3 4 3 h53 0 zeros
-      ∷ leafSlot (false ∷ []) 4 0 (keyOf 16 0) (valueOf 3)
-      ∷ leafSlot (true ∷ []) 4 0 (keyOf 144 0) (valueOf 1)
-      ∷ innerSlot ([]) 4 0 4 h54 4 h55
-      ∷ free
-      ∷ free
-      ∷ free
-      ∷ free
-      ∷ free
-      ∷ free
-      ∷ free
-      ∷ free
+      storeOf 0 7
+      (leafSlot (false ∷ true ∷ false ∷ []) 3 7 (keyOf 64 0) (valueOf 3)
+      ∷ leafSlot (false ∷ true ∷ true ∷ []) 3 0 (keyOf 104 0) (valueOf 3)
+      ∷ innerSlot (false ∷ true ∷ []) 3 7 3 h40 3 h41
+      ∷ innerSlot (false ∷ []) 3 7 0 zeros 3 h42
+      ∷ leafSlot (true ∷ []) 3 6 (keyOf 128 0) (valueOf 3)
+      ∷ innerSlot ([]) 3 4 3 h43 3 h44
+      ∷ innerSlot ([]) 4 6 3 h43 3 h44
+      ∷ leafSlot (true ∷ []) 6 7 (keyOf 128 0) (valueOf 4)
+      ∷ innerSlot ([]) 6 7 3 h43 6 h45
+      ∷ leafSlot (false ∷ true ∷ false ∷ []) 7 0 (keyOf 64 0) (valueOf 2)
+      ∷ innerSlot (false ∷ true ∷ []) 7 0 7 h46 3 h41
+      ∷ leafSlot (true ∷ false ∷ []) 7 0 (keyOf 128 0) (valueOf 4)
+      ∷ leafSlot (true ∷ true ∷ []) 7 0 (keyOf 255 0) (valueOf 2)
+      ∷ innerSlot (false ∷ []) 7 0 0 zeros 7 h47
+      ∷ innerSlot (true ∷ []) 7 0 7 h45 7 h7
+      ∷ innerSlot ([]) 7 0 7 h48 7 h49
       ∷ [])
 
   abbrev end12 : Store
   end12 =
-      storeOf 0 3
-      (leafSlot (false ∷ []) 1 0 (keyOf 0 0) (valueOf 3)
-      ∷ leafSlot (true ∷ []) 1 0 (keyOf 192 0) (valueOf 2)
-      ∷ innerSlot ([]) 1 2 1 h58 1 h33
-      ∷ innerSlot ([]) 2 3 1 h58 1 h33
-      ∷ innerSlot ([]) 3 0 1 h58 1 h33
-      ∷ free
-      ∷ free
-      ∷ free
-      ∷ free
-      ∷ free
-      ∷ free
-      ∷ free
-      ∷ free
-      ∷ free
-      ∷ free
-      ∷ free
-      ∷ free
-      ∷ free
+      storeOf 0 5
+      (leafSlot ([]) 1 5 (keyOf 144 0) (valueOf 3)
+      ∷ leafSlot ([]) 5 0 (keyOf 144 0) (valueOf 3)
       ∷ free
       ∷ free
       ∷ free
@@ -561,9 +510,25 @@ module _ (leafHash innerHash : Bytes → Bytes → Bytes) where
 
   abbrev end13 : Store
   end13 =
-      storeOf 0 2
-      (leafSlot ([]) 1 2 (keyOf 128 0) (valueOf 1)
-      ∷ leafSlot ([]) 2 0 (keyOf 128 0) (valueOf 1)
+      storeOf 13 18
+      (innerSlot ([]) 18 0 14 h55 9 h56
+      ∷ free
+      ∷ free
+      ∷ free
+      ∷ free
+      ∷ leafSlot (false ∷ false ∷ false ∷ false ∷ []) 9 14 (keyOf 8 0) (valueOf 3)
+      ∷ leafSlot (false ∷ false ∷ false ∷ true ∷ []) 9 0 (keyOf 16 0) (valueOf 2)
+      ∷ innerSlot (false ∷ false ∷ false ∷ []) 9 14 9 h6 9 h11
+      ∷ innerSlot (false ∷ false ∷ []) 9 14 9 h57 0 zeros
+      ∷ innerSlot (false ∷ []) 9 14 9 h58 0 zeros
+      ∷ leafSlot (true ∷ []) 9 0 (keyOf 254 0) (valueOf 1)
+      ∷ innerSlot ([]) 9 14 9 h59 9 h56
+      ∷ leafSlot (false ∷ false ∷ false ∷ false ∷ []) 14 0 (keyOf 0 0) (valueOf 1)
+      ∷ innerSlot (false ∷ false ∷ false ∷ []) 14 0 14 h32 9 h11
+      ∷ innerSlot (false ∷ false ∷ []) 14 0 14 h53 0 zeros
+      ∷ innerSlot (false ∷ []) 14 0 14 h54 0 zeros
+      ∷ innerSlot ([]) 14 18 14 h55 9 h56
+      ∷ free
       ∷ free
       ∷ free
       ∷ free
@@ -574,23 +539,31 @@ module _ (leafHash innerHash : Bytes → Bytes → Bytes) where
 
   abbrev end14 : Store
   end14 =
-      storeOf 0 2
-      (leafSlot ([]) 1 2 (keyOf 255 0) (valueOf 1)
-      ∷ leafSlot (false ∷ []) 2 0 (keyOf 104 0) (valueOf 4)
-      ∷ leafSlot (true ∷ []) 2 0 (keyOf 255 0) (valueOf 1)
-      ∷ innerSlot ([]) 2 0 2 h61 2 h50
+      storeOf 2 7
+      (innerSlot (true ∷ []) 7 0 0 zeros 2 h64
+      ∷ leafSlot (true ∷ true ∷ false ∷ []) 2 0 (keyOf 192 0) (valueOf 4)
+      ∷ leafSlot (true ∷ true ∷ true ∷ []) 2 0 (keyOf 255 0) (valueOf 2)
+      ∷ leafSlot (true ∷ false ∷ []) 2 7 (keyOf 128 0) (valueOf 4)
+      ∷ innerSlot (true ∷ true ∷ []) 2 0 2 h2 2 h7
+      ∷ innerSlot (true ∷ []) 2 7 2 h45 2 h64
+      ∷ innerSlot ([]) 2 3 0 zeros 2 h65
+      ∷ innerSlot ([]) 3 4 0 zeros 2 h65
+      ∷ innerSlot ([]) 4 7 0 zeros 2 h65
+      ∷ innerSlot ([]) 7 0 0 zeros 7 h66
+      ∷ free
+      ∷ free
+      ∷ free
+      ∷ free
+      ∷ free
+      ∷ free
       ∷ [])
 
   abbrev end15 : Store
   end15 =
-      storeOf 2 5
-      (leafSlot (false ∷ []) 2 4 (keyOf 64 0) (valueOf 4)
-      ∷ leafSlot (true ∷ []) 2 0 (keyOf 192 0) (valueOf 3)
-      ∷ innerSlot ([]) 2 3 2 h49 2 h9
-      ∷ innerSlot ([]) 3 4 2 h49 2 h9
-      ∷ leafSlot (false ∷ []) 4 0 (keyOf 64 0) (valueOf 3)
-      ∷ innerSlot ([]) 4 5 4 h29 2 h9
-      ∷ innerSlot ([]) 5 0 4 h29 2 h9
+      storeOf 4294967293 4294967295
+      (leafSlot ([]) 4294967295 0 (keyOf 255 0) (valueOf 1)
+      ∷ free
+      ∷ free
       ∷ free
       ∷ free
       ∷ free
@@ -604,116 +577,104 @@ module _ (leafHash innerHash : Bytes → Bytes → Bytes) where
 
   abbrev end16 : Store
   end16 =
-      storeOf 1 6
-      (leafSlot (false ∷ []) 1 2 (keyOf 8 0) (valueOf 4)
-      ∷ leafSlot (true ∷ []) 1 2 (keyOf 254 0) (valueOf 3)
-      ∷ innerSlot ([]) 1 2 1 h13 1 h65
-      ∷ leafSlot ([]) 2 3 (keyOf 254 0) (valueOf 3)
-      ∷ leafSlot ([]) 3 4 (keyOf 254 0) (valueOf 1)
-      ∷ leafSlot ([]) 4 5 (keyOf 254 0) (valueOf 3)
-      ∷ leafSlot ([]) 5 6 (keyOf 254 0) (valueOf 4)
-      ∷ leafSlot (false ∷ []) 6 0 (keyOf 0 0) (valueOf 4)
-      ∷ leafSlot (true ∷ []) 6 0 (keyOf 254 0) (valueOf 4)
-      ∷ innerSlot ([]) 6 0 6 h18 6 h66
-      ∷ free
-      ∷ free
-      ∷ free
-      ∷ free
-      ∷ free
-      ∷ free
-      ∷ free
-      ∷ free
-      ∷ free
-      ∷ free
-      ∷ free
-      ∷ free
-      ∷ free
+      storeOf 1 3
+      (leafSlot (false ∷ false ∷ []) 2 3 (keyOf 16 0) (valueOf 1)
+      ∷ leafSlot (false ∷ true ∷ []) 2 3 (keyOf 96 0) (valueOf 2)
+      ∷ innerSlot (false ∷ []) 2 3 2 h69 2 h70
+      ∷ leafSlot (true ∷ []) 2 0 (keyOf 128 0) (valueOf 4)
+      ∷ innerSlot ([]) 2 3 2 h71 2 h45
+      ∷ leafSlot (false ∷ []) 3 0 (keyOf 96 0) (valueOf 2)
+      ∷ innerSlot ([]) 3 0 3 h70 2 h45
       ∷ free
       ∷ [])
 
   abbrev end17 : Store
   end17 =
-      storeOf 0 5
-      (leafSlot ([]) 4 5 (keyOf 104 0) (valueOf 2)
-      ∷ leafSlot ([]) 5 0 (keyOf 104 0) (valueOf 4)
-      ∷ free
+      storeOf 2 9
+      (leafSlot ([]) 3 4 (keyOf 96 0) (valueOf 1)
+      ∷ leafSlot ([]) 4 9 (keyOf 96 0) (valueOf 1)
+      ∷ leafSlot (false ∷ false ∷ []) 9 0 (keyOf 16 0) (valueOf 1)
+      ∷ leafSlot (false ∷ true ∷ []) 9 0 (keyOf 96 0) (valueOf 3)
+      ∷ innerSlot (false ∷ []) 9 0 9 h69 9 h31
+      ∷ leafSlot (true ∷ []) 9 0 (keyOf 255 0) (valueOf 3)
+      ∷ innerSlot ([]) 9 0 9 h74 9 h75
       ∷ free
       ∷ [])
 
   abbrev end18 : Store
   end18 =
-      storeOf 2 3
+      storeOf 8 8
       (free
       ∷ free
       ∷ free
-      ∷ free
-      ∷ free
-      ∷ free
-      ∷ free
-      ∷ free
+      ∷ leafSlot ([]) 8 0 (keyOf 255 0) (valueOf 4)
       ∷ [])
 
   abbrev end19 : Store
   end19 =
-      storeOf 0 2
-      (leafSlot ([]) 1 2 (keyOf 104 0) (valueOf 3)
-      ∷ leafSlot (false ∷ []) 2 0 (keyOf 104 0) (valueOf 3)
-      ∷ leafSlot (true ∷ []) 2 0 (keyOf 128 0) (valueOf 1)
-      ∷ innerSlot ([]) 2 0 2 h42 2 h60
+      storeOf 0 8
+      (leafSlot ([]) 8 0 (keyOf 64 0) (valueOf 2)
+      ∷ free
+      ∷ free
+      ∷ free
+      ∷ free
+      ∷ free
+      ∷ free
+      ∷ free
+      ∷ free
+      ∷ free
+      ∷ free
+      ∷ free
+      ∷ free
+      ∷ free
+      ∷ free
+      ∷ free
+      ∷ free
+      ∷ free
+      ∷ free
+      ∷ free
+      ∷ free
+      ∷ free
+      ∷ free
+      ∷ free
       ∷ [])
 
   abbrev end20 : Store
   end20 =
-      storeOf 2 7
-      (leafSlot (false ∷ []) 1 4 (keyOf 8 0) (valueOf 2)
-      ∷ leafSlot ([]) 4 5 (keyOf 144 0) (valueOf 2)
-      ∷ leafSlot ([]) 5 6 (keyOf 144 0) (valueOf 1)
-      ∷ leafSlot (true ∷ []) 2 4 (keyOf 144 0) (valueOf 2)
-      ∷ innerSlot ([]) 2 3 1 h72 2 h73
-      ∷ innerSlot ([]) 3 4 1 h72 2 h73
-      ∷ leafSlot (false ∷ []) 6 0 (keyOf 64 0) (valueOf 2)
-      ∷ leafSlot (true ∷ []) 6 0 (keyOf 144 0) (valueOf 1)
-      ∷ innerSlot ([]) 6 7 6 h1 6 h55
-      ∷ innerSlot ([]) 7 0 6 h1 6 h55
+      storeOf 0 13
+      (leafSlot ([]) 4 9 (keyOf 104 0) (valueOf 1)
+      ∷ leafSlot ([]) 9 10 (keyOf 104 0) (valueOf 1)
+      ∷ leafSlot ([]) 10 12 (keyOf 104 0) (valueOf 1)
+      ∷ leafSlot (false ∷ []) 12 0 (keyOf 104 0) (valueOf 1)
+      ∷ leafSlot (true ∷ []) 12 0 (keyOf 128 0) (valueOf 1)
+      ∷ innerSlot ([]) 12 13 12 h77 12 h26
+      ∷ innerSlot ([]) 13 0 12 h77 12 h26
+      ∷ free
+      ∷ free
+      ∷ free
       ∷ free
       ∷ free
       ∷ [])
 
   abbrev end21 : Store
   end21 =
-      storeOf 0 7
-      (leafSlot ([]) 5 6 (keyOf 192 0) (valueOf 4)
-      ∷ leafSlot ([]) 6 7 (keyOf 192 0) (valueOf 4)
-      ∷ leafSlot ([]) 7 0 (keyOf 192 0) (valueOf 4)
-      ∷ free
-      ∷ free
-      ∷ free
-      ∷ free
-      ∷ free
-      ∷ free
-      ∷ free
+      storeOf 0 3
+      (leafSlot ([]) 2 3 (keyOf 16 0) (valueOf 3)
+      ∷ leafSlot ([]) 3 0 (keyOf 16 0) (valueOf 2)
       ∷ free
       ∷ free
       ∷ [])
 
   abbrev end22 : Store
   end22 =
-      storeOf 0 7
-      (leafSlot ([]) 3 4 (keyOf 8 0) (valueOf 1)
-      ∷ leafSlot ([]) 4 5 (keyOf 8 0) (valueOf 1)
-      ∷ leafSlot (false ∷ []) 5 6 (keyOf 64 0) (valueOf 4)
-      ∷ leafSlot (true ∷ []) 5 0 (keyOf 128 0) (valueOf 4)
-      ∷ innerSlot ([]) 5 6 5 h49 5 h77
-      ∷ leafSlot (false ∷ false ∷ []) 6 0 (keyOf 8 0) (valueOf 2)
-      ∷ leafSlot (false ∷ true ∷ []) 6 0 (keyOf 64 0) (valueOf 4)
-      ∷ innerSlot (false ∷ []) 6 0 6 h72 6 h49
-      ∷ innerSlot ([]) 6 7 6 h78 5 h77
-      ∷ innerSlot ([]) 7 0 6 h78 5 h77
-      ∷ free
-      ∷ free
-      ∷ free
-      ∷ free
-      ∷ free
+      storeOf 4294967293 4294967295
+      (leafSlot (true ∷ false ∷ false ∷ false ∷ []) 4294967295 0 (keyOf 128 0) (valueOf 1)
+      ∷ leafSlot (true ∷ false ∷ false ∷ true ∷ []) 4294967295 0 (keyOf 144 0) (valueOf 2)
+      ∷ innerSlot (true ∷ false ∷ false ∷ []) 4294967295 0 4294967295 h26 4294967295 h79
+      ∷ innerSlot (true ∷ false ∷ []) 4294967295 0 4294967295 h80 0 zeros
+      ∷ leafSlot (false ∷ []) 4294967295 0 (keyOf 64 0) (valueOf 4)
+      ∷ innerSlot (true ∷ []) 4294967295 0 4294967295 h81 0 zeros
+      ∷ innerSlot ([]) 4294967295 0 4294967295 h22 4294967295 h82
       ∷ free
       ∷ free
       ∷ free
@@ -727,212 +688,240 @@ module _ (leafHash innerHash : Bytes → Bytes → Bytes) where
 
   abbrev end23 : Store
   end23 =
-      storeOf 0 3
-      (leafSlot ([]) 1 2 (keyOf 64 0) (valueOf 2)
-      ∷ leafSlot (false ∷ true ∷ false ∷ []) 2 0 (keyOf 64 0) (valueOf 2)
-      ∷ leafSlot (false ∷ true ∷ true ∷ []) 2 0 (keyOf 104 0) (valueOf 4)
-      ∷ innerSlot (false ∷ true ∷ []) 2 0 2 h1 2 h61
-      ∷ innerSlot (false ∷ []) 2 0 0 zeros 2 h82
-      ∷ innerSlot ([]) 2 3 2 h83 0 zeros
-      ∷ innerSlot ([]) 3 0 2 h83 0 zeros
-      ∷ free
+      storeOf 0 6
+      (leafSlot ([]) 1 2 (keyOf 96 0) (valueOf 1)
+      ∷ leafSlot ([]) 2 3 (keyOf 255 0) (valueOf 3)
+      ∷ leafSlot (false ∷ []) 3 4 (keyOf 104 0) (valueOf 2)
+      ∷ leafSlot (true ∷ []) 3 0 (keyOf 255 0) (valueOf 3)
+      ∷ innerSlot ([]) 3 4 3 h84 3 h75
+      ∷ leafSlot (false ∷ []) 4 0 (keyOf 104 0) (valueOf 4)
+      ∷ innerSlot ([]) 4 6 4 h85 3 h75
+      ∷ innerSlot ([]) 6 0 4 h85 3 h75
       ∷ [])
 
   abbrev end24 : Store
   end24 =
       storeOf 0 1
-      (leafSlot (false ∷ []) 1 0 (keyOf 104 0) (valueOf 4)
-      ∷ leafSlot (true ∷ []) 1 0 (keyOf 254 0) (valueOf 2)
-      ∷ innerSlot ([]) 1 0 1 h61 1 h85
+      (leafSlot ([]) 1 0 (keyOf 254 0) (valueOf 2)
+      ∷ free
+      ∷ free
+      ∷ free
+      ∷ free
+      ∷ free
+      ∷ free
+      ∷ free
+      ∷ free
+      ∷ free
+      ∷ free
+      ∷ free
+      ∷ free
+      ∷ free
+      ∷ free
+      ∷ free
+      ∷ free
+      ∷ free
+      ∷ free
+      ∷ free
+      ∷ free
+      ∷ free
+      ∷ free
       ∷ free
       ∷ [])
 
   abbrev end25 : Store
   end25 =
-      storeOf 1 5
-      (leafSlot (false ∷ false ∷ []) 1 2 (keyOf 0 0) (valueOf 1)
-      ∷ leafSlot (false ∷ true ∷ []) 1 2 (keyOf 104 0) (valueOf 1)
-      ∷ innerSlot (false ∷ []) 1 2 1 h87 1 h88
-      ∷ innerSlot ([]) 1 2 1 h89 0 zeros
-      ∷ leafSlot ([]) 2 3 (keyOf 0 0) (valueOf 1)
-      ∷ leafSlot ([]) 3 4 (keyOf 104 0) (valueOf 2)
-      ∷ leafSlot ([]) 4 5 (keyOf 104 0) (valueOf 2)
+      storeOf 4294967295 4294967295
+      (leafSlot ([]) 4294967295 0 (keyOf 254 0) (valueOf 3)
+      ∷ free
+      ∷ free
+      ∷ free
+      ∷ free
+      ∷ free
+      ∷ free
+      ∷ free
+      ∷ free
+      ∷ free
+      ∷ free
       ∷ free
       ∷ [])
 
   abbrev end26 : Store
   end26 =
-      storeOf 1 7
-      (leafSlot ([]) 4 5 (keyOf 96 0) (valueOf 1)
-      ∷ leafSlot ([]) 5 6 (keyOf 96 0) (valueOf 1)
-      ∷ leafSlot ([]) 6 7 (keyOf 96 0) (valueOf 1)
-      ∷ leafSlot (true ∷ false ∷ []) 7 0 (keyOf 144 0) (valueOf 2)
-      ∷ leafSlot (true ∷ true ∷ []) 7 0 (keyOf 254 0) (valueOf 2)
-      ∷ leafSlot (false ∷ []) 7 0 (keyOf 96 0) (valueOf 1)
-      ∷ innerSlot (true ∷ []) 7 0 7 h73 7 h85
-      ∷ innerSlot ([]) 7 0 7 h11 7 h91
+      storeOf 0 6
+      (leafSlot ([]) 2 3 (keyOf 192 0) (valueOf 2)
+      ∷ leafSlot ([]) 3 4 (keyOf 192 0) (valueOf 2)
+      ∷ leafSlot ([]) 4 6 (keyOf 192 0) (valueOf 4)
+      ∷ leafSlot ([]) 6 0 (keyOf 192 0) (valueOf 4)
       ∷ [])
 
   abbrev end27 : Store
   end27 =
-      storeOf 1 2
-      (leafSlot ([]) 2 0 (keyOf 255 0) (valueOf 3)
-      ∷ free
-      ∷ free
+      storeOf 5 9
+      (free
+      ∷ leafSlot (false ∷ []) 4 7 (keyOf 0 0) (valueOf 1)
+      ∷ leafSlot (true ∷ []) 4 7 (keyOf 144 0) (valueOf 1)
+      ∷ innerSlot ([]) 4 6 4 h32 4 h12
+      ∷ innerSlot ([]) 6 7 4 h32 4 h12
+      ∷ leafSlot (true ∷ false ∷ []) 7 0 (keyOf 144 0) (valueOf 1)
+      ∷ leafSlot (true ∷ true ∷ []) 7 0 (keyOf 192 0) (valueOf 1)
+      ∷ innerSlot (true ∷ []) 7 0 7 h12 7 h89
+      ∷ innerSlot ([]) 7 8 0 zeros 7 h90
+      ∷ innerSlot ([]) 8 9 0 zeros 7 h90
+      ∷ innerSlot ([]) 9 0 0 zeros 7 h90
       ∷ free
       ∷ [])
 
   abbrev end28 : Store
   end28 =
-      storeOf 2 5
-      (leafSlot (false ∷ false ∷ false ∷ false ∷ []) 5 0 (keyOf 0 0) (valueOf 1)
-      ∷ leafSlot (false ∷ false ∷ []) 2 4 (keyOf 16 0) (valueOf 2)
-      ∷ leafSlot (false ∷ true ∷ []) 2 4 (keyOf 96 0) (valueOf 2)
-      ∷ innerSlot (false ∷ []) 2 4 2 h5 2 h23
-      ∷ innerSlot ([]) 2 3 2 h94 0 zeros
-      ∷ innerSlot ([]) 3 4 2 h94 0 zeros
-      ∷ leafSlot ([]) 4 5 (keyOf 16 0) (valueOf 2)
-      ∷ leafSlot (false ∷ false ∷ false ∷ true ∷ []) 5 0 (keyOf 16 0) (valueOf 2)
-      ∷ innerSlot (false ∷ false ∷ false ∷ []) 5 0 5 h87 5 h5
-      ∷ innerSlot (false ∷ false ∷ []) 5 0 5 h95 0 zeros
-      ∷ innerSlot (false ∷ []) 5 0 5 h96 0 zeros
-      ∷ innerSlot ([]) 5 0 5 h97 0 zeros
+      storeOf 12 14
+      (free
+      ∷ leafSlot (false ∷ false ∷ []) 5 0 (keyOf 16 0) (valueOf 1)
+      ∷ leafSlot (false ∷ true ∷ []) 5 0 (keyOf 64 0) (valueOf 1)
+      ∷ innerSlot (false ∷ []) 5 0 5 h69 5 h0
+      ∷ free
+      ∷ innerSlot ([]) 10 14 5 h93 0 zeros
+      ∷ leafSlot (true ∷ []) 14 0 (keyOf 128 0) (valueOf 1)
+      ∷ innerSlot ([]) 14 0 5 h93 14 h26
+      ∷ free
+      ∷ free
+      ∷ free
+      ∷ free
       ∷ [])
 
   abbrev end29 : Store
   end29 =
-      storeOf 2 5
-      (leafSlot (false ∷ false ∷ []) 2 5 (keyOf 8 0) (valueOf 2)
-      ∷ leafSlot (false ∷ true ∷ []) 2 5 (keyOf 104 0) (valueOf 2)
-      ∷ innerSlot (false ∷ []) 2 5 2 h72 2 h70
-      ∷ innerSlot ([]) 2 3 2 h100 0 zeros
-      ∷ leafSlot (true ∷ []) 3 5 (keyOf 192 0) (valueOf 2)
-      ∷ innerSlot ([]) 3 4 2 h100 3 h33
-      ∷ innerSlot ([]) 4 5 2 h100 3 h33
-      ∷ leafSlot ([]) 5 0 (keyOf 104 0) (valueOf 2)
+      storeOf 5 10
+      (leafSlot ([]) 8 9 (keyOf 0 0) (valueOf 3)
+      ∷ leafSlot (false ∷ []) 9 10 (keyOf 0 0) (valueOf 3)
+      ∷ leafSlot (true ∷ []) 9 10 (keyOf 128 0) (valueOf 2)
+      ∷ innerSlot ([]) 9 10 9 h96 9 h29
+      ∷ leafSlot ([]) 10 0 (keyOf 0 0) (valueOf 3)
+      ∷ free
+      ∷ free
+      ∷ free
       ∷ [])
 
   abbrev rows : List Game
   rows =
       game (storeOf 0 0 (freeSlots 16))
-      (pruning 0 ∷ applying (delete (keyOf 16 0) ∷ insert (keyOf 64 0) (valueOf 1) ∷ []) ∷ applying (insert (keyOf 16 0) (valueOf 2) ∷ []) ∷ pruning 2 ∷ applying (delete (keyOf 16 0) ∷ delete (keyOf 64 0) ∷ []) ∷ pruning 3 ∷ applying (insert (keyOf 16 0) (valueOf 4) ∷ insert (keyOf 64 0) (valueOf 2) ∷ insert (keyOf 192 0) (valueOf 4) ∷ []) ∷ applying (insert (keyOf 192 0) (valueOf 4) ∷ []) ∷ pruning 4 ∷ [])
-      (freed 0 ∷ made 1 h4 1 ∷ made 2 h7 4 ∷ freed 1 ∷ made 3 zeros 0 ∷ freed 4 ∷ made 4 h8 5 ∷ made 5 h8 1 ∷ freed 0 ∷ [])
+      (pruning 0 ∷ applying 3 (delete (keyOf 16 0) ∷ insert (keyOf 64 0) (valueOf 1) ∷ []) ∷ pruning 1 ∷ applying 4 (delete (keyOf 192 0) ∷ []) ∷ applying 5 (delete (keyOf 192 0) ∷ []) ∷ applying 6 ([]) ∷ applying 7 (insert (keyOf 192 0) (valueOf 3) ∷ []) ∷ applying 10 (delete (keyOf 16 0) ∷ insert (keyOf 192 0) (valueOf 4) ∷ []) ∷ pruning 5 ∷ [])
+      (freed 0 ∷ made 3 h0 1 ∷ freed 0 ∷ made 4 h0 1 ∷ made 5 h0 1 ∷ made 6 h0 1 ∷ made 7 h3 3 ∷ made 10 h4 2 ∷ freed 2 ∷ [])
       end0
       ∷ game (storeOf 0 0 (freeSlots 12))
-      (pruning 0 ∷ applying (delete (keyOf 144 0) ∷ insert (keyOf 192 0) (valueOf 4) ∷ []) ∷ applying (delete (keyOf 192 0) ∷ []) ∷ pruning 0 ∷ applying (delete (keyOf 8 0) ∷ insert (keyOf 192 0) (valueOf 3) ∷ []) ∷ pruning 0 ∷ applying (delete (keyOf 144 0) ∷ delete (keyOf 192 0) ∷ []) ∷ pruning 4 ∷ [])
-      (freed 0 ∷ made 1 h3 1 ∷ made 2 zeros 0 ∷ freed 0 ∷ made 3 h9 1 ∷ freed 0 ∷ made 4 zeros 0 ∷ freed 2 ∷ [])
+      (applying 1 (insert (keyOf 255 0) (valueOf 3) ∷ insert (keyOf 0 0) (valueOf 2) ∷ []) ∷ pruning 1 ∷ applying 1 (insert (keyOf 255 0) (valueOf 1) ∷ []) ∷ applying 2 ([]) ∷ applying 3 (delete (keyOf 255 0) ∷ []) ∷ applying 6 (delete (keyOf 255 0) ∷ []) ∷ [])
+      (denied 5 ∷ denied 8 ∷ made 1 h5 1 ∷ made 2 h5 1 ∷ made 3 zeros 0 ∷ made 6 zeros 0 ∷ [])
       end1
-      ∷ game (storeOf 0 0 (freeSlots 24))
-      (applying ([]) ∷ pruning 1 ∷ applying (insert (keyOf 96 0) (valueOf 2) ∷ []) ∷ pruning 1 ∷ applying (delete (keyOf 0 0) ∷ []) ∷ applying (insert (keyOf 0 0) (valueOf 2) ∷ insert (keyOf 96 0) (valueOf 1) ∷ []) ∷ applying ([]) ∷ applying (insert (keyOf 8 0) (valueOf 4) ∷ delete (keyOf 96 0) ∷ delete (keyOf 192 0) ∷ []) ∷ pruning 0 ∷ applying (insert (keyOf 0 0) (valueOf 4) ∷ delete (keyOf 96 0) ∷ []) ∷ [])
-      (made 1 zeros 0 ∷ freed 0 ∷ made 2 h23 1 ∷ freed 0 ∷ made 3 h23 1 ∷ made 4 h24 4 ∷ made 5 h24 1 ∷ made 6 h25 7 ∷ denied 8 ∷ made 7 h26 6 ∷ [])
+      ∷ game (storeOf 0 0 (freeSlots 8))
+      (pruning 1 ∷ applying 0 (insert (keyOf 8 0) (valueOf 4) ∷ []) ∷ pruning 1 ∷ applying 5 ([]) ∷ pruning 4 ∷ applying 6 (delete (keyOf 8 0) ∷ delete (keyOf 255 0) ∷ []) ∷ applying 7 (insert (keyOf 8 0) (valueOf 3) ∷ []) ∷ applying 11 (insert (keyOf 255 0) (valueOf 2) ∷ []) ∷ applying 14 (delete (keyOf 8 0) ∷ insert (keyOf 255 0) (valueOf 2) ∷ []) ∷ [])
+      (denied 8 ∷ denied 18 ∷ denied 8 ∷ made 5 zeros 0 ∷ freed 0 ∷ made 6 zeros 0 ∷ made 7 h6 1 ∷ made 11 h8 3 ∷ made 14 h7 1 ∷ [])
       end2
       ∷ game (storeOf 4294967293 4294967293 (freeSlots 8))
-      (applying (delete (keyOf 8 0) ∷ insert (keyOf 16 0) (valueOf 4) ∷ insert (keyOf 144 0) (valueOf 3) ∷ []) ∷ applying ([]) ∷ applying ([]) ∷ applying (delete (keyOf 8 0) ∷ insert (keyOf 144 0) (valueOf 1) ∷ []) ∷ applying (delete (keyOf 16 0) ∷ []) ∷ applying (insert (keyOf 8 0) (valueOf 1) ∷ delete (keyOf 16 0) ∷ []) ∷ [])
-      (made 4294967294 h28 3 ∷ made 4294967295 h28 1 ∷ denied 6 ∷ denied 6 ∷ denied 6 ∷ denied 6 ∷ [])
+      (applying 4294967294 (insert (keyOf 16 0) (valueOf 2) ∷ insert (keyOf 144 0) (valueOf 1) ∷ []) ∷ pruning 4294967292 ∷ applying 4294967295 (insert (keyOf 16 0) (valueOf 3) ∷ insert (keyOf 144 0) (valueOf 3) ∷ []) ∷ pruning 4294967296 ∷ applying 4294967295 ([]) ∷ pruning 4294967295 ∷ [])
+      (made 4294967294 h13 3 ∷ denied 8 ∷ made 4294967295 h14 3 ∷ denied 8 ∷ denied 18 ∷ freed 3 ∷ [])
       end3
-      ∷ game (storeOf 0 0 (freeSlots 16))
-      (applying (insert (keyOf 96 0) (valueOf 3) ∷ []) ∷ applying (insert (keyOf 64 0) (valueOf 3) ∷ insert (keyOf 192 0) (valueOf 4) ∷ []) ∷ applying (delete (keyOf 192 0) ∷ []) ∷ applying (insert (keyOf 192 0) (valueOf 2) ∷ []) ∷ applying ([]) ∷ pruning 3 ∷ [])
-      (made 1 h30 1 ∷ made 2 h34 6 ∷ made 3 h35 1 ∷ made 4 h36 2 ∷ made 5 h36 1 ∷ freed 3 ∷ [])
+      ∷ game (storeOf 0 0 (freeSlots 8))
+      (pruning 0 ∷ applying 1 (insert (keyOf 96 0) (valueOf 1) ∷ delete (keyOf 128 0) ∷ insert (keyOf 144 0) (valueOf 1) ∷ insert (keyOf 254 0) (valueOf 3) ∷ []) ∷ pruning 1 ∷ applying 2 (insert (keyOf 64 0) (valueOf 2) ∷ insert (keyOf 254 0) (valueOf 3) ∷ []) ∷ pruning 2 ∷ applying 2 (insert (keyOf 254 0) (valueOf 4) ∷ []) ∷ [])
+      (freed 0 ∷ made 1 h20 5 ∷ freed 0 ∷ denied 7 ∷ denied 8 ∷ made 2 h21 3 ∷ [])
       end4
       ∷ game (storeOf 0 0 (freeSlots 8))
-      (applying (delete (keyOf 8 0) ∷ insert (keyOf 16 0) (valueOf 2) ∷ delete (keyOf 64 0) ∷ delete (keyOf 144 0) ∷ []) ∷ applying (insert (keyOf 8 0) (valueOf 4) ∷ delete (keyOf 64 0) ∷ delete (keyOf 144 0) ∷ []) ∷ pruning 3 ∷ pruning 0 ∷ applying (insert (keyOf 128 0) (valueOf 4) ∷ []) ∷ pruning 0 ∷ applying (delete (keyOf 64 0) ∷ delete (keyOf 128 0) ∷ []) ∷ applying (delete (keyOf 16 0) ∷ []) ∷ applying ([]) ∷ [])
-      (made 1 h5 1 ∷ made 2 h40 6 ∷ denied 8 ∷ freed 0 ∷ denied 7 ∷ freed 0 ∷ made 3 h40 1 ∷ denied 7 ∷ denied 7 ∷ [])
+      (pruning 1 ∷ applying 1 (insert (keyOf 64 0) (valueOf 4) ∷ delete (keyOf 128 0) ∷ insert (keyOf 255 0) (valueOf 2) ∷ []) ∷ applying 2 (insert (keyOf 255 0) (valueOf 4) ∷ []) ∷ applying 5 (insert (keyOf 128 0) (valueOf 1) ∷ insert (keyOf 192 0) (valueOf 1) ∷ delete (keyOf 255 0) ∷ []) ∷ [])
+      (denied 8 ∷ made 1 h24 3 ∷ made 2 h25 2 ∷ denied 7 ∷ [])
       end5
       ∷ game (storeOf 0 0 (freeSlots 8))
-      (applying (delete (keyOf 8 0) ∷ delete (keyOf 254 0) ∷ []) ∷ applying (insert (keyOf 96 0) (valueOf 4) ∷ insert (keyOf 104 0) (valueOf 3) ∷ []) ∷ applying (insert (keyOf 8 0) (valueOf 4) ∷ insert (keyOf 128 0) (valueOf 1) ∷ insert (keyOf 254 0) (valueOf 1) ∷ insert (keyOf 255 0) (valueOf 3) ∷ []) ∷ pruning 2 ∷ applying (insert (keyOf 96 0) (valueOf 2) ∷ insert (keyOf 128 0) (valueOf 3) ∷ []) ∷ pruning 1 ∷ applying ([]) ∷ applying (insert (keyOf 8 0) (valueOf 4) ∷ []) ∷ [])
-      (made 1 zeros 0 ∷ made 2 h47 7 ∷ denied 7 ∷ freed 0 ∷ denied 7 ∷ denied 8 ∷ made 3 h47 1 ∷ denied 7 ∷ [])
+      (applying 2 ([]) ∷ applying 6 (delete (keyOf 0 0) ∷ delete (keyOf 64 0) ∷ delete (keyOf 128 0) ∷ []) ∷ applying 10 (delete (keyOf 0 0) ∷ insert (keyOf 254 0) (valueOf 3) ∷ []) ∷ applying 14 (delete (keyOf 0 0) ∷ insert (keyOf 128 0) (valueOf 1) ∷ insert (keyOf 254 0) (valueOf 3) ∷ []) ∷ pruning 12 ∷ applying 18 (insert (keyOf 0 0) (valueOf 3) ∷ insert (keyOf 254 0) (valueOf 4) ∷ []) ∷ [])
+      (made 2 zeros 0 ∷ made 6 zeros 0 ∷ made 10 h15 1 ∷ made 14 h28 4 ∷ freed 0 ∷ denied 7 ∷ [])
       end6
-      ∷ game (storeOf 0 0 (freeSlots 12))
-      (applying (delete (keyOf 8 0) ∷ []) ∷ applying (insert (keyOf 8 0) (valueOf 3) ∷ []) ∷ pruning 2 ∷ applying (delete (keyOf 255 0) ∷ []) ∷ [])
-      (made 1 zeros 0 ∷ made 2 h48 1 ∷ freed 0 ∷ made 3 h48 1 ∷ [])
+      ∷ game (storeOf 4294967293 4294967293 (freeSlots 4))
+      (applying 4294967294 (insert (keyOf 64 0) (valueOf 4) ∷ insert (keyOf 128 0) (valueOf 2) ∷ []) ∷ applying 4294967295 (insert (keyOf 64 0) (valueOf 4) ∷ []) ∷ pruning 4294967295 ∷ applying 4294967295 (insert (keyOf 128 0) (valueOf 2) ∷ []) ∷ applying 4294967295 (delete (keyOf 128 0) ∷ []) ∷ applying 4294967295 (insert (keyOf 64 0) (valueOf 4) ∷ delete (keyOf 128 0) ∷ []) ∷ applying 4294967295 (delete (keyOf 64 0) ∷ insert (keyOf 128 0) (valueOf 3) ∷ []) ∷ [])
+      (made 4294967294 h30 3 ∷ made 4294967295 h30 1 ∷ freed 1 ∷ denied 18 ∷ denied 18 ∷ denied 18 ∷ denied 18 ∷ [])
       end7
-      ∷ game (storeOf 0 0 (freeSlots 12))
-      (applying (insert (keyOf 96 0) (valueOf 4) ∷ delete (keyOf 255 0) ∷ []) ∷ applying (delete (keyOf 96 0) ∷ delete (keyOf 255 0) ∷ []) ∷ applying ([]) ∷ applying (insert (keyOf 96 0) (valueOf 3) ∷ []) ∷ applying ([]) ∷ [])
-      (made 1 h41 1 ∷ made 2 zeros 0 ∷ made 3 zeros 0 ∷ made 4 h30 1 ∷ made 5 h30 1 ∷ [])
+      ∷ game (storeOf 4294967293 4294967293 (freeSlots 12))
+      (applying 4294967294 (insert (keyOf 192 0) (valueOf 3) ∷ []) ∷ pruning 4294967294 ∷ applying 4294967295 (insert (keyOf 192 0) (valueOf 3) ∷ []) ∷ applying 2553783808 (insert (keyOf 255 0) (valueOf 2) ∷ []) ∷ applying 4294967295 (insert (keyOf 192 0) (valueOf 3) ∷ insert (keyOf 254 0) (valueOf 3) ∷ delete (keyOf 255 0) ∷ []) ∷ pruning 4294967296 ∷ applying 4294967295 (delete (keyOf 254 0) ∷ delete (keyOf 255 0) ∷ []) ∷ pruning 4294967294 ∷ applying 4294967295 (delete (keyOf 192 0) ∷ insert (keyOf 255 0) (valueOf 1) ∷ []) ∷ [])
+      (made 4294967294 h1 1 ∷ freed 0 ∷ made 4294967295 h1 1 ∷ denied 18 ∷ denied 18 ∷ denied 8 ∷ denied 18 ∷ freed 0 ∷ denied 18 ∷ [])
       end8
       ∷ game (storeOf 0 0 (freeSlots 12))
-      (pruning 0 ∷ applying (insert (keyOf 0 0) (valueOf 2) ∷ delete (keyOf 8 0) ∷ []) ∷ applying (delete (keyOf 0 0) ∷ insert (keyOf 64 0) (valueOf 3) ∷ []) ∷ applying (delete (keyOf 8 0) ∷ insert (keyOf 64 0) (valueOf 4) ∷ []) ∷ pruning 2 ∷ applying (insert (keyOf 64 0) (valueOf 4) ∷ delete (keyOf 192 0) ∷ []) ∷ pruning 2 ∷ applying ([]) ∷ applying (delete (keyOf 64 0) ∷ []) ∷ [])
-      (freed 0 ∷ made 1 h10 1 ∷ made 2 h29 1 ∷ made 3 h49 1 ∷ freed 1 ∷ made 4 h49 1 ∷ freed 0 ∷ made 5 h49 1 ∷ made 6 zeros 0 ∷ [])
+      (applying 5 (insert (keyOf 0 0) (valueOf 1) ∷ insert (keyOf 64 0) (valueOf 1) ∷ insert (keyOf 96 0) (valueOf 3) ∷ insert (keyOf 144 0) (valueOf 3) ∷ []) ∷ applying 9 (delete (keyOf 144 0) ∷ []) ∷ pruning 0 ∷ applying 9 (insert (keyOf 0 0) (valueOf 2) ∷ delete (keyOf 96 0) ∷ delete (keyOf 254 0) ∷ []) ∷ applying 14 (insert (keyOf 0 0) (valueOf 4) ∷ delete (keyOf 64 0) ∷ delete (keyOf 96 0) ∷ []) ∷ applying 15 (insert (keyOf 254 0) (valueOf 2) ∷ []) ∷ [])
+      (made 5 h37 7 ∷ made 9 h38 1 ∷ freed 0 ∷ denied 18 ∷ made 14 h35 1 ∷ made 15 h39 3 ∷ [])
       end9
-      ∷ game (storeOf 0 0 (freeSlots 4))
-      (applying (delete (keyOf 128 0) ∷ delete (keyOf 192 0) ∷ insert (keyOf 255 0) (valueOf 1) ∷ []) ∷ applying (insert (keyOf 128 0) (valueOf 1) ∷ insert (keyOf 192 0) (valueOf 1) ∷ delete (keyOf 255 0) ∷ []) ∷ applying (insert (keyOf 64 0) (valueOf 2) ∷ delete (keyOf 128 0) ∷ insert (keyOf 192 0) (valueOf 4) ∷ delete (keyOf 255 0) ∷ []) ∷ pruning 3 ∷ applying (insert (keyOf 64 0) (valueOf 3) ∷ insert (keyOf 128 0) (valueOf 3) ∷ delete (keyOf 255 0) ∷ []) ∷ [])
-      (made 1 h50 1 ∷ denied 7 ∷ made 2 h51 3 ∷ denied 8 ∷ denied 7 ∷ [])
+      ∷ game (storeOf 0 0 (freeSlots 16))
+      (applying 3 (delete (keyOf 0 0) ∷ insert (keyOf 128 0) (valueOf 1) ∷ delete (keyOf 144 0) ∷ delete (keyOf 254 0) ∷ []) ∷ applying 4 (delete (keyOf 254 0) ∷ []) ∷ applying 8 (delete (keyOf 144 0) ∷ insert (keyOf 128 0) (valueOf 1) ∷ []) ∷ applying 5 (delete (keyOf 128 0) ∷ []) ∷ pruning 4 ∷ applying 6 (insert (keyOf 254 0) (valueOf 2) ∷ delete (keyOf 128 0) ∷ insert (keyOf 0 0) (valueOf 2) ∷ []) ∷ applying 1 (insert (keyOf 254 0) (valueOf 3) ∷ []) ∷ pruning 5 ∷ [])
+      (made 3 h26 1 ∷ made 4 h26 1 ∷ denied 5 ∷ made 5 zeros 0 ∷ freed 1 ∷ denied 5 ∷ denied 18 ∷ freed 1 ∷ [])
       end10
       ∷ game (storeOf 0 0 (freeSlots 16))
-      (pruning 0 ∷ applying (delete (keyOf 64 0) ∷ []) ∷ applying (insert (keyOf 64 0) (valueOf 1) ∷ delete (keyOf 144 0) ∷ []) ∷ applying (insert (keyOf 16 0) (valueOf 1) ∷ []) ∷ applying (insert (keyOf 16 0) (valueOf 3) ∷ delete (keyOf 64 0) ∷ insert (keyOf 144 0) (valueOf 1) ∷ []) ∷ [])
-      (freed 0 ∷ made 1 zeros 0 ∷ made 2 h4 1 ∷ made 3 h56 4 ∷ made 4 h57 3 ∷ [])
+      (applying 2 (delete (keyOf 64 0) ∷ []) ∷ applying 3 (delete (keyOf 8 0) ∷ insert (keyOf 64 0) (valueOf 3) ∷ insert (keyOf 104 0) (valueOf 3) ∷ insert (keyOf 128 0) (valueOf 3) ∷ []) ∷ pruning 0 ∷ applying 4 ([]) ∷ applying 6 (insert (keyOf 104 0) (valueOf 3) ∷ insert (keyOf 128 0) (valueOf 4) ∷ []) ∷ applying 7 (insert (keyOf 64 0) (valueOf 2) ∷ insert (keyOf 255 0) (valueOf 2) ∷ []) ∷ [])
+      (made 2 zeros 0 ∷ made 3 h50 6 ∷ freed 0 ∷ made 4 h50 1 ∷ made 6 h51 2 ∷ made 7 h52 7 ∷ [])
       end11
-      ∷ game (storeOf 0 0 (freeSlots 24))
-      (pruning 0 ∷ applying (insert (keyOf 0 0) (valueOf 3) ∷ delete (keyOf 8 0) ∷ delete (keyOf 16 0) ∷ insert (keyOf 192 0) (valueOf 2) ∷ []) ∷ pruning 0 ∷ applying ([]) ∷ pruning 3 ∷ applying (delete (keyOf 16 0) ∷ []) ∷ [])
-      (freed 0 ∷ made 1 h59 3 ∷ freed 0 ∷ made 2 h59 1 ∷ denied 8 ∷ made 3 h59 1 ∷ [])
+      ∷ game (storeOf 0 0 (freeSlots 8))
+      (pruning 0 ∷ pruning 0 ∷ applying 1 (insert (keyOf 144 0) (valueOf 3) ∷ []) ∷ pruning 0 ∷ applying 5 (delete (keyOf 0 0) ∷ insert (keyOf 144 0) (valueOf 3) ∷ []) ∷ [])
+      (freed 0 ∷ freed 0 ∷ made 1 h10 1 ∷ freed 0 ∷ made 5 h10 1 ∷ [])
       end12
-      ∷ game (storeOf 0 0 (freeSlots 8))
-      (pruning 0 ∷ pruning 0 ∷ applying (delete (keyOf 96 0) ∷ insert (keyOf 128 0) (valueOf 1) ∷ []) ∷ applying ([]) ∷ [])
-      (freed 0 ∷ freed 0 ∷ made 1 h60 1 ∷ made 2 h60 1 ∷ [])
-      end13
-      ∷ game (storeOf 0 0 (freeSlots 4))
-      (applying (delete (keyOf 64 0) ∷ insert (keyOf 255 0) (valueOf 1) ∷ []) ∷ pruning 0 ∷ pruning 0 ∷ applying (delete (keyOf 96 0) ∷ insert (keyOf 104 0) (valueOf 4) ∷ []) ∷ applying ([]) ∷ [])
-      (made 1 h50 1 ∷ freed 0 ∷ freed 0 ∷ made 2 h62 3 ∷ denied 7 ∷ [])
-      end14
-      ∷ game (storeOf 0 0 (freeSlots 16))
-      (applying (delete (keyOf 16 0) ∷ []) ∷ pruning 0 ∷ pruning 1 ∷ applying (insert (keyOf 64 0) (valueOf 4) ∷ insert (keyOf 192 0) (valueOf 3) ∷ []) ∷ applying (delete (keyOf 16 0) ∷ []) ∷ applying (insert (keyOf 64 0) (valueOf 3) ∷ delete (keyOf 255 0) ∷ []) ∷ applying (delete (keyOf 16 0) ∷ []) ∷ pruning 2 ∷ [])
-      (made 1 zeros 0 ∷ freed 0 ∷ freed 0 ∷ made 2 h63 3 ∷ made 3 h63 1 ∷ made 4 h64 2 ∷ made 5 h64 1 ∷ freed 0 ∷ [])
-      end15
       ∷ game (storeOf 0 0 (freeSlots 24))
-      (applying (insert (keyOf 8 0) (valueOf 4) ∷ insert (keyOf 254 0) (valueOf 3) ∷ []) ∷ pruning 0 ∷ applying (delete (keyOf 0 0) ∷ delete (keyOf 8 0) ∷ []) ∷ applying (delete (keyOf 144 0) ∷ insert (keyOf 254 0) (valueOf 1) ∷ []) ∷ applying (insert (keyOf 254 0) (valueOf 3) ∷ []) ∷ pruning 1 ∷ applying (delete (keyOf 0 0) ∷ insert (keyOf 254 0) (valueOf 4) ∷ []) ∷ applying (insert (keyOf 0 0) (valueOf 4) ∷ []) ∷ [])
-      (made 1 h67 3 ∷ freed 0 ∷ made 2 h65 1 ∷ made 3 h68 1 ∷ made 4 h65 1 ∷ freed 0 ∷ made 5 h66 1 ∷ made 6 h69 3 ∷ [])
-      end16
-      ∷ game (storeOf 0 0 (freeSlots 4))
-      (applying (delete (keyOf 255 0) ∷ delete (keyOf 16 0) ∷ []) ∷ pruning 0 ∷ applying (delete (keyOf 16 0) ∷ []) ∷ applying ([]) ∷ applying ([]) ∷ pruning 4 ∷ applying (insert (keyOf 104 0) (valueOf 2) ∷ []) ∷ applying (delete (keyOf 16 0) ∷ insert (keyOf 104 0) (valueOf 4) ∷ []) ∷ [])
-      (denied 5 ∷ freed 0 ∷ made 1 zeros 0 ∷ made 2 zeros 0 ∷ made 3 zeros 0 ∷ denied 8 ∷ made 4 h70 1 ∷ made 5 h61 1 ∷ [])
-      end17
+      (applying 2 (insert (keyOf 8 0) (valueOf 4) ∷ insert (keyOf 254 0) (valueOf 3) ∷ []) ∷ applying 3 (delete (keyOf 0 0) ∷ delete (keyOf 8 0) ∷ []) ∷ applying 4 (delete (keyOf 144 0) ∷ insert (keyOf 254 0) (valueOf 1) ∷ []) ∷ applying 9 (insert (keyOf 8 0) (valueOf 3) ∷ insert (keyOf 16 0) (valueOf 2) ∷ []) ∷ applying 14 (insert (keyOf 0 0) (valueOf 1) ∷ delete (keyOf 8 0) ∷ []) ∷ pruning 2 ∷ pruning 13 ∷ applying 18 (insert (keyOf 254 0) (valueOf 1) ∷ []) ∷ [])
+      (made 2 h61 3 ∷ made 3 h15 1 ∷ made 4 h56 1 ∷ made 9 h62 7 ∷ made 14 h63 5 ∷ freed 0 ∷ freed 5 ∷ made 18 h63 1 ∷ [])
+      end13
+      ∷ game (storeOf 0 0 (freeSlots 16))
+      (applying 1 (delete (keyOf 128 0) ∷ insert (keyOf 192 0) (valueOf 4) ∷ delete (keyOf 255 0) ∷ []) ∷ applying 2 (insert (keyOf 128 0) (valueOf 4) ∷ insert (keyOf 192 0) (valueOf 4) ∷ insert (keyOf 255 0) (valueOf 2) ∷ []) ∷ pruning 1 ∷ applying 3 ([]) ∷ pruning 1 ∷ applying 4 (insert (keyOf 192 0) (valueOf 4) ∷ insert (keyOf 255 0) (valueOf 2) ∷ []) ∷ pruning 2 ∷ applying 7 (delete (keyOf 128 0) ∷ []) ∷ [])
+      (made 1 h2 1 ∷ made 2 h67 6 ∷ freed 0 ∷ made 3 h67 1 ∷ freed 0 ∷ made 4 h67 1 ∷ freed 1 ∷ made 7 h68 2 ∷ [])
+      end14
+      ∷ game (storeOf 4294967293 4294967293 (freeSlots 12))
+      (applying 4294967295 (insert (keyOf 255 0) (valueOf 1) ∷ []) ∷ applying 4294967295 (delete (keyOf 96 0) ∷ insert (keyOf 192 0) (valueOf 1) ∷ []) ∷ applying 4294967295 (insert (keyOf 8 0) (valueOf 2) ∷ insert (keyOf 192 0) (valueOf 2) ∷ []) ∷ applying 1594241203 (insert (keyOf 8 0) (valueOf 1) ∷ delete (keyOf 16 0) ∷ insert (keyOf 255 0) (valueOf 1) ∷ []) ∷ pruning 4294967296 ∷ applying 4294967295 (delete (keyOf 8 0) ∷ insert (keyOf 96 0) (valueOf 2) ∷ insert (keyOf 192 0) (valueOf 3) ∷ insert (keyOf 255 0) (valueOf 1) ∷ []) ∷ [])
+      (made 4294967295 h5 1 ∷ denied 18 ∷ denied 18 ∷ denied 18 ∷ denied 8 ∷ denied 18 ∷ [])
+      end15
       ∷ game (storeOf 0 0 (freeSlots 8))
-      (pruning 0 ∷ applying (insert (keyOf 96 0) (valueOf 2) ∷ []) ∷ applying (delete (keyOf 0 0) ∷ delete (keyOf 96 0) ∷ delete (keyOf 128 0) ∷ delete (keyOf 144 0) ∷ []) ∷ pruning 2 ∷ applying (delete (keyOf 0 0) ∷ []) ∷ pruning 1 ∷ [])
-      (freed 0 ∷ made 1 h23 1 ∷ made 2 zeros 0 ∷ freed 1 ∷ made 3 zeros 0 ∷ denied 8 ∷ [])
-      end18
+      (applying 1 ([]) ∷ pruning 1 ∷ applying 2 (insert (keyOf 16 0) (valueOf 1) ∷ insert (keyOf 96 0) (valueOf 2) ∷ insert (keyOf 128 0) (valueOf 4) ∷ []) ∷ pruning 3 ∷ applying 3 (delete (keyOf 16 0) ∷ []) ∷ [])
+      (made 1 zeros 0 ∷ freed 0 ∷ made 2 h72 5 ∷ denied 8 ∷ made 3 h73 2 ∷ [])
+      end16
+      ∷ game (storeOf 0 0 (freeSlots 8))
+      (applying 3 (delete (keyOf 16 0) ∷ insert (keyOf 96 0) (valueOf 1) ∷ delete (keyOf 192 0) ∷ []) ∷ applying 4 (delete (keyOf 192 0) ∷ []) ∷ pruning 2 ∷ applying 9 (insert (keyOf 16 0) (valueOf 1) ∷ insert (keyOf 96 0) (valueOf 3) ∷ insert (keyOf 255 0) (valueOf 3) ∷ []) ∷ applying 10 (insert (keyOf 16 0) (valueOf 4) ∷ delete (keyOf 128 0) ∷ insert (keyOf 255 0) (valueOf 4) ∷ []) ∷ [])
+      (made 3 h16 1 ∷ made 4 h16 1 ∷ freed 0 ∷ made 9 h76 5 ∷ denied 7 ∷ [])
+      end17
       ∷ game (storeOf 0 0 (freeSlots 4))
-      (applying (insert (keyOf 104 0) (valueOf 3) ∷ []) ∷ applying (insert (keyOf 128 0) (valueOf 1) ∷ insert (keyOf 144 0) (valueOf 3) ∷ insert (keyOf 255 0) (valueOf 1) ∷ []) ∷ applying (insert (keyOf 104 0) (valueOf 3) ∷ insert (keyOf 128 0) (valueOf 1) ∷ delete (keyOf 144 0) ∷ delete (keyOf 255 0) ∷ []) ∷ applying (insert (keyOf 192 0) (valueOf 2) ∷ []) ∷ applying (insert (keyOf 144 0) (valueOf 1) ∷ delete (keyOf 192 0) ∷ []) ∷ [])
-      (made 1 h42 1 ∷ denied 7 ∷ made 2 h71 3 ∷ denied 7 ∷ denied 7 ∷ [])
+      (applying 3 (insert (keyOf 255 0) (valueOf 4) ∷ []) ∷ applying 4 (insert (keyOf 255 0) (valueOf 4) ∷ []) ∷ applying 7 ([]) ∷ applying 8 (delete (keyOf 192 0) ∷ insert (keyOf 255 0) (valueOf 4) ∷ []) ∷ applying 9 (insert (keyOf 255 0) (valueOf 4) ∷ []) ∷ applying 12 ([]) ∷ applying 9 (insert (keyOf 8 0) (valueOf 2) ∷ delete (keyOf 255 0) ∷ []) ∷ pruning 8 ∷ pruning 7 ∷ [])
+      (made 3 h23 1 ∷ made 4 h23 1 ∷ made 7 h23 1 ∷ made 8 h23 1 ∷ denied 7 ∷ denied 7 ∷ denied 7 ∷ freed 3 ∷ denied 8 ∷ [])
+      end18
+      ∷ game (storeOf 0 0 (freeSlots 24))
+      (applying 4 ([]) ∷ applying 6 ([]) ∷ applying 7 ([]) ∷ pruning 0 ∷ pruning 8 ∷ applying 8 (insert (keyOf 64 0) (valueOf 2) ∷ []) ∷ [])
+      (made 4 zeros 0 ∷ made 6 zeros 0 ∷ made 7 zeros 0 ∷ freed 0 ∷ denied 8 ∷ made 8 h46 1 ∷ [])
       end19
       ∷ game (storeOf 0 0 (freeSlots 12))
-      (applying (insert (keyOf 8 0) (valueOf 2) ∷ delete (keyOf 64 0) ∷ insert (keyOf 144 0) (valueOf 3) ∷ []) ∷ applying (delete (keyOf 16 0) ∷ delete (keyOf 96 0) ∷ insert (keyOf 144 0) (valueOf 2) ∷ []) ∷ applying (insert (keyOf 144 0) (valueOf 2) ∷ []) ∷ pruning 2 ∷ applying (delete (keyOf 8 0) ∷ []) ∷ applying (insert (keyOf 144 0) (valueOf 1) ∷ []) ∷ applying (delete (keyOf 16 0) ∷ insert (keyOf 64 0) (valueOf 2) ∷ []) ∷ applying (insert (keyOf 16 0) (valueOf 4) ∷ []) ∷ applying (insert (keyOf 144 0) (valueOf 1) ∷ []) ∷ [])
-      (made 1 h74 3 ∷ made 2 h75 2 ∷ made 3 h75 1 ∷ freed 2 ∷ made 4 h73 1 ∷ made 5 h55 1 ∷ made 6 h76 3 ∷ denied 7 ∷ made 7 h76 1 ∷ [])
+      (applying 4 (insert (keyOf 104 0) (valueOf 1) ∷ delete (keyOf 144 0) ∷ []) ∷ applying 9 (insert (keyOf 104 0) (valueOf 1) ∷ delete (keyOf 128 0) ∷ []) ∷ applying 10 (delete (keyOf 128 0) ∷ []) ∷ applying 12 (insert (keyOf 128 0) (valueOf 1) ∷ []) ∷ applying 13 (delete (keyOf 8 0) ∷ []) ∷ pruning 0 ∷ [])
+      (made 4 h77 1 ∷ made 9 h77 1 ∷ made 10 h77 1 ∷ made 12 h78 3 ∷ made 13 h78 1 ∷ freed 0 ∷ [])
       end20
-      ∷ game (storeOf 0 0 (freeSlots 12))
-      (applying ([]) ∷ applying (delete (keyOf 192 0) ∷ delete (keyOf 255 0) ∷ []) ∷ applying ([]) ∷ applying (delete (keyOf 144 0) ∷ delete (keyOf 255 0) ∷ []) ∷ applying (insert (keyOf 192 0) (valueOf 4) ∷ []) ∷ applying (delete (keyOf 255 0) ∷ []) ∷ applying ([]) ∷ pruning 0 ∷ pruning 8 ∷ [])
-      (made 1 zeros 0 ∷ made 2 zeros 0 ∷ made 3 zeros 0 ∷ made 4 zeros 0 ∷ made 5 h3 1 ∷ made 6 h3 1 ∷ made 7 h3 1 ∷ freed 0 ∷ denied 8 ∷ [])
+      ∷ game (storeOf 0 0 (freeSlots 4))
+      (pruning 1 ∷ applying 1 ([]) ∷ applying 2 (insert (keyOf 16 0) (valueOf 3) ∷ delete (keyOf 64 0) ∷ []) ∷ applying 3 (insert (keyOf 16 0) (valueOf 2) ∷ delete (keyOf 64 0) ∷ []) ∷ applying 4 (insert (keyOf 64 0) (valueOf 3) ∷ insert (keyOf 96 0) (valueOf 3) ∷ []) ∷ [])
+      (denied 8 ∷ made 1 zeros 0 ∷ made 2 h9 1 ∷ made 3 h11 1 ∷ denied 7 ∷ [])
       end21
-      ∷ game (storeOf 0 0 (freeSlots 24))
-      (pruning 0 ∷ applying ([]) ∷ applying ([]) ∷ pruning 0 ∷ applying (insert (keyOf 8 0) (valueOf 1) ∷ delete (keyOf 64 0) ∷ delete (keyOf 128 0) ∷ []) ∷ applying ([]) ∷ applying (delete (keyOf 8 0) ∷ insert (keyOf 64 0) (valueOf 4) ∷ insert (keyOf 128 0) (valueOf 4) ∷ []) ∷ applying (insert (keyOf 8 0) (valueOf 2) ∷ insert (keyOf 64 0) (valueOf 4) ∷ []) ∷ applying ([]) ∷ [])
-      (freed 0 ∷ made 1 zeros 0 ∷ made 2 zeros 0 ∷ freed 0 ∷ made 3 h79 1 ∷ made 4 h79 1 ∷ made 5 h80 3 ∷ made 6 h81 4 ∷ made 7 h81 1 ∷ [])
+      ∷ game (storeOf 4294967293 4294967293 (freeSlots 16))
+      (applying 4294967294 ([]) ∷ applying 4294967295 (delete (keyOf 0 0) ∷ insert (keyOf 64 0) (valueOf 4) ∷ insert (keyOf 128 0) (valueOf 1) ∷ insert (keyOf 144 0) (valueOf 2) ∷ []) ∷ applying 4294967295 (insert (keyOf 0 0) (valueOf 3) ∷ insert (keyOf 128 0) (valueOf 2) ∷ delete (keyOf 144 0) ∷ insert (keyOf 192 0) (valueOf 3) ∷ []) ∷ applying 4294967295 (delete (keyOf 64 0) ∷ []) ∷ [])
+      (made 4294967294 zeros 0 ∷ made 4294967295 h83 7 ∷ denied 18 ∷ denied 18 ∷ [])
       end22
       ∷ game (storeOf 0 0 (freeSlots 8))
-      (pruning 0 ∷ pruning 1 ∷ applying (insert (keyOf 64 0) (valueOf 2) ∷ []) ∷ applying (insert (keyOf 104 0) (valueOf 4) ∷ []) ∷ applying (insert (keyOf 0 0) (valueOf 3) ∷ insert (keyOf 8 0) (valueOf 1) ∷ delete (keyOf 255 0) ∷ []) ∷ applying (delete (keyOf 0 0) ∷ []) ∷ applying (delete (keyOf 0 0) ∷ insert (keyOf 8 0) (valueOf 3) ∷ insert (keyOf 64 0) (valueOf 1) ∷ delete (keyOf 255 0) ∷ []) ∷ applying (insert (keyOf 0 0) (valueOf 3) ∷ insert (keyOf 64 0) (valueOf 2) ∷ insert (keyOf 104 0) (valueOf 1) ∷ insert (keyOf 255 0) (valueOf 2) ∷ []) ∷ applying (insert (keyOf 0 0) (valueOf 3) ∷ []) ∷ [])
-      (freed 0 ∷ denied 8 ∷ made 1 h1 1 ∷ made 2 h84 5 ∷ denied 7 ∷ made 3 h84 1 ∷ denied 7 ∷ denied 7 ∷ denied 7 ∷ [])
+      (applying 1 (insert (keyOf 96 0) (valueOf 1) ∷ []) ∷ applying 2 (delete (keyOf 96 0) ∷ insert (keyOf 255 0) (valueOf 3) ∷ []) ∷ applying 3 (insert (keyOf 104 0) (valueOf 2) ∷ []) ∷ applying 4 (delete (keyOf 104 0) ∷ insert (keyOf 128 0) (valueOf 1) ∷ insert (keyOf 255 0) (valueOf 3) ∷ []) ∷ applying 4 (insert (keyOf 104 0) (valueOf 4) ∷ delete (keyOf 128 0) ∷ []) ∷ pruning 0 ∷ applying 6 ([]) ∷ [])
+      (made 1 h16 1 ∷ made 2 h75 1 ∷ made 3 h86 3 ∷ denied 7 ∷ made 4 h87 2 ∷ freed 0 ∷ made 6 h87 1 ∷ [])
       end23
-      ∷ game (storeOf 0 0 (freeSlots 4))
-      (applying (insert (keyOf 104 0) (valueOf 4) ∷ insert (keyOf 254 0) (valueOf 2) ∷ []) ∷ applying (insert (keyOf 96 0) (valueOf 4) ∷ []) ∷ applying (insert (keyOf 96 0) (valueOf 4) ∷ []) ∷ pruning 0 ∷ [])
-      (made 1 h86 3 ∷ denied 7 ∷ denied 7 ∷ freed 0 ∷ [])
+      ∷ game (storeOf 0 0 (freeSlots 24))
+      (pruning 0 ∷ pruning 0 ∷ pruning 0 ∷ applying 1 (delete (keyOf 104 0) ∷ insert (keyOf 254 0) (valueOf 2) ∷ []) ∷ [])
+      (freed 0 ∷ freed 0 ∷ freed 0 ∷ made 1 h36 1 ∷ [])
       end24
-      ∷ game (storeOf 0 0 (freeSlots 8))
-      (applying (insert (keyOf 0 0) (valueOf 1) ∷ insert (keyOf 104 0) (valueOf 1) ∷ []) ∷ pruning 1 ∷ applying (delete (keyOf 104 0) ∷ []) ∷ applying (delete (keyOf 0 0) ∷ insert (keyOf 104 0) (valueOf 2) ∷ []) ∷ applying (insert (keyOf 0 0) (valueOf 3) ∷ insert (keyOf 104 0) (valueOf 2) ∷ []) ∷ applying (delete (keyOf 0 0) ∷ []) ∷ applying (insert (keyOf 0 0) (valueOf 3) ∷ []) ∷ pruning 5 ∷ applying (delete (keyOf 0 0) ∷ delete (keyOf 104 0) ∷ []) ∷ [])
-      (made 1 h90 4 ∷ freed 0 ∷ made 2 h87 1 ∷ made 3 h70 1 ∷ denied 7 ∷ made 4 h70 1 ∷ denied 7 ∷ denied 8 ∷ made 5 zeros 0 ∷ [])
+      ∷ game (storeOf 4294967293 4294967293 (freeSlots 12))
+      (applying 2996118811 (insert (keyOf 16 0) (valueOf 1) ∷ []) ∷ applying 4294967295 (insert (keyOf 254 0) (valueOf 3) ∷ []) ∷ applying 4294967295 (insert (keyOf 16 0) (valueOf 1) ∷ delete (keyOf 254 0) ∷ []) ∷ applying 4294967295 (delete (keyOf 16 0) ∷ insert (keyOf 254 0) (valueOf 1) ∷ []) ∷ applying 4294967295 (delete (keyOf 16 0) ∷ delete (keyOf 144 0) ∷ insert (keyOf 192 0) (valueOf 2) ∷ insert (keyOf 254 0) (valueOf 3) ∷ []) ∷ applying 4294967295 (insert (keyOf 16 0) (valueOf 1) ∷ insert (keyOf 144 0) (valueOf 3) ∷ insert (keyOf 254 0) (valueOf 1) ∷ []) ∷ applying 4294967295 (insert (keyOf 16 0) (valueOf 3) ∷ delete (keyOf 144 0) ∷ delete (keyOf 192 0) ∷ []) ∷ pruning 4294967295 ∷ applying 4294967295 ([]) ∷ pruning 4294967294 ∷ [])
+      (denied 18 ∷ made 4294967295 h15 1 ∷ denied 18 ∷ denied 18 ∷ denied 18 ∷ denied 18 ∷ denied 18 ∷ freed 0 ∷ denied 18 ∷ denied 8 ∷ [])
       end25
-      ∷ game (storeOf 0 0 (freeSlots 8))
-      (applying (delete (keyOf 16 0) ∷ delete (keyOf 104 0) ∷ []) ∷ applying (delete (keyOf 104 0) ∷ delete (keyOf 144 0) ∷ []) ∷ applying (delete (keyOf 16 0) ∷ []) ∷ applying (insert (keyOf 96 0) (valueOf 1) ∷ []) ∷ pruning 1 ∷ applying ([]) ∷ applying ([]) ∷ pruning 0 ∷ applying (insert (keyOf 96 0) (valueOf 1) ∷ insert (keyOf 144 0) (valueOf 2) ∷ insert (keyOf 254 0) (valueOf 2) ∷ []) ∷ applying (delete (keyOf 96 0) ∷ []) ∷ [])
-      (made 1 zeros 0 ∷ made 2 zeros 0 ∷ made 3 zeros 0 ∷ made 4 h11 1 ∷ freed 0 ∷ made 5 h11 1 ∷ made 6 h11 1 ∷ denied 8 ∷ made 7 h92 5 ∷ denied 7 ∷ [])
-      end26
       ∷ game (storeOf 0 0 (freeSlots 4))
-      (pruning 0 ∷ applying ([]) ∷ pruning 1 ∷ applying (insert (keyOf 255 0) (valueOf 3) ∷ []) ∷ [])
-      (freed 0 ∷ made 1 zeros 0 ∷ freed 0 ∷ made 2 h93 1 ∷ [])
+      (applying 1 (insert (keyOf 64 0) (valueOf 2) ∷ insert (keyOf 192 0) (valueOf 2) ∷ insert (keyOf 254 0) (valueOf 1) ∷ []) ∷ applying 2 (insert (keyOf 192 0) (valueOf 2) ∷ []) ∷ pruning 0 ∷ applying 3 (insert (keyOf 128 0) (valueOf 3) ∷ insert (keyOf 192 0) (valueOf 2) ∷ []) ∷ applying 3 (delete (keyOf 64 0) ∷ []) ∷ applying 7 (insert (keyOf 64 0) (valueOf 1) ∷ []) ∷ applying 4 (insert (keyOf 192 0) (valueOf 4) ∷ []) ∷ applying 6 (delete (keyOf 254 0) ∷ []) ∷ applying 7 (insert (keyOf 64 0) (valueOf 1) ∷ insert (keyOf 104 0) (valueOf 1) ∷ insert (keyOf 192 0) (valueOf 3) ∷ insert (keyOf 254 0) (valueOf 3) ∷ []) ∷ applying 0 (delete (keyOf 104 0) ∷ delete (keyOf 128 0) ∷ delete (keyOf 192 0) ∷ []) ∷ [])
+      (denied 7 ∷ made 2 h88 1 ∷ freed 0 ∷ denied 7 ∷ made 3 h88 1 ∷ denied 7 ∷ made 4 h2 1 ∷ made 6 h2 1 ∷ denied 7 ∷ denied 18 ∷ [])
+      end26
+      ∷ game (storeOf 0 0 (freeSlots 12))
+      (applying 0 (delete (keyOf 0 0) ∷ insert (keyOf 144 0) (valueOf 3) ∷ []) ∷ applying 3 (insert (keyOf 0 0) (valueOf 1) ∷ []) ∷ applying 4 (insert (keyOf 0 0) (valueOf 1) ∷ insert (keyOf 144 0) (valueOf 1) ∷ []) ∷ applying 6 (insert (keyOf 144 0) (valueOf 1) ∷ []) ∷ applying 7 (delete (keyOf 0 0) ∷ insert (keyOf 192 0) (valueOf 1) ∷ []) ∷ applying 8 (insert (keyOf 192 0) (valueOf 1) ∷ []) ∷ applying 9 (delete (keyOf 0 0) ∷ insert (keyOf 144 0) (valueOf 1) ∷ []) ∷ pruning 5 ∷ [])
+      (denied 18 ∷ made 3 h32 1 ∷ made 4 h91 3 ∷ made 6 h91 1 ∷ made 7 h92 4 ∷ made 8 h92 1 ∷ made 9 h92 1 ∷ freed 1 ∷ [])
       end27
       ∷ game (storeOf 0 0 (freeSlots 12))
-      (applying (delete (keyOf 0 0) ∷ insert (keyOf 16 0) (valueOf 1) ∷ []) ∷ pruning 2 ∷ applying (delete (keyOf 0 0) ∷ insert (keyOf 16 0) (valueOf 2) ∷ delete (keyOf 64 0) ∷ insert (keyOf 96 0) (valueOf 2) ∷ []) ∷ applying (insert (keyOf 16 0) (valueOf 2) ∷ []) ∷ applying (delete (keyOf 96 0) ∷ []) ∷ pruning 2 ∷ applying (insert (keyOf 0 0) (valueOf 1) ∷ []) ∷ applying (insert (keyOf 0 0) (valueOf 3) ∷ delete (keyOf 64 0) ∷ []) ∷ [])
-      (made 1 h52 1 ∷ denied 8 ∷ made 2 h98 4 ∷ made 3 h98 1 ∷ made 4 h5 1 ∷ freed 1 ∷ made 5 h99 6 ∷ denied 7 ∷ [])
+      (applying 1 ([]) ∷ applying 4 (insert (keyOf 16 0) (valueOf 1) ∷ []) ∷ applying 5 (insert (keyOf 64 0) (valueOf 1) ∷ []) ∷ applying 10 ([]) ∷ applying 13 (delete (keyOf 128 0) ∷ insert (keyOf 16 0) (valueOf 1) ∷ []) ∷ applying 14 (insert (keyOf 64 0) (valueOf 1) ∷ insert (keyOf 128 0) (valueOf 1) ∷ []) ∷ pruning 12 ∷ [])
+      (made 1 zeros 0 ∷ made 4 h69 1 ∷ made 5 h94 4 ∷ made 10 h94 1 ∷ denied 5 ∷ made 14 h95 2 ∷ freed 2 ∷ [])
       end28
       ∷ game (storeOf 0 0 (freeSlots 8))
-      (pruning 1 ∷ applying ([]) ∷ pruning 2 ∷ applying (insert (keyOf 8 0) (valueOf 2) ∷ insert (keyOf 104 0) (valueOf 2) ∷ []) ∷ applying (delete (keyOf 16 0) ∷ delete (keyOf 64 0) ∷ insert (keyOf 192 0) (valueOf 2) ∷ []) ∷ applying (insert (keyOf 8 0) (valueOf 2) ∷ insert (keyOf 104 0) (valueOf 4) ∷ []) ∷ applying (delete (keyOf 16 0) ∷ insert (keyOf 192 0) (valueOf 2) ∷ []) ∷ pruning 2 ∷ applying (delete (keyOf 8 0) ∷ delete (keyOf 192 0) ∷ []) ∷ [])
-      (denied 8 ∷ made 1 zeros 0 ∷ denied 8 ∷ made 2 h101 4 ∷ made 3 h102 2 ∷ denied 7 ∷ made 4 h102 1 ∷ freed 0 ∷ made 5 h70 1 ∷ [])
+      (applying 1 (delete (keyOf 0 0) ∷ []) ∷ applying 4 ([]) ∷ applying 5 ([]) ∷ applying 8 (insert (keyOf 0 0) (valueOf 3) ∷ []) ∷ pruning 4 ∷ applying 9 (insert (keyOf 128 0) (valueOf 2) ∷ []) ∷ pruning 5 ∷ applying 10 (insert (keyOf 0 0) (valueOf 3) ∷ delete (keyOf 128 0) ∷ []) ∷ [])
+      (made 1 zeros 0 ∷ made 4 zeros 0 ∷ made 5 zeros 0 ∷ made 8 h96 1 ∷ freed 0 ∷ made 9 h97 3 ∷ freed 0 ∷ made 10 h96 1 ∷ [])
       end29
       ∷ []
 

@@ -1,4 +1,4 @@
--- Random histories, part 4. Written by tests/tables/generate.py; compared with a second reading of document 01. Assumes nothing.
+-- Random histories, part 4. Written by tests/tables/generate.py; compared with a second reading of document 01 with 2026-13. Assumes nothing.
 use mathlib.Core.Path.{_≡_, refl}
 use mathlib.Core.Bool.{true, false}
 use mathlib.Core.List.{List, [], _∷_}
@@ -14,273 +14,324 @@ use Rattle.tables.specs.Tables.{Game, game, GameHolds, applying, pruning
 
 module _ (leafHash innerHash : Bytes → Bytes → Bytes) where
   abbrev h0 : Bytes
-  h0 = leafHash (keyOf 128 0) (valueOf 4)
+  h0 = leafHash (keyOf 0 0) (valueOf 4)
 
   abbrev h1 : Bytes
-  h1 = leafHash (keyOf 64 0) (valueOf 3)
+  h1 = leafHash (keyOf 144 0) (valueOf 4)
 
   abbrev h2 : Bytes
-  h2 = leafHash (keyOf 254 0) (valueOf 4)
+  h2 = leafHash (keyOf 144 0) (valueOf 2)
 
   abbrev h3 : Bytes
-  h3 = innerHash h1 h2
+  h3 = innerHash h0 h1
 
   abbrev h4 : Bytes
-  h4 = leafHash (keyOf 104 0) (valueOf 4)
+  h4 = innerHash h0 h2
 
   abbrev h5 : Bytes
-  h5 = leafHash (keyOf 104 0) (valueOf 1)
+  h5 = leafHash (keyOf 128 0) (valueOf 3)
 
   abbrev h6 : Bytes
-  h6 = leafHash (keyOf 144 0) (valueOf 4)
+  h6 = leafHash (keyOf 128 0) (valueOf 1)
 
   abbrev h7 : Bytes
-  h7 = innerHash h4 h0
+  h7 = leafHash (keyOf 192 0) (valueOf 4)
 
   abbrev h8 : Bytes
-  h8 = innerHash h5 h6
+  h8 = innerHash h6 h7
 
   abbrev h9 : Bytes
-  h9 = leafHash (keyOf 104 0) (valueOf 3)
+  h9 = innerHash zeros h8
 
   abbrev h10 : Bytes
-  h10 = leafHash (keyOf 192 0) (valueOf 3)
+  h10 = leafHash (keyOf 104 0) (valueOf 2)
 
   abbrev h11 : Bytes
-  h11 = innerHash h9 h10
+  h11 = innerHash h0 h10
 
   abbrev h12 : Bytes
-  h12 = leafHash (keyOf 192 0) (valueOf 1)
+  h12 = leafHash (keyOf 104 0) (valueOf 1)
 
   abbrev h13 : Bytes
-  h13 = leafHash (keyOf 128 0) (valueOf 2)
+  h13 = innerHash h0 h12
 
   abbrev h14 : Bytes
-  h14 = leafHash (keyOf 16 0) (valueOf 4)
+  h14 = leafHash (keyOf 8 0) (valueOf 3)
 
   abbrev h15 : Bytes
-  h15 = leafHash (keyOf 192 0) (valueOf 4)
+  h15 = innerHash h0 h14
 
   abbrev h16 : Bytes
-  h16 = innerHash h0 h15
+  h16 = innerHash h15 zeros
 
   abbrev h17 : Bytes
-  h17 = innerHash h14 h15
+  h17 = innerHash h16 zeros
 
   abbrev h18 : Bytes
-  h18 = innerHash h14 h16
+  h18 = innerHash h17 zeros
 
   abbrev h19 : Bytes
-  h19 = leafHash (keyOf 0 0) (valueOf 2)
+  h19 = innerHash h11 zeros
 
   abbrev h20 : Bytes
-  h20 = leafHash (keyOf 8 0) (valueOf 1)
+  h20 = innerHash h13 zeros
 
   abbrev h21 : Bytes
-  h21 = innerHash h19 h20
+  h21 = innerHash h18 zeros
 
   abbrev h22 : Bytes
-  h22 = leafHash (keyOf 16 0) (valueOf 2)
+  h22 = leafHash (keyOf 8 0) (valueOf 2)
 
   abbrev h23 : Bytes
-  h23 = innerHash h21 h22
+  h23 = leafHash (keyOf 192 0) (valueOf 1)
 
   abbrev h24 : Bytes
-  h24 = innerHash h23 zeros
+  h24 = leafHash (keyOf 96 0) (valueOf 1)
 
   abbrev h25 : Bytes
-  h25 = innerHash h24 zeros
+  h25 = innerHash h22 h24
 
   abbrev h26 : Bytes
-  h26 = innerHash h19 h22
+  h26 = leafHash (keyOf 96 0) (valueOf 3)
 
   abbrev h27 : Bytes
-  h27 = innerHash h26 zeros
+  h27 = leafHash (keyOf 192 0) (valueOf 2)
 
   abbrev h28 : Bytes
-  h28 = innerHash h27 zeros
+  h28 = innerHash h22 h23
 
   abbrev h29 : Bytes
-  h29 = innerHash h25 zeros
+  h29 = innerHash h25 h23
 
   abbrev h30 : Bytes
-  h30 = innerHash h28 zeros
+  h30 = innerHash h26 h27
 
   abbrev h31 : Bytes
-  h31 = leafHash (keyOf 128 0) (valueOf 1)
+  h31 = leafHash (keyOf 255 0) (valueOf 3)
 
   abbrev h32 : Bytes
-  h32 = leafHash (keyOf 16 0) (valueOf 1)
+  h32 = innerHash h0 h22
 
   abbrev h33 : Bytes
-  h33 = leafHash (keyOf 104 0) (valueOf 2)
+  h33 = innerHash h32 zeros
 
   abbrev h34 : Bytes
-  h34 = innerHash h33 h0
+  h34 = innerHash h33 zeros
 
   abbrev h35 : Bytes
-  h35 = leafHash (keyOf 144 0) (valueOf 2)
+  h35 = innerHash h34 zeros
 
   abbrev h36 : Bytes
-  h36 = leafHash (keyOf 255 0) (valueOf 2)
+  h36 = innerHash h22 h31
 
   abbrev h37 : Bytes
-  h37 = innerHash h35 h36
+  h37 = innerHash h35 h31
 
   abbrev h38 : Bytes
-  h38 = leafHash (keyOf 255 0) (valueOf 1)
+  h38 = leafHash (keyOf 104 0) (valueOf 3)
 
   abbrev h39 : Bytes
-  h39 = innerHash zeros h37
+  h39 = leafHash (keyOf 255 0) (valueOf 1)
 
   abbrev h40 : Bytes
-  h40 = leafHash (keyOf 96 0) (valueOf 3)
+  h40 = leafHash (keyOf 16 0) (valueOf 4)
 
   abbrev h41 : Bytes
-  h41 = leafHash (keyOf 192 0) (valueOf 2)
+  h41 = innerHash h40 h38
 
   abbrev h42 : Bytes
-  h42 = innerHash h40 h12
+  h42 = leafHash (keyOf 16 0) (valueOf 1)
 
   abbrev h43 : Bytes
-  h43 = innerHash h40 h41
+  h43 = innerHash h42 h38
 
   abbrev h44 : Bytes
-  h44 = leafHash (keyOf 8 0) (valueOf 3)
+  h44 = innerHash h41 zeros
 
   abbrev h45 : Bytes
-  h45 = leafHash (keyOf 8 0) (valueOf 4)
+  h45 = innerHash h43 zeros
 
   abbrev h46 : Bytes
-  h46 = leafHash (keyOf 64 0) (valueOf 4)
+  h46 = leafHash (keyOf 0 0) (valueOf 1)
 
   abbrev h47 : Bytes
-  h47 = innerHash h14 h46
+  h47 = innerHash h46 h12
 
   abbrev h48 : Bytes
-  h48 = innerHash h47 zeros
+  h48 = innerHash h47 h27
 
   abbrev h49 : Bytes
-  h49 = leafHash (keyOf 96 0) (valueOf 1)
+  h49 = leafHash (keyOf 16 0) (valueOf 3)
 
   abbrev h50 : Bytes
-  h50 = innerHash h49 h35
+  h50 = leafHash (keyOf 254 0) (valueOf 1)
 
   abbrev h51 : Bytes
-  h51 = leafHash (keyOf 0 0) (valueOf 3)
+  h51 = leafHash (keyOf 144 0) (valueOf 3)
 
   abbrev h52 : Bytes
-  h52 = leafHash (keyOf 8 0) (valueOf 2)
+  h52 = leafHash (keyOf 254 0) (valueOf 3)
 
   abbrev h53 : Bytes
   h53 = innerHash h51 h52
 
   abbrev h54 : Bytes
-  h54 = innerHash h53 zeros
+  h54 = leafHash (keyOf 16 0) (valueOf 2)
 
   abbrev h55 : Bytes
-  h55 = innerHash h54 zeros
+  h55 = innerHash h49 h50
 
   abbrev h56 : Bytes
-  h56 = innerHash h55 zeros
+  h56 = innerHash h49 h53
 
   abbrev h57 : Bytes
-  h57 = innerHash h19 h45
+  h57 = leafHash (keyOf 64 0) (valueOf 4)
 
   abbrev h58 : Bytes
-  h58 = innerHash h57 zeros
+  h58 = innerHash h57 h12
 
   abbrev h59 : Bytes
-  h59 = innerHash h58 zeros
+  h59 = innerHash zeros h58
 
   abbrev h60 : Bytes
-  h60 = innerHash h59 zeros
+  h60 = innerHash h59 h23
 
   abbrev h61 : Bytes
-  h61 = innerHash h56 zeros
+  h61 = leafHash (keyOf 128 0) (valueOf 2)
 
   abbrev h62 : Bytes
-  h62 = innerHash h60 zeros
+  h62 = leafHash (keyOf 254 0) (valueOf 2)
 
   abbrev h63 : Bytes
-  h63 = innerHash h19 h36
+  h63 = innerHash h22 h62
 
   abbrev h64 : Bytes
-  h64 = innerHash h22 h5
+  h64 = leafHash (keyOf 0 0) (valueOf 3)
 
   abbrev h65 : Bytes
-  h65 = innerHash h64 zeros
+  h65 = innerHash h64 h10
 
   abbrev h66 : Bytes
-  h66 = leafHash (keyOf 64 0) (valueOf 2)
+  h66 = leafHash (keyOf 192 0) (valueOf 3)
 
   abbrev h67 : Bytes
-  h67 = leafHash (keyOf 16 0) (valueOf 3)
+  h67 = leafHash (keyOf 255 0) (valueOf 2)
 
   abbrev h68 : Bytes
-  h68 = innerHash h66 h5
+  h68 = leafHash (keyOf 255 0) (valueOf 4)
 
   abbrev h69 : Bytes
-  h69 = innerHash h67 h68
+  h69 = leafHash (keyOf 0 0) (valueOf 2)
 
   abbrev h70 : Bytes
-  h70 = innerHash h69 zeros
+  h70 = innerHash h69 h38
 
   abbrev h71 : Bytes
-  h71 = leafHash (keyOf 64 0) (valueOf 1)
+  h71 = innerHash h65 h66
 
   abbrev h72 : Bytes
-  h72 = leafHash (keyOf 255 0) (valueOf 4)
+  h72 = innerHash h65 zeros
 
   abbrev h73 : Bytes
-  h73 = innerHash h71 h72
+  h73 = innerHash h65 h67
 
   abbrev h74 : Bytes
-  h74 = innerHash h71 h36
+  h74 = innerHash h65 h68
 
   abbrev h75 : Bytes
-  h75 = leafHash (keyOf 255 0) (valueOf 3)
+  h75 = innerHash h10 h68
 
   abbrev h76 : Bytes
-  h76 = innerHash h71 h75
+  h76 = innerHash h70 zeros
 
   abbrev h77 : Bytes
-  h77 = leafHash (keyOf 96 0) (valueOf 4)
+  h77 = innerHash h14 h49
 
   abbrev h78 : Bytes
-  h78 = leafHash (keyOf 144 0) (valueOf 3)
+  h78 = innerHash h77 zeros
 
   abbrev h79 : Bytes
-  h79 = innerHash h44 h6
+  h79 = innerHash h78 zeros
 
   abbrev h80 : Bytes
-  h80 = innerHash h66 h72
+  h80 = leafHash (keyOf 8 0) (valueOf 4)
 
   abbrev h81 : Bytes
-  h81 = innerHash h66 h2
+  h81 = innerHash h79 zeros
 
   abbrev h82 : Bytes
-  h82 = innerHash h14 h40
+  h82 = leafHash (keyOf 144 0) (valueOf 1)
 
   abbrev h83 : Bytes
-  h83 = innerHash h14 h77
+  h83 = innerHash h82 h68
 
   abbrev h84 : Bytes
-  h84 = innerHash h82 zeros
+  h84 = innerHash zeros h83
 
   abbrev h85 : Bytes
-  h85 = innerHash h14 h36
+  h85 = innerHash h82 h39
 
   abbrev h86 : Bytes
-  h86 = innerHash h83 h36
+  h86 = innerHash zeros h85
 
   abbrev h87 : Bytes
-  h87 = innerHash h46 h35
+  h87 = innerHash h24 h85
+
+  abbrev h88 : Bytes
+  h88 = innerHash h22 h51
+
+  abbrev h89 : Bytes
+  h89 = leafHash (keyOf 96 0) (valueOf 2)
+
+  abbrev h90 : Bytes
+  h90 = leafHash (keyOf 96 0) (valueOf 4)
+
+  abbrev h91 : Bytes
+  h91 = innerHash h82 h52
+
+  abbrev h92 : Bytes
+  h92 = innerHash h57 h91
+
+  abbrev h93 : Bytes
+  h93 = leafHash (keyOf 104 0) (valueOf 4)
+
+  abbrev h94 : Bytes
+  h94 = leafHash (keyOf 128 0) (valueOf 4)
+
+  abbrev h95 : Bytes
+  h95 = innerHash h93 h5
+
+  abbrev h96 : Bytes
+  h96 = innerHash h93 h94
+
+  abbrev h97 : Bytes
+  h97 = innerHash h24 h39
+
+  abbrev h98 : Bytes
+  h98 = innerHash h80 h66
+
+  abbrev h99 : Bytes
+  h99 = innerHash h80 h7
+
+  abbrev h100 : Bytes
+  h100 = innerHash h80 h23
 
   abbrev end0 : Store
   end0 =
-      storeOf 3 3
-      (free
+      storeOf 7 17
+      (leafSlot (false ∷ []) 4 17 (keyOf 0 0) (valueOf 4)
+      ∷ leafSlot (true ∷ []) 4 14 (keyOf 144 0) (valueOf 4)
+      ∷ innerSlot ([]) 4 9 4 h0 4 h1
+      ∷ innerSlot ([]) 9 14 4 h0 4 h1
+      ∷ leafSlot (true ∷ []) 14 17 (keyOf 144 0) (valueOf 2)
+      ∷ innerSlot ([]) 14 16 4 h0 14 h2
+      ∷ innerSlot ([]) 16 17 4 h0 14 h2
+      ∷ leafSlot ([]) 17 0 (keyOf 0 0) (valueOf 4)
+      ∷ free
+      ∷ free
+      ∷ free
+      ∷ free
+      ∷ free
       ∷ free
       ∷ free
       ∷ free
@@ -288,119 +339,103 @@ module _ (leafHash innerHash : Bytes → Bytes → Bytes) where
 
   abbrev end1 : Store
   end1 =
-      storeOf 0 5
-      (leafSlot ([]) 1 2 (keyOf 254 0) (valueOf 4)
-      ∷ leafSlot ([]) 2 3 (keyOf 254 0) (valueOf 4)
-      ∷ leafSlot ([]) 3 4 (keyOf 254 0) (valueOf 4)
-      ∷ leafSlot (false ∷ []) 4 0 (keyOf 64 0) (valueOf 3)
-      ∷ leafSlot (true ∷ []) 4 0 (keyOf 254 0) (valueOf 4)
-      ∷ innerSlot ([]) 4 5 4 h1 4 h2
-      ∷ innerSlot ([]) 5 0 4 h1 4 h2
+      storeOf 1 2
+      (leafSlot ([]) 2 0 (keyOf 128 0) (valueOf 3)
+      ∷ free
+      ∷ free
+      ∷ free
+      ∷ free
+      ∷ free
+      ∷ free
       ∷ free
       ∷ [])
 
   abbrev end2 : Store
   end2 =
-      storeOf 3 5
-      (leafSlot ([]) 4 5 (keyOf 104 0) (valueOf 4)
-      ∷ leafSlot (false ∷ []) 2 4 (keyOf 104 0) (valueOf 4)
-      ∷ leafSlot (true ∷ []) 2 4 (keyOf 128 0) (valueOf 4)
-      ∷ leafSlot (false ∷ []) 5 0 (keyOf 104 0) (valueOf 1)
-      ∷ innerSlot ([]) 3 4 2 h4 2 h0
-      ∷ leafSlot (true ∷ []) 5 0 (keyOf 144 0) (valueOf 4)
-      ∷ innerSlot ([]) 5 0 5 h5 5 h6
+      storeOf 0 6
+      (leafSlot ([]) 3 4 (keyOf 128 0) (valueOf 1)
+      ∷ leafSlot ([]) 4 6 (keyOf 128 0) (valueOf 1)
+      ∷ leafSlot (true ∷ false ∷ []) 6 0 (keyOf 128 0) (valueOf 1)
+      ∷ leafSlot (true ∷ true ∷ []) 6 0 (keyOf 192 0) (valueOf 4)
+      ∷ innerSlot (true ∷ []) 6 0 6 h6 6 h7
+      ∷ innerSlot ([]) 6 0 0 zeros 6 h8
+      ∷ free
       ∷ free
       ∷ [])
 
   abbrev end3 : Store
   end3 =
-      storeOf 0 4
-      (leafSlot ([]) 1 2 (keyOf 192 0) (valueOf 3)
-      ∷ leafSlot ([]) 2 3 (keyOf 192 0) (valueOf 3)
-      ∷ leafSlot (false ∷ []) 3 4 (keyOf 104 0) (valueOf 3)
-      ∷ leafSlot (true ∷ []) 3 4 (keyOf 192 0) (valueOf 3)
-      ∷ innerSlot ([]) 3 4 3 h9 3 h10
-      ∷ leafSlot ([]) 4 0 (keyOf 192 0) (valueOf 1)
-      ∷ free
-      ∷ free
-      ∷ free
-      ∷ free
-      ∷ free
-      ∷ free
-      ∷ free
-      ∷ free
-      ∷ free
+      storeOf 3 7
+      (leafSlot ([]) 4 5 (keyOf 104 0) (valueOf 2)
+      ∷ leafSlot (false ∷ false ∷ []) 5 7 (keyOf 0 0) (valueOf 4)
+      ∷ leafSlot (false ∷ true ∷ []) 5 6 (keyOf 104 0) (valueOf 2)
+      ∷ innerSlot (false ∷ []) 5 6 5 h0 5 h10
+      ∷ innerSlot ([]) 5 6 5 h11 0 zeros
+      ∷ leafSlot (false ∷ true ∷ []) 6 7 (keyOf 104 0) (valueOf 1)
+      ∷ innerSlot (false ∷ []) 6 7 5 h0 6 h12
+      ∷ innerSlot ([]) 6 7 6 h13 0 zeros
+      ∷ leafSlot (false ∷ false ∷ false ∷ false ∷ false ∷ []) 7 0 (keyOf 0 0) (valueOf 4)
+      ∷ leafSlot (false ∷ false ∷ false ∷ false ∷ true ∷ []) 7 0 (keyOf 8 0) (valueOf 3)
+      ∷ innerSlot (false ∷ false ∷ false ∷ false ∷ []) 7 0 7 h0 7 h14
+      ∷ innerSlot (false ∷ false ∷ false ∷ []) 7 0 7 h15 0 zeros
+      ∷ innerSlot (false ∷ false ∷ []) 7 0 7 h16 0 zeros
+      ∷ innerSlot (false ∷ []) 7 0 7 h17 0 zeros
+      ∷ innerSlot ([]) 7 0 7 h18 0 zeros
       ∷ free
       ∷ [])
 
   abbrev end4 : Store
   end4 =
-      storeOf 0 6
-      (leafSlot ([]) 1 2 (keyOf 192 0) (valueOf 3)
-      ∷ leafSlot ([]) 4 5 (keyOf 128 0) (valueOf 4)
-      ∷ leafSlot ([]) 5 6 (keyOf 128 0) (valueOf 4)
-      ∷ leafSlot ([]) 6 0 (keyOf 128 0) (valueOf 2)
-      ∷ free
-      ∷ free
-      ∷ free
-      ∷ free
-      ∷ free
-      ∷ free
-      ∷ free
-      ∷ free
-      ∷ free
-      ∷ free
-      ∷ free
-      ∷ free
-      ∷ free
-      ∷ free
-      ∷ free
-      ∷ free
-      ∷ free
-      ∷ free
+      storeOf 0 4
+      (leafSlot (false ∷ []) 2 3 (keyOf 8 0) (valueOf 2)
+      ∷ leafSlot (true ∷ []) 2 4 (keyOf 192 0) (valueOf 1)
+      ∷ innerSlot ([]) 2 3 2 h22 2 h23
+      ∷ leafSlot (false ∷ false ∷ []) 3 4 (keyOf 8 0) (valueOf 2)
+      ∷ leafSlot (false ∷ true ∷ []) 3 4 (keyOf 96 0) (valueOf 1)
+      ∷ innerSlot (false ∷ []) 3 4 3 h22 3 h24
+      ∷ innerSlot ([]) 3 4 3 h25 2 h23
+      ∷ leafSlot (false ∷ []) 4 0 (keyOf 96 0) (valueOf 3)
+      ∷ leafSlot (true ∷ []) 4 0 (keyOf 192 0) (valueOf 2)
+      ∷ innerSlot ([]) 4 0 4 h26 4 h27
       ∷ free
       ∷ free
       ∷ [])
 
   abbrev end5 : Store
   end5 =
-      storeOf 0 4
-      (leafSlot ([]) 1 2 (keyOf 192 0) (valueOf 4)
-      ∷ leafSlot ([]) 2 3 (keyOf 192 0) (valueOf 4)
-      ∷ leafSlot (false ∷ []) 3 0 (keyOf 16 0) (valueOf 4)
-      ∷ leafSlot (true ∷ []) 3 4 (keyOf 192 0) (valueOf 4)
-      ∷ innerSlot ([]) 3 4 3 h14 3 h15
-      ∷ leafSlot (true ∷ false ∷ []) 4 0 (keyOf 128 0) (valueOf 4)
-      ∷ leafSlot (true ∷ true ∷ []) 4 0 (keyOf 192 0) (valueOf 4)
-      ∷ innerSlot (true ∷ []) 4 0 4 h0 4 h15
-      ∷ innerSlot ([]) 4 0 3 h14 4 h16
-      ∷ free
-      ∷ free
-      ∷ free
-      ∷ free
-      ∷ free
-      ∷ free
-      ∷ free
+      storeOf 3 12
+      (leafSlot (false ∷ false ∷ false ∷ false ∷ false ∷ []) 12 0 (keyOf 0 0) (valueOf 4)
+      ∷ leafSlot ([]) 2 7 (keyOf 8 0) (valueOf 2)
+      ∷ leafSlot ([]) 7 11 (keyOf 8 0) (valueOf 2)
+      ∷ leafSlot (false ∷ []) 11 12 (keyOf 8 0) (valueOf 2)
+      ∷ leafSlot (true ∷ []) 11 0 (keyOf 255 0) (valueOf 3)
+      ∷ innerSlot ([]) 11 12 11 h22 11 h31
+      ∷ leafSlot (false ∷ false ∷ false ∷ false ∷ true ∷ []) 12 0 (keyOf 8 0) (valueOf 2)
+      ∷ innerSlot (false ∷ false ∷ false ∷ false ∷ []) 12 0 12 h0 12 h22
+      ∷ innerSlot (false ∷ false ∷ false ∷ []) 12 0 12 h32 0 zeros
+      ∷ innerSlot (false ∷ false ∷ []) 12 0 12 h33 0 zeros
+      ∷ innerSlot (false ∷ []) 12 0 12 h34 0 zeros
+      ∷ innerSlot ([]) 12 0 12 h35 11 h31
       ∷ [])
 
   abbrev end6 : Store
   end6 =
-      storeOf 0 6
-      (leafSlot (false ∷ false ∷ false ∷ false ∷ false ∷ []) 3 6 (keyOf 0 0) (valueOf 2)
-      ∷ leafSlot (false ∷ false ∷ false ∷ false ∷ true ∷ []) 3 6 (keyOf 8 0) (valueOf 1)
-      ∷ innerSlot (false ∷ false ∷ false ∷ false ∷ []) 3 6 3 h19 3 h20
-      ∷ leafSlot (false ∷ false ∷ false ∷ true ∷ []) 3 0 (keyOf 16 0) (valueOf 2)
-      ∷ innerSlot (false ∷ false ∷ false ∷ []) 3 6 3 h21 3 h22
-      ∷ innerSlot (false ∷ false ∷ []) 3 6 3 h23 0 zeros
-      ∷ innerSlot (false ∷ []) 3 6 3 h24 0 zeros
-      ∷ innerSlot ([]) 3 4 3 h25 0 zeros
-      ∷ innerSlot ([]) 4 5 3 h25 0 zeros
-      ∷ innerSlot ([]) 5 6 3 h25 0 zeros
-      ∷ leafSlot (false ∷ false ∷ false ∷ false ∷ []) 6 0 (keyOf 0 0) (valueOf 2)
-      ∷ innerSlot (false ∷ false ∷ false ∷ []) 6 0 6 h19 3 h22
-      ∷ innerSlot (false ∷ false ∷ []) 6 0 6 h26 0 zeros
-      ∷ innerSlot (false ∷ []) 6 0 6 h27 0 zeros
-      ∷ innerSlot ([]) 6 0 6 h28 0 zeros
+      storeOf 1 2
+      (leafSlot ([]) 1 2 (keyOf 104 0) (valueOf 3)
+      ∷ leafSlot ([]) 2 0 (keyOf 104 0) (valueOf 3)
+      ∷ free
+      ∷ free
+      ∷ free
+      ∷ free
+      ∷ free
+      ∷ free
+      ∷ free
+      ∷ free
+      ∷ free
+      ∷ free
+      ∷ free
+      ∷ free
+      ∷ free
       ∷ free
       ∷ free
       ∷ free
@@ -414,21 +449,9 @@ module _ (leafHash innerHash : Bytes → Bytes → Bytes) where
 
   abbrev end7 : Store
   end7 =
-      storeOf 3 4
-      (leafSlot ([]) 3 4 (keyOf 104 0) (valueOf 1)
-      ∷ leafSlot ([]) 4 0 (keyOf 104 0) (valueOf 1)
-      ∷ free
-      ∷ free
-      ∷ free
-      ∷ free
-      ∷ free
-      ∷ free
-      ∷ free
-      ∷ free
-      ∷ free
-      ∷ free
-      ∷ free
-      ∷ free
+      storeOf 4294967294 4294967295
+      (leafSlot ([]) 4294967294 4294967295 (keyOf 255 0) (valueOf 1)
+      ∷ leafSlot ([]) 4294967295 0 (keyOf 255 0) (valueOf 1)
       ∷ free
       ∷ free
       ∷ free
@@ -443,63 +466,55 @@ module _ (leafHash innerHash : Bytes → Bytes → Bytes) where
 
   abbrev end8 : Store
   end8 =
-      storeOf 0 5
-      (leafSlot ([]) 1 2 (keyOf 128 0) (valueOf 1)
-      ∷ leafSlot ([]) 3 4 (keyOf 16 0) (valueOf 1)
-      ∷ leafSlot ([]) 4 5 (keyOf 16 0) (valueOf 1)
-      ∷ leafSlot ([]) 5 0 (keyOf 16 0) (valueOf 1)
-      ∷ free
-      ∷ free
-      ∷ free
-      ∷ free
-      ∷ free
-      ∷ free
-      ∷ free
-      ∷ free
-      ∷ free
-      ∷ free
-      ∷ free
-      ∷ free
-      ∷ free
-      ∷ free
-      ∷ free
-      ∷ free
-      ∷ free
-      ∷ free
-      ∷ free
+      storeOf 2 9
+      (leafSlot ([]) 1 3 (keyOf 104 0) (valueOf 3)
+      ∷ leafSlot ([]) 3 4 (keyOf 104 0) (valueOf 3)
+      ∷ leafSlot (false ∷ false ∷ []) 4 5 (keyOf 16 0) (valueOf 4)
+      ∷ leafSlot (false ∷ true ∷ []) 4 0 (keyOf 104 0) (valueOf 3)
+      ∷ innerSlot (false ∷ []) 4 5 4 h40 4 h38
+      ∷ innerSlot ([]) 4 5 4 h41 0 zeros
+      ∷ leafSlot (false ∷ false ∷ []) 5 0 (keyOf 16 0) (valueOf 1)
+      ∷ innerSlot (false ∷ []) 5 0 5 h42 4 h38
+      ∷ innerSlot ([]) 5 8 5 h43 0 zeros
+      ∷ innerSlot ([]) 8 9 5 h43 0 zeros
+      ∷ innerSlot ([]) 9 0 5 h43 0 zeros
       ∷ free
       ∷ [])
 
   abbrev end9 : Store
   end9 =
-      storeOf 3 4
-      (leafSlot (false ∷ []) 4 0 (keyOf 104 0) (valueOf 2)
-      ∷ leafSlot (true ∷ []) 4 0 (keyOf 128 0) (valueOf 4)
-      ∷ leafSlot ([]) 3 4 (keyOf 104 0) (valueOf 2)
-      ∷ innerSlot ([]) 4 0 4 h33 4 h0
+      storeOf 0 8
+      (leafSlot (false ∷ false ∷ []) 5 0 (keyOf 0 0) (valueOf 1)
+      ∷ leafSlot (false ∷ true ∷ []) 5 0 (keyOf 104 0) (valueOf 1)
+      ∷ innerSlot (false ∷ []) 5 0 5 h46 5 h12
+      ∷ leafSlot (true ∷ []) 5 0 (keyOf 192 0) (valueOf 2)
+      ∷ innerSlot ([]) 5 8 5 h47 5 h27
+      ∷ innerSlot ([]) 8 0 5 h47 5 h27
+      ∷ free
+      ∷ free
       ∷ [])
 
   abbrev end10 : Store
   end10 =
-      storeOf 1 5
-      (leafSlot ([]) 1 2 (keyOf 255 0) (valueOf 1)
-      ∷ leafSlot ([]) 2 3 (keyOf 144 0) (valueOf 2)
-      ∷ leafSlot ([]) 3 4 (keyOf 144 0) (valueOf 2)
-      ∷ leafSlot ([]) 4 5 (keyOf 144 0) (valueOf 2)
-      ∷ leafSlot (true ∷ false ∷ []) 5 0 (keyOf 144 0) (valueOf 2)
-      ∷ leafSlot (true ∷ true ∷ []) 5 0 (keyOf 255 0) (valueOf 2)
-      ∷ innerSlot (true ∷ []) 5 0 5 h35 5 h36
-      ∷ innerSlot ([]) 5 0 0 zeros 5 h37
+      storeOf 1 8
+      (leafSlot ([]) 1 4 (keyOf 16 0) (valueOf 2)
+      ∷ leafSlot ([]) 4 5 (keyOf 254 0) (valueOf 1)
+      ∷ leafSlot ([]) 5 6 (keyOf 254 0) (valueOf 1)
+      ∷ leafSlot (false ∷ []) 6 0 (keyOf 16 0) (valueOf 3)
+      ∷ leafSlot (true ∷ []) 6 7 (keyOf 254 0) (valueOf 1)
+      ∷ innerSlot ([]) 6 7 6 h49 6 h50
+      ∷ leafSlot (true ∷ false ∷ []) 7 0 (keyOf 144 0) (valueOf 3)
+      ∷ leafSlot (true ∷ true ∷ []) 7 0 (keyOf 254 0) (valueOf 3)
+      ∷ innerSlot (true ∷ []) 7 0 7 h51 7 h52
+      ∷ innerSlot ([]) 7 8 6 h49 7 h53
+      ∷ innerSlot ([]) 8 0 6 h49 7 h53
+      ∷ free
       ∷ [])
 
   abbrev end11 : Store
   end11 =
-      storeOf 2 3
-      (leafSlot (false ∷ []) 1 0 (keyOf 96 0) (valueOf 3)
-      ∷ innerSlot ([]) 3 0 1 h40 2 h41
-      ∷ free
-      ∷ leafSlot (true ∷ []) 2 0 (keyOf 192 0) (valueOf 2)
-      ∷ innerSlot ([]) 2 3 1 h40 2 h41
+      storeOf 0 1
+      (free
       ∷ free
       ∷ free
       ∷ free
@@ -507,16 +522,8 @@ module _ (leafHash innerHash : Bytes → Bytes → Bytes) where
 
   abbrev end12 : Store
   end12 =
-      storeOf 1 4
-      (leafSlot ([]) 1 2 (keyOf 8 0) (valueOf 3)
-      ∷ leafSlot ([]) 2 3 (keyOf 8 0) (valueOf 4)
-      ∷ leafSlot ([]) 3 4 (keyOf 8 0) (valueOf 4)
-      ∷ leafSlot ([]) 4 0 (keyOf 8 0) (valueOf 4)
-      ∷ free
-      ∷ free
-      ∷ free
-      ∷ free
-      ∷ free
+      storeOf 6 13
+      (free
       ∷ free
       ∷ free
       ∷ free
@@ -524,50 +531,46 @@ module _ (leafHash innerHash : Bytes → Bytes → Bytes) where
 
   abbrev end13 : Store
   end13 =
-      storeOf 1 1
-      (leafSlot (false ∷ false ∷ []) 1 0 (keyOf 16 0) (valueOf 4)
-      ∷ leafSlot (false ∷ true ∷ []) 1 0 (keyOf 64 0) (valueOf 4)
-      ∷ innerSlot (false ∷ []) 1 0 1 h14 1 h46
-      ∷ innerSlot ([]) 1 0 1 h47 0 zeros
+      storeOf 1 3
+      (leafSlot ([]) 1 2 (keyOf 192 0) (valueOf 1)
+      ∷ leafSlot (false ∷ true ∷ false ∷ []) 2 0 (keyOf 64 0) (valueOf 4)
+      ∷ leafSlot (false ∷ true ∷ true ∷ []) 2 0 (keyOf 104 0) (valueOf 1)
+      ∷ innerSlot (false ∷ true ∷ []) 2 0 2 h57 2 h12
+      ∷ innerSlot (false ∷ []) 2 0 0 zeros 2 h58
+      ∷ leafSlot (true ∷ []) 2 0 (keyOf 192 0) (valueOf 1)
+      ∷ innerSlot ([]) 2 3 2 h59 2 h23
+      ∷ innerSlot ([]) 3 0 2 h59 2 h23
+      ∷ free
+      ∷ free
+      ∷ free
+      ∷ free
       ∷ [])
 
   abbrev end14 : Store
   end14 =
-      storeOf 0 7
-      (leafSlot (false ∷ []) 2 0 (keyOf 96 0) (valueOf 1)
-      ∷ leafSlot (true ∷ []) 2 0 (keyOf 144 0) (valueOf 2)
-      ∷ innerSlot ([]) 2 3 2 h49 2 h35
-      ∷ innerSlot ([]) 3 4 2 h49 2 h35
-      ∷ innerSlot ([]) 4 5 2 h49 2 h35
-      ∷ innerSlot ([]) 5 6 2 h49 2 h35
-      ∷ innerSlot ([]) 6 7 2 h49 2 h35
-      ∷ innerSlot ([]) 7 0 2 h49 2 h35
+      storeOf 4294967295 4294967295
+      (free
+      ∷ leafSlot ([]) 4294967295 0 (keyOf 8 0) (valueOf 3)
+      ∷ free
+      ∷ free
+      ∷ free
+      ∷ free
+      ∷ free
+      ∷ free
       ∷ [])
 
   abbrev end15 : Store
   end15 =
-      storeOf 0 7
-      (leafSlot (false ∷ false ∷ false ∷ false ∷ false ∷ []) 1 3 (keyOf 0 0) (valueOf 3)
-      ∷ leafSlot (false ∷ false ∷ false ∷ false ∷ true ∷ []) 1 3 (keyOf 8 0) (valueOf 2)
-      ∷ innerSlot (false ∷ false ∷ false ∷ false ∷ []) 1 3 1 h51 1 h52
-      ∷ innerSlot (false ∷ false ∷ false ∷ []) 1 3 1 h53 0 zeros
-      ∷ innerSlot (false ∷ false ∷ []) 1 3 1 h54 0 zeros
-      ∷ innerSlot (false ∷ []) 1 3 1 h55 0 zeros
-      ∷ innerSlot ([]) 1 2 1 h56 0 zeros
-      ∷ innerSlot ([]) 2 3 1 h56 0 zeros
-      ∷ leafSlot ([]) 3 4 (keyOf 0 0) (valueOf 2)
-      ∷ leafSlot ([]) 4 5 (keyOf 0 0) (valueOf 2)
-      ∷ leafSlot ([]) 5 6 (keyOf 0 0) (valueOf 2)
-      ∷ leafSlot (false ∷ false ∷ false ∷ false ∷ false ∷ []) 6 7 (keyOf 0 0) (valueOf 2)
-      ∷ leafSlot (false ∷ false ∷ false ∷ false ∷ true ∷ []) 6 7 (keyOf 8 0) (valueOf 4)
-      ∷ innerSlot (false ∷ false ∷ false ∷ false ∷ []) 6 7 6 h19 6 h45
-      ∷ innerSlot (false ∷ false ∷ false ∷ []) 6 7 6 h57 0 zeros
-      ∷ innerSlot (false ∷ false ∷ []) 6 7 6 h58 0 zeros
-      ∷ innerSlot (false ∷ []) 6 7 6 h59 0 zeros
-      ∷ innerSlot ([]) 6 7 6 h60 0 zeros
-      ∷ leafSlot (false ∷ []) 7 0 (keyOf 0 0) (valueOf 2)
-      ∷ leafSlot (true ∷ []) 7 0 (keyOf 255 0) (valueOf 2)
-      ∷ innerSlot ([]) 7 0 7 h19 7 h36
+      storeOf 0 3
+      (leafSlot ([]) 2 3 (keyOf 128 0) (valueOf 2)
+      ∷ leafSlot ([]) 3 0 (keyOf 128 0) (valueOf 2)
+      ∷ free
+      ∷ free
+      ∷ free
+      ∷ free
+      ∷ free
+      ∷ free
+      ∷ free
       ∷ free
       ∷ free
       ∷ free
@@ -575,20 +578,8 @@ module _ (leafHash innerHash : Bytes → Bytes → Bytes) where
 
   abbrev end16 : Store
   end16 =
-      storeOf 4294967293 4294967295
-      (free
-      ∷ free
-      ∷ free
-      ∷ free
-      ∷ free
-      ∷ free
-      ∷ free
-      ∷ free
-      ∷ free
-      ∷ free
-      ∷ free
-      ∷ free
-      ∷ free
+      storeOf 5 5
+      (leafSlot ([]) 5 0 (keyOf 8 0) (valueOf 3)
       ∷ free
       ∷ free
       ∷ free
@@ -596,65 +587,45 @@ module _ (leafHash innerHash : Bytes → Bytes → Bytes) where
 
   abbrev end17 : Store
   end17 =
-      storeOf 5 6
-      (free
-      ∷ free
-      ∷ free
-      ∷ free
-      ∷ leafSlot (false ∷ false ∷ []) 5 6 (keyOf 16 0) (valueOf 2)
-      ∷ leafSlot (false ∷ true ∷ []) 5 6 (keyOf 104 0) (valueOf 1)
-      ∷ innerSlot (false ∷ []) 5 6 5 h22 5 h5
-      ∷ innerSlot ([]) 5 6 5 h64 0 zeros
-      ∷ leafSlot ([]) 6 0 (keyOf 104 0) (valueOf 1)
-      ∷ free
-      ∷ free
-      ∷ free
+      storeOf 0 4
+      (leafSlot ([]) 2 4 (keyOf 8 0) (valueOf 2)
+      ∷ leafSlot (false ∷ []) 4 0 (keyOf 8 0) (valueOf 2)
+      ∷ leafSlot (true ∷ []) 4 0 (keyOf 254 0) (valueOf 2)
+      ∷ innerSlot ([]) 4 0 4 h22 4 h62
       ∷ [])
 
   abbrev end18 : Store
   end18 =
-      storeOf 4294967295 4294967295
-      (free
-      ∷ free
-      ∷ free
-      ∷ free
-      ∷ leafSlot (false ∷ true ∷ false ∷ []) 4294967295 0 (keyOf 64 0) (valueOf 2)
-      ∷ leafSlot (false ∷ true ∷ true ∷ []) 4294967295 0 (keyOf 104 0) (valueOf 1)
-      ∷ leafSlot (false ∷ false ∷ []) 4294967295 0 (keyOf 16 0) (valueOf 3)
-      ∷ innerSlot (false ∷ true ∷ []) 4294967295 0 4294967295 h66 4294967295 h5
-      ∷ innerSlot (false ∷ []) 4294967295 0 4294967295 h67 4294967295 h68
-      ∷ innerSlot ([]) 4294967295 0 4294967295 h69 0 zeros
-      ∷ free
-      ∷ free
-      ∷ free
-      ∷ free
-      ∷ free
-      ∷ free
-      ∷ free
-      ∷ free
-      ∷ free
-      ∷ free
-      ∷ free
-      ∷ free
-      ∷ free
-      ∷ free
+      storeOf 9 21
+      (innerSlot ([]) 11 12 3 h65 0 zeros
+      ∷ leafSlot (false ∷ false ∷ []) 3 19 (keyOf 0 0) (valueOf 3)
+      ∷ leafSlot (false ∷ true ∷ []) 3 19 (keyOf 104 0) (valueOf 2)
+      ∷ innerSlot (false ∷ []) 3 19 3 h64 3 h10
+      ∷ leafSlot (true ∷ []) 3 11 (keyOf 192 0) (valueOf 3)
+      ∷ leafSlot (true ∷ []) 17 21 (keyOf 255 0) (valueOf 4)
+      ∷ innerSlot ([]) 8 11 3 h65 3 h66
+      ∷ leafSlot (true ∷ []) 12 17 (keyOf 255 0) (valueOf 2)
+      ∷ innerSlot ([]) 12 17 3 h65 12 h67
+      ∷ innerSlot ([]) 17 19 3 h65 17 h68
+      ∷ leafSlot (false ∷ []) 19 21 (keyOf 104 0) (valueOf 2)
+      ∷ innerSlot ([]) 19 21 19 h10 17 h68
+      ∷ leafSlot (false ∷ false ∷ []) 21 0 (keyOf 0 0) (valueOf 2)
+      ∷ leafSlot (false ∷ true ∷ []) 21 0 (keyOf 104 0) (valueOf 3)
+      ∷ innerSlot (false ∷ []) 21 0 21 h69 21 h38
+      ∷ innerSlot ([]) 21 0 21 h70 0 zeros
       ∷ [])
 
   abbrev end19 : Store
   end19 =
-      storeOf 3 6
-      (leafSlot (false ∷ []) 5 6 (keyOf 64 0) (valueOf 1)
-      ∷ leafSlot (true ∷ []) 5 6 (keyOf 255 0) (valueOf 2)
-      ∷ innerSlot ([]) 5 6 5 h71 5 h36
-      ∷ leafSlot ([]) 6 0 (keyOf 64 0) (valueOf 1)
-      ∷ free
-      ∷ free
-      ∷ free
-      ∷ free
-      ∷ free
-      ∷ free
-      ∷ free
-      ∷ free
+      storeOf 2 4
+      (leafSlot ([]) 3 4 (keyOf 8 0) (valueOf 3)
+      ∷ leafSlot (false ∷ false ∷ false ∷ false ∷ []) 2 3 (keyOf 8 0) (valueOf 3)
+      ∷ leafSlot (false ∷ false ∷ false ∷ true ∷ []) 2 3 (keyOf 16 0) (valueOf 3)
+      ∷ innerSlot (false ∷ false ∷ false ∷ []) 2 3 2 h14 2 h49
+      ∷ innerSlot (false ∷ false ∷ []) 2 3 2 h77 0 zeros
+      ∷ innerSlot (false ∷ []) 2 3 2 h78 0 zeros
+      ∷ innerSlot ([]) 2 3 2 h79 0 zeros
+      ∷ leafSlot ([]) 4 0 (keyOf 8 0) (valueOf 3)
       ∷ free
       ∷ free
       ∷ free
@@ -663,16 +634,12 @@ module _ (leafHash innerHash : Bytes → Bytes → Bytes) where
 
   abbrev end20 : Store
   end20 =
-      storeOf 0 5
-      (leafSlot ([]) 3 4 (keyOf 255 0) (valueOf 3)
-      ∷ leafSlot ([]) 4 5 (keyOf 255 0) (valueOf 4)
-      ∷ leafSlot (false ∷ []) 5 0 (keyOf 64 0) (valueOf 1)
-      ∷ leafSlot (true ∷ []) 5 0 (keyOf 255 0) (valueOf 3)
-      ∷ innerSlot ([]) 5 0 5 h71 5 h75
-      ∷ free
-      ∷ free
-      ∷ free
-      ∷ free
+      storeOf 5 6
+      (innerSlot ([]) 6 0 0 zeros 5 h83
+      ∷ leafSlot (true ∷ false ∷ []) 5 0 (keyOf 144 0) (valueOf 1)
+      ∷ leafSlot (true ∷ true ∷ []) 5 0 (keyOf 255 0) (valueOf 4)
+      ∷ innerSlot (true ∷ []) 5 0 5 h82 5 h68
+      ∷ innerSlot ([]) 5 6 0 zeros 5 h83
       ∷ free
       ∷ free
       ∷ free
@@ -684,8 +651,28 @@ module _ (leafHash innerHash : Bytes → Bytes → Bytes) where
 
   abbrev end21 : Store
   end21 =
-      storeOf 4 6
-      (free
+      storeOf 7 7
+      (leafSlot (true ∷ false ∷ []) 5 0 (keyOf 144 0) (valueOf 1)
+      ∷ leafSlot (true ∷ true ∷ []) 5 0 (keyOf 255 0) (valueOf 1)
+      ∷ innerSlot (true ∷ []) 5 0 5 h82 5 h39
+      ∷ free
+      ∷ free
+      ∷ leafSlot (false ∷ []) 7 0 (keyOf 96 0) (valueOf 1)
+      ∷ innerSlot ([]) 7 0 7 h24 5 h85
+      ∷ free
+      ∷ free
+      ∷ free
+      ∷ free
+      ∷ free
+      ∷ free
+      ∷ free
+      ∷ free
+      ∷ free
+      ∷ free
+      ∷ free
+      ∷ free
+      ∷ free
+      ∷ free
       ∷ free
       ∷ free
       ∷ free
@@ -693,19 +680,27 @@ module _ (leafHash innerHash : Bytes → Bytes → Bytes) where
 
   abbrev end22 : Store
   end22 =
-      storeOf 1 4
-      (leafSlot ([]) 1 2 (keyOf 128 0) (valueOf 1)
-      ∷ leafSlot ([]) 2 3 (keyOf 128 0) (valueOf 1)
-      ∷ leafSlot ([]) 3 4 (keyOf 128 0) (valueOf 1)
-      ∷ leafSlot ([]) 4 0 (keyOf 128 0) (valueOf 1)
+      storeOf 4294967293 4294967295
+      (leafSlot ([]) 4294967294 4294967295 (keyOf 8 0) (valueOf 2)
+      ∷ leafSlot (false ∷ []) 4294967295 0 (keyOf 8 0) (valueOf 2)
+      ∷ leafSlot (true ∷ []) 4294967295 0 (keyOf 144 0) (valueOf 3)
+      ∷ innerSlot ([]) 4294967295 0 4294967295 h22 4294967295 h51
+      ∷ free
+      ∷ free
+      ∷ free
+      ∷ free
       ∷ [])
 
   abbrev end23 : Store
   end23 =
-      storeOf 2 4
-      (leafSlot ([]) 2 3 (keyOf 96 0) (valueOf 3)
-      ∷ leafSlot ([]) 3 4 (keyOf 96 0) (valueOf 1)
-      ∷ leafSlot ([]) 4 0 (keyOf 96 0) (valueOf 4)
+      storeOf 4294967295 4294967295
+      (free
+      ∷ leafSlot ([]) 4294967295 0 (keyOf 96 0) (valueOf 4)
+      ∷ free
+      ∷ free
+      ∷ free
+      ∷ free
+      ∷ free
       ∷ free
       ∷ free
       ∷ free
@@ -715,7 +710,7 @@ module _ (leafHash innerHash : Bytes → Bytes → Bytes) where
 
   abbrev end24 : Store
   end24 =
-      storeOf 0 5
+      storeOf 4294967295 4294967295
       (free
       ∷ free
       ∷ free
@@ -724,26 +719,38 @@ module _ (leafHash innerHash : Bytes → Bytes → Bytes) where
 
   abbrev end25 : Store
   end25 =
-      storeOf 2 4
-      (leafSlot (false ∷ []) 4 0 (keyOf 8 0) (valueOf 3)
-      ∷ leafSlot ([]) 2 3 (keyOf 144 0) (valueOf 3)
-      ∷ leafSlot ([]) 3 4 (keyOf 144 0) (valueOf 4)
-      ∷ leafSlot (true ∷ []) 4 0 (keyOf 144 0) (valueOf 4)
-      ∷ innerSlot ([]) 4 0 4 h44 4 h6
+      storeOf 4 4
+      (free
       ∷ free
+      ∷ leafSlot (true ∷ false ∷ []) 3 0 (keyOf 144 0) (valueOf 1)
+      ∷ leafSlot (true ∷ true ∷ []) 3 0 (keyOf 254 0) (valueOf 3)
+      ∷ leafSlot (false ∷ []) 3 0 (keyOf 64 0) (valueOf 4)
+      ∷ innerSlot (true ∷ []) 3 0 3 h82 3 h52
       ∷ free
-      ∷ free
+      ∷ innerSlot ([]) 4 0 3 h57 3 h91
       ∷ [])
 
   abbrev end26 : Store
   end26 =
-      storeOf 0 3
-      (leafSlot (false ∷ []) 1 0 (keyOf 64 0) (valueOf 2)
-      ∷ leafSlot (true ∷ []) 1 3 (keyOf 255 0) (valueOf 4)
-      ∷ innerSlot ([]) 1 2 1 h66 1 h72
-      ∷ innerSlot ([]) 2 3 1 h66 1 h72
-      ∷ leafSlot (true ∷ []) 3 0 (keyOf 254 0) (valueOf 4)
-      ∷ innerSlot ([]) 3 0 1 h66 3 h2
+      storeOf 4 9
+      (leafSlot ([]) 4 5 (keyOf 104 0) (valueOf 4)
+      ∷ leafSlot (false ∷ []) 5 0 (keyOf 104 0) (valueOf 4)
+      ∷ leafSlot (true ∷ []) 5 8 (keyOf 128 0) (valueOf 3)
+      ∷ innerSlot ([]) 5 6 5 h93 5 h5
+      ∷ innerSlot ([]) 6 7 5 h93 5 h5
+      ∷ innerSlot ([]) 7 8 5 h93 5 h5
+      ∷ leafSlot (true ∷ []) 8 0 (keyOf 128 0) (valueOf 4)
+      ∷ innerSlot ([]) 8 9 5 h93 8 h94
+      ∷ innerSlot ([]) 9 0 5 h93 8 h94
+      ∷ free
+      ∷ free
+      ∷ free
+      ∷ free
+      ∷ free
+      ∷ free
+      ∷ free
+      ∷ free
+      ∷ free
       ∷ free
       ∷ free
       ∷ free
@@ -754,37 +761,21 @@ module _ (leafHash innerHash : Bytes → Bytes → Bytes) where
 
   abbrev end27 : Store
   end27 =
-      storeOf 0 6
-      (leafSlot ([]) 1 2 (keyOf 96 0) (valueOf 3)
-      ∷ leafSlot (false ∷ false ∷ []) 2 3 (keyOf 16 0) (valueOf 4)
-      ∷ leafSlot (false ∷ true ∷ []) 2 3 (keyOf 96 0) (valueOf 3)
-      ∷ innerSlot (false ∷ []) 2 3 2 h14 2 h40
-      ∷ innerSlot ([]) 2 3 2 h82 0 zeros
-      ∷ leafSlot ([]) 3 4 (keyOf 16 0) (valueOf 4)
-      ∷ leafSlot ([]) 4 5 (keyOf 16 0) (valueOf 4)
-      ∷ leafSlot (false ∷ []) 5 6 (keyOf 16 0) (valueOf 4)
-      ∷ leafSlot (true ∷ []) 5 0 (keyOf 255 0) (valueOf 2)
-      ∷ innerSlot ([]) 5 6 5 h14 5 h36
-      ∷ leafSlot (false ∷ false ∷ []) 6 0 (keyOf 16 0) (valueOf 4)
-      ∷ leafSlot (false ∷ true ∷ []) 6 0 (keyOf 96 0) (valueOf 4)
-      ∷ innerSlot (false ∷ []) 6 0 6 h14 6 h77
-      ∷ innerSlot ([]) 6 0 6 h83 5 h36
-      ∷ free
-      ∷ free
-      ∷ free
-      ∷ free
-      ∷ free
-      ∷ free
-      ∷ free
-      ∷ free
-      ∷ free
-      ∷ free
+      storeOf 2 9
+      (leafSlot ([]) 2 3 (keyOf 16 0) (valueOf 2)
+      ∷ leafSlot ([]) 3 4 (keyOf 16 0) (valueOf 1)
+      ∷ leafSlot ([]) 4 9 (keyOf 16 0) (valueOf 1)
+      ∷ leafSlot ([]) 9 0 (keyOf 16 0) (valueOf 1)
       ∷ [])
 
   abbrev end28 : Store
   end28 =
-      storeOf 3 3
-      (leafSlot ([]) 3 0 (keyOf 192 0) (valueOf 2)
+      storeOf 9 13
+      (leafSlot ([]) 10 13 (keyOf 96 0) (valueOf 1)
+      ∷ leafSlot (false ∷ []) 13 0 (keyOf 96 0) (valueOf 1)
+      ∷ leafSlot (true ∷ []) 13 0 (keyOf 255 0) (valueOf 1)
+      ∷ innerSlot ([]) 13 0 13 h24 13 h39
+      ∷ free
       ∷ free
       ∷ free
       ∷ free
@@ -792,11 +783,19 @@ module _ (leafHash innerHash : Bytes → Bytes → Bytes) where
 
   abbrev end29 : Store
   end29 =
-      storeOf 0 2
-      (leafSlot ([]) 1 2 (keyOf 64 0) (valueOf 4)
-      ∷ leafSlot (false ∷ []) 2 0 (keyOf 64 0) (valueOf 4)
-      ∷ leafSlot (true ∷ []) 2 0 (keyOf 144 0) (valueOf 2)
-      ∷ innerSlot ([]) 2 0 2 h46 2 h35
+      storeOf 0 10
+      (leafSlot ([]) 4 6 (keyOf 8 0) (valueOf 3)
+      ∷ leafSlot (false ∷ []) 6 0 (keyOf 8 0) (valueOf 4)
+      ∷ leafSlot (true ∷ []) 6 7 (keyOf 192 0) (valueOf 3)
+      ∷ innerSlot ([]) 6 7 6 h80 6 h66
+      ∷ leafSlot (true ∷ []) 7 10 (keyOf 192 0) (valueOf 4)
+      ∷ innerSlot ([]) 7 10 6 h80 7 h7
+      ∷ leafSlot (true ∷ []) 10 0 (keyOf 192 0) (valueOf 1)
+      ∷ innerSlot ([]) 10 0 6 h80 10 h23
+      ∷ free
+      ∷ free
+      ∷ free
+      ∷ free
       ∷ free
       ∷ free
       ∷ free
@@ -805,125 +804,125 @@ module _ (leafHash innerHash : Bytes → Bytes → Bytes) where
 
   abbrev rows : List Game
   rows =
-      game (storeOf 0 0 (freeSlots 4))
-      (pruning 0 ∷ applying (delete (keyOf 8 0) ∷ []) ∷ applying (insert (keyOf 128 0) (valueOf 4) ∷ delete (keyOf 192 0) ∷ []) ∷ applying (insert (keyOf 0 0) (valueOf 3) ∷ insert (keyOf 8 0) (valueOf 3) ∷ delete (keyOf 192 0) ∷ []) ∷ applying (delete (keyOf 128 0) ∷ []) ∷ pruning 3 ∷ pruning 4 ∷ [])
-      (freed 0 ∷ made 1 zeros 0 ∷ made 2 h0 1 ∷ denied 7 ∷ made 3 zeros 0 ∷ freed 1 ∷ denied 8 ∷ [])
+      game (storeOf 0 0 (freeSlots 16))
+      (pruning 0 ∷ pruning 1 ∷ applying 4 (insert (keyOf 0 0) (valueOf 4) ∷ insert (keyOf 144 0) (valueOf 4) ∷ delete (keyOf 255 0) ∷ []) ∷ applying 9 ([]) ∷ pruning 7 ∷ pruning 6 ∷ applying 14 (insert (keyOf 0 0) (valueOf 4) ∷ insert (keyOf 144 0) (valueOf 2) ∷ []) ∷ applying 16 (insert (keyOf 144 0) (valueOf 2) ∷ []) ∷ applying 17 (delete (keyOf 144 0) ∷ delete (keyOf 255 0) ∷ []) ∷ [])
+      (freed 0 ∷ denied 8 ∷ made 4 h3 3 ∷ made 9 h3 1 ∷ freed 0 ∷ denied 8 ∷ made 14 h4 2 ∷ made 16 h4 1 ∷ made 17 h0 1 ∷ [])
       end0
       ∷ game (storeOf 0 0 (freeSlots 8))
-      (applying (insert (keyOf 104 0) (valueOf 1) ∷ insert (keyOf 254 0) (valueOf 2) ∷ insert (keyOf 255 0) (valueOf 2) ∷ []) ∷ applying (insert (keyOf 254 0) (valueOf 4) ∷ delete (keyOf 255 0) ∷ []) ∷ applying ([]) ∷ applying (delete (keyOf 104 0) ∷ []) ∷ applying (insert (keyOf 254 0) (valueOf 2) ∷ insert (keyOf 104 0) (valueOf 3) ∷ insert (keyOf 64 0) (valueOf 1) ∷ []) ∷ pruning 0 ∷ applying (insert (keyOf 255 0) (valueOf 4) ∷ []) ∷ applying (insert (keyOf 64 0) (valueOf 3) ∷ []) ∷ applying ([]) ∷ [])
-      (denied 7 ∷ made 1 h2 1 ∷ made 2 h2 1 ∷ made 3 h2 1 ∷ denied 5 ∷ freed 0 ∷ denied 7 ∷ made 4 h3 3 ∷ made 5 h3 1 ∷ [])
+      (applying 1 (delete (keyOf 192 0) ∷ []) ∷ applying 2 (insert (keyOf 128 0) (valueOf 3) ∷ []) ∷ pruning 1 ∷ pruning 0 ∷ [])
+      (made 1 zeros 0 ∷ made 2 h5 1 ∷ freed 0 ∷ denied 8 ∷ [])
       end1
       ∷ game (storeOf 0 0 (freeSlots 8))
-      (applying (insert (keyOf 128 0) (valueOf 4) ∷ []) ∷ applying (delete (keyOf 16 0) ∷ insert (keyOf 104 0) (valueOf 4) ∷ insert (keyOf 128 0) (valueOf 4) ∷ delete (keyOf 144 0) ∷ []) ∷ applying ([]) ∷ applying (insert (keyOf 16 0) (valueOf 2) ∷ delete (keyOf 128 0) ∷ []) ∷ pruning 3 ∷ applying (delete (keyOf 128 0) ∷ []) ∷ applying (insert (keyOf 104 0) (valueOf 1) ∷ insert (keyOf 144 0) (valueOf 4) ∷ []) ∷ [])
-      (made 1 h0 1 ∷ made 2 h7 3 ∷ made 3 h7 1 ∷ denied 7 ∷ freed 2 ∷ made 4 h4 1 ∷ made 5 h8 3 ∷ [])
+      (applying 2 (delete (keyOf 0 0) ∷ delete (keyOf 8 0) ∷ delete (keyOf 128 0) ∷ []) ∷ applying 3 (delete (keyOf 8 0) ∷ insert (keyOf 128 0) (valueOf 1) ∷ delete (keyOf 192 0) ∷ []) ∷ applying 4 (delete (keyOf 0 0) ∷ delete (keyOf 8 0) ∷ insert (keyOf 128 0) (valueOf 1) ∷ []) ∷ applying 6 (insert (keyOf 192 0) (valueOf 4) ∷ []) ∷ [])
+      (made 2 zeros 0 ∷ made 3 h6 1 ∷ made 4 h6 1 ∷ made 6 h9 4 ∷ [])
       end2
       ∷ game (storeOf 0 0 (freeSlots 16))
-      (applying (insert (keyOf 192 0) (valueOf 3) ∷ []) ∷ applying (insert (keyOf 192 0) (valueOf 3) ∷ []) ∷ applying (insert (keyOf 104 0) (valueOf 3) ∷ insert (keyOf 192 0) (valueOf 3) ∷ []) ∷ applying (delete (keyOf 104 0) ∷ insert (keyOf 192 0) (valueOf 1) ∷ []) ∷ [])
-      (made 1 h10 1 ∷ made 2 h10 1 ∷ made 3 h11 3 ∷ made 4 h12 1 ∷ [])
+      (applying 1 (delete (keyOf 0 0) ∷ []) ∷ applying 4 (insert (keyOf 104 0) (valueOf 2) ∷ []) ∷ pruning 3 ∷ applying 5 (insert (keyOf 0 0) (valueOf 4) ∷ []) ∷ applying 6 (insert (keyOf 104 0) (valueOf 1) ∷ []) ∷ applying 7 (insert (keyOf 8 0) (valueOf 3) ∷ delete (keyOf 64 0) ∷ delete (keyOf 104 0) ∷ []) ∷ applying 8 (insert (keyOf 8 0) (valueOf 1) ∷ []) ∷ [])
+      (made 1 zeros 0 ∷ made 4 h10 1 ∷ freed 0 ∷ made 5 h19 4 ∷ made 6 h20 3 ∷ made 7 h21 7 ∷ denied 7 ∷ [])
       end3
-      ∷ game (storeOf 0 0 (freeSlots 24))
-      (applying (insert (keyOf 192 0) (valueOf 3) ∷ []) ∷ applying (delete (keyOf 128 0) ∷ delete (keyOf 192 0) ∷ []) ∷ applying (delete (keyOf 128 0) ∷ []) ∷ applying (insert (keyOf 128 0) (valueOf 4) ∷ delete (keyOf 192 0) ∷ []) ∷ pruning 0 ∷ applying ([]) ∷ applying (insert (keyOf 128 0) (valueOf 2) ∷ delete (keyOf 192 0) ∷ []) ∷ [])
-      (made 1 h10 1 ∷ made 2 zeros 0 ∷ made 3 zeros 0 ∷ made 4 h0 1 ∷ freed 0 ∷ made 5 h0 1 ∷ made 6 h13 1 ∷ [])
+      ∷ game (storeOf 0 0 (freeSlots 12))
+      (pruning 0 ∷ applying 1 ([]) ∷ applying 2 (insert (keyOf 8 0) (valueOf 2) ∷ insert (keyOf 192 0) (valueOf 1) ∷ []) ∷ applying 3 (insert (keyOf 96 0) (valueOf 1) ∷ []) ∷ applying 4 (delete (keyOf 8 0) ∷ insert (keyOf 96 0) (valueOf 3) ∷ insert (keyOf 192 0) (valueOf 2) ∷ []) ∷ applying 9 (insert (keyOf 8 0) (valueOf 1) ∷ insert (keyOf 192 0) (valueOf 3) ∷ []) ∷ [])
+      (freed 0 ∷ made 1 zeros 0 ∷ made 2 h28 3 ∷ made 3 h29 4 ∷ made 4 h30 3 ∷ denied 7 ∷ [])
       end4
-      ∷ game (storeOf 0 0 (freeSlots 16))
-      (applying (delete (keyOf 128 0) ∷ insert (keyOf 192 0) (valueOf 4) ∷ []) ∷ pruning 0 ∷ pruning 0 ∷ applying (delete (keyOf 16 0) ∷ []) ∷ applying (insert (keyOf 16 0) (valueOf 4) ∷ []) ∷ pruning 4 ∷ applying (insert (keyOf 128 0) (valueOf 4) ∷ []) ∷ [])
-      (made 1 h15 1 ∷ freed 0 ∷ freed 0 ∷ made 2 h15 1 ∷ made 3 h17 3 ∷ denied 8 ∷ made 4 h18 4 ∷ [])
+      ∷ game (storeOf 0 0 (freeSlots 12))
+      (applying 1 (delete (keyOf 0 0) ∷ insert (keyOf 8 0) (valueOf 2) ∷ delete (keyOf 255 0) ∷ []) ∷ applying 2 (delete (keyOf 0 0) ∷ []) ∷ pruning 1 ∷ applying 7 (delete (keyOf 128 0) ∷ delete (keyOf 255 0) ∷ []) ∷ applying 11 (delete (keyOf 128 0) ∷ insert (keyOf 255 0) (valueOf 3) ∷ []) ∷ pruning 2 ∷ applying 12 (insert (keyOf 0 0) (valueOf 4) ∷ []) ∷ pruning 3 ∷ applying 14 ([]) ∷ [])
+      (made 1 h22 1 ∷ made 2 h22 1 ∷ freed 0 ∷ made 7 h22 1 ∷ made 11 h36 3 ∷ freed 1 ∷ made 12 h37 7 ∷ freed 0 ∷ denied 7 ∷ [])
       end5
       ∷ game (storeOf 0 0 (freeSlots 24))
-      (applying (delete (keyOf 0 0) ∷ []) ∷ applying (delete (keyOf 0 0) ∷ delete (keyOf 8 0) ∷ delete (keyOf 255 0) ∷ []) ∷ pruning 3 ∷ pruning 0 ∷ applying (insert (keyOf 0 0) (valueOf 2) ∷ insert (keyOf 8 0) (valueOf 1) ∷ insert (keyOf 16 0) (valueOf 2) ∷ []) ∷ applying (insert (keyOf 0 0) (valueOf 2) ∷ []) ∷ pruning 5 ∷ applying ([]) ∷ applying (delete (keyOf 8 0) ∷ insert (keyOf 16 0) (valueOf 2) ∷ []) ∷ [])
-      (made 1 zeros 0 ∷ made 2 zeros 0 ∷ denied 8 ∷ freed 0 ∷ made 3 h29 8 ∷ made 4 h29 1 ∷ denied 8 ∷ made 5 h29 1 ∷ made 6 h30 5 ∷ [])
+      (applying 1 (insert (keyOf 104 0) (valueOf 3) ∷ delete (keyOf 192 0) ∷ delete (keyOf 255 0) ∷ []) ∷ pruning 1 ∷ pruning 2 ∷ applying 2 (delete (keyOf 255 0) ∷ []) ∷ [])
+      (made 1 h38 1 ∷ freed 0 ∷ denied 8 ∷ made 2 h38 1 ∷ [])
       end6
-      ∷ game (storeOf 0 0 (freeSlots 24))
-      (applying ([]) ∷ pruning 1 ∷ pruning 2 ∷ applying (delete (keyOf 64 0) ∷ []) ∷ applying (delete (keyOf 64 0) ∷ insert (keyOf 104 0) (valueOf 1) ∷ []) ∷ applying (insert (keyOf 104 0) (valueOf 1) ∷ []) ∷ pruning 3 ∷ [])
-      (made 1 zeros 0 ∷ freed 0 ∷ denied 8 ∷ made 2 zeros 0 ∷ made 3 h5 1 ∷ made 4 h5 1 ∷ freed 0 ∷ [])
+      ∷ game (storeOf 4294967293 4294967293 (freeSlots 12))
+      (applying 4294967294 (insert (keyOf 255 0) (valueOf 1) ∷ []) ∷ pruning 4294967294 ∷ applying 4294967295 ([]) ∷ pruning 4294967293 ∷ applying 4294967295 ([]) ∷ pruning 4294967296 ∷ applying 3618347287 (insert (keyOf 254 0) (valueOf 3) ∷ delete (keyOf 192 0) ∷ insert (keyOf 0 0) (valueOf 2) ∷ []) ∷ applying 4294967295 (insert (keyOf 192 0) (valueOf 1) ∷ insert (keyOf 255 0) (valueOf 1) ∷ []) ∷ applying 4294967295 (delete (keyOf 0 0) ∷ insert (keyOf 96 0) (valueOf 4) ∷ []) ∷ applying 4294967295 (insert (keyOf 254 0) (valueOf 4) ∷ []) ∷ [])
+      (made 4294967294 h39 1 ∷ freed 0 ∷ made 4294967295 h39 1 ∷ denied 8 ∷ denied 18 ∷ denied 8 ∷ denied 5 ∷ denied 18 ∷ denied 18 ∷ denied 18 ∷ [])
       end7
-      ∷ game (storeOf 0 0 (freeSlots 24))
-      (applying (delete (keyOf 16 0) ∷ insert (keyOf 128 0) (valueOf 1) ∷ delete (keyOf 144 0) ∷ []) ∷ applying (delete (keyOf 128 0) ∷ []) ∷ applying (insert (keyOf 16 0) (valueOf 1) ∷ []) ∷ applying ([]) ∷ applying ([]) ∷ [])
-      (made 1 h31 1 ∷ made 2 zeros 0 ∷ made 3 h32 1 ∷ made 4 h32 1 ∷ made 5 h32 1 ∷ [])
+      ∷ game (storeOf 0 0 (freeSlots 12))
+      (applying 1 (insert (keyOf 104 0) (valueOf 3) ∷ []) ∷ applying 3 (delete (keyOf 16 0) ∷ []) ∷ applying 4 (insert (keyOf 16 0) (valueOf 4) ∷ []) ∷ applying 5 (insert (keyOf 16 0) (valueOf 1) ∷ []) ∷ applying 8 (insert (keyOf 104 0) (valueOf 3) ∷ []) ∷ applying 9 (insert (keyOf 16 0) (valueOf 1) ∷ []) ∷ pruning 2 ∷ applying 10 (insert (keyOf 104 0) (valueOf 4) ∷ []) ∷ [])
+      (made 1 h38 1 ∷ made 3 h38 1 ∷ made 4 h44 4 ∷ made 5 h45 3 ∷ made 8 h45 1 ∷ made 9 h45 1 ∷ freed 0 ∷ denied 7 ∷ [])
       end8
-      ∷ game (storeOf 0 0 (freeSlots 4))
-      (pruning 0 ∷ applying (insert (keyOf 104 0) (valueOf 2) ∷ []) ∷ applying ([]) ∷ applying ([]) ∷ applying (delete (keyOf 0 0) ∷ insert (keyOf 104 0) (valueOf 2) ∷ insert (keyOf 128 0) (valueOf 3) ∷ delete (keyOf 254 0) ∷ []) ∷ pruning 3 ∷ applying (insert (keyOf 128 0) (valueOf 4) ∷ []) ∷ applying (delete (keyOf 0 0) ∷ insert (keyOf 128 0) (valueOf 4) ∷ []) ∷ applying (delete (keyOf 0 0) ∷ insert (keyOf 104 0) (valueOf 2) ∷ []) ∷ pruning 3 ∷ [])
-      (freed 0 ∷ made 1 h33 1 ∷ made 2 h33 1 ∷ made 3 h33 1 ∷ denied 7 ∷ freed 2 ∷ made 4 h34 3 ∷ denied 7 ∷ denied 7 ∷ freed 0 ∷ [])
+      ∷ game (storeOf 0 0 (freeSlots 8))
+      (pruning 1 ∷ applying 5 (insert (keyOf 0 0) (valueOf 1) ∷ insert (keyOf 104 0) (valueOf 1) ∷ insert (keyOf 192 0) (valueOf 2) ∷ []) ∷ applying 8 (insert (keyOf 0 0) (valueOf 4) ∷ insert (keyOf 8 0) (valueOf 2) ∷ insert (keyOf 192 0) (valueOf 2) ∷ []) ∷ applying 8 ([]) ∷ pruning 0 ∷ applying 11 (insert (keyOf 0 0) (valueOf 2) ∷ insert (keyOf 104 0) (valueOf 1) ∷ []) ∷ [])
+      (denied 8 ∷ made 5 h48 5 ∷ denied 7 ∷ made 8 h48 1 ∷ freed 0 ∷ denied 7 ∷ [])
       end9
-      ∷ game (storeOf 0 0 (freeSlots 8))
-      (pruning 0 ∷ applying (delete (keyOf 144 0) ∷ insert (keyOf 255 0) (valueOf 1) ∷ []) ∷ applying (insert (keyOf 144 0) (valueOf 2) ∷ delete (keyOf 255 0) ∷ []) ∷ applying ([]) ∷ applying (delete (keyOf 255 0) ∷ []) ∷ pruning 5 ∷ pruning 1 ∷ applying (insert (keyOf 255 0) (valueOf 2) ∷ []) ∷ pruning 1 ∷ [])
-      (freed 0 ∷ made 1 h38 1 ∷ made 2 h35 1 ∷ made 3 h35 1 ∷ made 4 h35 1 ∷ denied 8 ∷ freed 0 ∷ made 5 h39 4 ∷ freed 0 ∷ [])
+      ∷ game (storeOf 0 0 (freeSlots 12))
+      (applying 1 (insert (keyOf 16 0) (valueOf 2) ∷ []) ∷ applying 4 (delete (keyOf 16 0) ∷ insert (keyOf 254 0) (valueOf 1) ∷ []) ∷ pruning 5 ∷ applying 5 (delete (keyOf 104 0) ∷ []) ∷ applying 6 (insert (keyOf 16 0) (valueOf 3) ∷ delete (keyOf 104 0) ∷ []) ∷ applying 7 (insert (keyOf 144 0) (valueOf 3) ∷ insert (keyOf 254 0) (valueOf 3) ∷ []) ∷ applying 8 (delete (keyOf 96 0) ∷ insert (keyOf 144 0) (valueOf 3) ∷ []) ∷ pruning 1 ∷ applying 9 (insert (keyOf 0 0) (valueOf 1) ∷ delete (keyOf 104 0) ∷ insert (keyOf 254 0) (valueOf 4) ∷ []) ∷ [])
+      (made 1 h54 1 ∷ made 4 h50 1 ∷ denied 8 ∷ made 5 h50 1 ∷ made 6 h55 3 ∷ made 7 h56 4 ∷ made 8 h56 1 ∷ freed 0 ∷ denied 7 ∷ [])
       end10
-      ∷ game (storeOf 0 0 (freeSlots 8))
-      (applying (insert (keyOf 96 0) (valueOf 3) ∷ insert (keyOf 192 0) (valueOf 1) ∷ []) ∷ applying (insert (keyOf 96 0) (valueOf 2) ∷ insert (keyOf 104 0) (valueOf 2) ∷ insert (keyOf 144 0) (valueOf 2) ∷ []) ∷ pruning 0 ∷ pruning 1 ∷ applying (delete (keyOf 144 0) ∷ insert (keyOf 192 0) (valueOf 2) ∷ []) ∷ pruning 2 ∷ applying ([]) ∷ applying (insert (keyOf 8 0) (valueOf 1) ∷ insert (keyOf 104 0) (valueOf 4) ∷ []) ∷ [])
-      (made 1 h42 3 ∷ denied 7 ∷ freed 0 ∷ freed 0 ∷ made 2 h43 2 ∷ freed 2 ∷ made 3 h43 1 ∷ denied 7 ∷ [])
+      ∷ game (storeOf 0 0 (freeSlots 4))
+      (pruning 1 ∷ pruning 0 ∷ pruning 1 ∷ applying 1 (delete (keyOf 128 0) ∷ []) ∷ [])
+      (denied 8 ∷ freed 0 ∷ denied 8 ∷ made 1 zeros 0 ∷ [])
       end11
-      ∷ game (storeOf 0 0 (freeSlots 12))
-      (applying (insert (keyOf 8 0) (valueOf 3) ∷ delete (keyOf 64 0) ∷ []) ∷ pruning 1 ∷ pruning 0 ∷ applying (insert (keyOf 8 0) (valueOf 4) ∷ []) ∷ applying ([]) ∷ applying ([]) ∷ pruning 5 ∷ [])
-      (made 1 h44 1 ∷ freed 0 ∷ denied 8 ∷ made 2 h45 1 ∷ made 3 h45 1 ∷ made 4 h45 1 ∷ denied 8 ∷ [])
+      ∷ game (storeOf 0 0 (freeSlots 4))
+      (applying 1 (delete (keyOf 8 0) ∷ delete (keyOf 16 0) ∷ []) ∷ applying 6 (delete (keyOf 8 0) ∷ delete (keyOf 16 0) ∷ delete (keyOf 104 0) ∷ []) ∷ applying 6 (insert (keyOf 8 0) (valueOf 2) ∷ delete (keyOf 16 0) ∷ []) ∷ pruning 6 ∷ applying 7 ([]) ∷ applying 6 (insert (keyOf 8 0) (valueOf 3) ∷ delete (keyOf 104 0) ∷ []) ∷ applying 9 ([]) ∷ applying 13 (delete (keyOf 8 0) ∷ []) ∷ [])
+      (made 1 zeros 0 ∷ made 6 zeros 0 ∷ denied 18 ∷ freed 0 ∷ made 7 zeros 0 ∷ denied 18 ∷ made 9 zeros 0 ∷ made 13 zeros 0 ∷ [])
       end12
-      ∷ game (storeOf 0 0 (freeSlots 4))
-      (pruning 1 ∷ applying (insert (keyOf 16 0) (valueOf 4) ∷ insert (keyOf 64 0) (valueOf 4) ∷ []) ∷ applying (insert (keyOf 128 0) (valueOf 2) ∷ []) ∷ pruning 1 ∷ [])
-      (denied 8 ∷ made 1 h48 4 ∷ denied 7 ∷ freed 0 ∷ [])
-      end13
-      ∷ game (storeOf 0 0 (freeSlots 8))
-      (applying (delete (keyOf 144 0) ∷ []) ∷ applying (insert (keyOf 96 0) (valueOf 1) ∷ insert (keyOf 144 0) (valueOf 2) ∷ []) ∷ applying ([]) ∷ applying ([]) ∷ applying ([]) ∷ applying ([]) ∷ applying ([]) ∷ applying (insert (keyOf 144 0) (valueOf 2) ∷ delete (keyOf 192 0) ∷ insert (keyOf 255 0) (valueOf 2) ∷ []) ∷ applying (insert (keyOf 144 0) (valueOf 2) ∷ []) ∷ applying (delete (keyOf 144 0) ∷ delete (keyOf 255 0) ∷ []) ∷ [])
-      (made 1 zeros 0 ∷ made 2 h50 3 ∷ made 3 h50 1 ∷ made 4 h50 1 ∷ made 5 h50 1 ∷ made 6 h50 1 ∷ made 7 h50 1 ∷ denied 7 ∷ denied 7 ∷ denied 7 ∷ [])
-      end14
-      ∷ game (storeOf 0 0 (freeSlots 24))
-      (applying (insert (keyOf 0 0) (valueOf 3) ∷ insert (keyOf 8 0) (valueOf 2) ∷ []) ∷ applying (insert (keyOf 0 0) (valueOf 3) ∷ insert (keyOf 8 0) (valueOf 2) ∷ []) ∷ applying (insert (keyOf 0 0) (valueOf 2) ∷ delete (keyOf 8 0) ∷ delete (keyOf 255 0) ∷ []) ∷ applying ([]) ∷ applying (delete (keyOf 8 0) ∷ []) ∷ pruning 0 ∷ applying (insert (keyOf 8 0) (valueOf 4) ∷ []) ∷ applying (delete (keyOf 8 0) ∷ insert (keyOf 255 0) (valueOf 2) ∷ []) ∷ [])
-      (made 1 h61 7 ∷ made 2 h61 1 ∷ made 3 h19 1 ∷ made 4 h19 1 ∷ made 5 h19 1 ∷ freed 0 ∷ made 6 h62 7 ∷ made 7 h63 3 ∷ [])
-      end15
-      ∷ game (storeOf 4294967293 4294967293 (freeSlots 16))
-      (applying ([]) ∷ applying ([]) ∷ applying (delete (keyOf 192 0) ∷ []) ∷ pruning 4294967296 ∷ [])
-      (made 4294967294 zeros 0 ∷ made 4294967295 zeros 0 ∷ denied 6 ∷ denied 8 ∷ [])
-      end16
       ∷ game (storeOf 0 0 (freeSlots 12))
-      (applying (delete (keyOf 16 0) ∷ insert (keyOf 104 0) (valueOf 2) ∷ []) ∷ applying (insert (keyOf 104 0) (valueOf 2) ∷ []) ∷ pruning 0 ∷ applying ([]) ∷ applying (delete (keyOf 16 0) ∷ []) ∷ applying (insert (keyOf 16 0) (valueOf 2) ∷ insert (keyOf 104 0) (valueOf 1) ∷ []) ∷ applying (delete (keyOf 16 0) ∷ []) ∷ pruning 5 ∷ pruning 7 ∷ [])
-      (made 1 h33 1 ∷ made 2 h33 1 ∷ freed 0 ∷ made 3 h33 1 ∷ made 4 h33 1 ∷ made 5 h65 4 ∷ made 6 h5 1 ∷ freed 4 ∷ denied 8 ∷ [])
+      (applying 0 (insert (keyOf 104 0) (valueOf 1) ∷ []) ∷ applying 1 (insert (keyOf 192 0) (valueOf 1) ∷ []) ∷ pruning 1 ∷ applying 2 (insert (keyOf 64 0) (valueOf 4) ∷ insert (keyOf 104 0) (valueOf 1) ∷ []) ∷ applying 3 ([]) ∷ pruning 4 ∷ pruning 4 ∷ [])
+      (denied 18 ∷ made 1 h23 1 ∷ freed 0 ∷ made 2 h60 6 ∷ made 3 h60 1 ∷ denied 8 ∷ denied 8 ∷ [])
+      end13
+      ∷ game (storeOf 4294967293 4294967293 (freeSlots 8))
+      (applying 4294967294 (insert (keyOf 8 0) (valueOf 2) ∷ []) ∷ applying 4294967295 (insert (keyOf 8 0) (valueOf 3) ∷ []) ∷ applying 4294967295 (insert (keyOf 8 0) (valueOf 3) ∷ insert (keyOf 64 0) (valueOf 1) ∷ insert (keyOf 96 0) (valueOf 2) ∷ delete (keyOf 104 0) ∷ insert (keyOf 255 0) (valueOf 3) ∷ []) ∷ pruning 4294967295 ∷ [])
+      (made 4294967294 h22 1 ∷ made 4294967295 h14 1 ∷ denied 18 ∷ freed 1 ∷ [])
+      end14
+      ∷ game (storeOf 0 0 (freeSlots 12))
+      (pruning 0 ∷ applying 1 ([]) ∷ applying 2 (insert (keyOf 128 0) (valueOf 2) ∷ delete (keyOf 255 0) ∷ []) ∷ applying 3 ([]) ∷ [])
+      (freed 0 ∷ made 1 zeros 0 ∷ made 2 h61 1 ∷ made 3 h61 1 ∷ [])
+      end15
+      ∷ game (storeOf 0 0 (freeSlots 4))
+      (applying 1 (insert (keyOf 8 0) (valueOf 3) ∷ delete (keyOf 16 0) ∷ insert (keyOf 104 0) (valueOf 3) ∷ insert (keyOf 254 0) (valueOf 1) ∷ []) ∷ applying 1 (delete (keyOf 16 0) ∷ []) ∷ applying 5 (insert (keyOf 8 0) (valueOf 3) ∷ delete (keyOf 16 0) ∷ delete (keyOf 254 0) ∷ []) ∷ pruning 5 ∷ [])
+      (denied 7 ∷ made 1 zeros 0 ∷ made 5 h14 1 ∷ freed 0 ∷ [])
+      end16
+      ∷ game (storeOf 0 0 (freeSlots 4))
+      (pruning 0 ∷ applying 2 (insert (keyOf 8 0) (valueOf 2) ∷ delete (keyOf 254 0) ∷ []) ∷ applying 4 (insert (keyOf 254 0) (valueOf 2) ∷ []) ∷ applying 5 (insert (keyOf 8 0) (valueOf 2) ∷ insert (keyOf 254 0) (valueOf 1) ∷ []) ∷ applying 9 (insert (keyOf 8 0) (valueOf 4) ∷ []) ∷ applying 5 ([]) ∷ [])
+      (freed 0 ∷ made 2 h22 1 ∷ made 4 h63 3 ∷ denied 7 ∷ denied 7 ∷ denied 7 ∷ [])
       end17
-      ∷ game (storeOf 4294967293 4294967293 (freeSlots 24))
-      (pruning 4294967294 ∷ applying (insert (keyOf 16 0) (valueOf 2) ∷ insert (keyOf 104 0) (valueOf 1) ∷ []) ∷ pruning 4294967293 ∷ pruning 4294967295 ∷ applying (insert (keyOf 16 0) (valueOf 3) ∷ insert (keyOf 64 0) (valueOf 2) ∷ delete (keyOf 192 0) ∷ []) ∷ applying (delete (keyOf 16 0) ∷ insert (keyOf 104 0) (valueOf 1) ∷ delete (keyOf 192 0) ∷ []) ∷ pruning 4294967295 ∷ applying ([]) ∷ [])
-      (denied 8 ∷ made 4294967294 h65 4 ∷ freed 0 ∷ denied 8 ∷ made 4294967295 h70 6 ∷ denied 6 ∷ freed 4 ∷ denied 6 ∷ [])
+      ∷ game (storeOf 0 0 (freeSlots 16))
+      (applying 1 (insert (keyOf 0 0) (valueOf 3) ∷ []) ∷ applying 3 (insert (keyOf 104 0) (valueOf 2) ∷ insert (keyOf 192 0) (valueOf 3) ∷ delete (keyOf 255 0) ∷ []) ∷ applying 8 (insert (keyOf 104 0) (valueOf 2) ∷ []) ∷ pruning 7 ∷ applying 11 (insert (keyOf 0 0) (valueOf 3) ∷ delete (keyOf 192 0) ∷ []) ∷ applying 12 (insert (keyOf 255 0) (valueOf 2) ∷ []) ∷ pruning 9 ∷ applying 17 (insert (keyOf 104 0) (valueOf 2) ∷ insert (keyOf 255 0) (valueOf 4) ∷ []) ∷ applying 19 (delete (keyOf 0 0) ∷ insert (keyOf 104 0) (valueOf 2) ∷ []) ∷ applying 21 (insert (keyOf 0 0) (valueOf 2) ∷ insert (keyOf 104 0) (valueOf 3) ∷ delete (keyOf 255 0) ∷ []) ∷ [])
+      (made 1 h64 1 ∷ made 3 h71 5 ∷ made 8 h71 1 ∷ freed 1 ∷ made 11 h72 1 ∷ made 12 h73 2 ∷ freed 1 ∷ made 17 h74 2 ∷ made 19 h75 2 ∷ made 21 h76 4 ∷ [])
       end18
-      ∷ game (storeOf 0 0 (freeSlots 16))
-      (applying (insert (keyOf 64 0) (valueOf 1) ∷ insert (keyOf 255 0) (valueOf 4) ∷ []) ∷ applying (delete (keyOf 64 0) ∷ []) ∷ applying (delete (keyOf 255 0) ∷ []) ∷ pruning 3 ∷ applying (delete (keyOf 64 0) ∷ delete (keyOf 255 0) ∷ []) ∷ applying (insert (keyOf 64 0) (valueOf 1) ∷ insert (keyOf 255 0) (valueOf 2) ∷ []) ∷ applying (insert (keyOf 64 0) (valueOf 1) ∷ delete (keyOf 255 0) ∷ []) ∷ [])
-      (made 1 h73 3 ∷ made 2 h72 1 ∷ made 3 zeros 0 ∷ freed 4 ∷ made 4 zeros 0 ∷ made 5 h74 3 ∷ made 6 h71 1 ∷ [])
+      ∷ game (storeOf 0 0 (freeSlots 12))
+      (applying 1 (insert (keyOf 8 0) (valueOf 4) ∷ []) ∷ pruning 1 ∷ applying 2 (insert (keyOf 16 0) (valueOf 2) ∷ insert (keyOf 8 0) (valueOf 4) ∷ []) ∷ pruning 1 ∷ applying 2 (insert (keyOf 8 0) (valueOf 3) ∷ insert (keyOf 16 0) (valueOf 3) ∷ []) ∷ pruning 3 ∷ pruning 2 ∷ applying 3 (delete (keyOf 16 0) ∷ []) ∷ applying 4 (delete (keyOf 16 0) ∷ []) ∷ applying 2 ([]) ∷ [])
+      (made 1 h80 1 ∷ freed 0 ∷ denied 5 ∷ freed 0 ∷ made 2 h81 6 ∷ denied 8 ∷ freed 1 ∷ made 3 h14 1 ∷ made 4 h14 1 ∷ denied 18 ∷ [])
       end19
-      ∷ game (storeOf 0 0 (freeSlots 16))
-      (applying ([]) ∷ applying (delete (keyOf 255 0) ∷ delete (keyOf 64 0) ∷ []) ∷ applying (delete (keyOf 255 0) ∷ []) ∷ applying (delete (keyOf 64 0) ∷ insert (keyOf 255 0) (valueOf 3) ∷ []) ∷ applying (delete (keyOf 64 0) ∷ insert (keyOf 255 0) (valueOf 4) ∷ []) ∷ applying (insert (keyOf 64 0) (valueOf 1) ∷ insert (keyOf 255 0) (valueOf 3) ∷ []) ∷ [])
-      (made 1 zeros 0 ∷ denied 5 ∷ made 2 zeros 0 ∷ made 3 h75 1 ∷ made 4 h72 1 ∷ made 5 h76 3 ∷ [])
+      ∷ game (storeOf 0 0 (freeSlots 12))
+      (pruning 1 ∷ applying 2 (insert (keyOf 96 0) (valueOf 3) ∷ delete (keyOf 254 0) ∷ delete (keyOf 255 0) ∷ []) ∷ pruning 0 ∷ applying 3 (delete (keyOf 96 0) ∷ []) ∷ applying 5 (insert (keyOf 144 0) (valueOf 1) ∷ insert (keyOf 255 0) (valueOf 4) ∷ []) ∷ pruning 6 ∷ pruning 5 ∷ applying 10 (insert (keyOf 144 0) (valueOf 1) ∷ insert (keyOf 254 0) (valueOf 1) ∷ []) ∷ applying 6 (delete (keyOf 254 0) ∷ []) ∷ applying 8 (insert (keyOf 254 0) (valueOf 1) ∷ []) ∷ [])
+      (denied 8 ∷ made 2 h26 1 ∷ freed 0 ∷ made 3 zeros 0 ∷ made 5 h84 4 ∷ denied 8 ∷ freed 1 ∷ denied 7 ∷ made 6 h84 1 ∷ denied 7 ∷ [])
       end20
-      ∷ game (storeOf 0 0 (freeSlots 4))
-      (applying (insert (keyOf 16 0) (valueOf 2) ∷ []) ∷ pruning 0 ∷ applying (insert (keyOf 16 0) (valueOf 3) ∷ []) ∷ applying (insert (keyOf 16 0) (valueOf 3) ∷ []) ∷ applying (insert (keyOf 192 0) (valueOf 4) ∷ []) ∷ pruning 0 ∷ applying (delete (keyOf 16 0) ∷ delete (keyOf 192 0) ∷ []) ∷ applying (delete (keyOf 16 0) ∷ []) ∷ applying ([]) ∷ pruning 4 ∷ [])
-      (made 1 h22 1 ∷ freed 0 ∷ made 2 h67 1 ∷ made 3 h67 1 ∷ denied 7 ∷ freed 0 ∷ made 4 zeros 0 ∷ made 5 zeros 0 ∷ made 6 zeros 0 ∷ freed 3 ∷ [])
+      ∷ game (storeOf 0 0 (freeSlots 24))
+      (applying 1 (delete (keyOf 96 0) ∷ delete (keyOf 128 0) ∷ []) ∷ applying 3 ([]) ∷ applying 4 (delete (keyOf 255 0) ∷ []) ∷ applying 5 (delete (keyOf 16 0) ∷ delete (keyOf 128 0) ∷ insert (keyOf 144 0) (valueOf 1) ∷ delete (keyOf 254 0) ∷ insert (keyOf 255 0) (valueOf 1) ∷ []) ∷ applying 6 (delete (keyOf 96 0) ∷ delete (keyOf 128 0) ∷ []) ∷ applying 7 (insert (keyOf 96 0) (valueOf 1) ∷ delete (keyOf 254 0) ∷ []) ∷ pruning 7 ∷ [])
+      (made 1 zeros 0 ∷ made 3 zeros 0 ∷ made 4 zeros 0 ∷ made 5 h86 4 ∷ made 6 h86 1 ∷ made 7 h87 2 ∷ freed 2 ∷ [])
       end21
-      ∷ game (storeOf 0 0 (freeSlots 4))
-      (applying (insert (keyOf 128 0) (valueOf 1) ∷ []) ∷ applying (delete (keyOf 192 0) ∷ []) ∷ applying (insert (keyOf 0 0) (valueOf 3) ∷ insert (keyOf 8 0) (valueOf 2) ∷ insert (keyOf 16 0) (valueOf 1) ∷ insert (keyOf 128 0) (valueOf 1) ∷ []) ∷ applying (insert (keyOf 192 0) (valueOf 3) ∷ insert (keyOf 8 0) (valueOf 1) ∷ []) ∷ applying (delete (keyOf 0 0) ∷ insert (keyOf 128 0) (valueOf 4) ∷ insert (keyOf 192 0) (valueOf 1) ∷ []) ∷ applying (delete (keyOf 255 0) ∷ []) ∷ applying ([]) ∷ applying (delete (keyOf 16 0) ∷ insert (keyOf 128 0) (valueOf 3) ∷ []) ∷ applying (insert (keyOf 8 0) (valueOf 1) ∷ []) ∷ pruning 1 ∷ [])
-      (made 1 h31 1 ∷ made 2 h31 1 ∷ denied 7 ∷ denied 5 ∷ denied 7 ∷ made 3 h31 1 ∷ made 4 h31 1 ∷ denied 7 ∷ denied 7 ∷ freed 0 ∷ [])
+      ∷ game (storeOf 4294967293 4294967293 (freeSlots 8))
+      (applying 4294967294 (insert (keyOf 8 0) (valueOf 2) ∷ []) ∷ applying 4294967295 (insert (keyOf 144 0) (valueOf 3) ∷ []) ∷ applying 4294967295 (insert (keyOf 255 0) (valueOf 1) ∷ []) ∷ applying 4294967295 (delete (keyOf 8 0) ∷ []) ∷ pruning 4294967296 ∷ [])
+      (made 4294967294 h22 1 ∷ made 4294967295 h88 3 ∷ denied 18 ∷ denied 18 ∷ denied 8 ∷ [])
       end22
-      ∷ game (storeOf 0 0 (freeSlots 8))
-      (applying (delete (keyOf 64 0) ∷ []) ∷ applying (insert (keyOf 96 0) (valueOf 3) ∷ []) ∷ pruning 1 ∷ applying (insert (keyOf 96 0) (valueOf 1) ∷ []) ∷ applying (delete (keyOf 64 0) ∷ insert (keyOf 96 0) (valueOf 4) ∷ []) ∷ pruning 2 ∷ [])
-      (made 1 zeros 0 ∷ made 2 h40 1 ∷ freed 0 ∷ made 3 h49 1 ∷ made 4 h77 1 ∷ freed 0 ∷ [])
+      ∷ game (storeOf 4294967293 4294967293 (freeSlots 12))
+      (applying 4294967294 (insert (keyOf 96 0) (valueOf 2) ∷ delete (keyOf 144 0) ∷ []) ∷ applying 4294967295 (insert (keyOf 96 0) (valueOf 4) ∷ delete (keyOf 144 0) ∷ delete (keyOf 255 0) ∷ []) ∷ applying 4294967295 (delete (keyOf 64 0) ∷ []) ∷ applying 4294967295 (delete (keyOf 96 0) ∷ []) ∷ applying 4294967295 (delete (keyOf 144 0) ∷ insert (keyOf 255 0) (valueOf 2) ∷ []) ∷ applying 4294967295 (insert (keyOf 64 0) (valueOf 1) ∷ []) ∷ pruning 4294967295 ∷ applying 4294967295 ([]) ∷ [])
+      (made 4294967294 h89 1 ∷ made 4294967295 h90 1 ∷ denied 18 ∷ denied 18 ∷ denied 18 ∷ denied 18 ∷ freed 1 ∷ denied 18 ∷ [])
       end23
-      ∷ game (storeOf 0 0 (freeSlots 4))
-      (applying (delete (keyOf 144 0) ∷ []) ∷ applying (delete (keyOf 254 0) ∷ []) ∷ applying (delete (keyOf 0 0) ∷ delete (keyOf 255 0) ∷ []) ∷ applying (delete (keyOf 144 0) ∷ delete (keyOf 254 0) ∷ delete (keyOf 255 0) ∷ []) ∷ applying (delete (keyOf 0 0) ∷ []) ∷ [])
-      (made 1 zeros 0 ∷ made 2 zeros 0 ∷ made 3 zeros 0 ∷ made 4 zeros 0 ∷ made 5 zeros 0 ∷ [])
+      ∷ game (storeOf 4294967293 4294967293 (freeSlots 4))
+      (pruning 4294967294 ∷ applying 4294967295 ([]) ∷ applying 4294967295 (delete (keyOf 8 0) ∷ insert (keyOf 64 0) (valueOf 4) ∷ []) ∷ applying 4294967295 ([]) ∷ applying 4294967295 (insert (keyOf 8 0) (valueOf 3) ∷ []) ∷ applying 4294967295 (insert (keyOf 8 0) (valueOf 3) ∷ []) ∷ applying 4294967295 (insert (keyOf 8 0) (valueOf 3) ∷ insert (keyOf 64 0) (valueOf 1) ∷ []) ∷ applying 4294967295 ([]) ∷ pruning 4294967295 ∷ [])
+      (denied 8 ∷ made 4294967295 zeros 0 ∷ denied 18 ∷ denied 18 ∷ denied 18 ∷ denied 18 ∷ denied 18 ∷ denied 18 ∷ freed 0 ∷ [])
       end24
       ∷ game (storeOf 0 0 (freeSlots 8))
-      (applying (insert (keyOf 144 0) (valueOf 3) ∷ []) ∷ applying (delete (keyOf 192 0) ∷ []) ∷ applying (delete (keyOf 96 0) ∷ insert (keyOf 144 0) (valueOf 4) ∷ []) ∷ pruning 2 ∷ applying (insert (keyOf 8 0) (valueOf 3) ∷ delete (keyOf 255 0) ∷ []) ∷ [])
-      (made 1 h78 1 ∷ made 2 h78 1 ∷ made 3 h6 1 ∷ freed 1 ∷ made 4 h79 3 ∷ [])
+      (pruning 0 ∷ applying 1 (insert (keyOf 144 0) (valueOf 1) ∷ []) ∷ applying 2 (insert (keyOf 144 0) (valueOf 1) ∷ []) ∷ applying 3 (insert (keyOf 64 0) (valueOf 4) ∷ insert (keyOf 254 0) (valueOf 3) ∷ []) ∷ applying 4 (insert (keyOf 104 0) (valueOf 2) ∷ []) ∷ applying 4 (delete (keyOf 255 0) ∷ []) ∷ pruning 4 ∷ applying 0 (insert (keyOf 64 0) (valueOf 4) ∷ delete (keyOf 104 0) ∷ []) ∷ applying 5 (insert (keyOf 254 0) (valueOf 4) ∷ insert (keyOf 255 0) (valueOf 1) ∷ []) ∷ [])
+      (freed 0 ∷ made 1 h82 1 ∷ made 2 h82 1 ∷ made 3 h92 5 ∷ denied 7 ∷ made 4 h92 1 ∷ freed 3 ∷ denied 18 ∷ denied 7 ∷ [])
       end25
-      ∷ game (storeOf 0 0 (freeSlots 12))
-      (applying (insert (keyOf 64 0) (valueOf 3) ∷ insert (keyOf 96 0) (valueOf 3) ∷ insert (keyOf 254 0) (valueOf 2) ∷ insert (keyOf 255 0) (valueOf 2) ∷ []) ∷ applying (insert (keyOf 64 0) (valueOf 2) ∷ delete (keyOf 96 0) ∷ delete (keyOf 254 0) ∷ insert (keyOf 255 0) (valueOf 4) ∷ []) ∷ pruning 2 ∷ applying (insert (keyOf 254 0) (valueOf 3) ∷ insert (keyOf 255 0) (valueOf 3) ∷ []) ∷ applying ([]) ∷ applying (insert (keyOf 254 0) (valueOf 4) ∷ delete (keyOf 255 0) ∷ []) ∷ [])
-      (denied 7 ∷ made 1 h80 3 ∷ denied 8 ∷ denied 7 ∷ made 2 h80 1 ∷ made 3 h81 2 ∷ [])
-      end26
       ∷ game (storeOf 0 0 (freeSlots 24))
-      (applying (insert (keyOf 96 0) (valueOf 3) ∷ delete (keyOf 254 0) ∷ []) ∷ applying (insert (keyOf 255 0) (valueOf 1) ∷ delete (keyOf 96 0) ∷ []) ∷ pruning 0 ∷ applying (insert (keyOf 255 0) (valueOf 3) ∷ insert (keyOf 254 0) (valueOf 1) ∷ delete (keyOf 96 0) ∷ []) ∷ applying (insert (keyOf 16 0) (valueOf 4) ∷ []) ∷ applying (delete (keyOf 96 0) ∷ []) ∷ applying (delete (keyOf 96 0) ∷ []) ∷ applying (insert (keyOf 255 0) (valueOf 2) ∷ []) ∷ applying (insert (keyOf 96 0) (valueOf 4) ∷ insert (keyOf 255 0) (valueOf 2) ∷ []) ∷ [])
-      (made 1 h40 1 ∷ denied 5 ∷ freed 0 ∷ denied 5 ∷ made 2 h84 4 ∷ made 3 h14 1 ∷ made 4 h14 1 ∷ made 5 h85 3 ∷ made 6 h86 4 ∷ [])
-      end27
+      (applying 4 (insert (keyOf 104 0) (valueOf 4) ∷ delete (keyOf 192 0) ∷ []) ∷ applying 5 (delete (keyOf 96 0) ∷ insert (keyOf 128 0) (valueOf 3) ∷ delete (keyOf 192 0) ∷ []) ∷ applying 6 (insert (keyOf 128 0) (valueOf 3) ∷ []) ∷ pruning 4 ∷ applying 7 (delete (keyOf 96 0) ∷ []) ∷ applying 8 (insert (keyOf 128 0) (valueOf 4) ∷ []) ∷ applying 9 ([]) ∷ [])
+      (made 4 h93 1 ∷ made 5 h95 3 ∷ made 6 h95 1 ∷ freed 0 ∷ made 7 h95 1 ∷ made 8 h96 2 ∷ made 9 h96 1 ∷ [])
+      end26
       ∷ game (storeOf 0 0 (freeSlots 4))
-      (applying (delete (keyOf 128 0) ∷ delete (keyOf 192 0) ∷ []) ∷ applying (delete (keyOf 192 0) ∷ []) ∷ applying (insert (keyOf 192 0) (valueOf 2) ∷ []) ∷ applying (delete (keyOf 16 0) ∷ delete (keyOf 96 0) ∷ delete (keyOf 128 0) ∷ insert (keyOf 144 0) (valueOf 1) ∷ insert (keyOf 254 0) (valueOf 1) ∷ []) ∷ applying (insert (keyOf 16 0) (valueOf 2) ∷ insert (keyOf 144 0) (valueOf 4) ∷ delete (keyOf 254 0) ∷ []) ∷ applying (delete (keyOf 144 0) ∷ insert (keyOf 128 0) (valueOf 4) ∷ []) ∷ pruning 3 ∷ [])
-      (made 1 zeros 0 ∷ made 2 zeros 0 ∷ made 3 h41 1 ∷ denied 7 ∷ denied 7 ∷ denied 5 ∷ freed 0 ∷ [])
-      end28
+      (applying 2 (insert (keyOf 16 0) (valueOf 2) ∷ []) ∷ applying 3 (insert (keyOf 16 0) (valueOf 1) ∷ []) ∷ applying 4 (insert (keyOf 104 0) (valueOf 2) ∷ delete (keyOf 144 0) ∷ []) ∷ pruning 0 ∷ applying 4 ([]) ∷ applying 9 (insert (keyOf 16 0) (valueOf 1) ∷ []) ∷ applying 10 (insert (keyOf 16 0) (valueOf 2) ∷ []) ∷ applying 13 (delete (keyOf 104 0) ∷ []) ∷ pruning 2 ∷ [])
+      (made 2 h54 1 ∷ made 3 h42 1 ∷ denied 7 ∷ freed 0 ∷ made 4 h42 1 ∷ made 9 h42 1 ∷ denied 7 ∷ denied 7 ∷ freed 0 ∷ [])
+      end27
       ∷ game (storeOf 0 0 (freeSlots 8))
-      (pruning 0 ∷ pruning 0 ∷ applying (insert (keyOf 64 0) (valueOf 4) ∷ []) ∷ pruning 0 ∷ pruning 0 ∷ applying (insert (keyOf 144 0) (valueOf 2) ∷ []) ∷ pruning 0 ∷ [])
-      (freed 0 ∷ freed 0 ∷ made 1 h46 1 ∷ freed 0 ∷ freed 0 ∷ made 2 h87 3 ∷ freed 0 ∷ [])
+      (applying 2 (delete (keyOf 96 0) ∷ []) ∷ applying 5 (delete (keyOf 96 0) ∷ []) ∷ applying 10 (delete (keyOf 0 0) ∷ insert (keyOf 96 0) (valueOf 1) ∷ delete (keyOf 128 0) ∷ []) ∷ pruning 9 ∷ applying 11 (delete (keyOf 255 0) ∷ insert (keyOf 128 0) (valueOf 3) ∷ []) ∷ applying 13 (delete (keyOf 0 0) ∷ insert (keyOf 255 0) (valueOf 1) ∷ []) ∷ [])
+      (made 2 zeros 0 ∷ made 5 zeros 0 ∷ made 10 h24 1 ∷ freed 0 ∷ denied 5 ∷ made 13 h97 3 ∷ [])
+      end28
+      ∷ game (storeOf 0 0 (freeSlots 16))
+      (applying 3 (delete (keyOf 8 0) ∷ delete (keyOf 254 0) ∷ []) ∷ applying 4 (insert (keyOf 8 0) (valueOf 3) ∷ []) ∷ applying 6 (insert (keyOf 8 0) (valueOf 4) ∷ insert (keyOf 192 0) (valueOf 3) ∷ []) ∷ applying 4 (insert (keyOf 64 0) (valueOf 1) ∷ insert (keyOf 96 0) (valueOf 2) ∷ []) ∷ applying 7 (delete (keyOf 104 0) ∷ insert (keyOf 192 0) (valueOf 4) ∷ []) ∷ applying 10 (delete (keyOf 64 0) ∷ delete (keyOf 104 0) ∷ insert (keyOf 192 0) (valueOf 1) ∷ []) ∷ [])
+      (made 3 zeros 0 ∷ made 4 h14 1 ∷ made 6 h98 3 ∷ denied 18 ∷ made 7 h99 2 ∷ made 10 h100 2 ∷ [])
       end29
       ∷ []
 

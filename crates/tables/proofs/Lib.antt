@@ -1,3 +1,4 @@
+pub mod Desk
 pub mod Histories1
 pub mod Histories2
 pub mod Histories3

@@ -28,7 +28,7 @@ storeOf old new s = record { oldest = old; latest = new; slots = s }
 
 -- A game: calls from a store, what each answers, and the store at the end.
 pub data Move : Type 0 where
-  applying : List Ask → Move
+  applying : ℕ → List Ask → Move
   pruning : ℕ → Move
 
 pub data Reply : Type 0 where
@@ -49,11 +49,11 @@ pruneReply (accepted n) = freed n
 
 module _ (leafHash innerHash : Bytes → Bytes → Bytes) where
   abbrev pub reply : Move → Store → Reply
-  reply (applying batch) st = applyReply (apply leafHash innerHash (some batch) st .answer)
+  reply (applying number batch) st = applyReply (apply leafHash innerHash number (some batch) st .answer)
   reply (pruning n) st = pruneReply (prune n st .answer)
 
   abbrev pub moved : Move → Store → Store
-  moved (applying batch) st = apply leafHash innerHash (some batch) st .store
+  moved (applying number batch) st = apply leafHash innerHash number (some batch) st .store
   moved (pruning n) st = prune n st .store
 
   abbrev pub replies : List Move → Store → List Reply

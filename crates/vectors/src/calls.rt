@@ -66,7 +66,7 @@ pub fn check(store: &[u8]) -> bool {
     true
 }
 
-// apply NAME: RECORDS: GRANTS
+// apply NUMBER NAME: RECORDS: GRANTS
 pub fn apply(l: &[u8], store: &mut [u8]) -> bool {
     let mut records = [0u8; 73800];
     let mut grants = [0u8; 73800];
@@ -80,27 +80,32 @@ fn publish(
     records: &mut [u8; 73800],
     grants: &mut [u8; 73800],
 ) -> bool {
+    let version = number(part(l, 1, b' '));
     let n = batches::written(part(l, 1, b':'), records);
     let m = batches::written(part(l, 2, b':'), grants);
+    if NONE <= version {
+        return false;
+    }
     if n == batches::BAD {
         return false;
     }
     if m == batches::BAD {
         return false;
     }
-    say::line(b"  came  ", rest(part(l, 0, b':'), b' '), b": ");
-    publish_all(store, records, 72 * n, batches::root(grants, 0, m, 256));
+    say::line(b"  came  ", rest(rest(part(l, 0, b':'), b' '), b' '), b": ");
+    let root = batches::root(grants, 0, m, 256);
+    publish_all(store, version as u32, records, 72 * n, root);
     true
 }
 
-// Applies the first so many bytes as a batch; `root` is that of the tree that document 01 has then.
-fn publish_all(store: &mut [u8], records: &[u8], size: usize, root: Hash) {
+// Publishes the first so many bytes as a batch under a number; `root` is that of the tree that document 01 has then.
+fn publish_all(store: &mut [u8], version: u32, records: &[u8], size: usize, root: Hash) {
     if records.len() < size {
         return;
     }
     let before = digest(store);
     let mut answer = [0u8; 40];
-    let no = grants::grants_apply(store, &records[0..size], &mut answer);
+    let no = grants::grants_apply(store, version, &records[0..size], &mut answer);
     if accepted(no, before, store) {
         say_made(store, &answer, root);
     }
@@ -153,6 +158,28 @@ pub fn prune(l: &[u8], store: &mut [u8]) -> bool {
         held::say_slots(store, slots(store), 0);
     }
     true
+}
+
+// root VERSION
+pub fn root(l: &[u8], store: &[u8]) -> bool {
+    let version = number(part(l, 1, b' '));
+    if NONE <= version {
+        return false;
+    }
+    say::line(b"  came  root of ", part(l, 1, b' '), b": ");
+    let mut root = [0u8; 32];
+    let no = grants::grants_root(store, version as u32, &mut root);
+    say_root(no, &root);
+    true
+}
+
+fn say_root(no: u32, root: &[u8; 32]) {
+    if no != 0 {
+        refused(no, b"\n");
+        return;
+    }
+    say::hex(hash_at(root, 0));
+    say::text(b"\n");
 }
 
 // Word n of those after the name.

@@ -2,7 +2,7 @@
 // through the public calls. The script is the crate's file stdin and says its own form; all that is written is held to the file stdout. For a
 // new call: a function of `calls`, a line of `call` below, and a line of the script's head that says its form.
 mod calls;
-mod changed;
+mod compared;
 
 use place::same;
 use script::say;
@@ -120,6 +120,9 @@ fn call(l: &[u8], c: &[u8], store: &mut [u8]) -> bool {
     if same(c, b"prune") {
         return calls::prune(l, store);
     }
+    if same(c, b"root") {
+        return calls::root(l, store);
+    }
     if same(c, b"get") {
         return calls::get(l, store);
     }
@@ -127,7 +130,7 @@ fn call(l: &[u8], c: &[u8], store: &mut [u8]) -> bool {
         return calls::prove(l, store);
     }
     if same(c, b"changes") {
-        return changed::changes(l, store);
+        return compared::changes(l, store);
     }
     if same(c, b"levels") {
         return calls::levels(store);

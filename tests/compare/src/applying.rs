@@ -40,7 +40,8 @@ fn sorted(mut asks: Vec<Ask>) -> Vec<u8> {
     asks_bytes(&asks)
 }
 
-/// A history and what 01 says of it: the grants of latest, and the root that each kept version had when it was made.
+/// A history and what the documents say of it: the grants of latest, and the root that each kept publishing had when it was made. It lasts up to
+/// the next one, so the one in force where a prune fell between two stands at oldest.
 struct History {
     seed: u64,
     random: Random,
@@ -48,6 +49,8 @@ struct History {
     keys: Vec<Bytes32>,
     grants: Grants,
     roots: BTreeMap<u32, Bytes32>,
+    /// Each number is the one after latest.
+    dense: bool,
 }
 
 impl History {
@@ -62,15 +65,18 @@ impl History {
         let first = if random.one_in(8) { u32::MAX - random.below(30) as u32 } else { 0 };
         let oldest = if random.one_in(2) { first } else { 0 };
         let s = cases::fresh(capacity, oldest, first);
-        let mut history = History { seed, random, s, keys, grants: Grants::new(), roots: BTreeMap::from([(first, ZEROS)]) };
+        let dense = random.one_in(4);
+        let mut history = History { seed, random, s, keys, grants: Grants::new(), roots: BTreeMap::from([(oldest, ZEROS)]), dense };
         history.keys.sort();
         history
     }
 
     /// Apply on both sides, then reads of what is and of what was.
     fn apply(&mut self, tally: &mut Tally, case: &str, batch: &[u8]) -> both::Applied {
-        let answer = both::apply(tally, case, self.seed, &mut self.s, batch);
+        let n = if self.dense { cases::next(&self.s) } else { cases::number(&mut self.random, &self.s) };
+        let answer = both::apply(tally, case, self.seed, &mut self.s, n, batch);
         if let Ok((version, root, _)) = answer {
+            tally.equal("the number given", self.seed, version, n);
             for a in second::bytes::batch(batch).unwrap() {
                 match a.value {
                     Some(v) => self.grants.insert(a.key, v),
@@ -101,6 +107,13 @@ impl History {
         let n = random.below(self.roots.len());
         let (&version, &root) = self.roots.iter().nth(n).unwrap();
         tally.equal("a root of before", seed, crate::ours::root(s, version), Ok(root));
+        // A version between two publishings reads as the earlier one.
+        let last = self.roots.range(version..).nth(1).map_or(now, |(v, _)| v - 1);
+        let between = [last, version + random.below((last - version) as usize + 1) as u32][random.below(2)];
+        tally.equal("a root between", seed, crate::ours::root(s, between), Ok(root));
+        let k = self.keys[random.below(self.keys.len())];
+        tally.equal("a key between", seed, crate::ours::get(s, between, &k), crate::ours::get(s, version, &k));
+        both::reads(tally, random, seed, s, between, &k);
     }
 
     fn batch(&mut self) -> Vec<u8> {
@@ -124,9 +137,12 @@ impl History {
             0..=2 => {
                 let (oldest, now) = (u32_at(&self.s, 12), latest(&self.s));
                 let made = self.roots.keys().copied().filter(|v| *v >= oldest).nth(self.random.below(4)).unwrap_or(now);
-                let to = [made, made, now, oldest, oldest.wrapping_sub(1), now.wrapping_add(1)][self.random.below(6)];
+                let near = cases::near(&mut self.random, &self.s);
+                let to = [made, near, near, now, oldest, oldest.wrapping_sub(1), now.wrapping_add(1)][self.random.below(7)];
                 if both::prune(tally, "in a history", seed, &mut self.s, to).is_ok() {
-                    self.roots.retain(|v, _| *v >= to);
+                    let (_, &in_force) = self.roots.range(..=to).next_back().unwrap();
+                    self.roots.retain(|v, _| *v > to);
+                    self.roots.insert(to, in_force);
                     self.look(tally);
                 }
             }
@@ -149,14 +165,18 @@ impl History {
                 if self.random.one_in(2) {
                     cases::spoil(&mut self.random, &mut b);
                 }
-                let _ = both::apply(tally, "to a damaged store", seed, &mut s, &b);
+                let n = if s.len() < HEADER { 1 } else { cases::number(&mut self.random, &s) };
+                let _ = both::apply(tally, "to a damaged store", seed, &mut s, n, &b);
             }
             6 => self.fit(tally),
             12 => {
                 // any two kept versions, and each with itself and the other way round
                 let (oldest, latest) = (u32_at(&self.s, 12), latest(&self.s));
-                let v = oldest + self.random.below((latest - oldest + 1) as usize) as u32;
-                let w = oldest + self.random.below((latest - oldest + 1) as usize) as u32;
+                let mut any = || {
+                    let near = cases::near(&mut self.random, &self.s).clamp(oldest, latest);
+                    [near, oldest + self.random.below((latest - oldest) as usize + 1) as u32][self.random.below(2)]
+                };
+                let (v, w) = (any(), any());
                 for (a, b) in [(v, w), (w, v), (v, latest), (v, v)] {
                     let _ = both::changes(tally, &mut self.random, "in a history", seed, &self.s, a, b);
                 }
@@ -196,13 +216,14 @@ impl History {
     fn fit(&mut self, tally: &mut Tally) {
         let b = self.batch();
         let mut wide = cases::scattered(&mut self.random, &self.s, 2_100);
-        let Ok((_, _, count)) = apply_to_sound(&mut wide, &b) else { return };
+        let n = cases::next(&wide);
+        let Ok((_, _, count)) = apply_to_sound(&mut wide, n, &b) else { return };
         for free in [count as usize, (count as usize).saturating_sub(1)] {
             if free + cases::taken(&self.s) == 0 {
                 continue;
             }
             let mut s = cases::scattered(&mut self.random, &self.s, free);
-            let answer = both::apply(tally, "fitted", self.seed, &mut s, &b);
+            let answer = both::apply_next(tally, "fitted", self.seed, &mut s, &b);
             let wanted = if free == count as usize { Ok(count) } else { Err(7) };
             tally.equal("fitted", self.seed, answer.map(|a| a.2), wanted);
         }
@@ -221,7 +242,7 @@ fn desk(tally: &mut Tally) {
     let (a, b, c, d, e) = (key(0, 0), key(0x40, 0), key(0x60, 0), key(0x80, 0), key(0x80, 1));
     let four = [insert(a, 1), insert(b, 2), insert(c, 3), insert(d, 4)];
     let mut made = |what: &str, s: &mut Vec<u8>, asks: &[Ask], wanted: Result<(u32, u32), u32>| {
-        let answer = both::apply(tally, what, 0, s, &asks_bytes(asks));
+        let answer = both::apply_next(tally, what, 0, s, &asks_bytes(asks));
         tally.equal(what, 0, answer.map(|x| (x.0, x.2)), wanted);
     };
     let mut s = cases::fresh(20, 0, 0);
@@ -257,22 +278,29 @@ fn example(random: &mut Random) -> (Vec<u8>, Vec<u8>, usize) {
             continue;
         }
         let s = cases::scattered(random, &s, 80);
-        match apply_to_sound(&mut s.clone(), &b) {
+        match apply_to_sound(&mut s.clone(), cases::next(&s), &b) {
             Ok((_, _, count)) if count > 0 => return (s, b, count as usize),
             _ => {}
         }
     }
 }
 
-/// Every set of refusals deserved at once: the lowest number is given.
+/// Every set of refusals deserved at once: the first in the order of checks is given.
 fn deserved(tally: &mut Tally, random: &mut Random) {
+    const ORDER: [u32; 7] = [1, 2, 3, 4, 5, 18, 7];
     let (s, b, count) = example(random);
     for set in 0..128u32 {
-        let deserves = |n: u32| set >> (n - 1) & 1 == 1;
+        let deserves = |n: u32| ORDER.iter().position(|m| *m == n).is_some_and(|i| set >> i & 1 == 1);
         let mut b = b.clone();
         let mut s = cases::scattered(random, &s, if deserves(7) { count - 1 } else { count });
-        if deserves(6) {
-            s = cases::raised(&s, u32::MAX - latest(&s));
+        let now = latest(&s);
+        let mut number = [now + 1, now + 2, now + 4_000_000, u32::MAX][random.below(4)];
+        if deserves(18) {
+            number = [now, now - 1, 0, random.below(now as usize) as u32][random.below(4)];
+            if random.one_in(4) {
+                s = cases::raised(&s, u32::MAX - now);
+                number = [u32::MAX, u32::MAX - 1, 0][random.below(3)];
+            }
         }
         if deserves(5) {
             b.rotate_left(ASK);
@@ -290,8 +318,8 @@ fn deserved(tally: &mut Tally, random: &mut Random) {
         if deserves(1) {
             s.pop();
         }
-        let answer = both::apply(tally, &format!("refusals {set:07b}"), 0, &mut s, &b);
-        let wanted = if set == 0 { 0 } else { set.trailing_zeros() + 1 };
+        let answer = both::apply(tally, &format!("refusals {set:07b}"), 0, &mut s, number, &b);
+        let wanted = if set == 0 { 0 } else { ORDER[set.trailing_zeros() as usize] };
         tally.equal(&format!("refusals {set:07b}"), 0, answer.map_or_else(|n| n, |_| 0), wanted);
     }
 }
@@ -310,7 +338,7 @@ fn bytes(tally: &mut Tally, random: &mut Random) {
         for change in [1, 2, 3, 0x20, 0x80, 0xFF] {
             let mut b = b.clone();
             b[at] ^= change;
-            let answer = both::apply(tally, &format!("batch byte {at}"), 0, &mut s.clone(), &b);
+            let answer = both::apply_next(tally, &format!("batch byte {at}"), 0, &mut s.clone(), &b);
             let field = at % ASK;
             let number = answer.err();
             let right = match field {
@@ -325,7 +353,7 @@ fn bytes(tally: &mut Tally, random: &mut Random) {
     for length in 0..b.len() + ASK {
         let mut b = b.clone();
         b.resize(length, 0);
-        let answer = both::apply(tally, &format!("a batch of {length} bytes"), 0, &mut s.clone(), &b);
+        let answer = both::apply_next(tally, &format!("a batch of {length} bytes"), 0, &mut s.clone(), &b);
         tally.equal("a batch cut", 0, answer.is_ok(), length % ASK == 0 && length <= 3 * ASK);
     }
     let s = cases::scattered(random, &s, 8);
@@ -333,31 +361,105 @@ fn bytes(tally: &mut Tally, random: &mut Random) {
         for change in [1, 0x80] {
             let mut s = s.clone();
             s[at] ^= change;
-            let answer = both::apply(tally, &format!("store byte {at}"), 0, &mut s, &b);
+            let n = latest(&s).saturating_add(9);
+            let answer = both::apply(tally, &format!("store byte {at}"), 0, &mut s, n, &b);
             assert!(at >= 12 || answer == Err(2), "store byte {at}: {answer:?}");
         }
     }
 }
 
-/// Latest is 4,294,967,295, in an empty store and in others; one below it, a batch is accepted.
-fn last_version(tally: &mut Tally, random: &mut Random) {
+/// 4,294,967,295 may be given once, to an empty store and to others; then every number is 18, and so is each one up to latest before it.
+fn last_number(tally: &mut Tally, random: &mut Random) {
     let (s, b, _) = example(random);
     for store in [s.clone(), cases::fresh(3, 0, 0), cases::scattered(random, &s, 0)] {
         for batch in [&b[..], &[]] {
-            let up = u32::MAX - latest(&store);
-            let answer = both::apply(tally, "latest 4,294,967,295", 0, &mut cases::raised(&store, up), batch);
-            tally.equal("latest 4,294,967,295", 0, answer.map(|x| x.0), Err(6));
-            let mut below = cases::raised(&store, up - 1);
-            if both::apply(tally, "latest 4,294,967,294", 0, &mut below, batch).is_ok() {
-                tally.equal("latest 4,294,967,294", 0, latest(&below), u32::MAX);
-                let answer = both::apply(tally, "after it", 0, &mut below, &[]);
-                tally.equal("after it", 0, answer.map(|x| x.0), Err(6));
+            let now = latest(&store);
+            for number in [0, now.saturating_sub(1), now] {
+                let answer = both::apply(tally, "a number up to latest", 0, &mut store.clone(), number, batch);
+                tally.equal("a number up to latest", 0, answer.map(|x| x.0), Err(18));
+            }
+            for mut last in [store.clone(), cases::raised(&store, u32::MAX - 1 - now)] {
+                if both::apply(tally, "4,294,967,295", 0, &mut last, u32::MAX, batch).is_ok() {
+                    tally.equal("4,294,967,295", 0, latest(&last), u32::MAX);
+                    for number in [0, 1, u32::MAX - 1, u32::MAX] {
+                        let answer = both::apply(tally, "after 4,294,967,295", 0, &mut last, number, &[]);
+                        tally.equal("after 4,294,967,295", 0, answer.map(|x| x.0), Err(18));
+                    }
+                }
             }
         }
     }
     let mut wide = cases::fresh(3, 0, u32::MAX - 1);
-    let answer = both::apply(tally, "all versions kept", 0, &mut wide, &asks_bytes(&[insert(key(1, 0), 1)]));
+    let answer = both::apply_next(tally, "all versions kept", 0, &mut wide, &asks_bytes(&[insert(key(1, 0), 1)]));
     tally.equal("all versions kept", 0, answer.map(|x| (x.0, x.2)), Ok((u32::MAX, 1)));
+}
+
+/// The desk's grants published under numbers with gaps, worked out by hand from 02's words: which version has which root, what a prune between
+/// two publishings frees, how many places a comparison visits, and which lives of a root are sound.
+fn gaps(tally: &mut Tally, random: &mut Random) {
+    let (a, b, c, d) = (key(0, 0), key(0x40, 0), key(0x60, 0), key(0x80, 0));
+    let mut s = cases::fresh(20, 0, 0);
+    let publish = |tally: &mut Tally, s: &mut Vec<u8>, number: u32, asks: &[Ask], wanted: Result<u32, u32>| {
+        let what = format!("published as {number}");
+        let answer = both::apply(tally, &what, 0, s, number, &asks_bytes(asks));
+        tally.equal(&what, 0, answer.map(|x| (x.0, x.2)), wanted.map(|new| (number, new)));
+        answer.map_or(ZEROS, |x| x.1)
+    };
+    let mut reads = |tally: &mut Tally, s: &[u8], rows: &[(u32, Result<Bytes32, u32>)]| {
+        for (v, wanted) in rows {
+            tally.equal(&format!("the root of {v}"), 0, crate::ours::root(s, *v), *wanted);
+            for k in [a, b, c, d, key(0xC0, 0)] {
+                both::reads(tally, random, 0, s, *v, &k);
+            }
+        }
+    };
+    let prune = |tally: &mut Tally, s: &mut Vec<u8>, to: u32, wanted: u32| {
+        let what = format!("prune to {to}");
+        let freed = both::prune(tally, &what, 0, s, to);
+        tally.equal(&what, 0, freed, Ok(wanted));
+    };
+    // The slot's retired-since made another number.
+    let lives = |tally: &mut Tally, s: &[u8], slot: usize, rows: &[(u32, Result<(), u32>)]| {
+        for (retired, wanted) in rows {
+            let mut s = s.to_vec();
+            s[HEADER + SLOT * slot + 44..][..4].copy_from_slice(&retired.to_le_bytes());
+            let what = format!("slot {slot} retired since {retired}");
+            tally.same(&what, 0, crate::ours::check(&s), second::check(&s));
+            tally.equal(&what, 0, crate::ours::check(&s), *wanted);
+        }
+    };
+    // A, B, C and D as 5: seven records, the root in slot 6. B and C deleted as 9: A's leaf moves up to 0, in slot 7, and the root is in slot 8.
+    let five = publish(tally, &mut s, 5, &[insert(a, 1), insert(b, 2), insert(c, 3), insert(d, 4)], Ok(7));
+    let nine = publish(tally, &mut s, 9, &[delete(b), delete(c)], Ok(2));
+    reads(tally, &s, &[(0, Ok(ZEROS)), (4, Ok(ZEROS)), (5, Ok(five)), (7, Ok(five)), (8, Ok(five)), (9, Ok(nine)), (10, Err(8))]);
+    // Two versions with one root: one visit. 5 to 9: the empty place, 0, 1 (the same leaf), 00, 01, 010, 011.
+    for (first, second, visits, records) in [(5, 7, 1, 0), (7, 8, 1, 0), (0, 4, 1, 0), (4, 5, 7, 4), (7, 9, 7, 2), (9, 5, 7, 2)] {
+        let what = format!("from {first} to {second}");
+        for (limit, wanted) in [(visits, Ok(records)), (visits - 1, Err(13))] {
+            let answer = both::changes_with(tally, &what, 0, &s, first, second, limit, &[5; 4 * 72]);
+            tally.equal(&what, 0, answer, wanted);
+        }
+    }
+    // The root of 5 ends with its tree: earlier, and the rest of its tree lives without a root; later, and it meets that of 9.
+    lives(tally, &s, 6, &[(9, Ok(())), (8, Err(3)), (6, Err(3)), (10, Err(3)), (0, Err(3))]);
+    // Nothing was retired by 7, and the tree of 5 is that of 7; its root is older than oldest.
+    prune(tally, &mut s, 7, 0);
+    reads(tally, &s, &[(5, Err(8)), (6, Err(8)), (7, Ok(five)), (8, Ok(five)), (9, Ok(nine))]);
+    lives(tally, &s, 6, &[(9, Ok(())), (8, Err(3)), (10, Err(3))]);
+    // All deleted as 12: no record. D again as 15: its leaf is the root, in slot 9.
+    publish(tally, &mut s, 12, &[delete(a), delete(d)], Ok(0));
+    let fifteen = publish(tally, &mut s, 15, &[insert(d, 4)], Ok(1));
+    reads(tally, &s, &[(8, Ok(five)), (11, Ok(nine)), (12, Ok(ZEROS)), (14, Ok(ZEROS)), (15, Ok(fifteen))]);
+    // 13 is empty: six records ended with 8, three with 11.
+    prune(tally, &mut s, 13, 9);
+    reads(tally, &s, &[(12, Err(8)), (13, Ok(ZEROS)), (14, Ok(ZEROS)), (15, Ok(fifteen))]);
+    let top = publish(tally, &mut s, u32::MAX, &[insert(a, 1)], Ok(3));
+    reads(tally, &s, &[(14, Ok(ZEROS)), (15, Ok(fifteen)), (4_000_000_000, Ok(fifteen)), (u32::MAX - 1, Ok(fifteen)), (u32::MAX, Ok(top))]);
+    for number in [0, 15, 16, u32::MAX] {
+        publish(tally, &mut s, number, &[], Err(18));
+    }
+    // A lone leaf that ends earlier leaves versions that hold nothing; one that lives on meets the root of latest.
+    lives(tally, &s, 9, &[(u32::MAX, Ok(())), (u32::MAX - 1, Ok(())), (16, Ok(())), (15, Err(3)), (0, Err(3))]);
 }
 
 /// Keys that part from one key at each bit, all 257 of them; then the leaf left alone moves up over many levels.
@@ -371,7 +473,7 @@ fn chain(tally: &mut Tally, random: &mut Random) {
         let all: Vec<Bytes32> = (0..256).map(parted).chain([base]).collect();
         let mut s = cases::fresh(513 + 128 + 255 + 1 + 258 + 257 + 256, 0, 0);
         let mut step = |case: &str, asks: Vec<Ask>, wanted: Result<u32, u32>| {
-            let answer = both::apply(tally, case, 0, &mut s, &sorted(asks));
+            let answer = both::apply_next(tally, case, 0, &mut s, &sorted(asks));
             tally.equal(case, 0, answer.map(|x| x.2), wanted);
             for k in [base, all[0], all[255]] {
                 both::reads(tally, random, 0, &s, latest(&s), &k);
@@ -390,7 +492,7 @@ fn chain(tally: &mut Tally, random: &mut Random) {
         let now = latest(&s);
         let freed = both::prune(tally, "a chain", 0, &mut s, now);
         tally.equal("a chain, pruned", 0, freed, Ok(513 + 128 + 255 + 1 + 257));
-        let answer = both::apply(tally, "a chain, slots used again", 0, &mut s, &sorted(all.iter().map(|k| insert(*k, 2)).collect()));
+        let answer = both::apply_next(tally, "a chain, slots used again", 0, &mut s, &sorted(all.iter().map(|k| insert(*k, 2)).collect()));
         tally.equal("a chain, slots used again", 0, answer.map(|x| x.2), Ok(513));
     }
 }
@@ -403,7 +505,7 @@ fn many(tally: &mut Tally, random: &mut Random) {
     let put = |i: usize| insert(keys[i], i as u8);
     let away = |i: usize| delete(keys[i]);
     let mut s = cases::fresh(9, 0, 0);
-    let answer = both::apply(tally, "1,024 deletes of nothing", 0, &mut s, &whole(&away, MOST_ASKS));
+    let answer = both::apply_next(tally, "1,024 deletes of nothing", 0, &mut s, &whole(&away, MOST_ASKS));
     tally.equal("1,024 deletes of nothing", 0, answer, Ok((1, ZEROS, 0)));
     let mut disorder = whole(&put, MOST_ASKS);
     disorder[ASK * 700 + 8] = 0;
@@ -413,17 +515,17 @@ fn many(tally: &mut Tally, random: &mut Random) {
         ("1,024 records in disorder", disorder.clone(), 5),
         ("1,025 records in disorder", [disorder, whole(&put, 1)].concat(), 4),
     ] {
-        let answer = both::apply(tally, case, 0, &mut s, &batch);
+        let answer = both::apply_next(tally, case, 0, &mut s, &batch);
         tally.equal(case, 0, answer, Err(wanted));
     }
     let mut s = cases::fresh(2_600, 0, 0);
-    let answer = both::apply(tally, "1,024 inserts", 0, &mut s, &whole(&put, MOST_ASKS));
+    let answer = both::apply_next(tally, "1,024 inserts", 0, &mut s, &whole(&put, MOST_ASKS));
     tally.equal("1,024 inserts", 0, answer.map(|x| x.0), Ok(1));
-    let answer = both::apply(tally, "1,025 inserts", 0, &mut s, &whole(&put, MOST_ASKS + 1));
+    let answer = both::apply_next(tally, "1,025 inserts", 0, &mut s, &whole(&put, MOST_ASKS + 1));
     tally.equal("1,025 inserts", 0, answer, Err(4));
-    let answer = both::apply(tally, "1,024 values already there", 0, &mut s, &whole(&put, MOST_ASKS));
+    let answer = both::apply_next(tally, "1,024 values already there", 0, &mut s, &whole(&put, MOST_ASKS));
     tally.equal("1,024 values already there", 0, answer.map(|x| x.2), Ok(1));
-    let answer = both::apply(tally, "1,024 deletes", 0, &mut s, &whole(&away, MOST_ASKS));
+    let answer = both::apply_next(tally, "1,024 deletes", 0, &mut s, &whole(&away, MOST_ASKS));
     tally.equal("1,024 deletes", 0, answer, Ok((3, ZEROS, 0)));
 }
 
@@ -453,13 +555,13 @@ fn counts(tally: &mut Tally) {
         ("16,385 new records", all(&keys_for(MOST_SLOTS + 1), Some(ZEROS))),
         ("some 64,000 new records", all(&far, Some(ZEROS))),
     ] {
-        let answer = both::apply(tally, case, 0, &mut s, &batch);
+        let answer = both::apply_next(tally, case, 0, &mut s, &batch);
         tally.equal(case, 0, answer, Err(7));
     }
     let keys = keys_for(MOST_SLOTS);
-    let answer = both::apply(tally, "16,384 new records", 0, &mut s, &all(&keys, Some(ZEROS)));
+    let answer = both::apply_next(tally, "16,384 new records", 0, &mut s, &all(&keys, Some(ZEROS)));
     tally.equal("16,384 new records", 0, answer.map(|x| x.2), Ok(MOST_SLOTS as u32));
-    let answer = both::apply(tally, "16,384 records are deleted", 0, &mut s, &all(&keys, None));
+    let answer = both::apply_next(tally, "16,384 records are deleted", 0, &mut s, &all(&keys, None));
     tally.equal("16,384 records are deleted", 0, answer, Ok((2, ZEROS, 0)));
 }
 
@@ -487,15 +589,16 @@ pub fn large(seed: u64, tally: &mut Tally) {
         sorted(asks)
     };
     let b = more(&mut random, MOST_ASKS);
-    both::apply(tally, "the largest store", seed, &mut s, &b).unwrap();
+    both::apply_next(tally, "the largest store", seed, &mut s, &b).unwrap();
     // most of the batches on the second program's side alone, their result tried with one batch on both
     loop {
         let b = more(&mut random, MOST_ASKS);
         let before = s.clone();
-        if apply_to_sound(&mut s, &b).is_ok() {
+        let next = cases::next(&s);
+        if apply_to_sound(&mut s, next, &b).is_ok() {
             continue;
         }
-        let answer = both::apply(tally, "the largest store is full", seed, &mut s, &b);
+        let answer = both::apply_next(tally, "the largest store is full", seed, &mut s, &b);
         tally.equal("the largest store is full", seed, answer, Err(7));
         assert!(s == before);
         break;
@@ -504,12 +607,12 @@ pub fn large(seed: u64, tally: &mut Tally) {
     let freed = both::prune(tally, "the largest store", seed, &mut s, to);
     assert!(freed.unwrap() > 1_000);
     let b = more(&mut random, 200);
-    both::apply(tally, "the largest store, slots used again", seed, &mut s, &b).unwrap();
+    both::apply_next(tally, "the largest store, slots used again", seed, &mut s, &b).unwrap();
     let b = more(&mut random, 100);
-    let (_, _, count) = apply_to_sound(&mut s.clone(), &b).unwrap();
+    let (_, _, count) = apply_to_sound(&mut s.clone(), cases::next(&s), &b).unwrap();
     for (free, wanted) in [(count, Ok(count)), (count - 1, Err(7))] {
         let mut s = cases::scattered(&mut random, &s, free as usize);
-        let answer = both::apply(tally, "a large store, fitted", seed, &mut s, &b);
+        let answer = both::apply_next(tally, "a large store, fitted", seed, &mut s, &b);
         tally.equal("a large store, fitted", seed, answer.map(|x| x.2), wanted);
     }
     let now = latest(&s);
@@ -525,8 +628,9 @@ pub fn named(seed: u64, tally: &mut Tally) {
     desk(tally);
     for _ in 0..4 {
         deserved(tally, &mut random);
-        last_version(tally, &mut random);
+        last_number(tally, &mut random);
     }
+    gaps(tally, &mut random);
     bytes(tally, &mut random);
     chain(tally, &mut random);
     many(tally, &mut random);

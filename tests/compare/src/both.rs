@@ -1,6 +1,6 @@
 //! One call on both sides: our answer and every byte that our call left, beside the second program's.
 
-use crate::cases::Random;
+use crate::cases::{self, Random};
 use crate::ours;
 use crate::tally::{Proof, Tally};
 use second::Bytes32;
@@ -22,13 +22,19 @@ fn lent<T>(bytes: &[u8], call: impl FnOnce(&mut [u8]) -> T) -> (T, Vec<u8>) {
 
 pub type Applied = Result<(u32, Bytes32, u32), u32>;
 
+/// Apply with the number after latest.
+pub fn apply_next(tally: &mut Tally, case: &str, seed: u64, s: &mut Vec<u8>, batch: &[u8]) -> Applied {
+    let next = cases::next(s);
+    apply(tally, case, seed, s, next, batch)
+}
+
 /// The store goes on as the second program leaves it.
-pub fn apply(tally: &mut Tally, case: &str, seed: u64, s: &mut Vec<u8>, batch: &[u8]) -> Applied {
+pub fn apply(tally: &mut Tally, case: &str, seed: u64, s: &mut Vec<u8>, number: u32, batch: &[u8]) -> Applied {
     let read = batch.to_vec();
-    let (x, a) = lent(s, |s| ours::apply(s, &read));
+    let (x, a) = lent(s, |s| ours::apply(s, number, &read));
     assert!(read == batch, "the batch was written");
     let before = s.clone();
-    let y = second::apply(s, batch);
+    let y = second::apply(s, number, batch);
     assert!(y.is_ok() || *s == before, "the second program refused and wrote");
     tally.wrote("apply", case, seed, (x, &a), (y, s));
     y

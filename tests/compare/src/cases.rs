@@ -137,6 +137,24 @@ fn put(oldest: u32, latest: u32, slots: &[Option<Record>]) -> Vec<u8> {
     s
 }
 
+/// The version of a root where an empty batch makes a new one at every fourth version.
+pub fn renewed(i: usize) -> u32 {
+    1 + 4 * i as u32
+}
+
+/// A leaf's roots, so renewed, and the key of the leaf.
+pub fn leaf_roots(n: usize) -> (Vec<Record>, Bytes32) {
+    let body = Body::Leaf { key: [7; 32], value: [9; 32] };
+    let root = |i| Record { place: Place::EMPTY, version: renewed(i), retired: if i + 1 < n { renewed(i + 1) } else { 0 }, body };
+    ((0..n).map(root).collect(), [7; 32])
+}
+
+/// A sound store of a leaf's roots, written as batches would, and free slots behind them: with none, no store has more roots.
+pub fn roots(n: usize, free: usize) -> Vec<u8> {
+    let slots: Vec<Option<Record>> = leaf_roots(n).0.into_iter().map(Some).chain((0..free).map(|_| None)).collect();
+    put(0, renewed(n - 1), &slots)
+}
+
 /// Header and records of a sound store.
 fn records(s: &[u8]) -> (u32, u32, Vec<Record>) {
     let st = second::bytes::store(s).unwrap();
@@ -180,7 +198,7 @@ pub fn raised(s: &[u8], by: u32) -> Vec<u8> {
     put(st.oldest + by, st.latest + by, &slots)
 }
 
-/// Other versions, at most oldest, for the records of a sound store that are at most oldest, roots apart: sound again, though no history
+/// Other versions, at most oldest, for the records of a sound store that are at most oldest, its root among them: sound again, though no history
 /// gives it. A child may then be above its parent.
 pub fn relabelled(random: &mut Random, s: &[u8]) -> Vec<u8> {
     let (oldest, latest) = (u32_at(s, 12), u32_at(s, 16));
@@ -188,10 +206,14 @@ pub fn relabelled(random: &mut Random, s: &[u8]) -> Vec<u8> {
     let mut slots: Vec<Option<Record>> = st.slots.iter().map(|x| if let Slot::Used(r) = x { Some(*r) } else { None }).collect();
     for i in 0..slots.len() {
         let Some(r) = slots[i] else { continue };
-        if r.place.count == 0 || r.version > oldest {
+        if r.version > oldest {
             continue;
         }
         let version = 1 + random.below(oldest as usize) as u32;
+        if r.place.count == 0 {
+            slots[i].as_mut().unwrap().version = version;
+            continue;
+        }
         let last = r.place.count - 1;
         let above = (0..last).fold(Place::EMPTY, |p, j| p.longer(bit(&r.place.bits, j)));
         for q in slots.iter_mut().flatten().filter(|q| q.place == above) {
@@ -207,7 +229,37 @@ pub fn relabelled(random: &mut Random, s: &[u8]) -> Vec<u8> {
     put(oldest, latest, &slots)
 }
 
-/// A store made by calls, and the keys used.
+/// The number after latest; 0, which no store takes, where there is none.
+pub fn next(s: &[u8]) -> u32 {
+    u32_at(s, 16).wrapping_add(1)
+}
+
+/// A number to publish under: mostly above latest, the next one or one after a gap, seldom so far that little is left.
+pub fn number(random: &mut Random, s: &[u8]) -> u32 {
+    let latest = u32_at(s, 16);
+    let far = [2, 3, 4, 10, 1_000, 70_000, 300_000_000][random.below(7)];
+    match random.below(24) {
+        0 => latest,
+        1 => latest.wrapping_sub(1 + random.below(3) as u32),
+        2 => [0, 1, u32::MAX, u32::MAX - 1][random.below(4)],
+        3..=9 => latest.wrapping_add(1),
+        _ => latest.saturating_add(1 + random.below(far) as u32),
+    }
+}
+
+/// A number that stands in the store, or one beside it: of the header, or a version or a retired-since.
+pub fn near(random: &mut Random, s: &[u8]) -> u32 {
+    let used = used(s);
+    let at = if used.is_empty() || random.one_in(4) {
+        [12, 16][random.below(2)]
+    } else {
+        slot(used[random.below(used.len())]).start + [40, 44][random.below(2)]
+    };
+    let n = u32_at(s, at);
+    [n, n, n.wrapping_add(1), n.wrapping_sub(1)][random.below(4)]
+}
+
+/// A store made by calls, and the keys used: each number the next one, or gaps among them.
 pub fn store(random: &mut Random) -> (Vec<u8>, Vec<Bytes32>) {
     let keys = keys(random);
     let capacity = if random.one_in(10) { 300 } else { 4 + random.below(40) };
@@ -217,14 +269,16 @@ pub fn store(random: &mut Random) -> (Vec<u8>, Vec<Bytes32>) {
         let high = u32::MAX - random.below(4) as u32;
         put_header(&mut s, high, high);
     }
+    let dense = random.one_in(3);
     for _ in 0..random.below(9) {
         if random.one_in(4) {
             let st = second::bytes::store(&s).unwrap();
-            let to = st.oldest.saturating_add(random.below(4) as u32);
+            let to = if dense || random.one_in(3) { st.oldest.saturating_add(random.below(4) as u32) } else { near(random, &s) };
             let _ = second::prune(&mut s, to);
         } else {
-            let b = batch(random, &keys);
-            let _ = second::apply(&mut s, &b);
+            let b = if random.one_in(8) { vec![] } else { batch(random, &keys) };
+            let n = if dense { next(&s) } else { number(random, &s) };
+            let _ = second::apply(&mut s, n, &b);
         }
     }
     (s, keys)
@@ -244,7 +298,26 @@ pub fn damage(random: &mut Random, s: &mut Vec<u8>) {
     let used = used(s);
     let some = if used.is_empty() { random.below(n) } else { used[random.below(used.len())] };
     let other = random.below(n);
-    match random.below(12) {
+    match random.below(17) {
+        12 | 13 => {
+            // version or retired-since: a number that stands in the store, or one beside it
+            let n = near(random, s).to_le_bytes();
+            s[slot(some)][[40, 44][random.below(2)]..][..4].copy_from_slice(&n);
+        }
+        14 | 15 => {
+            // a root's life, and with it which versions it covers
+            let roots: Vec<usize> = used.iter().copied().filter(|&i| s[slot(i)][6..40].iter().all(|&b| b == 0)).collect();
+            if roots.is_empty() {
+                return;
+            }
+            let n = if random.one_in(3) { 0 } else { near(random, s) };
+            s[slot(roots[random.below(roots.len())])][44..48].copy_from_slice(&n.to_le_bytes());
+        }
+        16 => {
+            // oldest or latest: a number that stands in the store, or one beside it
+            let n = near(random, s).to_le_bytes();
+            s[[12, 16][random.below(2)]..][..4].copy_from_slice(&n);
+        }
         0 => {
             let at = slot(some).start + random.below(SLOT);
             s[at] ^= 1 << random.below(8);

@@ -3,9 +3,12 @@
 //! A third names a file: each call of the library is written to it, but those on the largest store, whose copies would fill it.
 
 mod applying;
+mod base;
 mod both;
+#[allow(dead_code)] // some are the bench's alone
 mod cases;
 #[path = "../../passes/src/hostile.rs"]
+#[allow(dead_code)] // those of roots are the passes' alone
 mod hostile;
 mod ours;
 mod stack;
@@ -26,7 +29,8 @@ fn version(random: &mut Random, s: &[u8]) -> u32 {
         0 => oldest.wrapping_sub(1),
         1 => latest.wrapping_add(1),
         2 => oldest,
-        3 if oldest < latest => oldest + random.below((latest - oldest).min(1000) as usize) as u32,
+        3 if oldest < latest => oldest + random.below((latest - oldest) as usize) as u32,
+        4 | 5 if (s.len() - 24) % 120 == 0 => cases::near(random, s),
         _ => latest,
     }
 }
@@ -96,7 +100,8 @@ fn round(seed: u64, tally: &mut Tally) {
         if random.one_in(4) {
             cases::spoil(&mut random, &mut b);
         }
-        let _ = both::apply(tally, "to a made store", seed, &mut s.clone(), &b);
+        let n = if s.len() < 24 { 1 } else { cases::number(&mut random, &s) };
+        let _ = both::apply(tally, "to a made store", seed, &mut s.clone(), n, &b);
     }
     both::format(tally, seed, &mut s);
 }
@@ -265,12 +270,14 @@ fn hard(first: u64, tally: &mut Tally) {
             let v = version(&mut random, &s);
             let _ = both::prune(tally, name, first, &mut s.clone(), v);
             let b = ask_bytes(&Ask { key: keys[0], value: None });
-            let _ = both::apply(tally, name, first, &mut s.clone(), &b);
+            let n = cases::number(&mut random, &s);
+            let _ = both::apply(tally, name, first, &mut s.clone(), n, &b);
         }
     }
 }
 
 fn all(rounds: u64, first: u64, tally: &mut Tally) {
+    base::same(tally);
     pairs(tally);
     edges(tally);
     hard(first, tally);

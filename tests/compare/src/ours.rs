@@ -12,7 +12,7 @@ pub mod record;
 extern "C" {
     fn grants_format(store: *mut u8, store_len: usize) -> u32;
     fn grants_check(store: *const u8, store_len: usize) -> u32;
-    fn grants_apply(store: *mut u8, store_len: usize, batch: *const u8, batch_len: usize, answer: *mut [u8; 40]) -> u32;
+    fn grants_apply(store: *mut u8, store_len: usize, number: u32, batch: *const u8, batch_len: usize, answer: *mut [u8; 40]) -> u32;
     fn grants_prune(store: *mut u8, store_len: usize, version: u32, freed: *mut [u8; 4]) -> u32;
     fn grants_root(store: *const u8, store_len: usize, version: u32, root: *mut [u8; 32]) -> u32;
     fn grants_get(store: *const u8, store_len: usize, version: u32, key: *const u8, key_len: usize, found: *mut [u8; 33]) -> u32;
@@ -98,10 +98,10 @@ pub fn check(store: &[u8]) -> Result<(), Refusal> {
 }
 
 /// Version, root and count of new records.
-pub fn apply(store: &mut [u8], batch: &[u8]) -> Result<(u32, Bytes32, u32), Refusal> {
+pub fn apply(store: &mut [u8], version: u32, batch: &[u8]) -> Result<(u32, Bytes32, u32), Refusal> {
     let answer = answered(|a| {
-        recorded("apply", &[written(store), read(batch), array(a)], || unsafe {
-            grants_apply(store.as_mut_ptr(), store.len(), batch.as_ptr(), batch.len(), a)
+        recorded("apply", &[written(store), number(version), read(batch), array(a)], || unsafe {
+            grants_apply(store.as_mut_ptr(), store.len(), version, batch.as_ptr(), batch.len(), a)
         })
     })?;
     Ok((u32_at(&answer, 0), b32_at(&answer, 4), u32_at(&answer, 36)))

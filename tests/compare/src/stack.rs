@@ -41,9 +41,9 @@ fn deepest_batches() -> Vec<(String, Vec<u8>, Vec<u8>)> {
     for keys in [two, chain] {
         let fresh = cases::fresh(1_100, 0, 0);
         let mut grown = fresh.clone();
-        second::apply(&mut grown, &batch(&keys, Some([1; 32]))).unwrap();
+        second::apply(&mut grown, 1, &batch(&keys, Some([1; 32]))).unwrap();
         let mut alone = grown.clone();
-        second::apply(&mut alone, &batch(&keys[1..], None)).unwrap();
+        second::apply(&mut alone, 2, &batch(&keys[1..], None)).unwrap();
         for (what, s, b) in [
             ("inserts-all", &fresh, batch(&keys, Some([1; 32]))),
             ("changes-all", &grown, batch(&keys, Some([2; 32]))),
@@ -68,7 +68,7 @@ pub fn of_prove() -> usize {
     };
     let mut s = cases::fresh(600, 0, 0);
     let asks: Vec<u8> = [0, 1, 6, 7].iter().flat_map(|&l| ask_bytes(&Ask { key: key(l), value: Some([1; 32]) })).collect();
-    second::apply(&mut s, &asks).unwrap();
+    second::apply(&mut s, 1, &asks).unwrap();
     most(move || assert_eq!(crate::ours::prove(&s, 1, &key(3), &mut vec![0; 17_080]), Ok(17_080)))
 }
 
@@ -77,7 +77,7 @@ pub fn of_prove() -> usize {
 pub fn of_check_and_prune() -> [(&'static str, usize); 2] {
     let mut s = cases::fresh(600, 0, 0);
     let asks: Vec<u8> = [1, 2].iter().flat_map(|&l| ask_bytes(&Ask { key: [l; 32], value: Some([l; 32]) })).collect();
-    second::apply(&mut s, &asks).unwrap();
+    second::apply(&mut s, 1, &asks).unwrap();
     let t = s.clone();
     let check = most(move || assert!(crate::ours::check(&t).is_ok()));
     [("check", check), ("prune", most(move || assert!(crate::ours::prune(&mut s.clone(), 1).is_ok())))]
@@ -93,16 +93,17 @@ pub fn of_changes() -> usize {
     };
     let batch = |value: u8| -> Vec<u8> { [0, 1].iter().flat_map(|&l| ask_bytes(&Ask { key: key(l), value: Some([value; 32]) })).collect() };
     let mut s = cases::fresh(600, 0, 0);
-    second::apply(&mut s, &batch(1)).unwrap();
-    second::apply(&mut s, &batch(2)).unwrap();
+    second::apply(&mut s, 1, &batch(1)).unwrap();
+    second::apply(&mut s, 2, &batch(2)).unwrap();
     most(move || assert_eq!(crate::ours::changes(&s, 1, 2, u32::MAX, &mut vec![0; 288]), Ok(4)))
 }
 
 /// Apply's for each of those.
 pub fn of_apply() -> Vec<(String, usize)> {
     let each = |(name, s, b): (String, Vec<u8>, Vec<u8>)| {
-        assert!(second::apply(&mut s.clone(), &b).is_ok());
-        (name, most(move || assert!(crate::ours::apply(&mut s.clone(), &b).is_ok())))
+        let next = cases::next(&s);
+        assert!(second::apply(&mut s.clone(), next, &b).is_ok());
+        (name, most(move || assert!(crate::ours::apply(&mut s.clone(), next, &b).is_ok())))
     };
     deepest_batches().into_iter().map(each).collect()
 }

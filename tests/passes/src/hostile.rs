@@ -1,6 +1,6 @@
 //! Full stores, and stores made to be slow for a check that guesses, or to mislead it.
 
-use crate::cases::{self, Random};
+use crate::cases::{self, leaf_roots, renewed, Random};
 use second::bytes::{ask_bytes, put_slot, slot_bytes, Ask, Body, Child, Place, Record, HEADER, NO_CHILD, SLOT};
 use second::calls::apply_to_sound;
 use second::Bytes32;
@@ -21,7 +21,8 @@ pub fn filled(random: &mut Random, capacity: usize, size: usize, most: usize) ->
         asks.sort_by_key(|a| a.key);
         asks.dedup_by_key(|a| a.key);
         let batch: Vec<u8> = asks.iter().flat_map(ask_bytes).collect();
-        if apply_to_sound(&mut s, &batch).is_err() {
+        let next = cases::next(&s);
+        if apply_to_sound(&mut s, next, &batch).is_err() {
             break;
         }
     }
@@ -36,7 +37,7 @@ pub fn deep(capacity: usize) -> Vec<u8> {
         key[31] = (n % 2) as u8;
         let mut value = [0; 32];
         value[..4].copy_from_slice(&n.to_le_bytes());
-        if apply_to_sound(&mut s, &ask_bytes(&Ask { key, value: Some(value) })).is_err() {
+        if apply_to_sound(&mut s, n + 1, &ask_bytes(&Ask { key, value: Some(value) })).is_err() {
             return s;
         }
     }
@@ -112,6 +113,60 @@ pub fn hostile(random: &mut Random, n: usize) -> Vec<(&'static str, Vec<u8>)> {
         ("two-places-at-256-bits", store(n as u32, &two_deep)),
         ("children-in-any-order", store(n as u32, &turned)),
         ("children-crossed", store(versions, &crossed)),
+    ]
+}
+
+/// The store of a leaf's roots by its batches.
+#[allow(dead_code)]
+pub fn roots_by_batches(n: usize) -> Vec<u8> {
+    let mut s = cases::fresh(n, 0, 0);
+    for i in 0..n {
+        let batch = if i == 0 { ask_bytes(&Ask { key: [7; 32], value: Some([9; 32]) }).to_vec() } else { vec![] };
+        apply_to_sound(&mut s, renewed(i), &batch).unwrap();
+    }
+    s
+}
+
+/// A sound store of two leaves below a root that is renewed.
+pub fn roots_over_two(n: usize) -> Vec<u8> {
+    let leaves = [0, 0x80].map(|first| leaf([first; 32], 1, 1, [first; 32]));
+    let children = leaves.each_ref().map(|r| Child { version: 1, hash: second::tree::record_hash(r) });
+    let roots = leaf_roots(n - 2).0.into_iter().map(|r| Record { body: Body::Inner(children), ..r });
+    store(renewed(n - 3), &leaves.into_iter().chain(roots).collect::<Vec<_>>())
+}
+
+/// Stores of a leaf's roots, and the answer that check gives: 3 where two live together or one is gone by oldest.
+pub fn rooted(n: usize) -> Vec<(&'static str, u32, Vec<u8>)> {
+    let (latest, half) = (renewed(n - 1), n / 2);
+    let with = |change: &dyn Fn(&mut [Record])| {
+        let mut records = leaf_roots(n).0;
+        change(&mut records);
+        store(latest, &records)
+    };
+    let late = |r: &mut Record| r.retired += (r.retired != 0 && r.retired < latest) as u32;
+    // Oldest inside the life of a root, and those before it free; one of them is put back.
+    let oldest = renewed(half) + 1;
+    let mut kept = cases::fresh(n, oldest, latest);
+    leaf_roots(n).0.iter().enumerate().skip(half).for_each(|(i, r)| put_slot(&mut kept, i, &slot_bytes(r)));
+    let back = |retired| {
+        let mut s = kept.clone();
+        put_slot(&mut s, 0, &slot_bytes(&Record { retired, ..leaf_roots(n).0[0] }));
+        s
+    };
+    vec![
+        ("roots-in-falling-order", 0, with(&|r| r.reverse())),
+        ("a-root-that-ends-early", 0, with(&|r| r[half].retired -= 1)),
+        ("a-root-older-than-oldest", 0, kept.clone()),
+        ("two-roots-older-than-oldest", 3, back(oldest + 1)),
+        ("a-root-gone-by-oldest", 3, back(oldest)),
+        ("a-root-that-ends-late", 3, with(&|r| late(&mut r[half]))),
+        ("the-first-root-ends-late", 3, with(&|r| late(&mut r[0]))),
+        ("the-last-but-one-never-ends", 3, with(&|r| r[n - 2].retired = 0)),
+        ("roots-that-all-end-late", 3, with(&|r| r.iter_mut().for_each(late))),
+        ("roots-that-never-end", 3, with(&|r| r.iter_mut().for_each(|r| r.retired = 0))),
+        ("the-first-root-around-all", 3, with(&|r| r[0].retired = latest)),
+        ("a-root-between", 3, with(&|r| (r[0].version, r[0].retired) = (r[half].version + 1, r[half].version + 2))),
+        ("a-root-twice", 3, with(&|r| r[0] = r[half])),
     ]
 }
 

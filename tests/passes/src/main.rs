@@ -18,7 +18,10 @@ struct Tally {
 impl Tally {
     /// The passes answer as they should, and check as the second program.
     fn look(&mut self, name: &str, s: &[u8]) {
-        let wanted = second::check(s).err().unwrap_or(0);
+        self.see(name, s, second::check(s).err().unwrap_or(0));
+    }
+
+    fn see(&mut self, name: &str, s: &[u8], wanted: u32) {
         let passes = match wanted {
             0 => 0,
             3 => 1,
@@ -36,10 +39,20 @@ impl Tally {
 
 fn main() {
     let mut tally = Tally::default();
+    assert!(cases::roots(300, 0) == hostile::roots_by_batches(300));
     let mut random = Random(29);
     for capacity in [200, 1_024, 16_384] {
         for (name, s) in hostile::hostile(&mut random, capacity) {
             tally.look(&format!("{name}, {capacity}"), &s);
+        }
+        let sound = [("roots", 0, cases::roots(capacity, 0)), ("roots-over-two-leaves", 0, hostile::roots_over_two(capacity))];
+        for (name, wanted, s) in hostile::rooted(capacity).into_iter().chain(sound) {
+            // The second program goes over all roots for each of them: too long for many.
+            if capacity <= 1_024 {
+                assert_eq!(second::check(&s).err().unwrap_or(0), wanted, "{name}");
+            }
+            tally.see(&format!("{name}, {capacity}"), &s, wanted);
+            tally.see(&format!("{name} in any order, {capacity}"), &cases::scattered(&mut random, &s, 0), wanted);
         }
         for (what, s) in [
             ("full", hostile::filled(&mut random, capacity, capacity / 64, capacity).0),

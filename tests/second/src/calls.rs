@@ -13,22 +13,21 @@ pub fn format(s: &mut [u8]) -> Result<(), Refusal> {
     Ok(())
 }
 
-/// Version, root and count of new records.
-pub fn apply(s: &mut [u8], batch: &[u8]) -> Result<(u32, Bytes32, u32), Refusal> {
+/// The number given, the root and the count of new records. By 2026-13 the new version has the caller's number, any above latest, else 18.
+pub fn apply(s: &mut [u8], number: u32, batch: &[u8]) -> Result<(u32, Bytes32, u32), Refusal> {
     if !sound(&bytes::store(s)?) {
         return Err(3);
     }
-    apply_to_sound(s, batch)
+    apply_to_sound(s, number, batch)
 }
 
 /// The rest of apply, for a store that is known to be sound.
-pub fn apply_to_sound(s: &mut [u8], batch: &[u8]) -> Result<(u32, Bytes32, u32), Refusal> {
+pub fn apply_to_sound(s: &mut [u8], new: u32, batch: &[u8]) -> Result<(u32, Bytes32, u32), Refusal> {
     let store = bytes::store(s)?;
     let asks = bytes::batch(batch)?;
-    if store.latest == u32::MAX {
-        return Err(6);
+    if new <= store.latest {
+        return Err(18);
     }
-    let new = store.latest + 1;
     let index = Index::of(&store);
     let old = version_tree(&store, &index, store.latest);
     let before = grants_of(old.values().map(|(_, r)| r));
@@ -92,7 +91,7 @@ pub fn prune(s: &mut [u8], n: u32) -> Result<u32, Refusal> {
 pub fn root(s: &[u8], version: u32) -> Result<Bytes32, Refusal> {
     let store = bytes::store(s)?;
     proof::kept(&store, version)?;
-    Ok(Index::of(&store).find(&store, version, Place::EMPTY).map_or(ZEROS, |(_, r)| record_hash(r)))
+    Ok(Index::of(&store).root(&store, version).map_or(ZEROS, |(_, r)| record_hash(r)))
 }
 
 /// The value, or None for absent.

@@ -53,7 +53,7 @@ fn leaf_begins(r: &Record) -> Result<(), Refusal> {
 
 pub fn walk(store: &Store, index: &Index, version: u32, key: &Bytes32) -> Result<Walk, Refusal> {
     let mut trail = vec![];
-    let Some((_, mut r)) = index.find(store, version, Place::EMPTY) else {
+    let Some((_, mut r)) = index.root(store, version) else {
         return Ok(Walk { trail, end: None });
     };
     leaf_begins(r)?;
@@ -132,7 +132,7 @@ pub fn proof(s: &[u8], version: u32, key: &[u8]) -> Result<Vec<u8>, Refusal> {
     let store = bytes::store(s)?;
     kept(&store, version)?;
     let index = Index::of(&store);
-    if index.find(&store, version, Place::EMPTY).is_none() {
+    if index.root(&store, version).is_none() {
         return Err(14);
     }
     let walk = walk(&store, &index, version, &key)?;

@@ -1,7 +1,7 @@
-//! 01, 'Sound': every kept version's tree is followed from its root.
+//! 01, 'Sound': every kept version's tree is followed from its root, which 02, 2026-13, finds by its lifetime.
 
-use crate::bytes::{self, Body, Place, Record, Slot, Store};
-use crate::tree::{record_hash, Index};
+use crate::bytes::{self, Body, Record, Slot, Store};
+use crate::tree::{lives, record_hash, Index};
 use crate::Refusal;
 use std::collections::{BTreeSet, HashSet};
 
@@ -13,10 +13,6 @@ pub fn check(s: &[u8]) -> Result<(), Refusal> {
     } else {
         Err(3)
     }
-}
-
-fn retired_by(r: &Record, v: u32) -> bool {
-    0 < r.retired && r.retired <= v
 }
 
 pub fn sound(store: &Store) -> bool {
@@ -35,17 +31,11 @@ pub fn sound(store: &Store) -> bool {
             }
         }
     }
-    // Between two versions at which something begins or ends, nothing differs but the version's number, under which no root is found:
-    // one of them stands for all.
-    let mut versions = BTreeSet::from([store.oldest, store.latest]);
+    // From one version at which a record's life begins or ends up to the next one, the same records live and the same root is found: the first of
+    // them stands for all.
+    let mut versions = BTreeSet::from([store.oldest]);
     for (_, r) in &records {
-        for v in [r.version, r.retired] {
-            for w in [v.saturating_sub(1), v, v.saturating_add(1)] {
-                if store.oldest <= w && w <= store.latest {
-                    versions.insert(w);
-                }
-            }
-        }
+        versions.extend([r.version, r.retired].iter().filter(|&&v| store.oldest <= v && v <= store.latest));
     }
     let index = Index::of(store);
     versions.iter().all(|&v| stands(store, &index, &records, v))
@@ -53,12 +43,12 @@ pub fn sound(store: &Store) -> bool {
 
 fn stands(store: &Store, index: &Index, records: &[(usize, &Record)], v: u32) -> bool {
     let mut seen = HashSet::new();
-    if let Some((i, r)) = index.find(store, v, Place::EMPTY) {
+    if let Some((i, r)) = index.root(store, v) {
         if !follow(store, index, i, r, &mut seen) {
             return false;
         }
     }
-    records.iter().all(|(i, r)| seen.contains(i) == (r.version <= v && !retired_by(r, v)))
+    records.iter().all(|(i, r)| seen.contains(i) == lives(r, v))
 }
 
 fn follow(store: &Store, index: &Index, i: usize, r: &Record, seen: &mut HashSet<usize>) -> bool {

@@ -7,22 +7,42 @@ use std::collections::{BTreeMap, HashMap};
 
 pub type Grants = BTreeMap<Bytes32, Bytes32>;
 
-/// Which slot is found for a version and place: the lowest that matches.
-pub struct Index(HashMap<(u32, Place), usize>);
+/// Which slot is found for a version and place: the lowest that matches. Roots are found by their lifetimes (02, 2026-13): their slots, ascending.
+pub struct Index {
+    nodes: HashMap<(u32, Place), usize>,
+    roots: Vec<usize>,
+}
+
+/// 01's lifetime: from its version until the version before retired-since, to latest where that is 0.
+pub fn lives(r: &Record, version: u32) -> bool {
+    r.version <= version && (r.retired == 0 || version < r.retired)
+}
 
 impl Index {
     pub fn of(store: &Store) -> Index {
-        let mut map = HashMap::new();
+        let mut nodes = HashMap::new();
+        let mut roots = vec![];
         for (i, s) in store.slots.iter().enumerate() {
             if let Slot::Used(r) = s {
-                map.entry((r.version, r.place)).or_insert(i);
+                nodes.entry((r.version, r.place)).or_insert(i);
+                if r.place == Place::EMPTY {
+                    roots.push(i);
+                }
             }
         }
-        Index(map)
+        Index { nodes, roots }
+    }
+
+    /// The root of a version: the root record, if any, whose lifetime covers it; of several the lowest slot's.
+    pub fn root<'a>(&self, store: &'a Store, version: u32) -> Option<(usize, &'a Record)> {
+        self.roots.iter().find_map(|&i| match &store.slots[i] {
+            Slot::Used(r) if lives(r, version) => Some((i, r)),
+            _ => None,
+        })
     }
 
     pub fn find<'a>(&self, store: &'a Store, version: u32, place: Place) -> Option<(usize, &'a Record)> {
-        let i = *self.0.get(&(version, place))?;
+        let i = *self.nodes.get(&(version, place))?;
         match &store.slots[i] {
             Slot::Used(r) => Some((i, r)),
             _ => None,
@@ -40,14 +60,13 @@ pub fn record_hash(r: &Record) -> Bytes32 {
 /// The nodes of a sound store's version, by place, with their slots.
 pub fn version_tree(store: &Store, index: &Index, version: u32) -> HashMap<Place, (usize, Record)> {
     let mut nodes = HashMap::new();
-    let mut todo = vec![(version, Place::EMPTY)];
-    while let Some((v, p)) = todo.pop() {
-        let Some((i, r)) = index.find(store, v, p) else { continue };
-        nodes.insert(p, (i, *r));
+    let mut todo: Vec<(usize, &Record)> = index.root(store, version).into_iter().collect();
+    while let Some((i, r)) = todo.pop() {
+        nodes.insert(r.place, (i, *r));
         if let Body::Inner(children) = r.body {
             for (c, b) in children.iter().zip([false, true]) {
                 if c.version != 0 {
-                    todo.push((c.version, p.longer(b)));
+                    todo.extend(index.find(store, c.version, r.place.longer(b)));
                 }
             }
         }

@@ -48,19 +48,19 @@ fn desk() {
     let (a, b, c, d, e) = (key(0, 0), key(0x40, 0), key(0x60, 0), key(0x80, 0), key(0x80, 1));
     let four = batch(&[insert(a, 1), insert(b, 2), insert(c, 3), insert(d, 4)]);
     let mut s = fresh(20);
-    let (v, _, n) = apply(&mut s, &four).unwrap();
+    let (v, _, n) = apply(&mut s, 1, &four).unwrap();
     assert_eq!((v, n), (1, 7));
     assert_eq!(places(&s)[..8], ["010", "011", "00", "01", "0", "1", "", "-"]);
-    let (v, _, n) = apply(&mut s, &batch(&[delete(b), insert(c, 5)])).unwrap();
+    let (v, _, n) = apply(&mut s, 2, &batch(&[delete(b), insert(c, 5)])).unwrap();
     assert_eq!((v, n, retired_since(&s, 2)), (2, 3, 5));
     assert_eq!(places(&s)[7..11], ["01", "0", "", "-"]);
-    let (v, _, n) = apply(&mut s, &[]).unwrap();
+    let (v, _, n) = apply(&mut s, 3, &[]).unwrap();
     assert_eq!((v, n, retired_since(&s, 3)), (3, 1, 1));
-    let (v, _, n) = apply(&mut s, &batch(&[delete(a)])).unwrap();
+    let (v, _, n) = apply(&mut s, 4, &batch(&[delete(a)])).unwrap();
     assert_eq!((v, n, retired_since(&s, 4)), (4, 2, 4));
-    let (v, _, n) = apply(&mut s, &batch(&[delete(d)])).unwrap();
+    let (v, _, n) = apply(&mut s, 5, &batch(&[delete(d)])).unwrap();
     assert_eq!((v, n, retired_since(&s, 5)), (5, 1, 3));
-    let (v, r, n) = apply(&mut s, &batch(&[delete(c)])).unwrap();
+    let (v, r, n) = apply(&mut s, 6, &batch(&[delete(c)])).unwrap();
     assert_eq!((v, n, r, retired_since(&s, 6)), (6, 0, ZEROS, 1));
     // 2026-03: versions 0 and 6 are empty, so there is no proof; the shortest absence proof has 112 bytes, in version 5, which holds C alone.
     let mut room = [7; 200];
@@ -76,26 +76,26 @@ fn desk() {
     assert_eq!(prune(&mut s, 4), Ok(10));
     let stay: Vec<usize> = places(&s).iter().enumerate().filter(|(_, p)| *p != "-").map(|(i, _)| i).collect();
     assert_eq!(stay, [5, 11, 12, 13]);
-    assert_eq!(apply(&mut s, &batch(&[insert(e, 6)])).map(|x| (x.0, x.2)), Ok((7, 1)));
+    assert_eq!(apply(&mut s, 7, &batch(&[insert(e, 6)])).map(|x| (x.0, x.2)), Ok((7, 1)));
     assert_eq!(places(&s)[0], "");
     assert_eq!(prune(&mut s, 4), Ok(0));
     assert_eq!(prune(&mut s, 8), Err(8));
     assert_eq!(check(&s), Ok(()));
     let mut s = fresh(20);
-    assert_eq!(apply(&mut s, &batch(&[insert(a, 1), insert(key(0x10, 0), 2)])).map(|x| x.2), Ok(6));
+    assert_eq!(apply(&mut s, 1, &batch(&[insert(a, 1), insert(key(0x10, 0), 2)])).map(|x| x.2), Ok(6));
     let mut s = fresh(5);
-    assert_eq!(apply(&mut s, &batch(&[insert(a, 1), insert(key(0x10, 0), 2)])), Err(7));
+    assert_eq!(apply(&mut s, 1, &batch(&[insert(a, 1), insert(key(0x10, 0), 2)])), Err(7));
     let mut s = fresh(7);
-    apply(&mut s, &four).unwrap();
-    assert_eq!(apply(&mut s, &[]), Err(7));
-    assert_eq!(apply(&mut s, &batch(&[delete(a), delete(b), delete(c), delete(d)])).map(|x| x.2), Ok(0));
+    apply(&mut s, 1, &four).unwrap();
+    assert_eq!(apply(&mut s, 2, &[]), Err(7));
+    assert_eq!(apply(&mut s, 2, &batch(&[delete(a), delete(b), delete(c), delete(d)])).map(|x| x.2), Ok(0));
 }
 
 #[test]
 fn deep() {
     let mut s = fresh(300);
     let ks = [key(0, 0), key(0, 1)];
-    assert_eq!(apply(&mut s, &batch(&[insert(ks[0], 1), insert(ks[1], 2)])).map(|x| x.2), Ok(258));
+    assert_eq!(apply(&mut s, 1, &batch(&[insert(ks[0], 1), insert(ks[1], 2)])).map(|x| x.2), Ok(258));
     let mut room = vec![0; 17_080];
     let r = root(&s, 1).unwrap();
     let n = prove(&s, 1, &ks[1], &mut room).unwrap() as usize;
@@ -103,7 +103,7 @@ fn deep() {
     assert_eq!(verify(&r, &ks[1], &room[..n]), Ok(Some([2; 32])));
     let mut s = fresh(600);
     let asks: Vec<Ask> = [0, 1, 6, 7].iter().map(|&l| insert(key(0, l), 3)).collect();
-    apply(&mut s, &batch(&asks)).unwrap();
+    apply(&mut s, 1, &batch(&asks)).unwrap();
     let r = root(&s, 1).unwrap();
     for l in 0..8 {
         let k = key(0, l);
@@ -112,4 +112,41 @@ fn deep() {
         assert_eq!(n == 17_080, (2..6).contains(&l));
         assert_eq!(prove(&s, 1, &k, &mut vec![0; n - 1]), Err(9));
     }
+}
+
+/// 2026-13: the desk's grants under numbers with gaps.
+#[test]
+fn gaps() {
+    let (a, b, c, d) = (key(0, 0), key(0x40, 0), key(0x60, 0), key(0x80, 0));
+    let mut s = fresh(20);
+    let (v, five, n) = apply(&mut s, 5, &batch(&[insert(a, 1), insert(b, 2), insert(c, 3), insert(d, 4)])).unwrap();
+    assert_eq!((v, n), (5, 7));
+    let (v, nine, n) = apply(&mut s, 9, &batch(&[delete(b), delete(c)])).unwrap();
+    assert_eq!((v, n, retired_since(&s, 9)), (9, 2, 6));
+    assert_eq!([0, 4, 5, 7, 8, 9].map(|v| root(&s, v).unwrap()), [ZEROS, ZEROS, five, five, five, nine]);
+    assert_eq!((get(&s, 7, &b), get(&s, 9, &b), get(&s, 4, &b)), (Ok(Some([2; 32])), Ok(None), Ok(None)));
+    assert_eq!(second::changes::measures(&s, 5, 8), Ok((1, 0)));
+    assert_eq!(second::changes::measures(&s, 7, 9), Ok((7, 2)));
+    // Nothing was retired by 7: the earlier tree stays whole, and its root is older than oldest.
+    assert_eq!((prune(&mut s, 7), check(&s)), (Ok(0), Ok(())));
+    assert_eq!((root(&s, 6), root(&s, 7), root(&s, 9)), (Err(8), Ok(five), Ok(nine)));
+    assert_eq!(apply(&mut s, 12, &batch(&[delete(a), delete(d)])), Ok((12, ZEROS, 0)));
+    let (_, fifteen, n) = apply(&mut s, 15, &batch(&[insert(d, 4)])).unwrap();
+    assert_eq!((n, retired_since(&s, 12), retired_since(&s, 15)), (1, 3, 0));
+    assert_eq!([11, 12, 14, 15].map(|v| root(&s, v).unwrap()), [nine, ZEROS, ZEROS, fifteen]);
+    assert_eq!((prune(&mut s, 13), check(&s)), (Ok(9), Ok(())));
+    assert_eq!((root(&s, 13), root(&s, 15)), (Ok(ZEROS), Ok(fifteen)));
+    let (v, last, n) = apply(&mut s, u32::MAX, &batch(&[insert(a, 1)])).unwrap();
+    assert_eq!((v, n, retired_since(&s, u32::MAX)), (u32::MAX, 3, 1));
+    assert_eq!([4_000_000_000, u32::MAX].map(|v| root(&s, v).unwrap()), [fifteen, last]);
+    let before = s.clone();
+    for number in [0, 1, 15, 16, u32::MAX] {
+        assert_eq!(apply(&mut s, number, &[]), Err(18));
+    }
+    // 5, then 18, then 7.
+    let disordered = batch(&[insert(b, 1), insert(a, 1)]);
+    assert_eq!(apply(&mut s, 3, &disordered), Err(5));
+    assert_eq!(apply(&mut fresh(1), 0, &batch(&[insert(a, 1), insert(b, 1)])), Err(18));
+    assert_eq!(apply(&mut fresh(1), 1, &batch(&[insert(a, 1), insert(b, 1)])), Err(7));
+    assert_eq!(s, before);
 }

@@ -30,7 +30,7 @@ same-length-2 c = search needs
 
 returns-2 : tie.Need-returns-2
 unfolding appliedSays
-returns-2 c = refused-4 (checked-sound (c .before .before .before .check .ensures) (c .before .before .if1 .left)) (c .before .before .before .before .before .before .before .args .batch .now) (sym (c .before .batch-form .ensures) ∙ not-true _ (c .if2 .taken))
+returns-2 c = refused-4 (checked-sound (c .before .before .before .check .ensures) (c .before .before .if1 .left)) (c .before .before .before .before .before .before .before .args .number) (c .before .before .before .before .before .before .before .args .batch .now) (sym (c .before .batch-form .ensures) ∙ not-true _ (c .if2 .taken))
 
 batch-order-requires : tie.Need-batch-order-requires
 batch-order-requires c κs = search needs
@@ -40,7 +40,7 @@ same-length-3 c = search needs
 
 returns-3 : tie.Need-returns-3
 unfolding appliedSays
-returns-3 c = refused-5 (checked-sound (c .before .before .before .before .before .check .ensures) (c .before .before .before .before .if1 .left)) (c .before .before .before .before .before .before .before .before .before .args .batch .now) (sym (c .before .before .before .batch-form .ensures) ∙ not-false _ (c .before .before .if2 .left)) (sym (c .before .batch-order .ensures) ∙ not-true _ (c .if3 .taken))
+returns-3 c = refused-5 (checked-sound (c .before .before .before .before .before .check .ensures) (c .before .before .before .before .if1 .left)) (c .before .before .before .before .before .before .before .before .before .args .number) (c .before .before .before .before .before .before .before .before .before .args .batch .now) (sym (c .before .before .before .batch-form .ensures) ∙ not-false _ (c .before .before .if2 .left)) (sym (c .before .batch-order .ensures) ∙ not-true _ (c .if3 .taken))
 
 publish-requires : tie.Need-publish-requires
 publish-requires c κs =

@@ -20,13 +20,17 @@ same-length : tie.Need-same-length
 same-length c = search needs
 
 returns : tie.Need-returns
-returns c = export-refused (c .before .before .before .before .before .before .before .before .before .args .batch .now) (c .before .before .before .before .before .apply .ensures) (c .before .applied .given .1)
+returns c =
+    let a = c .before .before .before .before .before .before .before .before .before .args in
+    export-refused (a .number) (a .batch .now) (c .before .before .before .before .before .apply .ensures) (c .before .applied .given .1)
 
 same-length-2 : tie.Need-same-length-2
 same-length-2 c = search needs
 
 returns-2 : tie.Need-returns-2
-returns-2 c = export-made (c .before .before .before .before .before .before .before .before .before .before .before .args .batch .now) (c .before .before .before .before .before .before .before .apply .ensures) (c .before .before .before .applied2 .given .1) (c .put-answer .ensures)
+returns-2 c =
+    let a = c .before .before .before .before .before .before .before .before .before .before .before .args in
+    export-made (a .number) (a .batch .now) (c .before .before .before .before .before .before .before .apply .ensures) (c .before .before .before .applied2 .given .1) (c .put-answer .ensures)
 
 pub grants-apply-spec : {M : Type 1} → statement M
 grants-apply-spec =

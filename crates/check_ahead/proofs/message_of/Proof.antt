@@ -1,7 +1,7 @@
 -- `check_ahead::message_of` meets its contract: the kind says what is hashed. Assumes nothing.
 use native.Mathlib.Omega.{arith}
 use mathlib.Core.Path.{ap, _∙_}
-use Rattle.check_pass.proofs.Records.{read-whole}
+use Rattle.hash.proofs.Laws.{read-whole}
 use Rattle.layout.specs.Slots.{grantIn, leftIn, rightIn}
 use Rattle.store.proofs.Slots.{slot-within}
 use Rattle.check_ahead.proofs.Messages.{leaf-message, inner-message}

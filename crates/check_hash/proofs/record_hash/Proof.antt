@@ -1,9 +1,9 @@
 -- `check_hash::record_hash` meets its contract: the kind says what is hashed. Assumes nothing.
 use native.Mathlib.Omega.{arith}
 use mathlib.Core.Path.{ap, _∙_}
+use Rattle.hash.proofs.Laws.{read-whole}
 use Rattle.layout.specs.Slots.{grantIn, leftIn, rightIn}
 use Rattle.store.proofs.Slots.{slot-within}
-use Rattle.check_pass.proofs.Records.{read-whole}
 use Rattle.check_hash.proofs.Fields.{leaf-hash-is, inner-hash-is}
 use borrow.Author.Needs.{needs}
 use Rattle.check_hash.proofs.record_hash.Statement.{statement}

@@ -2,9 +2,9 @@
 use native.Mathlib.Omega.{arith}
 use Prim.Native.Nat.{_-_, _/_}
 use mathlib.Core.Path.{sym, ap, subst}
+use Rattle.hash.proofs.Laws.{read-whole}
 use Rattle.layout.specs.Stores.{Has}
 use Rattle.store.proofs.Slots.{slot-within}
-use Rattle.check_pass.proofs.Records.{read-whole}
 use Rattle.check_hash.proofs.Fields.{stored-is}
 use borrow.Author.Needs.{needs}
 use Rattle.check_hash.proofs.stored.Statement.{statement}

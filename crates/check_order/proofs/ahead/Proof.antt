@@ -1,11 +1,11 @@
 -- `check_order::ahead` meets its contract: bit count, then bits, then version. Assumes nothing.
 use native.Mathlib.Omega.{arith}
 use mathlib.Core.Path.{ap, _∙_}
+use Rattle.hash.proofs.Laws.{read-whole}
 use Rattle.layout.specs.Slots.{bitsIn}
 use Rattle.layout.specs.Stores.{slotIn}
 use Rattle.check_order.specs.Order.{keyNo}
 use Rattle.store.proofs.Slots.{slot-within, slot-long}
-use Rattle.check_pass.proofs.Records.{read-whole}
 use Rattle.check_order.proofs.Keys.{by-count, by-version, by-bits}
 use borrow.Author.Needs.{needs}
 use Rattle.check_order.proofs.ahead.Statement.{statement}

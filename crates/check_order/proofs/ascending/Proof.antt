@@ -1,19 +1,18 @@
--- `check_order::ascending` meets its contract: the entries before k ascend. Assumes nothing.
+-- `check_order::ascending` meets its contract: the entries before k follow each other. Assumes nothing.
 use native.Mathlib.Omega.{arith}
 use Prim.Native.Nat.{_-_, _≤_}
-use borrow.Author.Tests.{not-false}
-use Rattle.check_pass.proofs.Passes.{passed-is}
-use Rattle.check_order.specs.Order.{nodeKey, Ascending}
-use Rattle.check_order.proofs.Keys.{next-up}
+use Rattle.check_pass.proofs.Passes.{passed-so}
+use Rattle.check_order.specs.Order.{Follows, InOrder}
+use Rattle.check_order.proofs.Keys.{step-next}
 use borrow.Author.Needs.{needs}
 use Rattle.check_order.proofs.ascending.Statement.{statement}
 use Rattle.check_order.proofs.ascending.Tie as tie
 
 abbrev Inv-loop : tie.InvT-loop
-Inv-loop store table many n k₀ k = (1 ≤ k) × Ascending nodeKey store table k
+Inv-loop store latest table many n k₀ k = (1 ≤ k) × InOrder latest store table k
 
 abbrev μ-loop : tie.MeasureT-loop
-μ-loop store table many n k₀ k = many - k
+μ-loop store latest table many n k₀ k = many - k
 
 slot-count-requires : tie.Need-slot-count-requires Inv-loop μ-loop
 slot-count-requires c κs = c .before .pre .0
@@ -67,8 +66,8 @@ loop-again c =
     let c10 = c7 .before .before .before in
     let i = c7 .loop .inv in (
       omega (arith, i .0),
-      next-up nodeKey (c10 .args .store .now) (c10 .args .table .now) _ (i .0) (i .1) (c4 .wide .ensures)
-          (c2 .wide2 .ensures) (passed-is (not-false (c .before .in-order .result) (c .if1 .left)) (c .before .in-order .ensures)),
+      step-next (Follows (c10 .args .latest) (c10 .args .store .now)) (c10 .args .table .now) _ (i .0) (i .1) (c4 .wide .ensures)
+          (c2 .wide2 .ensures) (passed-so (c .before .in-order .result) (c .if1 .left) (c .before .in-order .ensures)),
     )
 
 returns-2 : tie.Need-returns-2 Inv-loop μ-loop

@@ -1,9 +1,7 @@
 -- `check_order::named` meets its contract: the slots before i are named. Assumes nothing.
 use native.Mathlib.Omega.{arith}
 use Prim.Native.Nat.{_-_}
-use borrow.Author.Tests.{not-false}
-use Rattle.check_pass.proofs.Passes.{passed-is}
-use Rattle.check_pass.proofs.Walks.{Walk, walk-start, walk-slot, walk-next}
+use Rattle.check_pass.proofs.Walks.{Walk, walk-start, walk-slot, walk-on}
 use Rattle.check_order.specs.Order.{NamedAt}
 use Rattle.check_order.proofs.named.Statement.{statement}
 use Rattle.check_order.proofs.named.Tie as tie
@@ -51,8 +49,8 @@ loop-less c = omega arith
 loop-again : tie.Need-loop-again Inv-loop μ-loop
 loop-again c =
     let c3 = c .before .before .before in
-    walk-next (c3 .before .loop .inv) (c3 .loop-test .taken)
-    (passed-is (not-false (c .before .slot-named .result) (c .if1 .left)) (c .before .slot-named .ensures))
+    walk-on (c3 .before .loop .inv) (c3 .loop-test .taken) (c .before .slot-named .result) (c .if1 .left)
+    (c .before .slot-named .ensures)
 
 returns-2 : tie.Need-returns-2 Inv-loop μ-loop
 returns-2 c = c .before .loop .inv .each

@@ -1,11 +1,9 @@
 -- `check_own::own_right` meets its contract: the own fields of the slots before i are right. Assumes nothing.
 use native.Mathlib.Omega.{arith}
 use Prim.Native.Nat.{_-_}
-use borrow.Author.Tests.{not-false}
 use Rattle.layout.specs.Stores.{storeOf}
 use Rattle.check_seen.specs.Seen.{OwnAt}
-use Rattle.check_pass.proofs.Passes.{passed-is}
-use Rattle.check_pass.proofs.Walks.{Walk, walk-start, walk-slot, walk-next}
+use Rattle.check_pass.proofs.Walks.{Walk, walk-start, walk-slot, walk-on}
 use Rattle.check_own.proofs.own_right.Statement.{statement}
 use Rattle.check_own.proofs.own_right.Tie as tie
 
@@ -44,8 +42,8 @@ loop-less c = omega arith
 loop-again : tie.Need-loop-again Inv-loop μ-loop
 loop-again c =
     let c2 = c .before .before in
-    walk-next (c2 .before .loop .inv) (c2 .loop-test .taken)
-    (passed-is (not-false (c .before .slot-right .result) (c .if1 .left)) (c .before .slot-right .ensures))
+    walk-on (c2 .before .loop .inv) (c2 .loop-test .taken) (c .before .slot-right .result) (c .if1 .left)
+    (c .before .slot-right .ensures)
 
 returns-2 : tie.Need-returns-2 Inv-loop μ-loop
 returns-2 c = c .before .loop .inv .each

@@ -5,15 +5,15 @@ use Rattle.check_quick.proofs.alone.Statement.{statement}
 use Rattle.check_quick.proofs.alone.Tie as tie
 
 slot-count-requires : tie.Need-slot-count-requires
-slot-count-requires c κs = c .before .pre .0
+slot-count-requires c κs = c .before .pre .keeps .size
 
 sort-requires : tie.Need-sort-requires
 sort-requires c κs =
     let c2 = c .before .before in
     let c4 = c2 .before .before in (
-      (record { size = c4 .pre .0; many = c2 .slot-count .ensures }),
+      (record { size = c4 .pre .keeps .size; many = c2 .slot-count .ensures }),
       room-fits (c4 .args .store .now)
-          (record { size = c4 .pre .0; many = c2 .slot-count .ensures }),
+          (record { size = c4 .pre .keeps .size; many = c2 .slot-count .ensures }),
     )
 
 rank-requires : tie.Need-rank-requires
@@ -24,7 +24,7 @@ guessed-requires c κs =
     let c5 = c .before .before .before .before .before in
     let c8 = c5 .before .before .before in
     let c10 = c8 .before .before in
-    ((record { size = c10 .pre .0; many = c8 .slot-count .ensures }), c5 .sort .ensures)
+    ((record { size = c10 .pre .keeps .size; many = c8 .slot-count .ensures }), c5 .sort .ensures)
 
 in-order-requires : tie.Need-in-order-requires
 in-order-requires c κs = search needs

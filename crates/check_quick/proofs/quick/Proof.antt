@@ -23,11 +23,12 @@ alone-requires : tie.Need-alone-requires
 alone-requires c κs =
     let c2 = c .before .before in
     let c3 = c2 .before in
-    let c5 = c3 .before .before in (
-      c5 .pre .size,
-      each-below (OwnAt (storeOf (c5 .args .store .now))) (roomOf (length (c5 .args .store .now)))
-          (c2 .own-right .result) (omega (arith, c .before .if1 .left, c3 .slot-count .ensures)) (c2 .own-right .ensures),
-    )
+    let c5 = c3 .before .before in
+    record {
+      keeps = c5 .pre;
+      own = each-below (OwnAt (storeOf (c5 .args .store .now))) (roomOf (length (c5 .args .store .now)))
+          (c2 .own-right .result) (omega (arith, c .before .if1 .left, c3 .slot-count .ensures)) (c2 .own-right .ensures);
+    }
 
 enum-told : tie.Need-enum-told
 enum-told c = search needs

@@ -9,15 +9,17 @@ use Rattle.check_slot.proofs.above_right.Tie as tie
 ends-before-requires : tie.Need-ends-before-requires
 ends-before-requires c κs = search needs
 
-root-right-requires : tie.Need-root-right-requires
-root-right-requires c κs = search needs
+roots-apart-requires : tie.Need-roots-apart-requires
+roots-apart-requires c κs =
+    let c4 = c .before .before .before .before in
+    c4 .pre .keeps
 
 returns : tie.Need-returns
 returns c =
     let c2 = c .before .before in
     let c5 = c2 .before .before .before in
     root-says (c5 .pre) (c .before .if1 .taken) (c5 .args .leaf) (c5 .args .hash) (c2 .ends-before .ensures .0)
-    (c .root-right .ensures)
+    (c .roots-apart .ensures)
 
 slice-aggregate-front : tie.Need-slice-aggregate-front
 slice-aggregate-front c = search needs
@@ -62,7 +64,7 @@ above-right-spec =
     tie.close
     (tie.spec
     ends-before-requires
-    root-right-requires
+    roots-apart-requires
     returns
     slice-aggregate-front
     sub-front

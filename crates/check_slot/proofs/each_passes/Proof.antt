@@ -2,13 +2,16 @@
 use Prim.Native.Nat.{_-_}
 use native.Mathlib.Omega.{arith}
 use borrow.Author.Tests.{not-true, not-false}
+use Rattle.local.specs.Test.{slotTest, slotsTest}
+use Rattle.nodehash.specs.Node.{leafHash, innerHash}
+use Rattle.layout.specs.Stores.{storeOf}
 use Rattle.store.proofs.Scans.{scan-slot}
-use Rattle.check_slot.proofs.Passing.{Passed, pass-start, pass-next, pass-off, pass-end}
+use Rattle.kin.proofs.Scanning.{Passed, pass-start, pass-next, pass-off, pass-end}
 use Rattle.check_slot.proofs.each_passes.Statement.{statement}
 use Rattle.check_slot.proofs.each_passes.Tie as tie
 
 abbrev Inv-loop : tie.InvT-loop
-Inv-loop store kept n i₀ i = Passed store n i
+Inv-loop store kept n i₀ i = Passed store (slotTest leafHash innerHash (storeOf store)) n i
 
 abbrev μ-loop : tie.MeasureT-loop
 μ-loop store kept n i₀ i = n - i
@@ -19,7 +22,7 @@ slot-count-requires c κs = c .before .pre .size
 loop-holds : tie.Need-loop-holds Inv-loop μ-loop
 loop-holds c =
     let c2 = c .before .before in
-    pass-start (c2 .args .store .now) (c2 .pre .size) (c .slot-count .ensures)
+    pass-start (c2 .args .store .now) (slotTest leafHash innerHash (storeOf (c2 .args .store .now))) (c2 .pre .size) (c .slot-count .ensures)
 
 slot-passes-requires : tie.Need-slot-passes-requires Inv-loop μ-loop
 slot-passes-requires c κs =
@@ -27,6 +30,7 @@ slot-passes-requires c κs =
     (scan-slot (c .before .loop .inv) (c .loop-test .taken), c4 .pre)
 
 returns : tie.Need-returns Inv-loop μ-loop
+unfolding slotsTest
 returns c =
     let c2 = c .before .before in
     pass-off (c2 .before .loop .inv) (c2 .loop-test .taken) (c .before .slot-passes .ensures) (not-true _ (c .if1 .taken))
@@ -45,6 +49,7 @@ loop-again c =
     pass-next (c2 .before .loop .inv) (c2 .loop-test .taken) (c .before .slot-passes .ensures) (not-false _ (c .if1 .left))
 
 returns-2 : tie.Need-returns-2 Inv-loop μ-loop
+unfolding slotsTest
 returns-2 c = pass-end (c .before .loop .inv) (c .loop-test .left)
 
 pub each-passes-spec : {M : Type 1} → statement M

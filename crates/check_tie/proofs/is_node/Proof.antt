@@ -1,11 +1,11 @@
 -- `check_tie::is_node` meets its contract: version, count and bits decide. Assumes nothing.
 use native.Mathlib.Omega.{arith}
 use mathlib.Core.Path.{ap, _∙_}
+use Rattle.hash.proofs.Laws.{read-whole}
 use Rattle.layout.specs.Slots.{bitsIn}
 use Rattle.terms.specs.Bits.{Byte}
 use Rattle.terms.proofs.Lists.{all-of}
 use Rattle.store.proofs.Slots.{slot-within}
-use Rattle.check_pass.proofs.Records.{read-whole}
 use Rattle.check_tie.proofs.Children.{bits-long, node-is}
 use borrow.Author.Needs.{needs}
 use Rattle.check_tie.proofs.is_node.Statement.{statement}

@@ -1,8 +1,7 @@
 -- `check_tie::tie_all` meets its contract slot by slot. Assumes nothing.
 use native.Mathlib.Omega.{arith}
 use Prim.Native.Nat.{_-_}
-use borrow.Author.Tests.{not-false}
-use Rattle.check_pass.proofs.Passes.{passed-is}
+use Rattle.check_pass.proofs.Passes.{passed-so}
 use Rattle.check_pass.proofs.Walks.{walk-slot}
 use Rattle.check_tie.proofs.Loops.{Going, go-start, go-next, go-end, go-off}
 use borrow.Author.Needs.{needs}
@@ -86,7 +85,7 @@ loop-again c =
     let c8 = c .before .before .before .before .before .before .before .before in
     go-next (c8 .before .loop .inv) (c8 .loop-test .taken) (c .before .tie-slot .last .1 .1 .1 .1 .1 .1 .0)
     (c .before .tie-slot .last .1 .1 .1 .1 .1 .0) (c .before .tie-slot .ensures .0)
-    (passed-is (not-false (c .before .tie-slot .result) (c .if1 .left)) (c .before .tie-slot .ensures .1))
+    (passed-so (c .before .tie-slot .result) (c .if1 .left) (c .before .tie-slot .ensures .1))
 
 returns-2 : tie.Need-returns-2 Inv-loop μ-loop
 returns-2 c = go-end (c .before .loop .inv) (c .loop-test .left)

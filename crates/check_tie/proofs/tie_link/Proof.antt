@@ -1,8 +1,7 @@
 -- `check_tie::tie_link` meets its contract: a missing child needs nothing, another is looked at field by field. Assumes nothing.
 use native.Mathlib.Omega.{arith}
 use mathlib.Core.Path.{refl}
-use borrow.Author.Tests.{not-false}
-use Rattle.check_pass.proofs.Passes.{passed-is}
+use Rattle.check_pass.proofs.Passes.{passed-so}
 use Rattle.check_pass.proofs.Records.{room-has, slot-small}
 use Rattle.check_tie.proofs.Sides.{side-missing, side-found}
 use Rattle.check_tie.proofs.tie_link.Statement.{statement}
@@ -103,9 +102,9 @@ returns-7 c =
       c3 .hash-right .ensures .0,
       side-found (a .store .now) (a .parent) (a .link) (a .c) (a .sums .now) (c .add .last .0) refl
           (c11 .if3 .left) (c9 .longer .ensures .place)
-          (passed-is (not-false (c8 .is-node .result) (c7 .if4 .left)) (c8 .is-node .ensures))
-          (passed-is (not-false (c6 .outlives .result) (c5 .if5 .left)) (c6 .outlives .ensures))
-          (passed-is (not-false (c3 .hash-right .result) (c2 .if6 .left)) (c3 .hash-right .ensures .1)) (c .add .ensures),
+          (passed-so (c8 .is-node .result) (c7 .if4 .left) (c8 .is-node .ensures))
+          (passed-so (c6 .outlives .result) (c5 .if5 .left) (c6 .outlives .ensures))
+          (passed-so (c3 .hash-right .result) (c2 .if6 .left) (c3 .hash-right .ensures .1)) (c .add .ensures),
     )
 
 pub tie-link-spec : {M : Type 1} → statement M

@@ -2,13 +2,13 @@
 use native.Mathlib.Omega.{arith}
 use Prim.Native.Nat.{_+_, _*_}
 use mathlib.Core.Path.{refl, ap, _∙_}
-use borrow.Author.Tests.{not-false}
 use Rattle.terms.specs.Bits.{Byte}
 use Rattle.terms.proofs.Lists.{all-of}
+use Rattle.hash.proofs.Laws.{read-whole}
 use Rattle.layout.specs.Slots.{leftIn, rightIn}
 use Rattle.store.proofs.Slots.{slot-within}
-use Rattle.check_pass.proofs.Passes.{passed-is, pass-map}
-use Rattle.check_pass.proofs.Records.{slot-small, read-whole}
+use Rattle.check_pass.proofs.Passes.{passed-so, pass-map}
+use Rattle.check_pass.proofs.Records.{slot-small}
 use Rattle.check_tie.proofs.Loops.{other-tied, inner-here, inner-tied, left-stored, right-stored}
 use borrow.Author.Needs.{needs}
 use Rattle.check_tie.proofs.tie_slot.Statement.{statement}
@@ -145,7 +145,7 @@ returns-3 c =
     (read-whole (c3 .hash-at2 .ensures .1) (c4 .child-hash2 .ensures .1)
     (c4 .child-hash2 .ensures .0 ∙ ap (λ x. rightIn x .hash) (c14 .slot-of .ensures .0))) (a .sums .now)
     (c6 .tie-link .last .1 .1 .1 .1 .1 .1 .0) (c .tie-link2 .last .1 .1 .1 .1 .1 .1 .0)
-    (passed-is (not-false (c6 .tie-link .result) (c5 .if2 .left)) (c6 .tie-link .ensures .1)) in
+    (passed-so (c6 .tie-link .result) (c5 .if2 .left) (c6 .tie-link .ensures .1)) in
     (c .tie-link2 .ensures .0, pass-map (c .tie-link2 .result) both (c .tie-link2 .ensures .1))
 
 pub tie-slot-spec : {M : Type 1} → statement M

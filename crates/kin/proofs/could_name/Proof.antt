@@ -2,7 +2,7 @@
 use mathlib.Core.Path.{sym, _∙_}
 use borrow.Author.Tests.{eq-eqb, ne-eqb}
 use Rattle.store.proofs.Slots.{slot-within}
-use Rattle.kin.specs.Kin.{couldName}
+use Rattle.kin.specs.Parents.{couldName}
 use Rattle.kin.proofs.Naming.{could-be}
 use borrow.Author.Needs.{needs}
 use Rattle.kin.proofs.could_name.Statement.{statement}

@@ -1,25 +1,63 @@
--- `lookup::find_root` meets its contract: the root is the node at the empty place. Assumes nothing.
-use mathlib.Core.Path.{ap, sym, _∙_, subst}
-use Rattle.meaning.specs.Store.{find}
-use Rattle.meaning.proofs.Roots.{root-by-node}
-use Rattle.layout.specs.Stores.{storeOf}
-use Rattle.lookup.specs.Lookup.{Located}
-use borrow.Author.Needs.{needs}
+-- `lookup::find_root` meets its contract: no slot passed holds a root that lives at the version. Assumes nothing.
+use Prim.Native.Nat.{_-_}
+use native.Mathlib.Omega.{arith}
+use mathlib.Core.Path.{sym, _∙_}
+use Rattle.store.proofs.Scans.{Scan, scan-slot}
+use Rattle.lookup.proofs.Rooting.{Ahead, root-start, root-next, root-found, root-nowhere}
 use Rattle.lookup.proofs.find_root.Statement.{statement}
 use Rattle.lookup.proofs.find_root.Tie as tie
 
-top-requires : tie.Need-top-requires
-top-requires c κs = search needs
+abbrev Inv-loop : tie.InvT-loop
+Inv-loop store version n j₀ j = Scan store (Ahead store version) n j
 
-find-requires : tie.Need-find-requires
-find-requires c κs = search needs
+abbrev μ-loop : tie.MeasureT-loop
+μ-loop store version n j₀ j = n - j
 
-returns : tie.Need-returns
+slot-count-requires : tie.Need-slot-count-requires Inv-loop μ-loop
+slot-count-requires c κs = c .before .pre
+
+loop-holds : tie.Need-loop-holds Inv-loop μ-loop
+loop-holds c =
+    let start = c .before .before in
+    root-start (start .args .store .now) (start .args .version) (start .pre) (c .slot-count .ensures)
+
+root-here-requires : tie.Need-root-here-requires Inv-loop μ-loop
+root-here-requires c κs = scan-slot (c .before .loop .inv) (c .loop-test .taken)
+
+returns : tie.Need-returns Inv-loop μ-loop
 returns c =
-    let a = c .before .before .before .args in
-    let st = storeOf (a .store .now) in
-    subst (λ o. Located (st .slots) o (c .find .result))
-    (ap (λ p. find (a .version) p (st .slots)) (c .before .top .ensures .place) ∙ sym (root-by-node st (a .version))) (c .find .ensures)
+    let here = c .before in
+    let inside = here .before in
+    let at = inside .before in
+    root-found (at .before .before .before .args .version) (at .loop .inv) (inside .loop-test .taken) (sym (here .root-here .ensures) ∙ c .if1 .taken)
+
+add-j : tie.Need-add-j Inv-loop μ-loop
+add-j c = omega (arith, c .before .before .before .loop .inv .small)
+
+loop-less : tie.Need-loop-less Inv-loop μ-loop
+loop-less c = omega arith
+
+loop-again : tie.Need-loop-again Inv-loop μ-loop
+loop-again c =
+    let here = c .before in
+    let inside = here .before in
+    let at = inside .before in
+    root-next (at .before .before .before .args .version) (at .loop .inv) (inside .loop-test .taken) (sym (here .root-here .ensures) ∙ c .if1 .left)
+
+returns-2 : tie.Need-returns-2 Inv-loop μ-loop
+returns-2 c = root-nowhere (c .before .before .before .before .args .version) (c .before .loop .inv) (c .loop-test .left)
 
 pub find-root-spec : {M : Type 1} → statement M
-find-root-spec = tie.close (tie.spec top-requires find-requires returns)
+find-root-spec =
+    tie.close
+    (tie.spec
+    Inv-loop
+    μ-loop
+    slot-count-requires
+    loop-holds
+    root-here-requires
+    returns
+    add-j
+    loop-less
+    loop-again
+    returns-2)

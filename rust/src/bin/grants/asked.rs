@@ -4,6 +4,7 @@ use crate::args::{number, Args};
 use crate::book::{self, Book, Said};
 use crate::fail::Fail;
 use crate::files::{self, STORE_LIMIT};
+use crate::held;
 use crate::plain::{counted, quoted, shown, words, Word};
 use grants::{from_hex, to_hex, Error, HexError, Key, Store};
 use std::collections::BTreeMap;
@@ -13,7 +14,8 @@ use std::path::Path;
 pub type Bytes = Store<Vec<u8>>;
 
 /// What an editor does without a proof.
-const EMPTY_ADVICE: &str = "The version's root is 32 zero bytes: signed, it is itself the proof that nothing is granted.";
+const EMPTY_ADVICE: &str =
+    "The version's root is 32 zero bytes: signed, it is itself the proof that nothing is granted.";
 
 pub const LENGTH_ADVICE: &str = "Write it as 64 hex digits.";
 
@@ -31,7 +33,10 @@ pub fn refused(store: &Bytes, path: &Path) -> impl Fn(Error) -> Fail {
             Error::Size => format!("{name} has {}: is it the right file, and whole?", bytes(length)),
             Error::Header => format!("{name} is no grant store, or its first 24 bytes are damaged: take another copy."),
             Error::Unsound => format!("{name} is damaged: take another copy. Nothing was changed."),
-            Error::LastVersion => format!("No version can follow: format a new store and publish its grants there (grants export, grants import). {name} is as it was."),
+            Error::NotAboveLatest => match header {
+                Some(h) if h.latest < u32::MAX => format!("{name} is at version {}: give a higher number, or none for the next one. {name} is as it was.", h.latest),
+                _ => format!("{name} is at version {}, and no number is above that: format a new store and publish its grants there (grants export, grants import). {name} is as it was.", u32::MAX),
+            },
             Error::NoRoom => format!("Prune versions that no one asks for any more (grants prune), or give the store more slots (grants grow). {name} is as it was."),
             Error::VersionNotKept => match header {
                 Some(h) => format!("{name} keeps versions {} to {}.", h.oldest, h.latest),
@@ -128,10 +133,14 @@ fn on_day(args: &Args, store: &Bytes, path: &Path, day: &str) -> Result<u32, Fai
     let book = Book::of(args, Some(path))?;
     let refused = refused(store, path);
     let header = store.header().map_err(&refused)?;
+    let slots = store.slots().map_err(&refused)?;
+    let spans = held::spans(header, &slots, []);
+    // The publishing that holds at oldest may be older than that.
+    let eldest = spans[0].published.unwrap_or(header.oldest);
     let mut dated: BTreeMap<u32, i64> = BTreeMap::new();
     for version in book.versions() {
-        if version >= header.oldest.max(1) && version <= header.latest {
-            let root = store.root(version).map_err(&refused)?;
+        if version >= eldest.max(1) && version <= header.latest {
+            let root = store.root(version.max(header.oldest)).map_err(&refused)?;
             if let Said::This(entry) = book.said(version, root) {
                 dated.insert(version, entry.time);
             }
@@ -155,20 +164,24 @@ fn on_day(args: &Args, store: &Bytes, path: &Path, day: &str) -> Result<u32, Fai
     }
     if found.is_none() && header.oldest > 0 {
         return Err(cannot(match dated.first_key_value() {
-            Some((first, _)) if *first == header.oldest => format!(
-                "it was older than version {}, the oldest that {} keeps",
-                header.oldest,
+            Some((first, _)) if *first == eldest => format!(
+                "it was older than version {eldest}, the oldest that {} keeps",
                 shown(path)
             ),
-            _ => no_date(&book, header.oldest),
+            _ => no_date(&book, eldest),
         }));
     }
     let version = found.unwrap_or(0);
-    if version < header.latest && !dated.contains_key(&(version + 1)) {
-        return Err(cannot(no_date(&book, version + 1)));
+    // The publishing after it must have a date, or it may have been the latest by then.
+    let after = spans
+        .iter()
+        .map(|span| span.first)
+        .find(|first| *first > version.max(header.oldest));
+    if let Some(after) = after.filter(|after| dated.range(version + 1..=*after).next().is_none()) {
+        return Err(cannot(no_date(&book, after)));
     }
     note(&book, &format!("version {version} was the latest on {day}"));
-    Ok(version)
+    Ok(version.max(header.oldest))
 }
 
 fn no_date(book: &Book, version: u32) -> String {

@@ -6,6 +6,7 @@ use crate::book::Book;
 use crate::dates;
 use crate::fail::Fail;
 use crate::files::{self, Locked, PROOF_LIMIT};
+use crate::held;
 use crate::json::Json;
 use crate::out::Out;
 use crate::plain::{counted, shown};
@@ -257,16 +258,23 @@ pub fn stat(args: &Args, out: &mut Out) -> Result<u8, Fail> {
     let kept = u64::from(header.latest - header.oldest) + 1;
     let length = store.as_bytes().len();
     // Of a store that isn't sound nothing is guessed.
-    let made = store.slots().ok().map(|slots| {
+    let slots = store.slots().ok();
+    let publishings = slots
+        .as_ref()
+        .map(|slots| held::spans(header, slots, []).len());
+    let made = slots.map(|slots| {
         let records = slots.iter().flatten();
         records
             .filter(|record| record.version > header.oldest)
             .count()
     });
-    let left = made.filter(|made| *made > 0).map(|made| {
-        let each = made as f64 / (kept - 1) as f64;
-        (each, (free as f64 / each) as usize)
-    });
+    let left = made
+        .filter(|made| *made > 0)
+        .zip(publishings)
+        .map(|(made, publishings)| {
+            let each = made as f64 / (publishings - 1) as f64;
+            (each, (free as f64 / each) as usize)
+        });
     if out.json {
         let fields = object(vec![
             ("capacity", header.capacity.into()),
@@ -275,13 +283,16 @@ pub fn stat(args: &Args, out: &mut Out) -> Result<u8, Fail> {
             ("oldest", header.oldest.into()),
             ("latest", header.latest.into()),
             ("kept", Json::Number(kept)),
+            ("publishings", publishings.into()),
             ("bytes", length.into()),
             ("publishings_left", left.map(|(_, left)| left).into()),
         ]);
         return out.answer(0, fields, "");
     }
+    let gaps = publishings.filter(|publishings| *publishings as u64 != kept);
+    let among = gaps.map_or(String::new(), |n| format!(", {}", counted(n, "publishing")));
     let mut lines = format!(
-        "capacity  {}\nused      {used}\nfree      {free}\nkept      {} to {}, {}\nbytes     {length}",
+        "capacity  {}\nused      {used}\nfree      {free}\nkept      {} to {}, {}{among}\nbytes     {length}",
         counted(header.capacity as usize, "slot"),
         header.oldest,
         header.latest,

@@ -102,11 +102,7 @@ pub fn diff(args: &Args, out: &mut Out) -> Result<u8, Fail> {
         return out.answer(
             0,
             Json::Object(vec![("records", changes.records().into())]),
-            format_args!(
-                "{}: {}",
-                shown(to),
-                counted(changes.records(), "record")
-            ),
+            format_args!("{}: {}", shown(to), counted(changes.records(), "record")),
         );
     }
     if args.has("--batch") {

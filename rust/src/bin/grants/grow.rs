@@ -1,4 +1,4 @@
-//! The same versions in a store of another capacity: each is published again under its own number, and its root compared.
+//! The same versions in a store of another capacity: each publishing is made again under its own number, and its root compared.
 
 use crate::args::{number, Args};
 use crate::asked::{refused, Bytes};
@@ -9,9 +9,6 @@ use crate::held;
 use crate::out::Out;
 use crate::plain::{counted, shown};
 use grants::{Batch, Error, Store};
-
-/// Each number up to the latest takes a publishing: more would take too long.
-const MOST_VERSIONS: u32 = 100_000;
 
 pub fn grow(args: &Args, out: &mut Out) -> Result<u8, Fail> {
     let path = writable(args)?;
@@ -72,13 +69,7 @@ impl From<Error> for Cannot {
 fn republished(store: &Bytes, mut fresh: Bytes) -> Result<Bytes, Cannot> {
     let slots = store.slots()?;
     let header = store.header()?;
-    if header.latest > MOST_VERSIONS {
-        return Err(Cannot::Because(format!(
-            "its latest version is {}, and each number up to that would take a publishing",
-            header.latest
-        )));
-    }
-    // The oldest version in parts, the last of them under its own number; before them, versions that hold nothing.
+    // The oldest version in parts, the last of them under its own number.
     let mut oldest = Batch::new();
     for (key, value) in held::grants(store, &slots, header.oldest)? {
         let _ = oldest.insert(key, value);
@@ -91,18 +82,16 @@ fn republished(store: &Bytes, mut fresh: Bytes) -> Result<Bytes, Cannot> {
                 header.oldest
             )));
         }
-        for _ in parts.len() as u32..header.oldest {
-            fresh.apply(&Batch::new())?;
-        }
-        for part in &parts {
-            fresh.apply(part)?;
+        let first = header.oldest - (parts.len() as u32 - 1);
+        for (number, part) in (first..).zip(&parts) {
+            fresh.apply(number, part)?;
         }
         fresh.prune(header.oldest)?;
     }
     same_root(store, &fresh, header.oldest)?;
     let touched = held::touched(&slots);
-    for version in header.oldest..header.latest {
-        let version = version + 1;
+    for span in held::spans(header, &slots, []).iter().skip(1) {
+        let version = span.first;
         let mut batch = Batch::new();
         for (key, _, after) in held::changes(store, &touched, version)? {
             let _ = match after {
@@ -110,7 +99,7 @@ fn republished(store: &Bytes, mut fresh: Bytes) -> Result<Bytes, Cannot> {
                 None => batch.delete(key),
             };
         }
-        fresh.apply(&batch).map_err(|e| match e {
+        fresh.apply(version, &batch).map_err(|e| match e {
             Error::BatchForm => {
                 Cannot::Because(format!("version {version} changed more than one batch can"))
             }

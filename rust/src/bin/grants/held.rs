@@ -1,7 +1,7 @@
 //! What the versions of a sound store hold. Records say when keys may have come and gone; the values are those that the library reads.
 
 use crate::asked::Bytes;
-use grants::{Error, Key, Record, Value};
+use grants::{Error, Header, Key, Place, Record, Value};
 use std::collections::{BTreeMap, BTreeSet};
 
 pub type Grants = BTreeMap<Key, Value>;
@@ -38,6 +38,77 @@ pub fn touched(slots: &[Option<Record>]) -> BTreeMap<u32, BTreeSet<Key>> {
 
 /// A key's value before and after.
 pub type Change = (Key, Option<Value>, Option<Value>);
+
+/// Kept versions that read alike: a publishing up to the version before the next one.
+pub struct Span {
+    pub first: u32,
+    pub last: u32,
+    /// The number of its root's record, which is before the first where that is the oldest kept version; none where it holds nothing, but the first one
+    /// where something stood before.
+    pub published: Option<u32>,
+}
+
+/// The kept versions, in spans. A publishing is found by its root's record, one that left nothing by the end of the root before it; latest is one
+/// too, and so are the numbers that someone else knows of. No number in between is looked at: thousands of millions may lie there.
+pub fn spans(
+    header: Header,
+    slots: &[Option<Record>],
+    known: impl IntoIterator<Item = u32>,
+) -> Vec<Span> {
+    let roots = || {
+        slots
+            .iter()
+            .flatten()
+            .filter(|record| record.place == Place::EMPTY)
+    };
+    let ends = roots()
+        .flat_map(|root| [Some(root.version), root.retired_since])
+        .flatten();
+    let kept = |version: &u32| header.oldest <= *version && *version <= header.latest;
+    let firsts: BTreeSet<u32> = [header.oldest, header.latest]
+        .into_iter()
+        .chain(ends)
+        .chain(known)
+        .filter(kept)
+        .collect();
+    let mut begins: BTreeMap<u32, u32> = BTreeMap::new();
+    for root in roots() {
+        begins.insert(root.version.max(header.oldest), root.version);
+    }
+    let lasts = firsts
+        .iter()
+        .skip(1)
+        .map(|next| next - 1)
+        .chain([header.latest]);
+    firsts
+        .iter()
+        .zip(lasts)
+        .map(|(&first, last)| Span {
+            first,
+            last,
+            published: begins
+                .get(&first)
+                .copied()
+                .or((first > header.oldest).then_some(first)),
+        })
+        .collect()
+}
+
+/// The number under which a kept version was published: its own, or the one before it that it reads as.
+pub fn published(slots: &[Option<Record>], version: u32) -> u32 {
+    let mut roots = slots
+        .iter()
+        .flatten()
+        .filter(|record| record.place == Place::EMPTY);
+    let root = roots.find(|root| root.stands_in(version));
+    let ended = slots
+        .iter()
+        .flatten()
+        .filter_map(|record| record.retired_since)
+        .filter(|since| *since <= version)
+        .max();
+    root.map(|root| root.version).or(ended).unwrap_or(version)
+}
 
 /// What a version changed, where the one before it is kept too.
 pub fn changes(

@@ -6,7 +6,7 @@ use crate::book::{Book, Said};
 use crate::commands::{object, ABSENT};
 use crate::dates;
 use crate::fail::Fail;
-use crate::held;
+use crate::held::{self, Span};
 use crate::json::Json;
 use crate::out::Out;
 use crate::plain::{counted, escaped, quoted, shown};
@@ -115,9 +115,6 @@ fn counts(slots: &[Option<Record>], first: u32) -> BTreeMap<u32, Counts> {
         let made = counts.entry(record.version.max(first)).or_default();
         made.grants += leaf;
         made.records += 1;
-        if record.version >= first {
-            made.new += 1;
-        }
         if let Some(since) = record.retired_since {
             let ended = counts.entry(since.max(first)).or_default();
             ended.grants -= leaf;
@@ -129,7 +126,7 @@ fn counts(slots: &[Option<Record>], first: u32) -> BTreeMap<u32, Counts> {
 
 /// One line of the log. What the oldest kept version changed isn't known any more.
 struct Row<'a> {
-    version: u32,
+    span: Span,
     counts: Counts,
     changed: Option<[usize; 3]>,
     root: Root,
@@ -140,7 +137,9 @@ impl Row<'_> {
     fn json(&self) -> Json {
         let changed = |i: usize| self.changed.map(|c| c[i]).into();
         let mut fields: Vec<(&'static str, Json)> = vec![
-            ("version", self.version.into()),
+            ("version", self.span.first.into()),
+            ("last", self.span.last.into()),
+            ("published", self.span.published.into()),
             ("grants", (self.counts.grants as usize).into()),
             ("added", changed(0)),
             ("removed", changed(1)),
@@ -153,10 +152,10 @@ impl Row<'_> {
         object(fields)
     }
 
-    fn line(&self, full: bool) -> String {
+    fn line(&self, full: bool, widest: usize) -> String {
         let changed = |i: usize| self.changed.map_or("-".to_string(), |c| c[i].to_string());
         let columns = [
-            self.version.to_string(),
+            range(&self.span),
             when(self.said),
             self.counts.grants.to_string(),
             changed(0),
@@ -167,16 +166,24 @@ impl Row<'_> {
             ends(self.root.as_ref(), full),
             remark(self.said),
         ];
-        in_columns(columns.each_ref().map(String::as_str), full)
+        in_columns(columns.each_ref().map(String::as_str), full, widest)
+    }
+}
+
+/// '9', or '5 to 8' where no one published the versions after 5.
+fn range(span: &Span) -> String {
+    match span.first == span.last {
+        true => span.first.to_string(),
+        false => format!("{} to {}", span.first, span.last),
     }
 }
 
 /// A line of the log, with nothing after its last word.
-fn in_columns(words: [&str; 10], full: bool) -> String {
+fn in_columns(words: [&str; 10], full: bool, widest: usize) -> String {
     let [version, when, grants, added, removed, changed, records, new, root, remark] = words;
     let width = if full { 64 } else { 14 };
     let line = format!(
-        "{version:>10}  {when:<16}  {grants:>6}  {added:>5}  {removed:>7}  {changed:>7}  {records:>7}  {new:>5}  {root:<width$}  {remark}"
+        "{version:>widest$}  {when:<16}  {grants:>6}  {added:>5}  {removed:>7}  {changed:>7}  {records:>7}  {new:>5}  {root:<width$}  {remark}"
     );
     line.trim_end().to_string()
 }
@@ -194,15 +201,33 @@ const HEADS: [&str; 10] = [
     "by whom, and why",
 ];
 
-/// The first version that is asked for.
-fn first(args: &Args, header: Header) -> Result<u32, Fail> {
+/// How many publishings are asked for.
+fn last(args: &Args) -> Result<usize, Fail> {
     let Some(word) = args.value("--last") else {
-        return Ok(header.oldest);
+        return Ok(usize::MAX);
     };
     match number("N", word)? {
         0 => Err(Fail::Usage("--last wants 1 or more".to_string())),
-        last => Ok(header.oldest.max(header.latest.saturating_sub(last - 1))),
+        last => Ok(last as usize),
     }
+}
+
+/// The publishings of a store, those that left no record where the book has them.
+fn publishings(
+    store: &Bytes,
+    slots: &[Option<Record>],
+    header: Header,
+    book: &Book,
+) -> Result<Vec<Span>, Error> {
+    let mut known = vec![];
+    for version in book.versions() {
+        if header.oldest <= version && version <= header.latest {
+            if let Said::This(_) = book.said(version, store.root(version)?) {
+                known.push(version);
+            }
+        }
+    }
+    Ok(held::spans(header, slots, known))
 }
 
 pub fn log(args: &Args, out: &mut Out) -> Result<u8, Fail> {
@@ -212,8 +237,20 @@ pub fn log(args: &Args, out: &mut Out) -> Result<u8, Fail> {
     let slots = store.slots().map_err(&refused)?;
     let header = store.header().map_err(&refused)?;
     let book = Book::of(args, Some(path))?;
-    let first = first(args, header)?;
-    let (counts, touched) = (counts(&slots, first), held::touched(&slots));
+    let last = last(args)?;
+    let mut spans = publishings(&store, &slots, header, &book).map_err(&refused)?;
+    spans.drain(..spans.len().saturating_sub(last));
+    let (counts, touched) = (counts(&slots, spans[0].first), held::touched(&slots));
+    let mut made: BTreeMap<u32, i64> = BTreeMap::new();
+    for record in slots.iter().flatten() {
+        *made.entry(record.version).or_default() += 1;
+    }
+    let widest = spans
+        .iter()
+        .map(|span| range(span).len())
+        .max()
+        .unwrap_or(0)
+        .max(10);
     let (json, full) = (out.json, args.has("--full"));
     let mut answer = out.decided(0);
     if json {
@@ -226,14 +263,17 @@ pub fn log(args: &Args, out: &mut Out) -> Result<u8, Fail> {
         if !book.is_there() {
             heads[9] = "";
         }
-        answer.line(in_columns(heads, full))?;
+        answer.line(in_columns(heads, full, widest))?;
     }
     let mut now = Counts::default();
-    for version in first..=header.latest {
+    for span in spans {
+        let version = span.first;
+        // A record begins or ends with a root, so at the first version of a span.
         let change = counts.get(&version).copied().unwrap_or_default();
         now.grants += change.grants;
         now.records += change.records;
-        now.new = change.new;
+        let published = span.published.unwrap_or(version);
+        now.new = made.get(&published).copied().unwrap_or(0);
         let root = store.root(version).map_err(&refused)?;
         let changed = match version {
             0 => Some([0; 3]),
@@ -241,16 +281,16 @@ pub fn log(args: &Args, out: &mut Out) -> Result<u8, Fail> {
             _ => None,
         };
         let row = Row {
-            version,
             counts: now,
             changed,
             root,
-            said: book.said(version, root),
+            said: book.said(published, root),
+            span,
         };
         match json {
-            true if version == header.latest => answer.line(row.json())?,
+            true if row.span.last == header.latest => answer.line(row.json())?,
             true => answer.line(format_args!("{},", row.json()))?,
-            false => answer.line(row.line(full))?,
+            false => answer.line(row.line(full, widest))?,
         }
     }
     if json {
@@ -259,9 +299,10 @@ pub fn log(args: &Args, out: &mut Out) -> Result<u8, Fail> {
     answer.end()
 }
 
-/// A version, its grants, and what the book says of it.
+/// A version, the number it was published under, its grants, and what the book says of it.
 struct Listed {
     version: u32,
+    published: u32,
     root: Root,
     grants: held::Grants,
     book: Book,
@@ -284,6 +325,7 @@ fn listed(args: &Args) -> Result<Listed, Fail> {
     }
     Ok(Listed {
         version,
+        published: held::published(&slots, version),
         root,
         grants,
         book,
@@ -293,11 +335,12 @@ fn listed(args: &Args) -> Result<Listed, Fail> {
 pub fn list(args: &Args, out: &mut Out) -> Result<u8, Fail> {
     let Listed {
         version,
+        published: number,
         root,
         grants,
         book,
     } = listed(args)?;
-    let said = book.said(version, root);
+    let said = book.said(number, root);
     let name = |word: &[u8; 32]| book.name(word).map(str::to_string);
     let status = if grants.is_empty() { ABSENT } else { 0 };
     if out.json {
@@ -381,6 +424,7 @@ pub fn export(args: &Args, out: &mut Out) -> Result<u8, Fail> {
         root,
         grants,
         book,
+        ..
     } = listed(args)?;
     let mut text = format!(
         "# version {version} of {}: {}, root {root}\n",
@@ -444,7 +488,8 @@ pub fn history(args: &Args, out: &mut Out) -> Result<u8, Fail> {
         let value = store.get(version, &key).map_err(&refused)?;
         if before != Some(value) {
             let root = store.root(version).map_err(&refused)?;
-            rows.push((version, value, book.said(version, root)));
+            let number = held::published(&slots, version);
+            rows.push((version, value, book.said(number, root)));
         }
         before = Some(value);
     }

@@ -1,6 +1,6 @@
 //! Publishing: a batch, or whatever makes the store hold the grants of a file.
 
-use crate::args::Args;
+use crate::args::{number, Args};
 use crate::asked::{read_store, refused, Bytes};
 use crate::book::{self, Book, Entry};
 use crate::commands::{object, writable, write_book};
@@ -76,9 +76,29 @@ fn asked(args: &Args, bytes: &[u8], book: &Book) -> Result<Asked, Fail> {
     })
 }
 
+/// The numbers that so many batches get: the last of them what was asked for, else one after the other from latest. Where there is none it is 0,
+/// which the library refuses as it does every number up to latest.
+fn numbers(args: &Args, store: &Bytes, batches: usize) -> Result<Vec<u32>, Fail> {
+    let latest = store.header().map_or(0, |header| header.latest);
+    let last = match args.value("--number") {
+        Some(word) => Some(number("N", word)?),
+        None => latest.checked_add(batches as u32),
+    };
+    let before = (0..batches as u32).rev();
+    Ok(before
+        .map(|n| last.and_then(|last| last.checked_sub(n)).unwrap_or(0))
+        .collect())
+}
+
 /// Publishes in memory: all batches or none.
-fn publish(store: &mut Bytes, asked: &Asked, path: &Path) -> Result<Vec<Applied>, Fail> {
+fn publish(
+    args: &Args,
+    store: &mut Bytes,
+    asked: &Asked,
+    path: &Path,
+) -> Result<Vec<Applied>, Fail> {
     let refused = refused(store, path);
+    let numbers = numbers(args, store, asked.batches.len())?;
     let name = shown(path);
     let order = || {
         format!(
@@ -90,7 +110,7 @@ fn publish(store: &mut Bytes, asked: &Asked, path: &Path) -> Result<Vec<Applied>
         if i > 0 && !in_order(&asked.batches[i - 1], batch) {
             return Err(Fail::Refused(Error::BatchOrder, order()));
         }
-        let made = store.apply_bytes(batch).map_err(|e| match e {
+        let made = store.apply_bytes(numbers[i], batch).map_err(|e| match e {
             Error::BatchForm if asked.records > BATCH_RECORDS && asked.batches.len() == 1 => Fail::Refused(e, format!(
                 "This one has {}: hand it in parts, or say --split to publish it as {} versions. {name} is as it was.",
                 asked.records, asked.records.div_ceil(BATCH_RECORDS)
@@ -99,6 +119,10 @@ fn publish(store: &mut Bytes, asked: &Asked, path: &Path) -> Result<Vec<Applied>
                 "A binary batch is records of 72 bytes, as docs/FORMAT.md has them. {name} is as it was."
             )),
             Error::BatchOrder => Fail::Refused(e, order()),
+            Error::NotAboveLatest if numbers.len() > 1 && args.has("--number") => Fail::Refused(e, format!(
+                "{} versions take as many numbers up to the one given, each above the latest version of {name}, which is as it was.",
+                numbers.len()
+            )),
             e => refused(e),
         })?;
         published.push(made);
@@ -110,7 +134,7 @@ fn publish(store: &mut Bytes, asked: &Asked, path: &Path) -> Result<Vec<Applied>
 fn in_order(left: &[u8], right: &[u8]) -> bool {
     let mut seam = left[left.len() - RECORD..].to_vec();
     seam.extend_from_slice(&right[..RECORD.min(right.len())]);
-    let scratch = Store::with_capacity(1).map(|mut store| store.apply_bytes(&seam));
+    let scratch = Store::with_capacity(1).map(|mut store| store.apply_bytes(1, &seam));
     !matches!(scratch, Ok(Err(Error::BatchOrder)))
 }
 
@@ -181,8 +205,14 @@ fn told(published: &[Applied], left: Option<usize>, out: &mut Out) -> Result<u8,
 }
 
 /// The same in memory alone, of a store that need not be one that may be written.
-fn tried(mut store: Bytes, asked: &Asked, path: &Path, out: &mut Out) -> Result<u8, Fail> {
-    let published = publish(&mut store, asked, path)?;
+fn tried(
+    args: &Args,
+    mut store: Bytes,
+    asked: &Asked,
+    path: &Path,
+    out: &mut Out,
+) -> Result<u8, Fail> {
+    let published = publish(args, &mut store, asked, path)?;
     let left = store.slots().map_err(refused(&store, path))?;
     let left = left.iter().filter(|slot| slot.is_none()).count();
     told(&published, Some(left), out)
@@ -194,14 +224,14 @@ pub fn apply(args: &Args, out: &mut Out) -> Result<u8, Fail> {
     let known = Book::of(args, Some(path))?;
     let first = asked(args, &bytes, &known)?;
     if args.has("--dry-run") {
-        return tried(read_store(path)?, &first, path, out);
+        return tried(args, read_store(path)?, &first, path, out);
     }
     let locked = Locked::take(args, path)?;
     // Another writer may have given names while this one waited.
     let book = Book::of(args, Some(path))?;
     let asked = asked(args, &bytes, &book)?;
     let mut store = Store::over(locked.read()?);
-    let published = publish(&mut store, &asked, path)?;
+    let published = publish(args, &mut store, &asked, path)?;
     keep(args, locked, &store, book, &asked, &published, out)
 }
 
@@ -245,7 +275,7 @@ pub fn import(args: &Args, out: &mut Out) -> Result<u8, Fail> {
         let store = read_store(path)?;
         let lines = lines::batch(text, &Book::of(args, Some(path))?)?;
         let asked = difference(&store, path, lines)?;
-        return tried(store, &asked, path, out);
+        return tried(args, store, &asked, path, out);
     }
     lines::batch(text, &Book::of(args, Some(path))?)?;
     let locked = Locked::take(args, path)?;
@@ -265,6 +295,6 @@ pub fn import(args: &Args, out: &mut Out) -> Result<u8, Fail> {
             ),
         };
     }
-    let published = publish(&mut store, &asked, path)?;
+    let published = publish(args, &mut store, &asked, path)?;
     keep(args, locked, &store, book, &asked, &published, out)
 }

@@ -31,6 +31,12 @@ struct Tree {
 }
 
 impl Tree {
+    /// The number under which it was published, where that is seen: a version between two publishings reads as the earlier one.
+    fn published(&self) -> u32 {
+        let root = self.nodes.get(&Place::EMPTY);
+        root.map_or(self.version, |root| root.record.version)
+    }
+
     fn grants(&self) -> usize {
         self.nodes.values().filter(|n| n.grant.is_some()).count()
     }
@@ -129,8 +135,12 @@ fn below(tree: &Tree, place: Place) -> impl Iterator<Item = (u8, Place)> + '_ {
 
 fn text(tree: &Tree, full: bool) -> String {
     let mut text = format!(
-        "version {}: {}, {}, root {}\n",
+        "version {}{}: {}, {}, root {}\n",
         tree.version,
+        match tree.published() {
+            own if own == tree.version => String::new(),
+            earlier => format!(" (published as {earlier})"),
+        },
         counted(tree.grants(), "grant"),
         counted(tree.nodes.len(), "record"),
         tree.root
@@ -257,7 +267,11 @@ fn shape(node: &Node, trees: &[Tree], full: bool) -> String {
     let last = trees.last().map_or(0, |tree| tree.version);
     let look = if several && !record.stands_in(last) {
         "style=\"filled,dashed\", fillcolor=\"#f0f0f0\", fontcolor=\"#606060\""
-    } else if several && record.version == last {
+    } else if several
+        && trees
+            .last()
+            .is_some_and(|tree| tree.published() == record.version)
+    {
         "fillcolor=\"#d8f0d8\""
     } else {
         "fillcolor=white"

@@ -57,6 +57,11 @@ const DRY_RUN: Choice = flag(
     "--dry-run",
     "say what would be published and how much room is left, and change nothing",
 );
+const NUMBER: Choice = valued(
+    "--number",
+    "N",
+    "the version's number, any above the latest; else the next one",
+);
 const MATCH: Choice = valued(
     "--match",
     "TEXT",
@@ -95,7 +100,7 @@ of its lifetime. STORE may be -.",
     Command {
         name: "apply",
         usage: "STORE BATCH",
-        what: "publish the next version",
+        what: "publish a version",
         help: "\
 BATCH is text, a line for each key in any order:
 
@@ -107,11 +112,15 @@ gets the names that it doesn't have. Empty lines and what follows # are passed o
 (docs/FORMAT.md), keys ascending; a file with a zero byte in it is taken as binary. An empty batch publishes a version with
 the same grants. A batch has at most 1,024 records.
 
+The version's number is the next one, or any above the latest with --number; a version between two publishings reads as the
+earlier one. With --split the last part gets the number given, and those before it the numbers just below.
+
 The store's file is replaced as a whole: it is written beside, synced and renamed, under a lock. Then STORE.book gets a line
 with the version, its root, date, author and message. BATCH may be -.",
         words: (2, 2),
         choices: &[
             JSON,
+            NUMBER,
             MESSAGE,
             AUTHOR,
             DATE,
@@ -130,17 +139,19 @@ with the version, its root, date, author and message. BATCH may be -.",
         what: "publish what makes the store hold exactly the grants of BATCH",
         help: "\
 BATCH is text with '+' lines alone, as `grants export` prints it: its grants are inserted, and those that it doesn't have
-are deleted. Where that takes more than 1,024 records, several versions are published, all of them or none; where it takes
-none, no version is. BATCH may be -.",
+are deleted. Where that takes more than 1,024 records, several versions are published, all of them or none, the last of them
+under the number given with --number; where it takes none, no version is. BATCH may be -.",
         words: (2, 2),
-        choices: &[JSON, MESSAGE, AUTHOR, DATE, DRY_RUN, WAIT, BOOK, NO_BOOK],
+        choices: &[JSON, NUMBER, MESSAGE, AUTHOR, DATE, DRY_RUN, WAIT, BOOK, NO_BOOK],
         run: publish::import,
     },
     Command {
         name: "prune",
         usage: "STORE VERSION",
         what: "keep no version older than VERSION",
-        help: "Frees every record retired since VERSION or earlier; its slots are used again.",
+        help: "\
+Frees every record retired since VERSION or earlier; its slots are used again. Between two publishings it keeps the earlier
+one, which is what VERSION reads as.",
         words: (2, 2),
         choices: &[JSON, WAIT],
         run: commands::prune,
@@ -150,9 +161,9 @@ none, no version is. BATCH may be -.",
         usage: "STORE CAPACITY",
         what: "the same versions in a store with CAPACITY slots",
         help: "\
-Publishes every kept version again, under its own number, into a fresh store, compares each root with the old one, and
+Publishes every kept publishing again, under its own number, into a fresh store, compares each root with the old one, and
 puts that store in STORE's place. Nothing is lost; slots and the versions of single records may be others. CAPACITY may be
-smaller, if all of it fits. A store past version 100,000 is left alone.",
+smaller, if all of it fits.",
         words: (2, 2),
         choices: &[JSON, WAIT],
         run: grow::grow,
@@ -261,7 +272,7 @@ takes and that makes the one version's grants of the other's; --records writes t
     Command {
         name: "history",
         usage: "STORE KEY",
-        what: "every kept version in which a key's value changed",
+        what: "every kept publishing in which a key's value changed",
         help: "\
 The oldest kept version first, whatever it holds. Exit status 1 where no kept version has the key. The store is checked
 first. STORE may be -.",
@@ -272,13 +283,13 @@ first. STORE may be -.",
     Command {
         name: "log",
         usage: "STORE",
-        what: "each kept version: when, by whom and why, what it changed, its root",
+        what: "each kept publishing: its versions, when, by whom and why, what it changed, its root",
         help: "\
-'new' are the records that the version's publishing made and that are still kept. What the oldest kept version changed is
-not known any more. Date, author and message are the book's; where its line has another root than the store, the book
+Numbers may have gaps: '5 to 8' is what was published as 5 and read until the next publishing, 9. 'new' are the records that the publishing made and that are still kept. What the oldest kept version changed is not known
+any more. An empty publishing after an empty one leaves nothing in the store, and is listed where the book has it. Date, author and message are the book's; where its line has another root than the store, the book
 disagrees and isn't used. The store is checked first. STORE may be -.",
         words: (1, 1),
-        choices: &[JSON, valued("--last", "N", "the last N versions only"), FULL, BOOK],
+        choices: &[JSON, valued("--last", "N", "the last N publishings only"), FULL, BOOK],
         run: listing::log,
     },
     Command {
@@ -327,7 +338,7 @@ each record once, so that it shows what they share. Without VERSION, the latest.
         what: "capacity, free slots, kept versions, bytes, publishings left",
         help: "\
 Tests the header, not soundness. How many more publishings there is room for is a guess: free slots over the records that
-each kept version made; none is made of a store that isn't sound. STORE may be -.",
+each kept publishing made; none is made of a store that isn't sound. STORE may be -.",
         words: (1, 1),
         choices: &[JSON],
         run: commands::stat,

@@ -1,6 +1,6 @@
 //! The library's calls beside the second program, in one run: short runs of the two in turn, the best of each. Then where apply's time goes,
 //! that it does not grow with the versions, and the stack that each call takes. With the argument `stack` that last part alone, with
-//! `changes` the comparisons alone.
+//! `changes` the comparisons alone, with `gaps` the publishings under numbers with gaps, with `beside-check` apply and prune beside check.
 
 #[path = "../cases.rs"]
 #[allow(dead_code)]
@@ -11,7 +11,7 @@ mod ours;
 mod stack;
 
 use cases::Random;
-use second::bytes::{ask_bytes, Ask, Body, Slot, MOST_ASKS};
+use second::bytes::{ask_bytes, put_slot, slot_bytes, Ask, Body, Place, Record, Slot, MOST_ASKS};
 use second::calls::apply_to_sound;
 use std::hint::black_box;
 use std::time::Instant;
@@ -54,6 +54,11 @@ fn compare_on<T: PartialEq + std::fmt::Debug>(
 /// A store of this capacity filled by batches of random keys, deletes among them, until so many slots are used or a batch does not fit. It
 /// begins with all versions up to the first kept and empty.
 fn filled(random: &mut Random, capacity: usize, size: usize, most: usize, first: u32) -> (Vec<u8>, Vec<[u8; 32]>) {
+    filled_apart(random, capacity, size, most, first, 1)
+}
+
+/// The same under numbers so far apart.
+fn filled_apart(random: &mut Random, capacity: usize, size: usize, most: usize, first: u32, apart: u32) -> (Vec<u8>, Vec<[u8; 32]>) {
     let mut s = cases::fresh(capacity, 0, first);
     let mut keys: Vec<[u8; 32]> = vec![];
     loop {
@@ -74,7 +79,8 @@ fn filled(random: &mut Random, capacity: usize, size: usize, most: usize, first:
         asks.sort_by_key(|a| a.key);
         asks.dedup_by_key(|a| a.key);
         let batch: Vec<u8> = asks.iter().flat_map(ask_bytes).collect();
-        if apply_to_sound(&mut s, &batch).is_err() {
+        let number = cases::next(&s) - 1 + apart;
+        if apply_to_sound(&mut s, number, &batch).is_err() {
             return (s, keys);
         }
     }
@@ -121,19 +127,20 @@ fn applies(random: &mut Random) {
         let (s, keys) = filled(random, capacity, capacity / 64, capacity / 2, 0);
         let turns = if capacity > 2_000 { 3 } else { 10 };
         let check = || (0..turns).map(|_| milliseconds(&mut || assert_eq!(ours::check(&s), Ok(())))).fold(f64::MAX, f64::min);
+        let next = cases::next(&s);
         for size in [1, 64, MOST_ASKS] {
             let mut changes = size;
             let mut after = s.clone();
             let (b, count) = loop {
                 let b = batch(random, &keys, size, changes);
-                if let Ok((_, _, count)) = apply_to_sound(&mut after, &b) {
+                if let Ok((_, _, count)) = apply_to_sound(&mut after, next, &b) {
                     break (b, count);
                 }
                 changes = changes * 3 / 4;
             };
             let name = format!("apply-{size}-to-{capacity}-{count}-new-records");
             let before = check();
-            let took = compare_on(&name, turns, &s, |s| ours::apply(s, &b), |s| second::apply(s, &b));
+            let took = compare_on(&name, turns, &s, |s| ours::apply(s, next, &b), |s| second::apply(s, next, &b));
             let check = before.min(check());
             // check hashes each record once
             let (checks, steps) = (cases::taken(&s), step_hashes(&after));
@@ -164,12 +171,18 @@ fn applies(random: &mut Random) {
     }
 }
 
-/// Apply of one record and prune begin with check, and take hardly longer: fails above 1.2 times its time on the same store.
+/// Apply of one record and prune begin with check, and take hardly longer: fails above 1.2 times its time on the same store. One is of roots alone, of
+/// which check hashes none.
 fn beside_check(random: &mut Random) {
+    let mut stores = vec![];
     for capacity in [1_024, 16_384] {
         let (s, keys) = filled(random, capacity, capacity / 64, capacity / 2, 0);
+        stores.push((format!("{capacity}"), s, keys[0]));
+    }
+    stores.push(("16384-roots".to_string(), cases::roots(16_383, 1), cases::leaf_roots(1).1));
+    for (what, s, key) in stores {
         let latest = second::bytes::store(&s).unwrap().latest;
-        let b = ask_bytes(&Ask { key: keys[0], value: Some(random.hash()) });
+        let b = ask_bytes(&Ask { key, value: Some(random.hash()) });
         let best = |call: &dyn Fn(&mut [u8])| {
             let mut t = s.clone();
             let mut once = || {
@@ -179,10 +192,10 @@ fn beside_check(random: &mut Random) {
             (0..40).map(|_| once()).fold(f64::MAX, f64::min)
         };
         let check = best(&|t| assert_eq!(ours::check(t), Ok(())));
-        let apply = best(&|t| assert!(ours::apply(t, &b).is_ok()));
+        let apply = best(&|t| assert!(ours::apply(t, latest + 1, &b).is_ok()));
         let prune = best(&|t| assert!(ours::prune(t, latest).is_ok()));
         for (name, time) in [("apply-1-record", apply), ("prune", prune)] {
-            println!("bar {name}-{capacity}-beside-check {:.2} bar 1.2 ({time:.3}ms, check {check:.3}ms)", time / check);
+            println!("bar {name}-{what}-beside-check {:.2} bar 1.2 ({time:.3}ms, check {check:.3}ms)", time / check);
             if time > 1.2 * check {
                 println!("bench: {name} takes more than 1.2 times check");
                 std::process::exit(1);
@@ -199,7 +212,8 @@ fn comparisons(random: &mut Random) {
     let mut publish = |keys: &[[u8; 32]], value: u8| {
         for part in keys.chunks(800) {
             let batch: Vec<u8> = part.iter().flat_map(|k| ask_bytes(&Ask { key: *k, value: Some([value; 32]) })).collect();
-            apply_to_sound(&mut s, &batch).unwrap();
+            let next = cases::next(&s);
+            apply_to_sound(&mut s, next, &batch).unwrap();
         }
         second::bytes::store(&s).unwrap().latest
     };
@@ -230,13 +244,44 @@ fn versions() {
         let (mut x, mut y) = (f64::MAX, f64::MAX);
         let once = |s: &[u8]| {
             let mut s = s.to_vec();
-            milliseconds(&mut || assert!(ours::apply(&mut s, &b).is_ok()))
+            let next = cases::next(&s);
+            milliseconds(&mut || assert!(ours::apply(&mut s, next, &b).is_ok()))
         };
         for _ in 0..turns {
             x = x.min(once(&low.0));
             y = y.min(once(&high.0));
         }
         println!("versions apply-64-to-{capacity} ratio {:.2} kept to 4,000,000,000 {y:.3}ms kept to 10 {x:.3}ms", y / x);
+    }
+}
+
+/// 2026-13: the same batches under numbers one after the other and with gaps, apply beside the second program and beside itself; then the root of a
+/// version between two publishings, in a store whose every slot is the root of a publishing, the one sought the last.
+fn gaps() {
+    for capacity in [1_024, 16_384] {
+        let turns = if capacity > 2_000 { 9 } else { 20 };
+        let [dense, apart] = [1, 1_000_003].map(|apart| filled_apart(&mut Random(17), capacity, capacity / 64, capacity / 2, 0, apart));
+        let b = batch(&mut Random(19), &dense.1, 64, 64);
+        let to = cases::next(&dense.0);
+        let without = compare_on(&format!("apply-64-to-{capacity}-without-gaps"), turns, &dense.0, |s| ours::apply(s, to, &b), |s| second::apply(s, to, &b));
+        let to = u32::MAX;
+        let with = compare_on(&format!("apply-64-to-{capacity}-with-gaps"), turns, &apart.0, |s| ours::apply(s, to, &b), |s| second::apply(s, to, &b));
+        println!("gaps apply-64-to-{capacity} ratio {:.2} with gaps {with:.3}ms without {without:.3}ms", with / without);
+        let body = Body::Leaf { key: [1; 32], value: [2; 32] };
+        let mut s = cases::fresh(capacity, 0, 100 * capacity as u32);
+        for i in 0..capacity {
+            let version = 100 * (1 + i as u32);
+            let retired = if i + 1 == capacity { 0 } else { version + 100 };
+            put_slot(&mut s, i, &slot_bytes(&Record { place: Place::EMPTY, version, retired, body }));
+        }
+        assert_eq!(second::check(&s), Ok(()));
+        let between = 100 * capacity as u32 - 50;
+        compare(
+            &format!("root-between-two-of-{capacity}-publishings"),
+            turns,
+            || assert!(black_box(ours::root(&s, between)).is_ok()),
+            || assert!(black_box(second::root(&s, between)).is_ok()),
+        );
     }
 }
 
@@ -290,6 +335,12 @@ fn main() {
     if std::env::args().nth(1).as_deref() == Some("changes") {
         return comparisons(&mut Random(23));
     }
+    if std::env::args().nth(1).as_deref() == Some("gaps") {
+        return gaps();
+    }
+    if std::env::args().nth(1).as_deref() == Some("beside-check") {
+        return beside_check(&mut Random(11));
+    }
     let mut random = Random(11);
     let proofs: Vec<_> = (0..1000).map(|_| path(&mut random, 20)).collect();
     compare(
@@ -323,5 +374,6 @@ fn main() {
     applies(&mut random);
     comparisons(&mut Random(23));
     versions();
+    gaps();
     stacks();
 }

@@ -52,7 +52,8 @@ fn half(random: &mut Random, capacity: usize) -> (Vec<u8>, Vec<Hash>) {
         asks.sort_by_key(|a| a.key);
         asks.dedup_by_key(|a| a.key);
         let batch: Vec<u8> = asks.iter().flat_map(ask_bytes).collect();
-        apply_to_sound(&mut s, &batch).expect("there is room for the half");
+        let next = cases::next(&s);
+        apply_to_sound(&mut s, next, &batch).expect("there is room for the half");
     }
     keys.sort();
     keys.dedup();
@@ -84,11 +85,11 @@ fn main() {
             &name("apply"),
             || {
                 x.copy_from_slice(&s);
-                ours::apply(&mut x, &batch)
+                ours::apply(&mut x, latest + 1, &batch)
             },
             || {
                 y.copy_from_slice(&s);
-                second::apply(&mut y, &batch)
+                second::apply(&mut y, latest + 1, &batch)
             },
         );
         assert!(x == y, "apply: not the same store");

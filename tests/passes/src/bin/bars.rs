@@ -77,6 +77,25 @@ fn main() {
     }
     bars.bar("growth-of-check-from-4096-to-16384", times[3].1 / times[2].1, 4.8);
 
+    // No store has more roots: a leaf, renewed by empty batches; and the same above two leaves, each of which has all of them as parents.
+    let lone = [4_096, 16_384].map(|n| ("roots", n, cases::roots(n, 0)));
+    let mut slowest = vec![];
+    for (name, capacity, s) in lone.into_iter().chain([("roots-over-two-leaves", 16_384, hostile::roots_over_two(16_384))]) {
+        let check = best(&mut || assert_eq!(trial::check(black_box(&s)), 0));
+        let hashes = best(&mut || {
+            black_box(trial::hashes(black_box(&s)));
+        });
+        println!("check-{name}-{capacity} {check:.3}ms hashing each record once {hashes:.3}ms");
+        bars.bar(&format!("check-{name}-{capacity}-beside-hashing"), check / hashes, 1.8);
+        slowest.push(check);
+    }
+    bars.bar("growth-of-check-of-roots-from-4096-to-16384", slowest[1] / slowest[0], 4.8);
+    for (name, answer, t) in hostile::rooted(16_384) {
+        let time = best(&mut || assert_eq!(trial::check(black_box(&t)), answer));
+        println!("check-{name} {time:.3}ms answer {answer}");
+        bars.bar(&format!("check-{name}-beside-the-sound-roots"), time / slowest[1], 1.2);
+    }
+
     let (s, sound) = times.pop().unwrap();
     let deep = hostile::deep(16_384);
     let slow = hostile::hostile(&mut random, 16_384)
