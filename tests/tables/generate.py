@@ -207,7 +207,7 @@ def proof_of(n, row):
     return 'tt' if n == 0 else f'({row}, {proof_of(n - 1, row)})'
 
 
-ROW = {'Game': '(refl, refl)', 'Look': '(refl, refl, refl)', 'Try': 'refl'}
+ROW = {'Game': '(refl, refl)', 'Look': '(refl, refl, refl)', 'Try': 'refl', 'Comparison': '(refl, refl)'}
 
 
 def histories(rng, number, count):
@@ -251,6 +251,25 @@ def looks(rng, number, count):
             )
     text = HEAD.format(title=f'Proofs and reads of whole and damaged stores, part {number}.', names='Look, look, LookHolds, leafSlot, innerSlot, storeOf, freeSlots, valueOf')
     return text, names, decls, rows, 'Look', 'LookHolds'
+
+
+def item_term(i):
+    return f'{i[0]}s (grant {key_term(i[1])} {value_term(i[2])})'
+
+
+def comparisons(rng, number, count):
+    names, decls, rows = Names(), [], []
+    for i in range(count):
+        _, _, _, _, s, _ = random_history(rng)
+        decls += [f'  abbrev kept{i} : Store', f'  kept{i} =', f'    {names.store(s)}', '']
+        for _ in range(4):
+            a, b = (rng.randrange(s.oldest, s.latest + 1) for _ in range(2))
+            visited, listed = model.changes(s, a, b)
+            rows.append(f'comparison kept{i} {a} {b} {list_term(place_term(p) for p in visited)} {list_term(item_term(j) for j in listed)}')
+    text = HEAD.format(title=f'Comparisons of two versions, part {number}.', names='leafSlot, innerSlot, storeOf, freeSlots, valueOf')
+    text = text.rstrip('\n').replace('2026-13.', '2026-01 and 2026-13.') + '\n'
+    text += 'use Rattle.terms.specs.Records.{grant}\nuse Rattle.changed.specs.Changes.{inserts, deletes}\nuse Rattle.tables.specs.Compared.{Comparison, comparison, ComparisonHolds, compared}\n\n'
+    return text, names, decls, rows, 'Comparison', 'ComparisonHolds'
 
 
 def toy_leaf(k, x):
@@ -356,10 +375,10 @@ def lay_out(name, made):
         out += ['module _ (leafHash innerHash : Bytes → Bytes → Bytes) where', '']
         out += names.lines + decls
     pad = '' if toy else '  '
-    arguments = '' if toy else ' leafHash innerHash'
+    arguments = '' if kind in ('Try', 'Comparison') else ' leafHash innerHash'
     body = f'\n{pad}    ∷ '.join(rows + ['[]'])
     out += [f'{pad}abbrev rows : List {kind}', f'{pad}rows =', f'{pad}    {body}', '']
-    opened = 'computed toyHash' if toy else 'computed'
+    opened = {'Try': 'computed toyHash', 'Comparison': 'computed compared'}.get(kind, 'computed')
     out += [f'{pad}pub {low} : All ({holds}{arguments}) rows' if arguments else f'{pad}pub {low} : All {holds} rows']
     out += [f'{pad}unfolding {opened}', f'{pad}{low} = {proof_of(len(rows), ROW[kind])}']
     return '\n'.join(out) + '\n'
@@ -374,6 +393,7 @@ def files():
         made[f'Looks{n}'] = lay_out(f'looks{n}', looks(rng, n, 30))
     for n in range(1, 4):
         made[f'Tries{n}'] = lay_out(f'tries{n}', checks(rng, n, 250))
+    made['Comparisons'] = lay_out('comparisons', comparisons(rng, 1, 40))
     made['Lib'] = ''.join(f'pub mod {name}\n' for name in ['Desk', *made])
     return made
 

@@ -1,4 +1,4 @@
-"""Document 01 read a second time, with 2026-03 and 2026-13 of document 02, by their words, on records without bytes. Hashes are symbols:
+"""Document 01 read a second time, with 2026-01, 2026-03 and 2026-13 of document 02, by their words, on records without bytes. Hashes are symbols:
 ('leaf', key, value), ('inner', left, right) or ZEROS. Nothing here was made from the project's definitions; generate.py compares the two.
 """
 from dataclasses import dataclass, replace
@@ -279,3 +279,30 @@ def check_proof(hashes, root, key, p):
         ok = ok and bool(a) and bool(b) and a[-1][0] == '0' and b[-1][0] == '1'
         ok = ok and outermost('1', a[:-1]) and outermost('0', b[:-1])
     return None if ok else 11
+
+
+def changes(store, first, second):
+    """2026-01: the places visited, in order, and the list from first to second: ('insert' or 'delete', key, value)."""
+    old, new = tree(store, first), tree(store, second)
+    visited = []
+
+    def visit(place):
+        visited.append(place)
+        a, b = old.get(place), new.get(place)
+        if a is not None and b is not None and a.version == b.version:
+            return
+        if all(r is None or r.leaf is not None for r in (a, b)):
+            return
+        visit(place + '0')
+        visit(place + '1')
+
+    visit('')
+    before, after = grants_of(old), grants_of(new)
+    listed = []
+    for k in sorted(set(before) | set(after)):
+        if before.get(k) != after.get(k):
+            if k in before:
+                listed.append(('delete', k, before[k]))
+            if k in after:
+                listed.append(('insert', k, after[k]))
+    return visited, listed

@@ -23,9 +23,9 @@ use Rattle.place.proofs.Places.{proper-whole, proper-count}
 use Rattle.layout.specs.Stores.{storeOf, slotNo}
 use Rattle.kin.specs.declared.Kept as declared-kept
 use Rattle.kin.specs.Kin.{endsAt, clearOf}
-use Rattle.kin.specs.Parents.{Is, ParentsSay}
+use Rattle.kin_parents.specs.Parents.{Is, ParentsSay}
 use Rattle.kin.proofs.Roots.{root-clear}
-use Rattle.kin.proofs.Naming.{none-said}
+use Rattle.kin_parents.proofs.Naming.{none-said}
 use Rattle.check_slot.specs.declared.Head as declared
 use Rattle.check_slot.specs.Parts.{recordOn, Headed, AboveSays}
 

@@ -1,15 +1,15 @@
 // The exact test of one slot, document 01, 'Sound': its record is looked at with a pass over the slots for its node, its children and its
 // parents, or, of a root, the other roots; no version is tried, and the record is hashed once.
 use hash::Hash;
-use kin::Below;
 use kin::Kept;
 use kin::child_found;
 use kin::ends_before;
 use kin::front;
 use kin::holders;
 use kin::kept_life;
-use kin::parents_right;
 use kin::roots_apart;
+use kin_parents::Below;
+use kin_parents::parents_right;
 use nodehash::inner_hash;
 use nodehash::leaf_hash;
 use place::Place;

@@ -1,2 +1,1 @@
 pub mod Kin
-pub mod Parents

@@ -1,4 +1,5 @@
 pub mod Exactly
+pub mod AtOnce
 pub mod Headers
 pub mod Batches
 pub mod Walks

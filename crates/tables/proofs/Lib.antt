@@ -12,3 +12,4 @@ pub mod Looks5
 pub mod Tries1
 pub mod Tries2
 pub mod Tries3
+pub mod Comparisons

@@ -1,4 +1,4 @@
--- `kin::link` meets its contract: one early return for each test. Assumes nothing.
+-- `kin_parents::link` meets its contract: one early return for each test. Assumes nothing.
 use Prim.Native.Nat.{max}
 use native.Mathlib.Omega.{arith}
 use mathlib.Core.Path.{sym, ap, _∙_}
@@ -6,8 +6,8 @@ use mathlib.Core.Bool.{not}
 use borrow.Author.Tests.{not-true, not-false, le-leb, lt-leb}
 use borrow.Author.Needs.{needs}
 use Rattle.terms.proofs.Fields.{test-passed, test-failed, tests-all}
-use Rattle.kin.proofs.link.Statement.{statement}
-use Rattle.kin.proofs.link.Tie as tie
+use Rattle.kin_parents.proofs.link.Statement.{statement}
+use Rattle.kin_parents.proofs.link.Tie as tie
 
 same-hash-requires : tie.Need-same-hash-requires
 same-hash-requires c κs = search needs

@@ -1,7 +1,7 @@
--- `kin::lone_leaf` meets its contract, by the kind. Assumes nothing.
+-- `kin_parents::lone_leaf` meets its contract, by the kind. Assumes nothing.
 use borrow.Author.Needs.{needs}
-use Rattle.kin.proofs.lone_leaf.Statement.{statement}
-use Rattle.kin.proofs.lone_leaf.Tie as tie
+use Rattle.kin_parents.proofs.lone_leaf.Statement.{statement}
+use Rattle.kin_parents.proofs.lone_leaf.Tie as tie
 
 returns : tie.Need-returns
 returns c = rw (c .if1 .taken)

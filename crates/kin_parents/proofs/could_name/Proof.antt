@@ -1,12 +1,12 @@
--- `kin::could_name` meets its contract: one early return for each field. Assumes nothing.
+-- `kin_parents::could_name` meets its contract: one early return for each field. Assumes nothing.
 use mathlib.Core.Path.{sym, _∙_}
 use borrow.Author.Tests.{eq-eqb, ne-eqb}
 use Rattle.store.proofs.Slots.{slot-within}
-use Rattle.kin.specs.Parents.{couldName}
-use Rattle.kin.proofs.Naming.{could-be}
+use Rattle.kin_parents.specs.Parents.{couldName}
+use Rattle.kin_parents.proofs.Naming.{could-be}
 use borrow.Author.Needs.{needs}
-use Rattle.kin.proofs.could_name.Statement.{statement}
-use Rattle.kin.proofs.could_name.Tie as tie
+use Rattle.kin_parents.proofs.could_name.Statement.{statement}
+use Rattle.kin_parents.proofs.could_name.Tie as tie
 
 count-at-requires : tie.Need-count-at-requires
 count-at-requires c κs =

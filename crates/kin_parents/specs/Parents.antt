@@ -16,11 +16,11 @@ use Rattle.place.specs.Place.{placeOf}
 use Rattle.layout.specs.Slots.{countIn, bitsIn, kidOn}
 use Rattle.layout.specs.Stores.{storeOf, slotNo}
 use Rattle.slots.specs.declared.Child as declared-child
 use Rattle.kin.specs.Kin.{isLeafBody}
 use Rattle.kin.specs.declared.Kept as declared-kept
-use Rattle.kin.specs.declared.Below as declared-below
-use Rattle.kin.specs.declared.Said as declared-said
-use Rattle.kin.specs.declared.Said.the-variants.{Lived, Wrong}
+use Rattle.kin_parents.specs.declared.Below as declared-below
+use Rattle.kin_parents.specs.declared.Said as declared-said
+use Rattle.kin_parents.specs.declared.Said.the-variants.{Lived, Wrong}
 
 -- A record of the store that stands below the root, as its parents are asked about it.
 pub record Is (st : Store) (b : declared-below.Below) (r : Record) : Type 0 where

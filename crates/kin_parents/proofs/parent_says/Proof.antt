@@ -1,4 +1,4 @@
--- `kin::parent_says` meets its contract: by its fields a slot names the record or not, and a parent says what `link` says. Assumes nothing.
+-- `kin_parents::parent_says` meets its contract: by its fields a slot names the record or not, and a parent says what `link` says. Assumes nothing.
 use native.Mathlib.Omega.{arith}
 use mathlib.Core.Path.{sym, subst, _∙_}
 use mathlib.Core.Bool.{true, false}
@@ -8,9 +8,9 @@ use Rattle.terms.specs.Bits.{Byte}
 use Rattle.terms.proofs.Lists.{all-of}
 use Rattle.slots.specs.Answer.{Read}
 use Rattle.store.proofs.Slots.{slot-within}
-use Rattle.kin.proofs.Naming.{no-parent, no-inner, parent-said}
-use Rattle.kin.proofs.parent_says.Statement.{statement}
-use Rattle.kin.proofs.parent_says.Tie as tie
+use Rattle.kin_parents.proofs.Naming.{no-parent, no-inner, parent-said}
+use Rattle.kin_parents.proofs.parent_says.Statement.{statement}
+use Rattle.kin_parents.proofs.parent_says.Tie as tie
 
 could-name-requires : tie.Need-could-name-requires
 could-name-requires c κs = search needs

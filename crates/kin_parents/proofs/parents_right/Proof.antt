@@ -1,11 +1,11 @@
--- `kin::parents_right` meets its contract: slot by slot, what is left of both scans. Assumes nothing.
+-- `kin_parents::parents_right` meets its contract: slot by slot, what is left of both scans. Assumes nothing.
 use Prim.Native.Nat.{_-_}
 use native.Mathlib.Omega.{arith}
 use borrow.Author.Needs.{needs}
 use Rattle.store.proofs.Scans.{scan-slot}
-use Rattle.kin.proofs.Summing.{Summed, sum-start, sum-short, sum-next, sum-wrong, sum-end}
-use Rattle.kin.proofs.parents_right.Statement.{statement}
-use Rattle.kin.proofs.parents_right.Tie as tie
+use Rattle.kin_parents.proofs.Summing.{Summed, sum-start, sum-short, sum-next, sum-wrong, sum-end}
+use Rattle.kin_parents.proofs.parents_right.Statement.{statement}
+use Rattle.kin_parents.proofs.parents_right.Tie as tie
 
 abbrev Inv-loop : tie.InvT-loop
 Inv-loop store kept below life n sum₀ j₀ sum j = Summed store below n sum j
