@@ -1,3 +1,3 @@
 pub mod Giving
-pub mod Ending
+pub mod Answering
 pub mod Theorems

@@ -1,5 +1,5 @@
 -- `proving::prove` meets its contract: the key's length, what is tested first, then the proof. Assumes nothing.
-use Rattle.proving.proofs.Ending.{wrong-key, first-refused, kept-size, kept-proved}
+use Rattle.proving.proofs.Answering.{wrong-key, first-refused, kept-size, kept-proved}
 use borrow.Author.Needs.{needs}
 use Rattle.proving.proofs.prove.Statement.{statement}
 use Rattle.proving.proofs.prove.Tie as tie
@@ -15,24 +15,31 @@ enum-known-opened c = search needs
 
 returns-2 : tie.Need-returns-2
 returns-2 c =
-    let a = c .before .before .before .before .before .before .before .before .args in
-    first-refused (a .store .now) (a .version) (a .key .now) (a .room .now) (c .before .before .before .before .if1 .left) _ (c .before .before .before .«open» .ensures) (c .before .opened .given .1)
+    let o = c .before .before .before in
+    let a = o .before .before .before .before .before .args in
+    first-refused (a .store .now) (a .version) (a .key .now) (a .room .now) (o .before .if1 .left) _ (o .«open» .ensures) (c .before .opened .given .1)
 
 enum-told : tie.Need-enum-told
 enum-told c = search needs
 
-in-kept-requires : tie.Need-in-kept-requires
-in-kept-requires c κs =
-    let a = c .before .before .before .before .before .before .before .before .args in
-    (kept-size (a .store .now) (a .version) (c .before .before .before .«open» .ensures) (c .before .enum-told .given .1), c .before .before .before .before .if1 .left)
+plan-of-requires : tie.Need-plan-of-requires
+plan-of-requires c κs =
+    let o = c .before .before in
+    let a = o .before .before .before .before .before .args in
+    (kept-size (a .store .now) (a .version) (o .«open» .ensures) (c .enum-told .given .1), o .before .if1 .left)
+
+give-requires : tie.Need-give-requires
+give-requires c κs = search needs
 
 same-length : tie.Need-same-length
 same-length c = search needs
 
 returns-3 : tie.Need-returns-3
 returns-3 c =
-    let a = c .before .before .before .before .before .before .before .before .before .before .before .args in
-    kept-proved (a .store .now) (a .version) (a .key .now) (a .room .now) (c .before .before .before .before .before .before .before .if1 .left) _ _ (c .before .before .before .before .before .before .«open» .ensures) (c .before .before .before .before .enum-told .given .1) (c .before .before .in-kept .ensures)
+    let p = c .before .before .before .before in
+    let o = p .before .before .before in
+    let a = o .before .before .before .before .before .args in
+    kept-proved (a .store .now) (a .version) (a .key .now) (a .room .now) (o .before .if1 .left) (o .«open» .ensures) (p .before .enum-told .given .1) (p .plan-of .ensures) (c .before .before .give .ensures)
 
 pub prove-spec : {M : Type 1} → statement M
 prove-spec =
@@ -43,6 +50,7 @@ prove-spec =
     enum-known-opened
     returns-2
     enum-told
-    in-kept-requires
+    plan-of-requires
+    give-requires
     same-length
     returns-3)
