@@ -67,8 +67,9 @@ static int granted(const uint8_t root[32], const uint8_t key[32], size_t length)
 }
 
 int main(void) {
-    uint8_t plugin[32], other[32], score[32], first[32], second[32], third[32], batch[2 * RECORD], length[4];
+    uint8_t plugin[32], other[32], score[32], first[32], second[32], third[32], batch[2 * RECORD], length[4], found[33];
     size_t proof_length;
+    uint64_t read;
     memset(plugin, 0x40, 32);
     memset(other, 0x80, 32);
     memset(score, 7, 32);
@@ -110,6 +111,15 @@ int main(void) {
     printf("version 22: refused with %u\n", (unsigned)grants_root(store, STORE, 22, second));
     printf("no room: refused with %u\n", (unsigned)grants_prove(store, STORE, 10, plugin, 32, proof, proof_length - 1, length));
     printf("the store is %s\n", grants_check(store, STORE) == 0 ? "sound" : "not sound");
+
+    /* Of a damaged store a read says which record is missing. Slot 0 has the plug-in's grant of version 10: first a byte of it is spoilt, then all
+       of it is lost. */
+    store[24] ^= 1;
+    read = grants_get(store, STORE, 10, plugin, 32, found);
+    printf("a byte spoilt: refused with %u, slot %d\n", (unsigned)GRANTS_NUMBER(read), (int)GRANTS_SLOT(read));
+    memset(store + 24, 0, 120);
+    read = grants_get(store, STORE, 10, plugin, 32, found);
+    printf("a record lost: refused with %u, slot %d\n", (unsigned)GRANTS_NUMBER(read), (int)GRANTS_SLOT(read));
     free(proof);
     free(store);
     return 0;

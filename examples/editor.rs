@@ -100,5 +100,24 @@ fn main() -> Result<(), Box<dyn std::error::Error>> {
             "not sound"
         }
     );
+
+    // Of a damaged store a read says which record is missing. Slot 0 has the plug-in's grant of version 10: first a byte of it is spoilt, then all of
+    // it is lost.
+    let slot = |refused: Error| refused.slot().map_or(-1, i64::from);
+    let mut bytes = store.into_bytes();
+    bytes[24] ^= 1;
+    let refused = Store::over(&bytes).get(10, plugin).unwrap_err();
+    println!(
+        "a byte spoilt: refused with {}, slot {}",
+        refused.number(),
+        slot(refused)
+    );
+    bytes[24..144].fill(0);
+    let refused = Store::over(&bytes).get(10, plugin).unwrap_err();
+    println!(
+        "a record lost: refused with {}, slot {}",
+        refused.number(),
+        slot(refused)
+    );
     Ok(())
 }

@@ -3,7 +3,9 @@
  * Each publishing of grants is a version, named by a number of the caller's, with one SHA-256 root. From any copy of the store comes a short proof that a key has a value in a
  * version, or that it has none; whoever has the version's root checks it with grants_verify alone. examples/editor.c shows all of it.
  *
- * Each call returns 0 where it is accepted, else a number of refusal; a refused call writes nothing, its answer included. Buffers lent to one call do not overlap. A pointer is never null, also where its length is 0. The calls keep no state, take no lock and allocate nothing; a
+ * Each call returns 0 where it is accepted, else a number of refusal; a refused call writes nothing, its answer included. The reads (root, get,
+ * prove) return 64 bits: the number in the low half, and in the high half a slot + 1 where they name one; who keeps 32 bits has the number
+ * alone. Buffers lent to one call do not overlap. A pointer is never null, also where its length is 0. The calls keep no state, take no lock and allocate nothing; a
  * store may be used from any thread that owns it. All numbers in buffers are little-endian. Every call takes any bytes: bad input is refused.
  * The stack that each call takes is in docs/FIGURES.md; every byte of a store, a batch and a proof is in docs/FORMAT.md, and
  * what the library does, complete and in words, in docs/RULES.md. The archive to link is target/native/libgrants.a of the checkout, or what
@@ -22,6 +24,7 @@
  *  12  a key or root handed in isn't 32 bytes
  *  13  a comparison has more visits than the limit
  *  14  the version is empty, so there is no proof
+ *  17  a record is lost: a child that is wanted stands in no slot (reads)
  *  18  the number isn't above latest
  *
  * 'Refused' below names a call's numbers in the order in which it tests for them: where several are deserved, the first is given.
@@ -31,6 +34,10 @@
 
 #include <stddef.h>
 #include <stdint.h>
+
+/* What a read returned: the number, and the spoilt slot that it named beside 3, -1 where it named none. */
+#define GRANTS_NUMBER(r) ((uint32_t)(r))
+#define GRANTS_SLOT(r) ((int64_t)((uint64_t)(r) >> 32) - 1)
 
 #ifdef __cplusplus
 extern "C" {
@@ -58,19 +65,23 @@ uint32_t grants_apply(uint8_t *store, size_t store_len, uint32_t number, const u
    Refused: 1, 2, 3, 8. */
 uint32_t grants_prune(uint8_t *store, size_t store_len, uint32_t version, uint8_t freed[4]);
 
-/* The root of a version, 32 zero bytes where it holds no grant; between two publishings that of the earlier one. It tests the header,
-   not soundness. Refused: 1, 2, 8. */
-uint32_t grants_root(const uint8_t *store, size_t store_len, uint32_t version, uint8_t root[32]);
+/* The root of a version, 32 zero bytes where it holds no grant; between two publishings that of the earlier one. It tests the header and the
+   root's record, not soundness: where no slot in form is that root, but a used slot's version, retired-since, bit count and bits say that it was,
+   it is refused with 3 and the lowest such slot; a lost root is taken for an empty version. Refused: 1, 2, 8, 3. */
+uint64_t grants_root(const uint8_t *store, size_t store_len, uint32_t version, uint8_t root[32]);
 
 /* A key in a version. found: 1 and the value (32), or 0 and 32 zero bytes where the key is absent. It tests the header and what it meets on the
-   way to the key, not soundness. Refused: 12, 1, 2, 8, 3. */
-uint32_t grants_get(const uint8_t *store, size_t store_len, uint32_t version, const uint8_t *key, size_t key_len, uint8_t found[33]);
+   way to the key, not soundness. The first trouble met is given: 17 for a child that is lost, 3 with its slot for one that is spoilt, which is a
+   used slot, not in form, whose version, bit count and bits are the child's; 3 alone for a leaf whose key doesn't begin with its place.
+   Refused: 12, 1, 2, 8, 3 or 17. */
+uint64_t grants_get(const uint8_t *store, size_t store_len, uint32_t version, const uint8_t *key, size_t key_len, uint8_t found[33]);
 
 /* Writes the proof that a key is in a version, or that it isn't, to the front of room; the rest of room stays. length: of the proof, 4 bytes.
    No proof is longer than 17,080 bytes; the shortest has 72, of absence 112. A version without a grant has no proof (14): its root of 32 zero
    bytes, signed, is itself the proof that nothing is granted. It tests the header and what it meets on its way, not soundness: what comes from
-   a store that isn't sound, grants_verify may refuse. Refused: 12, 1, 2, 8, 14, 3, 9. */
-uint32_t grants_prove(const uint8_t *store, size_t store_len, uint32_t version, const uint8_t *key, size_t key_len, uint8_t *room,
+   a store that isn't sound, grants_verify may refuse. The first trouble met is given as in grants_get: on the way to the key, then to its left
+   neighbour, then to its right one. Refused: 12, 1, 2, 8, 14, 3 or 17, 9. */
+uint64_t grants_prove(const uint8_t *store, size_t store_len, uint32_t version, const uint8_t *key, size_t key_len, uint8_t *room,
                       size_t room_len, uint8_t length[4]);
 
 /* What changed from one kept version to another: every key added, removed or given another value, in key order, each once. The list goes to the

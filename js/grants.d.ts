@@ -22,11 +22,13 @@ export interface Applied {
 
 /** A call was refused; it changed nothing. */
 export class Refused extends Error {
-  constructor(number: number);
+  constructor(number: number, slot?: number | null);
   /** The number of refusal. */
   readonly number: number;
   /** Its sentence. */
   readonly sentence: string;
+  /** The slot of the spoilt record that a read was refused for (3); null for all else. */
+  readonly slot: number | null;
 }
 
 /** A store in memory of its own. Its calls run one after the other, and throw `Refused` where the library refuses. */
@@ -49,11 +51,11 @@ export class Store {
   applyNext(changes: Iterable<Change> | Bytes): Applied;
   /** Keeps no version before this one; how many records were freed. Refused: 1, 2, 3, 8. */
   prune(version: number): number;
-  /** The root of a version, 32 zero bytes where it holds no grant. Refused: 1, 2, 8. */
+  /** The root of a version, 32 zero bytes where it holds no grant. Refused: 1, 2, 8, 3. */
   root(version: number): Uint8Array;
-  /** A key in a version; a read trusts the store. Refused: 12, 1, 2, 8, 3. */
+  /** A key in a version; a read trusts the store. A record on the way may be spoilt (3, with `slot`) or lost (17). Refused: 12, 1, 2, 8, 3 or 17. */
   get(version: number, key: Bytes): Found;
-  /** The proof that a key is in a version, or that it isn't, in at most so many bytes. Refused: 12, 1, 2, 8, 14, 3, 9. */
+  /** The proof that a key is in a version, or that it isn't, in at most so many bytes. Refused: 12, 1, 2, 8, 14, 3 or 17, 9. */
   prove(version: number, key: Bytes, most?: number): Uint8Array;
   /** What changed from one kept version to another, in the order of keys, with at most so many visits (32,769 are always enough) and bytes of
    * the library's list (all that it can take). Refused: 1, 2, 3, 8, 13, 9. */

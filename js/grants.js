@@ -1,14 +1,15 @@
 // The calls of the grant store for Node, browsers and workers. What a store, a batch or a proof is worth is always the WebAssembly's word.
 import { REFUSALS } from './refusals.js';
 
-// A call was refused, and changed nothing.
+// A call was refused, and changed nothing. Where a read was refused for a spoilt record, `slot` is the slot that has it, else null.
 export class Refused extends Error {
-  constructor(number) {
+  constructor(number, slot = null) {
     const sentence = REFUSALS[number] ?? 'a number without a sentence here';
-    super(`refused with ${number}: ${sentence}`);
+    super(`refused with ${number}: ${sentence}${slot === null ? '' : `; the record in slot ${slot} is spoilt`}`);
     this.name = 'Refused';
     this.number = number;
     this.sentence = sentence;
+    this.slot = slot;
   }
 }
 
@@ -38,6 +39,13 @@ function versionOf(given) {
 }
 
 const u32 = (bytes, at) => new DataView(bytes.buffer, bytes.byteOffset, bytes.byteLength).getUint32(at, true);
+
+// The number of refusal that a call returned, and the slot that a read named: its 64 bits have the number in the low half, the slot + 1 in the high.
+function parted(said) {
+  if (typeof said === 'number') return [said >>> 0, null];
+  const high = Number(BigInt.asUintN(64, said) >> 32n);
+  return [Number(BigInt.asUintN(32, said)), high === 0 ? null : high - 1];
+}
 
 // Room that a call writes its answer to: an array, or a slice with its length.
 const answer = (length) => ({ length, slice: false });
@@ -103,10 +111,10 @@ class Machine {
     }
     const memory = this.#reach(end);
     for (const { at, it } of lent) if (it instanceof Uint8Array) memory.set(it, at);
-    let number;
+    let said;
     let wrote;
     try {
-      number = this.#exports[`grants_${name}`](...words) >>> 0;
+      said = this.#exports[`grants_${name}`](...words);
       wrote = lent.filter(({ it }) => !(it instanceof Uint8Array)).map(({ at, it }) => memory.slice(at, at + it.length));
     } catch (trap) {
       this.#stopped = true;
@@ -115,7 +123,8 @@ class Machine {
       // Nothing that one call was lent is there for the next.
       memory.fill(0, this.#start + this.#kept, end);
     }
-    if (number !== 0) throw new Refused(number);
+    const [number, slot] = parted(said);
+    if (number !== 0) throw new Refused(number, slot);
     return wrote;
   }
 }

@@ -141,6 +141,20 @@ function show(version) {
   at('tree-title').focus();
 }
 
+// What a read of the latest version meets in a store that isn't sound: which record is lost or spoilt.
+function met() {
+  const version = store.latest;
+  try {
+    store.root(version);
+    if (/^[0-9a-f]{64}$/i.test(at('key').value.trim())) store.get(version, at('key').value.trim());
+  } catch (refused) {
+    if (!(refused instanceof Refused)) throw refused;
+    if (refused.slot !== null) return ` In version ${version} the record in slot ${refused.slot} is spoilt.`;
+    if (refused.number === 17) return ` In version ${version} a record on the way to the key is lost.`;
+  }
+  return '';
+}
+
 const MOST_ROWS = 100;
 
 async function openStore(name, bytes) {
@@ -154,7 +168,7 @@ async function openStore(name, bytes) {
   } catch (refused) {
     if (!(refused instanceof Refused)) throw refused;
     at('sound').className = 'bad';
-    at('sound').textContent = `This store is not to be used. Refused with ${refused.number}: ${refused.sentence}.`;
+    at('sound').textContent = `This store is not to be used. Refused with ${refused.number}: ${refused.sentence}.${refused.number === 3 ? met() : ''}`;
     return;
   }
   records = recordsOf(bytes);

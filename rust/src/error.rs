@@ -17,8 +17,11 @@ pub enum Error {
     Size,
     /// 2: a header field isn't right, its capacity isn't n, or oldest is above latest.
     Header,
-    /// 3: the store isn't sound (check, apply, prune, changes), or the walk says so (reads).
+    /// 3: the store isn't sound (check, apply, prune, changes), or a read met a leaf whose key doesn't begin with its place.
     Unsound,
+    /// 3 with a slot (reads): a record is spoilt. The slot, the lowest such, is used and not in form, but its fields say that it was the record
+    /// wanted.
+    Spoilt { slot: u32 },
     /// 4: the batch isn't whole records in form, or has over 1,024.
     BatchForm,
     /// 5: the batch's keys aren't strictly ascending.
@@ -39,12 +42,14 @@ pub enum Error {
     TooManyVisits,
     /// 14: the version is empty, so there is no proof; its root of 32 zero bytes itself shows that nothing is granted.
     EmptyVersion,
+    /// 17 (reads): a record is lost: a child that is wanted stands in no slot.
+    Lost,
     /// 18: the number to publish under isn't above latest.
     NotAboveLatest,
 }
 
 /// The table of the rules, number 1 first, in the words of include/grants.h.
-const TABLE: [(u32, Error, &str); 14] = [
+const TABLE: [(u32, Error, &str); 15] = [
     (
         1,
         Error::Size,
@@ -106,6 +111,11 @@ const TABLE: [(u32, Error, &str); 14] = [
         Error::EmptyVersion,
         "the version is empty, so there is no proof",
     ),
+    (
+        17,
+        Error::Lost,
+        "a record is lost: a child that is wanted stands in no slot (reads)",
+    ),
     (18, Error::NotAboveLatest, "the number isn't above latest"),
 ];
 
@@ -113,10 +123,18 @@ impl Error {
     /// The number that the table gives it.
     pub fn number(self) -> u32 {
         let row = TABLE.iter().find(|(_, error, _)| *error == self);
-        row.expect("each has its row").0
+        row.map_or(3, |(number, ..)| *number)
     }
 
-    /// The refusal of a number, none where the table has no such row.
+    /// The spoilt slot that a read named beside 3.
+    pub fn slot(self) -> Option<u32> {
+        match self {
+            Error::Spoilt { slot } => Some(slot),
+            _ => None,
+        }
+    }
+
+    /// The refusal of a number, with no slot beside it; none where the table has no such row.
     ///
     /// ```
     /// use grants::Error;
@@ -134,7 +152,11 @@ impl Error {
 impl fmt::Display for Error {
     fn fmt(&self, f: &mut fmt::Formatter<'_>) -> fmt::Result {
         let row = TABLE.iter().find(|(_, error, _)| error == self);
-        f.write_str(row.expect("each has its row").2)
+        match (self, row) {
+            (Error::Spoilt { slot }, _) => write!(f, "the record in slot {slot} is spoilt"),
+            (_, Some((_, _, words))) => f.write_str(words),
+            (_, None) => unreachable!("each has its row"),
+        }
     }
 }
 
@@ -147,11 +169,18 @@ mod tests {
     #[test]
     fn numbers_are_the_rows_of_the_table() {
         let numbers: Vec<u32> = TABLE.iter().map(|(_, error, _)| error.number()).collect();
-        assert_eq!(numbers, [1, 2, 3, 4, 5, 7, 8, 9, 10, 11, 12, 13, 14, 18]);
+        assert_eq!(
+            numbers,
+            [1, 2, 3, 4, 5, 7, 8, 9, 10, 11, 12, 13, 14, 17, 18]
+        );
         for number in 0..=20 {
             let listed = numbers.contains(&number).then_some(number);
             assert_eq!(Error::from_number(number).map(Error::number), listed);
         }
         assert_eq!(Error::from_number(u32::MAX), None);
+        let spoilt = Error::Spoilt { slot: 4 };
+        assert_eq!((spoilt.number(), spoilt.slot()), (3, Some(4)));
+        assert_eq!(spoilt.to_string(), "the record in slot 4 is spoilt");
+        assert_eq!((Error::Lost.number(), Error::Lost.slot()), (17, None));
     }
 }

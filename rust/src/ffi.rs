@@ -19,7 +19,7 @@ extern "C" {
         answer: *mut [u8; 40],
     ) -> u32;
     fn grants_prune(store: *mut u8, store_len: usize, version: u32, freed: *mut [u8; 4]) -> u32;
-    fn grants_root(store: *const u8, store_len: usize, version: u32, root: *mut [u8; 32]) -> u32;
+    fn grants_root(store: *const u8, store_len: usize, version: u32, root: *mut [u8; 32]) -> u64;
     fn grants_get(
         store: *const u8,
         store_len: usize,
@@ -27,7 +27,7 @@ extern "C" {
         key: *const u8,
         key_len: usize,
         found: *mut [u8; 33],
-    ) -> u32;
+    ) -> u64;
     fn grants_prove(
         store: *const u8,
         store_len: usize,
@@ -37,7 +37,7 @@ extern "C" {
         room: *mut u8,
         room_len: usize,
         length: *mut [u8; 4],
-    ) -> u32;
+    ) -> u64;
     fn grants_changes(
         store: *const u8,
         store_len: usize,
@@ -66,6 +66,18 @@ fn accepted(number: u32) -> Result<(), Error> {
         0 => Ok(()),
         number => Err(Error::from_number(number)
             .unwrap_or_else(|| panic!("the library gave {number}, which no table has"))),
+    }
+}
+
+/// The same of a read: the number is the low half, and beside 3 a slot + 1 may stand in the high half.
+fn read(answer: u64) -> Result<(), Error> {
+    let (number, high) = (answer as u32, (answer >> 32) as u32);
+    match high.checked_sub(1) {
+        None => accepted(number),
+        Some(slot) => {
+            assert!(number == 3, "the library named a slot beside {number}");
+            Err(Error::Spoilt { slot })
+        }
     }
 }
 
@@ -100,13 +112,13 @@ pub fn prune(store: &mut [u8], version: u32) -> Result<[u8; 4], Error> {
 
 pub fn root(store: &[u8], version: u32) -> Result<[u8; 32], Error> {
     let mut root = [0; 32];
-    accepted(unsafe { grants_root(store.as_ptr(), store.len(), version, &mut root) })?;
+    read(unsafe { grants_root(store.as_ptr(), store.len(), version, &mut root) })?;
     Ok(root)
 }
 
 pub fn get(store: &[u8], version: u32, key: &[u8]) -> Result<[u8; 33], Error> {
     let mut found = [0; 33];
-    accepted(unsafe {
+    read(unsafe {
         grants_get(
             store.as_ptr(),
             store.len(),
@@ -121,7 +133,7 @@ pub fn get(store: &[u8], version: u32, key: &[u8]) -> Result<[u8; 33], Error> {
 
 pub fn prove(store: &[u8], version: u32, key: &[u8], room: &mut [u8]) -> Result<[u8; 4], Error> {
     let mut length = [0; 4];
-    accepted(unsafe {
+    read(unsafe {
         grants_prove(
             store.as_ptr(),
             store.len(),

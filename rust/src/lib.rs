@@ -37,6 +37,7 @@
 
 mod batch;
 mod changes;
+mod damage;
 mod error;
 mod ffi;
 mod hex;
@@ -47,6 +48,7 @@ mod words;
 
 pub use batch::{Batch, DoubledKey, BATCH_RECORDS};
 pub use changes::{Change, Changes, MOST_VISITS};
+pub use damage::Missing;
 pub use error::Error;
 pub use hex::{from_hex, to_hex, HexError};
 pub use proof::{verify, Proof, PROOF_BYTES};

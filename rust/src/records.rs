@@ -1,7 +1,8 @@
 //! Reading the records of a sound store, to list or draw them. Nothing is judged here: the library has said before that every slot is free or
 //! in form, and which records stand in a version follows from their lifetimes, by the last rule of 'Sound' in docs/RULES.md.
 
-use crate::{Header, Key, Value};
+pub(crate) use crate::Header;
+use crate::{Key, Value};
 use std::fmt;
 
 pub(crate) fn u32_at(bytes: &[u8], at: usize) -> u32 {
@@ -121,8 +122,12 @@ pub(crate) fn slots(store: &[u8]) -> Vec<Option<Record>> {
 }
 
 fn slot(slot: &[u8]) -> Option<Record> {
+    (u16_at(slot, 4) != 0).then(|| fields(slot))
+}
+
+/// The fields of a slot as they stand, whatever they are.
+pub(crate) fn fields(slot: &[u8]) -> Record {
     let body = match u16_at(slot, 4) {
-        0 => return None,
         2 => Body::Leaf {
             key: Key::from(word_at(slot, 48)),
             value: Value::from(word_at(slot, 80)),
@@ -132,7 +137,7 @@ fn slot(slot: &[u8]) -> Option<Record> {
             right: child(slot, 84),
         },
     };
-    Some(Record {
+    Record {
         place: Place {
             bits: word_at(slot, 8),
             count: u16_at(slot, 6),
@@ -140,7 +145,7 @@ fn slot(slot: &[u8]) -> Option<Record> {
         version: u32_at(slot, 40),
         retired_since: Some(u32_at(slot, 44)).filter(|since| *since != 0),
         body,
-    })
+    }
 }
 
 fn child(slot: &[u8], at: usize) -> Option<Child> {

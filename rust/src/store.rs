@@ -98,18 +98,39 @@ impl<B: AsRef<[u8]>> Store<B> {
     }
 
     /// The root of a version, [`Root::EMPTY`] where it holds no grant. A version between two publishings has the root of the earlier one.
-    /// Refused: 1, 2, 8.
+    /// Refused: 1, 2, 8, 3 ([`Error::Spoilt`]: the root's record is spoilt; a lost one is taken for an empty version).
     pub fn root(&self, version: u32) -> Result<Root, Error> {
         ffi::root(self.as_bytes(), version).map(Root::from)
     }
 
-    /// A key in a version: its value, or none where the key is absent. Refused: 12, 1, 2, 8, 3.
+    /// A key in a version: its value, or none where the key is absent. Where a record on the way is missing, the refusal says whether it is lost or
+    /// spoilt, and in which slot; [`Store::missing_for`] says which record it is. Refused: 12, 1, 2, 8, 3 or 17.
+    ///
+    /// ```
+    /// use grants::{Batch, Error, Store};
+    ///
+    /// let mut store = Store::with_capacity(4)?;
+    /// let mut batch = Batch::new();
+    /// batch.insert([0x00; 32], [7; 32]).unwrap().insert([0x80; 32], [8; 32]).unwrap();
+    /// store.apply(1, &batch)?;
+    /// let mut bytes = store.into_bytes();
+    /// bytes[24 + 120] = 0;  // slot 1, the second leaf: its length
+    /// let store = Store::over(bytes);
+    /// assert_eq!(store.get(1, [0x80; 32]), Err(Error::Spoilt { slot: 1 }));
+    /// let mut bytes = store.into_bytes();
+    /// bytes[24 + 120..24 + 240].fill(0);
+    /// let store = Store::over(bytes);
+    /// assert_eq!(store.get(1, [0x80; 32]), Err(Error::Lost));
+    /// assert_eq!(store.missing_for(1, [0x80; 32]).unwrap().place.to_string(), "1");
+    /// assert!(store.get(1, [0x00; 32])?.is_some());
+    /// # Ok::<(), Error>(())
+    /// ```
     pub fn get(&self, version: u32, key: impl AsRef<[u8]>) -> Result<Option<Value>, Error> {
         ffi::get(self.as_bytes(), version, key.as_ref()).map(proof::found)
     }
 
     /// The proof that a key is in a version, or that it isn't. In a version without a grant there is none (14): its root, [`Root::EMPTY`], is
-    /// itself the proof that nothing is granted. Refused: 12, 1, 2, 8, 14, 3.
+    /// itself the proof that nothing is granted. Refused: 12, 1, 2, 8, 14, 3 or 17.
     pub fn prove(&self, version: u32, key: impl AsRef<[u8]>) -> Result<Proof, Error> {
         let mut room = vec![0; PROOF_BYTES];
         let length = self.prove_into(version, key, &mut room)?;
@@ -117,7 +138,7 @@ impl<B: AsRef<[u8]>> Store<B> {
         Ok(Proof::from_bytes(room))
     }
 
-    /// The same, written to the front of `room`; the answer is the proof's length, and the rest of `room` stays. Refused: 12, 1, 2, 8, 14, 3, 9.
+    /// The same, written to the front of `room`; the answer is the proof's length, and the rest of `room` stays. Refused: 12, 1, 2, 8, 14, 3 or 17, 9.
     ///
     /// ```
     /// use grants::{Batch, Error, Store};
@@ -157,9 +178,9 @@ impl<B: AsRef<[u8]>> Store<B> {
     /// Capacity, oldest and latest. Refused: 1, 2.
     pub fn header(&self) -> Result<Header, Error> {
         let bytes = self.as_bytes();
-        // A root read tests the header and then the version, so all but 8 is said of the header.
+        // A root read tests the header, then the version, then the root's record: 1 and 2 are said of the header.
         match ffi::root(bytes, 0) {
-            Ok(_) | Err(Error::VersionNotKept) => Ok(records::header(bytes)),
+            Ok(_) | Err(Error::VersionNotKept | Error::Spoilt { .. }) => Ok(records::header(bytes)),
             Err(refused) => Err(refused),
         }
     }

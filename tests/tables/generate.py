@@ -9,7 +9,7 @@ from dataclasses import replace
 from pathlib import Path
 
 import model
-from model import Record, Store, ZEROS
+from model import Record, Spoilt, Store, ZEROS
 
 ROOT = Path(__file__).resolve().parents[2]
 OUT = ROOT / 'crates/tables/proofs'
@@ -63,6 +63,8 @@ class Names:
     def slot(self, r):
         if r is None:
             return 'free'
+        if isinstance(r, Spoilt):
+            return f'spoiltSlot {r.count} {place_term(r.place)} {r.version} {r.retired}'
         head = f'{place_term(r.place)} {r.version} {r.retired}'
         if r.leaf is not None:
             return f'leafSlot {head} {key_term(r.leaf[0])} {value_term(r.leaf[1])}'
@@ -168,7 +170,9 @@ def damaged(rng, s):
     slots = list(s.slots)
     i = rng.choice(used)
     r = slots[i]
-    how = rng.randrange(7)
+    if isinstance(r, Spoilt):
+        return s
+    how = rng.randrange(11)
     if how == 0:
         slots[i] = None
     elif how == 1 and r.leaf is not None:
@@ -179,6 +183,14 @@ def damaged(rng, s):
         slots[i] = replace(r, left=(0, ZEROS))
     elif how == 4 and None in slots:
         slots[slots.index(None)] = replace(r, leaf=(key(rng.choice(KEYS)), value(9)), left=None, right=None)
+    elif how in (7, 8):  # 2026-07: off form, the fields as they were, or one of them changed
+        field = rng.choice(['', '', '', 'count', 'place', 'version', 'retired'])
+        slots[i] = Spoilt(len(r.place) + (field == 'count'), r.place + ('001' if field == 'place' else ''), (r.version + (field == 'version')) % 2**32,
+                          rng.choice([0, (r.version + 1) % 2**32, s.latest]) if field == 'retired' else r.retired)
+    elif how == 9 and None in slots:  # a spoilt slot beside the one in form
+        slots[slots.index(None)] = Spoilt(len(r.place), r.place, r.version, r.retired)
+    elif how == 10 and None in slots:  # two spoilt ones
+        slots[slots.index(None)] = slots[i] = Spoilt(len(r.place), r.place, r.version, r.retired)
     elif how == 5:
         slots[i] = replace(r, retired=rng.choice([0, r.version + 1, s.latest + 1]))
     else:
@@ -186,7 +198,7 @@ def damaged(rng, s):
     return Store(s.oldest, s.latest, tuple(slots))
 
 
-HEAD = '''-- {title} Written by tests/tables/generate.py; compared with a second reading of document 01 with 2026-13. Assumes nothing.
+HEAD = '''-- {title} Written by tests/tables/generate.py; compared with a second reading of document 01, 2026-07 and 2026-13. Assumes nothing.
 use mathlib.Core.Path.{{_≡_, refl}}
 use mathlib.Core.Bool.{{true, false}}
 use mathlib.Core.List.{{List, [], _∷_}}
@@ -249,7 +261,7 @@ def looks(rng, number, count):
                 + ' '
                 + refused_or(r, names.term)
             )
-    text = HEAD.format(title=f'Proofs and reads of whole and damaged stores, part {number}.', names='Look, look, LookHolds, leafSlot, innerSlot, storeOf, freeSlots, valueOf')
+    text = HEAD.format(title=f'Proofs and reads of whole and damaged stores, part {number}.', names='Look, look, LookHolds, leafSlot, innerSlot, spoiltSlot, storeOf, freeSlots, valueOf')
     return text, names, decls, rows, 'Look', 'LookHolds'
 
 

@@ -1,4 +1,4 @@
-"""Document 01 read a second time, with 2026-01, 2026-03 and 2026-13 of document 02, by their words, on records without bytes. Hashes are symbols:
+"""Document 01 read a second time, with 2026-01, 2026-03, 2026-07 and 2026-13 of document 02, by their words, on records without bytes. Hashes are symbols:
 ('leaf', key, value), ('inner', left, right) or ZEROS. Nothing here was made from the project's definitions; generate.py compares the two.
 """
 from dataclasses import dataclass, replace
@@ -18,6 +18,15 @@ class Record:
 
 
 @dataclass(frozen=True)
+class Spoilt:
+    """A used slot off form, by its raw fields."""
+    count: int          # the bit count field
+    place: str          # the bits field, without zeros at its end
+    version: int
+    retired: int
+
+
+@dataclass(frozen=True)
 class Store:
     oldest: int
     latest: int
@@ -34,7 +43,7 @@ def formatted(n):
 
 def find(store, version, place):
     for r in store.slots:
-        if r is not None and r.version == version and r.place == place:
+        if isinstance(r, Record) and r.version == version and r.place == place:
             return r
     return None
 
@@ -46,9 +55,32 @@ def covers(r, version):
 def root(store, version):
     """The root record whose lifetime covers the version."""
     for r in store.slots:
-        if r is not None and r.place == '' and covers(r, version):
+        if isinstance(r, Record) and r.place == '' and covers(r, version):
             return r
     return None
+
+
+def lowest_spoilt(store, agrees):
+    """2026-07: the lowest used slot off form whose fields agree, or None."""
+    for i, r in enumerate(store.slots):
+        if isinstance(r, Spoilt) and agrees(r):
+            return i
+    return None
+
+
+def refuse_spoilt(i):
+    """3, and the slot beside it: slot + 1 in the high half of 64 bits."""
+    raise Refused(3 + 2**32 * (i + 1))
+
+
+def seen_root(store, version):
+    """The root as a read sees it: a spoilt one is refused, a lost one means an empty version."""
+    r = root(store, version)
+    if r is None:
+        i = lowest_spoilt(store, lambda x: x.count == 0 and x.place.rstrip('0') == '' and covers(x, version))
+        if i is not None:
+            refuse_spoilt(i)
+    return r
 
 
 def tree(store, version):
@@ -155,14 +187,19 @@ class Refused(Exception):
 def child_record(store, child, place):
     """The record of a present child, judged as a read judges it."""
     r = find(store, child[0], place)
-    if r is None or (r.leaf is not None and not bits(r.leaf[0]).startswith(place)):
+    if r is None:
+        i = lowest_spoilt(store, lambda x: x.version == child[0] and x.count == len(place) and x.place.rstrip('0') == place.rstrip('0'))
+        if i is not None:
+            refuse_spoilt(i)
+        raise Refused(17)
+    if r.leaf is not None and not bits(r.leaf[0]).startswith(place):
         raise Refused(3)
     return r
 
 
 def walk(store, version, key):
     """The inner nodes passed with the bit taken at each, and the leaf at the end or None."""
-    r = root(store, version)
+    r = seen_root(store, version)
     trail = []
     if r is None:
         return trail, None
@@ -213,7 +250,7 @@ def kept(store, version):
 def prove(store, version, key):
     kept(store, version)
     # 2026-03: proving in an empty version is refused with 14, tested after 8.
-    if root(store, version) is None:
+    if seen_root(store, version) is None:
         raise Refused(14)
     trail, end = walk(store, version, key)
     if end is not None and end.leaf[0] == key:
@@ -231,7 +268,7 @@ def read_key(store, version, key):
 
 def read_root(store, version):
     kept(store, version)
-    r = root(store, version)
+    r = seen_root(store, version)
     return ZEROS if r is None else record_hash(r)
 
 

@@ -498,6 +498,81 @@ def damaged_stores():
 
 
 @test
+def which_record_is_missing():
+    # Version 1: 010 in slot 0, 011 in 1, 00 in 2, 01 in 3, 0 in 4, 1 in 5, the root in 6. Version 2: leaf 01 in 7, 0 in 8, the root in 9.
+    good = read(desk())
+
+    def harmed(*harms):
+        bad = bytearray(good)
+        for slot, at, byte in harms:
+            start = 24 + 120 * slot
+            if at is None:
+                bad[start : start + 120] = bytes(120)
+            else:
+                bad[start + at] = byte
+        write("bad", bytes(bad))
+
+    def check(*lines):
+        told = answered(13, "check", "bad")
+        assert told == "".join(line + "\n" for line in lines), told
+        listed = json.loads(answered(13, "check", "bad", "--json"))
+        assert listed["refused"] == 3 and len(listed["missing"]) == len(lines), listed
+        return listed["missing"]
+
+    spoilt = "the record of version 1 at place 010 is spoilt, in slot 0; version 1 wants it"
+    harmed((0, 4, 9))
+    assert check(spoilt) == [{"place": "010", "version": 1, "slot": 0, "wanted_in": 1}]
+    wanted = "refused with 3: the record in slot 0 is spoilt. Version 1 of bad wants the record of version 1 at place 010, which is spoilt, in slot 0: take another copy"
+    untouched("bad", 13, wanted, "get", "bad", B, 1)
+    untouched("bad", 13, wanted, "prove", "bad", B, 1)
+    # The neighbour of a key that isn't there is met by the proof alone.
+    between = "20" + "00" * 31
+    assert answered(1, "get", "bad", between, 1) == "absent\n"
+    untouched("bad", 13, wanted, "prove", "bad", between, 1)
+    told = json.loads(answered(13, "get", "bad", B, 1, "--json"))
+    assert (told["refused"], told["status"], told["missing"]) == (3, 13, [{"place": "010", "version": 1, "slot": 0, "wanted_in": 1}]), told
+    assert answered(0, "get", "bad", A) == value(1) + "\n"
+
+    harmed((3, None, 0))
+    check("the record of version 1 at place 01 is lost, in no slot; version 1 wants it")
+    untouched("bad", 27, "refused with 17: a record is lost", "get", "bad", C, 1)
+    untouched("bad", 27, "Version 1 of bad wants the record of version 1 at place 01, which is lost, in no slot: take another copy", "prove", "bad", C, 1)
+    told = json.loads(answered(27, "prove", "bad", C, 1, "--json"))
+    assert (told["refused"], told["missing"]) == (17, [{"place": "01", "version": 1, "slot": None, "wanted_in": 1}]), told
+
+    # 00 and 1 stand in both versions: the newest that wants them is said. All that is missing is listed, once, the newest version's first.
+    harmed((2, 0, 1), (5, None, 0), (7, 40, 9), (0, None, 0))
+    check(
+        "the record of version 1 at place 00 is spoilt, in slot 2; version 2 wants it",
+        "the record of version 2 at place 01 is lost, in no slot; version 2 wants it",
+        "the record of version 1 at place 1 is lost, in no slot; version 2 wants it",
+        "the record of version 1 at place 010 is lost, in no slot; version 1 wants it",
+    )
+    # The roots: spoilt, every read of the version is refused; lost, it reads as empty, and the check says what that is.
+    harmed((9, 5, 1))
+    missing = check("the root of version 2 is spoilt, in slot 9")
+    assert missing == [{"place": "", "version": None, "slot": 9, "wanted_in": 2}], missing
+    for words in (("root", "bad"), ("get", "bad", A), ("prove", "bad", A)):
+        untouched("bad", 13, "Version 2 of bad wants the root of version 2, which is spoilt, in slot 9: take another copy", *words)
+    assert "sound" not in answered(0, "stat", "bad")
+    harmed((9, None, 0))
+    check("the root of version 2 is lost, in no slot")
+    assert answered(1, "get", "bad", A) == "absent\n"
+    refused(24, "refused with 14", "prove", "bad", A)
+    # Nothing is missing, and the store isn't sound all the same.
+    harmed((5, 80, 9))
+    assert answered(13, "check", "bad") == ""
+    refused(13, "No record is missing, but a hash, a key or a lifetime is wrong", "check", "bad")
+    # Versions are not counted through: thousands of millions lie between these.
+    answered(0, "apply", "desk.grants", "-", "--number", 2**32 - 1, input="- %s\n" % A)
+    bad = bytearray(read("desk.grants"))
+    bad[24 + 9 * 120 + 4] = 9
+    write("bad", bytes(bad))
+    assert answered(13, "check", "bad") == "the root of version 4294967294 is spoilt, in slot 9\n"
+    untouched("bad", 13, "Version 4000000000 of bad wants the root of version 4000000000, which is spoilt, in slot 9", "root", "bad", 4000000000)
+
+
+@test
 def other_things_than_files():
     os.mkdir("folder")
     for words in (("check", "folder"), ("get", "folder", A), ("show", "folder"), ("stat", "folder")):
@@ -661,7 +736,7 @@ def any_bytes_and_words():
             )
         )
         done = subprocess.run([TOOL] + words, capture_output=True, timeout=60)
-        assert done.returncode in (0, 1, 2, 3, 4, *range(11, 25), 28), (words, done)
+        assert done.returncode in (0, 1, 2, 3, 4, *range(11, 25), 27, 28), (words, done)
         silent = all(line.startswith(b"grants: by s.book") for line in done.stderr.splitlines())
         assert b"panicked" not in done.stderr and (done.returncode in (0, 1)) == silent, (words, done)
         if done.returncode != 0 or words[0] not in ("apply", "import", "prune", "grow"):

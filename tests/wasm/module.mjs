@@ -93,6 +93,30 @@ async function refusing(tally, grants, { store, lyrics }) {
     tally.equal(`refused with ${number}`, refused(call), number);
     tally.equal(`after ${number}`, toHex(store.bytes()), before);
   }
+  // A lost record, and a spoilt one with its slot.
+  const two = await grants.format(4);
+  two.apply(1, [{ key: '00'.repeat(32), value: lyrics }, { key: '80'.repeat(32), value: lyrics }]);
+  const whole = two.bytes();
+  const missing = async (harm) => {
+    const bytes = whole.slice();
+    harm(bytes);
+    const open = await grants.open(bytes);
+    const told = (call) => {
+      try {
+        call();
+      } catch (error) {
+        return [error.number, error.slot];
+      }
+      return 'accepted';
+    };
+    return [told(() => open.root(1)), told(() => open.get(1, '80'.repeat(32))), told(() => open.prove(1, '80'.repeat(32))), told(() => open.get(1, '00'.repeat(32)))];
+  };
+  tally.equal('a lost leaf', await missing((bytes) => bytes.fill(0, 144, 264)), ['accepted', [17, null], [17, null], 'accepted']);
+  tally.equal('a spoilt leaf', await missing((bytes) => (bytes[144] = 1)), ['accepted', [3, 1], [3, 1], 'accepted']);
+  tally.equal('a wrong key', await missing((bytes) => (bytes[144 + 48] = 0)), ['accepted', [3, null], [3, null], 'accepted']);
+  tally.equal('a spoilt root', await missing((bytes) => (bytes[264 + 4] = 7)), [[3, 2], [3, 2], [3, 2], [3, 2]]);
+  tally.equal('a lost root', await missing((bytes) => bytes.fill(0, 264, 384)), ['accepted', 'accepted', [14, null], 'accepted']);
+  tally.equal('its words', new Refused(3, 5).message.endsWith('; the record in slot 5 is spoilt'), true);
   tally.equal('no slots', await grants.format(0).catch((e) => e.number), 1);
   tally.equal('too many slots', await grants.format(1e9).catch((e) => e.number), 1);
   const odd = await grants.open(new Uint8Array(144).fill(1));

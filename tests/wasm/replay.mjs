@@ -10,6 +10,7 @@ function* calls(bytes) {
   let at = 0;
   const byte = () => bytes[at++];
   const number = () => view.getUint32((at += 4) - 4, true);
+  const long = () => view.getBigUint64((at += 8) - 8, true);
   const some = (n) => bytes.subarray(at, (at += n));
   while (at < bytes.length) {
     const name = Buffer.from(some(byte())).toString();
@@ -20,9 +21,11 @@ function* calls(bytes) {
       const before = some(n);
       return { letter, n, before, after: letter === 'r' ? before : some(n) };
     });
-    yield { name, given, answer: number() };
+    yield { name, given, answer: long() };
   }
 }
+
+const unsigned = (said) => (typeof said === 'bigint' ? said : said >>> 0);
 
 // One call over buffers between marked edges: whether all is as it was with the native library.
 function same(exports, { name, given, answer }) {
@@ -46,7 +49,8 @@ function same(exports, { name, given, answer }) {
       if (letter !== 'a') words.push(BigInt(n));
     }
   });
-  const came = exports[`grants_${name}`](...words) >>> 0;
+  // All bits of what came: 64 of a read, 32 of the other calls.
+  const came = BigInt.asUintN(64, BigInt(unsigned(exports[`grants_${name}`](...words))));
   const marked = (from, to) => memory.subarray(from, to).every((b) => b === MARK);
   return (
     came === answer &&

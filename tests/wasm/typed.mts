@@ -7,7 +7,7 @@ export async function shown(root: string, key: Uint8Array, proof: ArrayBuffer): 
     const found: Found = grants.verify(root, key, proof);
     return found.present ? String(found.value.length) : 'absent';
   } catch (refused) {
-    return refused instanceof Refused ? `${refused.number} ${refused.sentence}` : 'another error';
+    return refused instanceof Refused ? `${refused.number} ${refused.sentence} ${refused.slot ?? 'no slot'}` : 'another error';
   }
 }
 

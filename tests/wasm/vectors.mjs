@@ -52,7 +52,8 @@ class Program {
     } catch (refused) {
       if (!(refused instanceof Refused)) throw refused;
       const after = note && toHex(store.bytes()) !== before ? ', BUT SOMETHING WRITTEN' : note;
-      this.say(`  came  ${what}: refused with ${refused.number}${after}`);
+      const slot = refused.slot === null ? '' : `, slot ${refused.slot}`;
+      this.say(`  came  ${what}: refused with ${refused.number}${slot}${after}`);
       return false;
     }
     return true;
@@ -165,6 +166,74 @@ class Program {
     for (const number of [0, 1]) this.apply(one, 'insert both', [insert(key(A), 1), insert(key(F), 2)], zeros, number);
   }
 
+  // The same bytes with one thing changed, in another store.
+  async harmed(store, line, harm) {
+    const bytes = store.bytes();
+    harm(bytes);
+    this.say(`  harm  ${line}`);
+    return this.grants.open(bytes);
+  }
+
+  byte(store, slot, at, value) {
+    return this.harmed(store, `slot ${slot}, byte ${at} made ${value}`, (bytes) => (bytes[24 + 120 * slot + at] = value));
+  }
+
+  lose(store, slot) {
+    return this.harmed(store, `slot ${slot} emptied`, (bytes) => bytes.fill(0, 24 + 120 * slot, 144 + 120 * slot));
+  }
+
+  // A lost record and a spoilt one.
+  async missing(all, four) {
+    const [under, between] = [key(0x20), key(0x40)];
+    const proofs = (store, name, k, ...rooms) => rooms.forEach((most) => this.prove(store, name, k, 1, most));
+    let store = await this.format(2424);
+    this.apply(store, 'insert A, B, C, D', all, four, 1);
+    store = await this.lose(store, 0);
+    this.tried('check', store, () => (store.check(), 'sound'), '');
+    this.root(store, 1);
+    this.get(store, 'A', key(A), 1);
+    this.get(store, 'B', key(B), 1);
+    proofs(store, 'B', key(B), 316);
+    proofs(store, '001', under, 316, 0);
+    store = await this.byte(store, 1, 4, 9);
+    this.get(store, 'C', key(C), 1);
+    proofs(store, 'C', key(C), 316);
+    store = await this.byte(store, 1, 40, 2);
+    this.get(store, 'C', key(C), 1);
+    store = await this.byte(store, 1, 40, 1);
+    store = await this.byte(store, 3, 0, 9);
+    this.get(store, 'B', key(B), 1);
+    this.get(store, 'C', key(C), 1);
+    proofs(store, '001', under, 316);
+    store = await this.byte(store, 2, 48, 128);
+    this.get(store, 'A', key(A), 1);
+    store = await this.byte(store, 6, 5, 1);
+    this.root(store, 1);
+    this.get(store, 'D', key(D), 1);
+    proofs(store, 'D', key(D), 316);
+    for (const version of [0, 2]) this.root(store, version);
+    store = await this.lose(store, 6);
+    this.root(store, 1);
+    this.get(store, 'D', key(D), 1);
+    proofs(store, 'D', key(D), 316);
+    store = await this.byte(store, 7, 119, 1);
+    for (const version of [0, 1]) this.root(store, version);
+    store = await this.byte(store, 7, 44, 1);
+    for (const version of [0, 1]) this.root(store, version);
+    store = await this.format(2424);
+    const those = [insert(key(0x00), 1), insert(key(0x20), 2), insert(key(0x80), 3), insert(key(0xc0), 4)];
+    const below = inner(leaf(key(0x00), 1), leaf(key(0x20), 2));
+    this.apply(store, 'insert the four', those, inner(inner(below, zeros), inner(leaf(key(0x80), 3), leaf(key(0xc0), 4))), 1);
+    proofs(store, '01', between, 349);
+    store = await this.byte(store, 3, 4, 9);
+    proofs(store, '01', between, 349, 348);
+    store = await this.lose(store, 1);
+    proofs(store, '01', between, 349);
+    this.get(store, '01', between, 1);
+    this.get(store, '000', key(0x00), 1);
+    proofs(store, '000', key(0x00), 171);
+  }
+
   async run() {
     this.section = "The desk's store";
     const store = await this.format(2424);
@@ -217,6 +286,8 @@ class Program {
     this.apply(full, 'delete A, B, C, D', [A, B, C, D].map((first) => remove(key(first))), zeros);
     this.section = '2026-13';
     await this.gaps(all, four);
+    this.section = '2026-07';
+    await this.missing(all, four);
     this.section = 'Closing cases';
     const large = await this.format(245664);
     const many = batch(Array.from({ length: 1025 }, (_, i) => insert(numbered(i), 1)));

@@ -1,6 +1,7 @@
 -- Demand 1: a public call answers each number of document 01 exactly if its row deserves it and no earlier row of the call's order does, and
 -- 0 exactly if none does. By the cases of each contract, row by row. Assumes nothing.
 use Prim.Native.Nat.{ℕ}
+use native.Mathlib.Omega.{arith}
 use mathlib.Core.Path.{_≡_, refl, sym, subst}
 use mathlib.Core.Logic.{inl, inr}
 use mathlib.Core.Bool.{Bool, true, false, cond, _&&_}
@@ -12,7 +13,7 @@ use borrow.Author.Tests.{eqb-true, eqb-false}
 use Rattle.terms.specs.Bits.{Bytes, Byte, All}
 use Rattle.terms.specs.Records.{Store, Proof}
 use Rattle.meaning.specs.Calls.{Answer, refused, accepted, Result, apply, prune}
-use Rattle.meaning.specs.Reading.{readKey, readRoot}
+use Rattle.meaning.specs.Reading.{Trouble, lostRecord, spoiltRecord, readKey, readRoot}
 use Rattle.meaning.specs.Proving.{prove}
 use Rattle.meaning.specs.Answers.{numberOf}
 use Rattle.nodehash.specs.Node.{leafHash, innerHash}
@@ -28,16 +29,18 @@ use Rattle.reads.specs.Reads.{rootAnswer, keyAnswer}
 use Rattle.proving.specs.Proving.{proveAnswer}
 use Rattle.changed.specs.Compare.{compare}
 use Rattle.verify.specs.Verify.{judged, verified}
-use Rattle.refusals.specs.Exactly.{Table, Exactly}
-use Rattle.refusals.specs.Rows.{NotSound, Not32}
-use Rattle.refusals.specs.Orders.{headerRows, batchRows, versionRows, keyRows, proofRows, comparisonRows, holdingRows}
+use Rattle.ways.specs.Ways.{its-root}
+use Rattle.refusals.specs.Exactly.{Table, Exactly, NoneOf, low, Names}
+use Rattle.refusals.specs.Rows.{NotSound, Not32, StopsRoot, StopsGet, StopsProve, TooLong}
+use Rattle.refusals.specs.Orders.{headerRows, batchRows, versionRows, comparisonRows, holdingRows}
 use Rattle.refusals.proofs.Exactly.{First, past, within, exactly}
 use Rattle.refusals.proofs.Headers.{length-wrong, length-right, after-header, header-row, records-formed}
 use Rattle.refusals.proofs.Batches.{batch-first}
-use Rattle.refusals.proofs.Walks.{prune-first, root-first, get-first, prove-first}
+use Rattle.refusals.proofs.Stopped.{Stopped, stopped-past, stopped-within, stopped-first, stopped-found, stopped-names}
+use Rattle.refusals.proofs.Walks.{prune-first, root-stopped, get-stopped, prove-stopped}
 use Rattle.refusals.proofs.Changes.{changes-first}
 use Rattle.refusals.proofs.Proofs.{off-form, form-first}
-use Rattle.demands.specs.Tables.{formatRows, checkRows, applyRows, pruneRows, rootRows, getRows, proveRows, changesRows, verifyRows, sha256Rows}
+use Rattle.demands.specs.Tables.{formatRows, checkRows, applyRows, pruneRows, rootRows, rootTests, getRows, getTests, proveRows, proveTests, changesRows, verifyRows, sha256Rows}
 use Rattle.grants.specs.Contracts.{Formats, Checks, Applies, Prunes, ReadsRoot, ReadsKey, Proves, Changes, Verifies, Hashes}
 
 -- Format: 1.
@@ -87,49 +90,70 @@ pub prune-exactly : (n : ℕ) {s f t g : Bytes} {r : ℕ} → Prunes n s f r t g
 prune-exactly n {s} {r = r} w = exactly (pruneRows n s) r refl (export-first (prune n) s (versionRows s n) (prune-first n s) w)
 
 -- A read: 1, 2; then its own.
-read-first : {A : Type 0} (s : Bytes) (a : Answer A) (more : Table) →
-    ((c o l : ℕ) → headerOf s ≡ header c o l → First more (numberOf a)) → First (headerRows s ++ more) (numberOf (byHeader (headerOf s) a))
-read-first s a more f = go (headerOf s) refl
+read-stopped : {A : Type 0} {early later : Table} {stops : Trouble → Type 0} (s : Bytes) (a : Answer A) →
+    ((c o l : ℕ) → headerOf s ≡ header c o l → Stopped early later stops (numberOf a)) →
+    Stopped (headerRows s ++ early) later stops (numberOf (byHeader (headerOf s) a))
+read-stopped {early = early} {later = later} {stops = stops} s a f = go (headerOf s) refl
   where
-    go : (h : Headed) → headerOf s ≡ h → First (headerRows s ++ more) (numberOf (byHeader h a))
-    go (refusal m) e = let h = header-row s e in within (headerRows s) more m (h .0) (h .1)
-    go (header c o l) e = past (headerRows s) more (numberOf a) (after-header s e) (f c o l e)
+    go : (h : Headed) → headerOf s ≡ h → Stopped (headerRows s ++ early) later stops (numberOf (byHeader h a))
+    go (refusal m) e = let h = header-row s e in stopped-within (headerRows s) early (h .0) (h .1)
+    go (header c o l) e = stopped-past (headerRows s) early (after-header s e) (f c o l e)
 
 -- A key: 12; then the rest.
-key-first : {A : Type 0} (k : Bytes) (a : Answer A) (more : Table) → First more (numberOf a) →
-    First ((12, Not32 (k ∷ [])) ∷ more) (numberOf (cond (eqb (length k) 32) a (refused 12)))
-key-first k a more f = go (eqb (length k) 32) refl
+key-stopped : {A : Type 0} {early later : Table} {stops : Trouble → Type 0} (k : Bytes) (a : Answer A) → Stopped early later stops (numberOf a) →
+    Stopped ((12, Not32 (k ∷ [])) ∷ early) later stops (numberOf (cond (eqb (length k) 32) a (refused 12)))
+key-stopped {early = early} {later = later} {stops = stops} k a w = go (eqb (length k) 32) refl
   where
-    go : (b : Bool) → eqb (length k) 32 ≡ b → First ((12, Not32 (k ∷ [])) ∷ more) (numberOf (cond b a (refused 12)))
-    go true e = inr (λ n. n (eqb-true (length k) 32 e, tt), f)
-    go false e = inl (λ h. eqb-false (length k) 32 e (h .0), refl)
+    go : (b : Bool) → eqb (length k) 32 ≡ b → Stopped ((12, Not32 (k ∷ [])) ∷ early) later stops (numberOf (cond b a (refused 12)))
+    go true e = stopped-past ((12, Not32 (k ∷ [])) ∷ []) early (λ n. n (eqb-true (length k) 32 e, tt), tt) w
+    go false e = stopped-within ((12, Not32 (k ∷ [])) ∷ []) early (inl (λ h. eqb-false (length k) 32 e (h .0), refl)) (λ z. absurd (omega arith))
 
--- A root read: 1, 2, 8.
-pub root-exactly : {s : Bytes} {v : ℕ} {f : Bytes} {r : ℕ} {g : Bytes} → ReadsRoot s v f r g → Exactly (rootRows s v) r
-unfolding rootAnswer
-root-exactly {s} {v} {r = r} w =
-    exactly (rootRows s v) r refl
-    (subst (First (rootRows s v)) (sym (w .answer))
-    (read-first s (readRoot leafHash innerHash (storeOf s) v) (versionRows s v) (λ c o l e. root-first leafHash innerHash s v)))
+-- A root read: 1, 2, 8, 3, and the slot beside 3.
+module _ {s : Bytes} {v : ℕ} {f : Bytes} {r : ℕ} {g : Bytes} (w : ReadsRoot s v f r g) where
+  root-answers : Stopped (rootTests s v) [] (StopsRoot s v) r
+  unfolding rootAnswer
+  root-answers =
+      subst (Stopped (rootTests s v) [] (StopsRoot s v)) (sym (w .answer))
+      (read-stopped s (readRoot leafHash innerHash (storeOf s) v) (λ c o l e. root-stopped leafHash innerHash s v))
 
--- A key read: 12, 1, 2, 8, 3.
-pub get-exactly : {s : Bytes} {v : ℕ} {k f : Bytes} {r : ℕ} {g : Bytes} → All Byte s → ReadsKey s v k f r g → Exactly (getRows s v k) r
-unfolding keyAnswer
-get-exactly {s} {v} {k} {r = r} h w =
-    exactly (getRows s v k) r refl
-    (subst (First (getRows s v k)) (sym (w .answer))
-    (key-first k (byHeader (headerOf s) (readKey (storeOf s) v k)) (headerRows s ++ keyRows s v k)
-    (read-first s (readKey (storeOf s) v k) (keyRows s v k) (λ c o l e. get-first s (records-formed s h e) v k))))
+  pub root-exactly : Exactly (rootRows s v) (low r)
+  root-exactly = exactly (rootRows s v) (low r) refl (stopped-found refl refl root-answers (never-lost lostRecord refl))
+    where
+      never-lost : (t : Trouble) → t ≡ lostRecord → StopsRoot s v t → ⊥
+      never-lost t e (its-root i n m) = let z : _≡_ {A = ℕ} 0 1 = cc in omega arith
 
--- Proving: 12, 1, 2, 8, 14, 3, 9.
-pub prove-exactly : {s : Bytes} {v : ℕ} {k room f : Bytes} {r : ℕ} {t g : Bytes} → All Byte s → Proves s v k room f r t g →
-    Exactly (proveRows s v k room) r
-unfolding proveAnswer
-prove-exactly {s} {v} {k} {room} {r = r} h w =
-    exactly (proveRows s v k room) r refl
-    (subst (First (proveRows s v k room)) (sym (w .answer))
-    (key-first k (byHeader (headerOf s) (prove (storeOf s) v k (length room))) (headerRows s ++ proofRows s v k room)
-    (read-first s (prove (storeOf s) v k (length room)) (proofRows s v k room) (λ c o l e. prove-first s (records-formed s h e) v k room))))
+  pub root-names-slot : Names (λ i. NoneOf (rootTests s v) × StopsRoot s v (spoiltRecord i)) r
+  root-names-slot = stopped-names refl refl root-answers
+
+-- A key read: 12, 1, 2, 8, 17 or 3, and the slot beside 3.
+module _ {s : Bytes} {v : ℕ} {k f : Bytes} {r : ℕ} {g : Bytes} (h : All Byte s) (w : ReadsKey s v k f r g) where
+  get-answers : Stopped (getTests s v k) [] (StopsGet s v k) r
+  unfolding keyAnswer
+  get-answers =
+      subst (Stopped (getTests s v k) [] (StopsGet s v k)) (sym (w .answer))
+      (key-stopped k (byHeader (headerOf s) (readKey (storeOf s) v k))
+      (read-stopped s (readKey (storeOf s) v k) (λ c o l e. get-stopped s (records-formed s h e) v k)))
+
+  pub get-exactly : Exactly (getRows s v k) (low r)
+  get-exactly = exactly (getRows s v k) (low r) refl (stopped-first refl refl get-answers)
+
+  pub get-names-slot : Names (λ i. NoneOf (getTests s v k) × StopsGet s v k (spoiltRecord i)) r
+  get-names-slot = stopped-names refl refl get-answers
+
+-- Proving: 12, 1, 2, 8, 14, 17 or 3, 9, and the slot beside 3.
+module _ {s : Bytes} {v : ℕ} {k room f : Bytes} {r : ℕ} {t g : Bytes} (h : All Byte s) (w : Proves s v k room f r t g) where
+  prove-answers : Stopped (proveTests s v k) ((9, TooLong s v k room) ∷ []) (StopsProve s v k) r
+  unfolding proveAnswer
+  prove-answers =
+      subst (Stopped (proveTests s v k) ((9, TooLong s v k room) ∷ []) (StopsProve s v k)) (sym (w .answer))
+      (key-stopped k (byHeader (headerOf s) (prove (storeOf s) v k (length room)))
+      (read-stopped s (prove (storeOf s) v k (length room)) (λ c o l e. prove-stopped s (records-formed s h e) v k room)))
+
+  pub prove-exactly : Exactly (proveRows s v k room) (low r)
+  prove-exactly = exactly (proveRows s v k room) (low r) refl (stopped-first refl refl prove-answers)
+
+  pub prove-names-slot : Names (λ i. NoneOf (proveTests s v k) × StopsProve s v k (spoiltRecord i)) r
+  prove-names-slot = stopped-names refl refl prove-answers
 
 -- A comparison: 1, 2, 3, 8, 13, 9.
 pub changes-exactly : (first second limit : ℕ) {s room f t g : Bytes} {r : ℕ} → Changes first second limit s room f r t g →

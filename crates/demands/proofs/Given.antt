@@ -24,7 +24,7 @@ use Rattle.read_step.specs.Headed.{byHeader}
 use Rattle.proving.specs.Proving.{proveAnswer, roomAfter}
 use Rattle.proving_c.specs.Export.{provedInto, lengthBytes}
 use Rattle.grants.specs.Contracts.{Proves}
-use Rattle.demands.proofs.Refusals.{clash, never-0, accepted-of, prove-refusals}
+use Rattle.demands.proofs.Refusals.{clash, accepted-of, prove-nonzero}
 
 -- the tests that a proof has passed
 pub record Given (s : Bytes) (v : ℕ) (k : Bytes) (room : ℕ) (p : Proof) : Type 0 where
@@ -71,7 +71,7 @@ neighbour-long : (o : Option Presence) → NeighbourForm o → length (neighbour
 neighbour-long none f = refl
 neighbour-long (some q) f = presence-long q f
 
-proof-long : (p : Proof) → ProofForm p → length (proofBytes p) ≡ proofLength p
+pub proof-long : (p : Proof) → ProofForm p → length (proofBytes p) ≡ proofLength p
 proof-long (presence q) f = presence-long q f
 proof-long (absence a) f =
     length-absence a (f .0) (f .1) (f .2) ∙ omega (arith, neighbour-long (a .leftward) (f .1), neighbour-long (a .rightward) (f .2))
@@ -98,7 +98,7 @@ kind-is (absence a) rest =
 
 module _ {s : Bytes} {v : ℕ} {k room f t g : Bytes} (w : Proves s v k room f 0 t g) where
   there-is : (p : Proof) × (provedInto s v k room ≡ accepted p)
-  there-is = accepted-of (provedInto s v k room) (λ n e. never-0 (12 ∷ 1 ∷ 2 ∷ 8 ∷ 14 ∷ 3 ∷ 9 ∷ []) refl (prove-refusals s v k (length room) n e)) (w .answer)
+  there-is = accepted-of (provedInto s v k room) (prove-nonzero s v k (length room)) (w .answer)
 
   pub its-proof : Proof
   its-proof = there-is .0

@@ -3,6 +3,7 @@ pub mod Stored
 pub mod Outcomes
 pub mod Refusals
 pub mod Exact
+pub mod Words
 pub mod Accepting
 pub mod Forms
 pub mod Given

@@ -14,7 +14,8 @@ use Rattle.terms.specs.Bits.{Bytes, left, right, sameBytes}
 use Rattle.terms.specs.Records.{Ask, Proof, Store}
 use Rattle.terms.proofs.Tests.{and-right}
 use Rattle.meaning.specs.Calls.{Answer, refused, accepted, Result, isKept, apply, prune}
-use Rattle.meaning.specs.Reading.{Verdict, End, broken, atLeaf, atGap, walk, seen}
+use Rattle.meaning.specs.Sight.{scan}
+use Rattle.meaning.specs.Reading.{Trouble, lostRecord, spoiltRecord, strayLeaf, beside, refusalOf, Verdict, End, broken, atLeaf, atGap, walk, seen}
 use Rattle.meaning.specs.Proving.{Sought, lostWay, nobody, somebody, neighbour, absenceFrom, absenceAt, proveEnd, proveSeen, proof, proofLength, fitted, prove}
 use Rattle.meaning.proofs.Empty.{proof-by-searches}
 use Rattle.histories.specs.Claims.{ApplyRefuses, not-in-form, not-ascending, not-above-latest, no-room}
@@ -148,68 +149,64 @@ module _ {s : Bytes} {v : ℕ} {k f : Bytes} {r : ℕ} {g : Bytes} (w : ReadsKey
   pub refused-get-writes-nothing : (r ≡ 0 → ⊥) → g ≡ f
   refused-get-writes-nothing = found-kept (keyAnswer s v k) (w .answer) (w .found)
 
--- Proving: 12; then 1, 2; then 8, 14, 3, 9.
-absence-refusals : (k : Bytes) (x y : Sought) {n : ℕ} → absenceFrom k x y ≡ refused n → OneOf (14 ∷ 3 ∷ []) n
-absence-refusals k lostWay y e = inr (inl (with-number e))
-absence-refusals k nobody lostWay e = inr (inl (with-number e))
-absence-refusals k nobody nobody e = inl (with-number e)
-absence-refusals k nobody (somebody q) e = no-refusal e
-absence-refusals k (somebody p) lostWay e = inr (inl (with-number e))
-absence-refusals k (somebody p) nobody e = no-refusal e
-absence-refusals k (somebody p) (somebody q) e = no-refusal e
+-- Proving: no refusal is 0.
+stopped-nonzero : (t : Trouble) → refusalOf t ≡ 0 → ⊥
+unfolding beside
+stopped-nonzero lostRecord e = omega arith
+stopped-nonzero (spoiltRecord i) e = omega arith
+stopped-nonzero strayLeaf e = omega arith
 
-end-refusals : (k : Bytes) (e : End) {n : ℕ} → proveEnd k e ≡ refused n → OneOf (14 ∷ 3 ∷ []) n
+abbrev NeverZero : Answer Proof → Type 0
+NeverZero a = (n : ℕ) → a ≡ refused n → n ≡ 0 → ⊥
+
+refused-nonzero : (m : ℕ) → (m ≡ 0 → ⊥) → NeverZero (refused m)
+refused-nonzero m h n e z = h (sym (with-number e) ∙ z)
+
+absence-nonzero : (k : Bytes) (x y : Sought) → NeverZero (absenceFrom k x y)
+absence-nonzero k (lostWay t) y n e = refused-nonzero (refusalOf t) (stopped-nonzero t) n e
+absence-nonzero k nobody (lostWay t) n e = refused-nonzero (refusalOf t) (stopped-nonzero t) n e
+absence-nonzero k nobody nobody n e = refused-nonzero 14 (λ z. omega arith) n e
+absence-nonzero k nobody (somebody q) n e = no-refusal e
+absence-nonzero k (somebody p) (lostWay t) n e = refused-nonzero (refusalOf t) (stopped-nonzero t) n e
+absence-nonzero k (somebody p) nobody n e = no-refusal e
+absence-nonzero k (somebody p) (somebody q) n e = no-refusal e
+
+end-nonzero : (k : Bytes) (e : End) → NeverZero (proveEnd k e)
 unfolding absenceAt
-end-refusals k broken h = inr (inl (with-number h))
-end-refusals k (atGap trail) h = absence-refusals k (neighbour left k (atGap trail)) (neighbour right k (atGap trail)) h
-end-refusals k (atLeaf l x trail) {n} h = go (sameBytes k l) _ h
+end-nonzero k (broken t) n h = refused-nonzero (refusalOf t) (stopped-nonzero t) n h
+end-nonzero k (atGap trail) n h = absence-nonzero k (neighbour left k (atGap trail)) (neighbour right k (atGap trail)) n h
+end-nonzero k (atLeaf l x trail) n h = go (sameBytes k l) _ h
   where
     go : (b : Bool) (p : Proof) →
-        cond b (accepted p) (absenceFrom k (neighbour left k (atLeaf l x trail)) (neighbour right k (atLeaf l x trail))) ≡ refused n →
-        OneOf (14 ∷ 3 ∷ []) n
+        cond b (accepted p) (absenceFrom k (neighbour left k (atLeaf l x trail)) (neighbour right k (atLeaf l x trail))) ≡ refused n → n ≡ 0 → ⊥
     go true p f = no-refusal f
-    go false p f = absence-refusals k (neighbour left k (atLeaf l x trail)) (neighbour right k (atLeaf l x trail)) f
+    go false p f = absence-nonzero k (neighbour left k (atLeaf l x trail)) (neighbour right k (atLeaf l x trail)) n f
 
-fitted-refusals : (room : ℕ) (ns : List ℕ) (a : Answer Proof) {n : ℕ} → ((m : ℕ) → a ≡ refused m → OneOf ns m) → fitted room a ≡ refused n →
-    (n ≡ 9) ⊎ OneOf ns n
-fitted-refusals room ns (refused m) f e = inr (subst (OneOf ns) (sym (with-number e)) (f m refl))
-fitted-refusals room ns (accepted p) {n} f e = go (ltb room (proofLength p)) e
+fitted-nonzero : (room : ℕ) (a : Answer Proof) → NeverZero a → NeverZero (fitted room a)
+fitted-nonzero room (refused m) f n e = f n e
+fitted-nonzero room (accepted p) f n e = go (ltb room (proofLength p)) e
   where
-    go : (b : Bool) → cond b (refused 9) (accepted p) ≡ refused n → (n ≡ 9) ⊎ OneOf ns n
-    go true h = inl (with-number h)
+    go : (b : Bool) → cond b (refused 9) (accepted p) ≡ refused n → n ≡ 0 → ⊥
+    go true h = refused-nonzero 9 (λ z. omega arith) n h
     go false h = no-refusal h
 
-proof-refusals : (st : Store) (v : ℕ) (k : Bytes) (n : ℕ) → proof st v k ≡ refused n → OneOf (8 ∷ 14 ∷ 3 ∷ []) n
+pub proof-nonzero : (st : Store) (v : ℕ) (k : Bytes) → NeverZero (proof st v k)
 unfolding proveSeen
-proof-refusals st v k n e = go (isKept st v) (sym (proof-by-searches st v k) ∙ e)
+proof-nonzero st v k n e = go (isKept st v) (sym (proof-by-searches st v k) ∙ e)
   where
-    go : (b : Bool) → cond b (proveEnd k (walk k 0 [] (seen st v))) (refused 8) ≡ refused n → OneOf (8 ∷ 14 ∷ 3 ∷ []) n
-    go true h = inr (end-refusals k (walk k 0 [] (seen st v)) h)
-    go false h = inl (with-number h)
+    go : (b : Bool) → cond b (proveEnd k (walk k 0 [] (seen (scan st) v))) (refused 8) ≡ refused n → n ≡ 0 → ⊥
+    go true h = end-nonzero k (walk k 0 [] (seen (scan st) v)) n h
+    go false h = refused-nonzero 8 (λ z. omega arith) n h
 
-pub prove-refusals : (s : Bytes) (v : ℕ) (k : Bytes) (room n : ℕ) → proveAnswer s v k room ≡ refused n →
-    OneOf (12 ∷ 1 ∷ 2 ∷ 8 ∷ 14 ∷ 3 ∷ 9 ∷ []) n
+pub prove-nonzero : (s : Bytes) (v : ℕ) (k : Bytes) (room n : ℕ) → proveAnswer s v k room ≡ refused n → n ≡ 0 → ⊥
 unfolding proveAnswer prove
-prove-refusals s v k room n = go (eqb (length k) 32) (headerOf s) (λ m. header-numbers s)
+prove-nonzero s v k room n = go (eqb (length k) 32) (headerOf s) (λ m. header-numbers s)
   where
-    last : (n ≡ 9) ⊎ OneOf (8 ∷ 14 ∷ 3 ∷ []) n → OneOf (8 ∷ 14 ∷ 3 ∷ 9 ∷ []) n
-    last (inl z) = inr (inr (inr (inl z)))
-    last (inr (inl z)) = inl z
-    last (inr (inr (inl z))) = inr (inl z)
-    last (inr (inr (inr (inl z)))) = inr (inr (inl z))
-    last (inr (inr (inr (inr z)))) = absurd z
-
-    first : OneOf (1 ∷ 2 ∷ []) n → OneOf (12 ∷ 1 ∷ 2 ∷ 8 ∷ 14 ∷ 3 ∷ 9 ∷ []) n
-    first (inl z) = inr (inl z)
-    first (inr (inl z)) = inr (inr (inl z))
-    first (inr (inr z)) = absurd z
-
     go : (b : Bool) (h : Headed) → ((m : ℕ) → h ≡ refusal m → OneOf (1 ∷ 2 ∷ []) m) →
-        cond b (byHeader h (fitted room (proof (storeOf s) v k))) (refused 12) ≡ refused n → OneOf (12 ∷ 1 ∷ 2 ∷ 8 ∷ 14 ∷ 3 ∷ 9 ∷ []) n
-    go false h f e = inl (with-number e)
-    go true (refusal m) f e = first (subst (OneOf (1 ∷ 2 ∷ [])) (sym (with-number e)) (f m refl))
-    go true (header c o l) f e =
-        inr (inr (inr (last (fitted-refusals room (8 ∷ 14 ∷ 3 ∷ []) (proof (storeOf s) v k) (proof-refusals (storeOf s) v k) e))))
+        cond b (byHeader h (fitted room (proof (storeOf s) v k))) (refused 12) ≡ refused n → n ≡ 0 → ⊥
+    go false h f e = refused-nonzero 12 (λ z. omega arith) n e
+    go true (refusal m) f e = λ z. never-0 (1 ∷ 2 ∷ []) refl (f m refl) (sym (with-number e) ∙ z)
+    go true (header c o l) f e = fitted-nonzero room (proof (storeOf s) v k) (proof-nonzero (storeOf s) v k) n e
 
 module _ {s : Bytes} {v : ℕ} {k room f : Bytes} {r : ℕ} {t g : Bytes} (w : Proves s v k room f r t g) where
   pub refused-prove-writes-nothing : (r ≡ 0 → ⊥) → (t ≡ room) × (g ≡ f)

@@ -1,4 +1,5 @@
 pub mod Calls
 pub mod Tables
+pub mod Words
 pub mod Claims
 pub mod Desk

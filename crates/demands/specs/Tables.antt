@@ -6,7 +6,7 @@ use mathlib.Core.List.{[], _∷_, _++_}
 use Rattle.terms.specs.Bits.{Bytes}
 use Rattle.refusals.specs.Exactly.{Table}
 use Rattle.refusals.specs.Rows.{WrongLength, NotSound, Not32}
-use Rattle.refusals.specs.Orders.{headerRows, batchRows, versionRows, keyRows, proofRows, comparisonRows, holdingRows}
+use Rattle.refusals.specs.Orders.{headerRows, batchRows, versionRows, lookupRows, keyRows, provingRows, proofRows, comparisonRows, holdingRows}
 
 -- 1, 2; then 3 by full soundness.
 abbrev pub soundRows : Bytes → Table
@@ -28,15 +28,24 @@ applyRows number batch s = soundRows s ++ batchRows number batch s
 abbrev pub pruneRows : ℕ → Bytes → Table
 pruneRows n s = soundRows s ++ versionRows s n
 
--- A root read: 1, 2, 8.
+-- A root read: 1, 2, 8, 3; and the rows that it tests before it looks for a record.
 abbrev pub rootRows : Bytes → ℕ → Table
-rootRows s v = headerRows s ++ versionRows s v
+rootRows s v = headerRows s ++ lookupRows s v
 
--- A key read: 12; then 1, 2; then 8, 3.
+abbrev pub rootTests : Bytes → ℕ → Table
+rootTests s v = headerRows s ++ versionRows s v
+
+-- A key read: 12; then 1, 2; then 8, 17 or 3.
 abbrev pub getRows : Bytes → ℕ → Bytes → Table
 getRows s v k = (12, Not32 (k ∷ [])) ∷ headerRows s ++ keyRows s v k
 
--- Proving: 12; then 1, 2; then 8, 14, 3, 9.
+abbrev pub getTests : Bytes → ℕ → Bytes → Table
+getTests s v k = (12, Not32 (k ∷ [])) ∷ headerRows s ++ versionRows s v
+
+-- Proving: 12; then 1, 2; then 8, 14, 17 or 3, 9.
+abbrev pub proveTests : Bytes → ℕ → Bytes → Table
+proveTests s v k = (12, Not32 (k ∷ [])) ∷ headerRows s ++ provingRows s v
+
 abbrev pub proveRows : Bytes → ℕ → Bytes → Bytes → Table
 proveRows s v k room = (12, Not32 (k ∷ [])) ∷ headerRows s ++ proofRows s v k room
 

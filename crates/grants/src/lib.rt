@@ -41,7 +41,7 @@ pub extern "C" fn grants_prune(store: &mut [u8], version: u32, freed: &mut [u8; 
 
 // The root of a version.
 #[no_mangle]
-pub extern "C" fn grants_root(store: &[u8], version: u32, root: &mut [u8; 32]) -> u32
+pub extern "C" fn grants_root(store: &[u8], version: u32, root: &mut [u8; 32]) -> u64
     ensures { λ r. ⌜ ReadsRoot (now (store .entry)) version (now (root .entry)) r (now (root .exit)) ⌝ }
 {
     reads_c::grants_root(store, version, root)
@@ -49,7 +49,7 @@ pub extern "C" fn grants_root(store: &[u8], version: u32, root: &mut [u8; 32]) -
 
 // A key in a version: 1 and its value, or 0 and 32 zero bytes where it is absent.
 #[no_mangle]
-pub extern "C" fn grants_get(store: &[u8], version: u32, key: &[u8], found: &mut [u8; 33]) -> u32
+pub extern "C" fn grants_get(store: &[u8], version: u32, key: &[u8], found: &mut [u8; 33]) -> u64
     ensures { λ r. ⌜ ReadsKey (now (store .entry)) version (now (key .entry)) (now (found .entry)) r (now (found .exit)) ⌝ }
 {
     reads_c::grants_get(store, version, key, found)
@@ -63,7 +63,7 @@ pub extern "C" fn grants_prove(
     key: &[u8],
     room: &mut [u8],
     length: &mut [u8; 4],
-) -> u32
+) -> u64
     ensures { λ r. ⌜ Proves (now (store .entry)) version (now (key .entry)) (now (room .entry)) (now (length .entry)) r (now (room .exit)) (now (length .exit)) ⌝ }
 {
     proving_c::grants_prove(store, version, key, room, length)

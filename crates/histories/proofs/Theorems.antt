@@ -16,12 +16,14 @@ use Rattle.meaning.specs.Tree.{VTree, vnone, vleaf, vinner, treeOf, hash, grant
 use Rattle.meaning.specs.Store.{formatted, rootOf, treeAtVersion}
 use Rattle.meaning.specs.Sound.{mostSlots, At, Kept, NodeOf, Lives, Hashes32, Sound}
 use Rattle.meaning.specs.Calls.{Answer, refused, accepted, refuse, isKept, Applied, ascending, prune, apply}
-use Rattle.meaning.specs.Reading.{Seen, seenAt, seenRoot, seen, walk, readEnd, readKey, rootHash, readRoot}
-use Rattle.meaning.specs.Proving.{proveSeen, hasRoot, proof}
+use Rattle.meaning.specs.Sight.{sighted, rootSight, scan}
+use Rattle.meaning.specs.Reading.{Seen, seenAt, seenRoot, seen, walk, readEnd, readKey, rootRead, readRoot}
+use Rattle.meaning.specs.Proving.{proveSeen, emptyVersion, proof}
 use Rattle.meaning.specs.History.{Call, formatting, applying, pruning, looking, CallForm, isAccepted, after, took, run, history, Entry, entry, ledger, grantsOf, held, Holds}
 use Rattle.meaning.proofs.Finding.{none-not}
 use Rattle.meaning.proofs.Roots.{root-at, root-none, root-some, top-root}
 use Rattle.meaning.proofs.Runs.{Ascending}
+use Rattle.meaning.proofs.Sights.{whole-root}
 use Rattle.meaning.proofs.Shaped.{Shaped, shaped-form, shaped-ascending, shaped-treeOf}
 use Rattle.histories.specs.Claims.{NoChange, NoGaps, rootIn01, ReadAlike, ApplyRefuses, not-in-form, not-ascending, not-above-latest, no-room, AfterApply, AfterPrune}
 use Rattle.histories.proofs.Standing.{node-found}
@@ -72,20 +74,20 @@ kept-yes : (st : Store) (v : ℕ) → Kept st v → isKept st v ≡ true
 unfolding isKept
 kept-yes st v k = rw (le-leb (st .oldest) v (k .0), le-leb v (st .latest) (k .1))
 
-seen-alike : (st : Store) (v w : ℕ) → rootOf st v ≡ rootOf st w → seen st v ≡ seen st w
+seen-alike : (st : Store) (v w : ℕ) → rootSight st v ≡ rootSight st w → seen (scan st) v ≡ seen (scan st) w
 unfolding seen
-seen-alike st v w e = ap (λ o. seenRoot o (λ b d. seenAt 255 (st .slots) (b ∷ []) d)) e
+seen-alike st v w e = ap (λ o. seenRoot o (λ b d. seenAt 255 (scan st) (b ∷ []) d)) e
 
 -- versions that are both kept, or both not, and have one root, read alike
-read-alike : (leafHash innerHash : Bytes → Bytes → Bytes) (st : Store) (v w : ℕ) → isKept st v ≡ isKept st w → rootOf st v ≡ rootOf st w →
+read-alike : (leafHash innerHash : Bytes → Bytes → Bytes) (st : Store) (v w : ℕ) → isKept st v ≡ isKept st w → rootSight st v ≡ rootSight st w →
     ReadAlike leafHash innerHash st v w
 unfolding readRoot readKey proof
 read-alike leafHash innerHash st v w k e = record {
-  root = ap₂ (λ b o. cond b (accepted (rootHash leafHash innerHash o)) (refused 8)) k e;
+  root = ap₂ (λ b o. cond b (rootRead leafHash innerHash o) (refused 8)) k e;
   keys = λ x. ap₂ (λ b z. cond b (readEnd x (walk x 0 [] z)) (refused 8)) k (seen-alike st v w e);
   proofs = λ x.
-      ap₂ (λ b (z : Bool × Seen). cond b (cond (z .0) (proveSeen x (z .1)) (refused 14)) (refused 8)) k
-      (ap₂ (λ b z. (b, z)) (ap hasRoot e) (seen-alike st v w e));
+      ap₂ (λ b (z : Bool × Seen). cond b (cond (z .0) (refused 14) (proveSeen x (z .1))) (refused 8)) k
+      (ap₂ (λ b z. (b, z)) (ap emptyVersion e) (seen-alike st v w e));
 }
 
 module _ (leafHash innerHash : Bytes → Bytes → Bytes) where
@@ -116,8 +118,8 @@ module _ (leafHash innerHash : Bytes → Bytes → Bytes) where
       readRoot leafHash innerHash st v ≡ accepted (hash leafHash innerHash (unversioned (treeAtVersion st v)))
   unfolding readRoot
   root-read-is-hash st s v k =
-      rw (kept-yes st v k)
-      (ap accepted (root-hash leafHash innerHash st (sound-whole leafHash innerHash st s) v k))
+      rw (kept-yes st v k, whole-root st v (s .whole))
+      (root-hash leafHash innerHash st (sound-whole leafHash innerHash st s) v k)
 
   -- Pruning, accepted.
   pub prune-keeps-sound : (n : ℕ) (st : Store) (freed : ℕ) → Sound leafHash innerHash st → prune n st .answer ≡ accepted freed →
@@ -159,7 +161,8 @@ module _ (leafHash innerHash : Bytes → Bytes → Bytes) where
       (rootOf st′ v ≡ rootOf st′ (st .latest)) × ReadAlike leafHash innerHash st′ v (st .latest)
   between-reads-as-the-earlier number batch st answer st′ s a v l h = (
     same,
-    read-alike leafHash innerHash st′ v (st .latest) (kept-yes st′ v kept ∙ sym (kept-yes st′ (st .latest) last)) same,
+    read-alike leafHash innerHash st′ v (st .latest) (kept-yes st′ v kept ∙ sym (kept-yes st′ (st .latest) last))
+        (whole-root st′ v (a .sound .whole) ∙ ap (λ o. sighted o none) same ∙ sym (whole-root st′ (st .latest) (a .sound .whole))),
   )
     where
       kept : Kept st′ v

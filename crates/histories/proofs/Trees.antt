@@ -10,7 +10,9 @@ use Rattle.terms.specs.Form.{BodyForm}
 use Rattle.meaning.specs.Tree.{hash, VTree, vnone, vleaf, vinner, unversioned, topVersion}
 use Rattle.meaning.specs.Store.{find, rootOf, treeAtVersion, childOf}
 use Rattle.meaning.specs.Sound.{Kept, Found, Stands}
-use Rattle.meaning.specs.Reading.{bodyHash, rootHash}
+use Rattle.meaning.specs.Sight.{sighted}
+use Rattle.meaning.specs.Calls.{accepted}
+use Rattle.meaning.specs.Reading.{bodyHash, rootRead}
 use Rattle.meaning.proofs.Finding.{Within, there, go-kid, Some, some-leaf, some-inner}
 use Rattle.meaning.proofs.Roots.{root-none, root-some}
 use Rattle.meaning.proofs.Shaped.{Shaped, kid-shaped, two-grants-below}
@@ -53,14 +55,14 @@ module _ (leafHash innerHash : Bytes → Bytes → Bytes) (st : Store) (w : Whol
   record-hash (vinner x a b) some-inner s r f = ap (bodyHash leafHash innerHash) (found-body x r _ f (s .0))
 
   pub root-hash : (v : ℕ) → Kept st v →
-      rootHash leafHash innerHash (rootOf st v) ≡ hash leafHash innerHash (unversioned (treeAtVersion st v))
+      rootRead leafHash innerHash (sighted (rootOf st v) none) ≡ accepted (hash leafHash innerHash (unversioned (treeAtVersion st v)))
   root-hash v k = go (rootOf st v) refl
     where
       go : (o : Option Record) → rootOf st v ≡ o →
-          rootHash leafHash innerHash o ≡ hash leafHash innerHash (unversioned (treeAtVersion st v))
-      go none e = ap (λ t. hash leafHash innerHash (unversioned t)) (sym (root-none st v e))
+          rootRead leafHash innerHash (sighted o none) ≡ accepted (hash leafHash innerHash (unversioned (treeAtVersion st v)))
+      go none e = ap (λ t. accepted (hash leafHash innerHash (unversioned t))) (sym (root-none st v e))
       go (some r) e =
           let (h, p, l) = root-has st v r e in
           let top = root-some st v r e in
-          record-hash (treeAtVersion st v) (top .0) (w .stands v k) r
-          (ap₂ (λ x q. find x q (st .slots)) (top .1) (sym p) ∙ unique-find (st .slots) r (w .unique) h)
+          ap accepted (record-hash (treeAtVersion st v) (top .0) (w .stands v k) r
+          (ap₂ (λ x q. find x q (st .slots)) (top .1) (sym p) ∙ unique-find (st .slots) r (w .unique) h))

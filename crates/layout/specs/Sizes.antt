@@ -2,6 +2,7 @@
 -- Assumes nothing.
 use Prim.Native.Nat.{ℕ, _+_, _*_, _-_, _/_}
 pub use Rattle.terms.specs.Form.{mostSlots}
+pub use Rattle.terms.specs.Heads.{countAt, bitsAt, versionAt, retiredAt}
 
 -- Header, 24 bytes: length 24, kind 1, 2 zero, capacity 4, oldest 4, latest 4, 4 zero. Capacity n is 1 to 16,384.
 abbrev pub headerSize : ℕ
@@ -45,20 +46,7 @@ innerKind = 3
 abbrev pub kindAt : ℕ
 kindAt = 4
 
--- A slot's bit count 2, bits 32, version 4, retired-since 4, and then what its kind says.
-abbrev pub countAt : ℕ
-countAt = 6
-
-abbrev pub bitsAt : ℕ
-bitsAt = 8
-
-abbrev pub versionAt : ℕ
-versionAt = 40
-
-abbrev pub retiredAt : ℕ
-retiredAt = 44
-
--- A leaf's key 32, value 32, 8 zero; key and value are its grant.
+-- Then the fields of `terms/Heads`, and what its kind says. A leaf's key 32, value 32, 8 zero; key and value are its grant.
 abbrev pub grantSize : ℕ
 grantSize = 64
 

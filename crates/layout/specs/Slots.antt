@@ -10,7 +10,9 @@ use Rattle.terms.specs.Bits.{Bytes, Byte, Side, Place, All, bits, pack, noneSet
 use Rattle.terms.specs.Fields.{le, field, slice, zeroBytes, allZero, flat, allOf}
 use Rattle.terms.specs.Records.{Child, child, Body, leafBody, innerBody, Record, Slot, free, used, spoiled}
 use Rattle.terms.specs.Form.{placeLimit, RecordForm}
-use Rattle.layout.specs.Sizes.{slotSize, leafLength, leafKind, innerLength, innerKind, kindAt, countAt, bitsAt, versionAt, retiredAt, grantSize, keyAt, valueAt, tailAt, leftAt, rightAt}
+unfoldable pub use Rattle.terms.specs.Heads.{countIn}
+pub use Rattle.terms.specs.Heads.{bitsIn, versionIn, sinceIn}
+use Rattle.layout.specs.Sizes.{slotSize, leafLength, leafKind, innerLength, innerKind, kindAt, grantSize, keyAt, valueAt, tailAt, leftAt, rightAt}
 
 -- Leaf: length 112, kind 2. Inner: length 120, kind 3.
 abbrev pub lengthOf : Body → ℕ
@@ -21,22 +23,9 @@ abbrev pub kindOf : Body → ℕ
 kindOf (leafBody k x) = leafKind
 kindOf (innerBody l r) = innerKind
 
--- The bit count, and the bits of the place, in key order.
-unfoldable pub countIn : Bytes → ℕ
-countIn x = field countAt 2 x
-
-abbrev pub bitsIn : Bytes → Bytes
-bitsIn x = slice bitsAt 32 x
-
+-- The place: as many bits as the bit count says.
 unfoldable pub placeIn : Bytes → Place
 placeIn x = take (countIn x) (bits (bitsIn x))
-
--- Version and retired-since.
-abbrev pub versionIn : Bytes → ℕ
-versionIn x = field versionAt 4 x
-
-abbrev pub sinceIn : Bytes → ℕ
-sinceIn x = field retiredAt 4 x
 
 -- A leaf's key 32, value 32; both are its grant.
 abbrev pub keyIn : Bytes → Bytes

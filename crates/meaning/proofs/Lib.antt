@@ -2,6 +2,7 @@ pub mod Desk
 pub mod Finding
 pub mod Nodes
 pub mod Roots
+pub mod Sights
 pub mod Empty
 pub mod Sides
 pub mod Runs

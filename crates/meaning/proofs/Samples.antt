@@ -5,14 +5,15 @@ use mathlib.Core.Path.{_≡_, refl}
 use mathlib.Core.Bool.{true, false}
 use mathlib.Core.List.{List, [], _∷_, _++_, map}
 use mathlib.Core.Option.{none, some}
-use lib.ListN.{take, drop, replicate}
-use Rattle.terms.specs.Bits.{Bytes, left, right}
-use Rattle.terms.specs.Records.{Grant, Store, Presence, Proof, presence, zeros}
+use lib.ListN.{length, take, drop, replicate}
+use Rattle.terms.specs.Bits.{Bytes, left, right, Place, pack}
+use Rattle.terms.specs.Fields.{le}
+use Rattle.terms.specs.Records.{Grant, Slot, free, spoiled, Store, Presence, Proof, presence, zeros}
 use Rattle.meaning.specs.Tree.{grantsIn}
 use Rattle.meaning.specs.Store.{treeAtVersion}
 use Rattle.meaning.specs.Calls.{Answer, refused, accepted}
-use Rattle.meaning.specs.Reading.{Verdict, present, absent, readKey, readRoot, rootHash, answerOf}
-use Rattle.meaning.specs.Store.{rootOf}
+use Rattle.meaning.specs.Reading.{Verdict, present, absent, readKey, beside, rootRead, readRoot, answerOf}
+use Rattle.meaning.specs.Sight.{scan}
 use Rattle.meaning.specs.Proving.{step, presenceOf, absenceOf, proof, proofLength, prove}
 use Rattle.meaning.specs.Checking.{checked}
 use Rattle.meaning.specs.Desk.{keyOf, A, B, C, D, E, F, a, b, c, d, c′, lf, nd, store, hA, hB, hC, hD, hF, h01, h0, root₁, s₁, s₂, s₆, s₉, g₁₅}
@@ -101,15 +102,15 @@ module _ (leafHash innerHash : Bytes → Bytes → Bytes) where
   unfolding computed
   roots-of-M1 = refl
 
-  -- the leaf B is lost: B and the absence of F give 3; F reads as absent, and C is proved
+  -- the leaf B is lost: B and the absence of F give 17; F reads as absent, and C is proved
   abbrev damaged : ℕ → ℕ → Store
   damaged old new = store old new (drop 1 (one .slots))
 
-  pub reads-of-damaged : map (readKey (damaged 0 1) 1) (B ∷ C ∷ F ∷ []) ≡ refused 3 ∷ accepted (present c) ∷ accepted absent ∷ []
+  pub reads-of-damaged : map (readKey (damaged 0 1) 1) (B ∷ C ∷ F ∷ []) ≡ refused 17 ∷ accepted (present c) ∷ accepted absent ∷ []
   unfolding computed
   reads-of-damaged = refl
 
-  pub proofs-of-damaged : map (proof (damaged 0 1) 1) (B ∷ C ∷ F ∷ []) ≡ refused 3 ∷ accepted (presence toC) ∷ refused 3 ∷ []
+  pub proofs-of-damaged : map (proof (damaged 0 1) 1) (B ∷ C ∷ F ∷ []) ≡ refused 17 ∷ accepted (presence toC) ∷ refused 17 ∷ []
   unfolding computed
   proofs-of-damaged = refl
 
@@ -121,6 +122,62 @@ module _ (leafHash innerHash : Bytes → Bytes → Bytes) where
   pub eight-before-three-proving : proof (damaged 2 2) 1 B ≡ refused 8
   unfolding computed
   eight-before-three-proving = refl
+
+  -- a slot's bytes, with these head fields and else spoilt
+  abbrev head : Place → ℕ → ℕ → Slot
+  head p v since = spoiled (replicate 6 9 ++ le 2 (length p) ++ pack 32 p ++ le 4 v ++ le 4 since ++ replicate 72 9)
+
+  -- B, whose place is 010, is spoilt in its slot 0 and in slot 7: 3 with the lowest. A record in form that matches wins over it, and one of
+  -- another version is no match
+  abbrev hidden : List Slot → Store
+  hidden more = store 0 1 (head (false ∷ true ∷ false ∷ []) 1 0 ∷ drop 1 (one .slots) ++ more)
+
+  abbrev spare : List Slot
+  spare = head (false ∷ true ∷ false ∷ []) 1 0 ∷ []
+
+  pub reads-of-spoilt : map (readKey (hidden spare) 1) (B ∷ C ∷ F ∷ []) ≡ refused (beside 3 0) ∷ accepted (present c) ∷ accepted absent ∷ []
+  unfolding computed
+  reads-of-spoilt = refl
+
+  pub proofs-of-spoilt : map (proof (hidden spare) 1) (B ∷ C ∷ F ∷ []) ≡ refused (beside 3 0) ∷ accepted (presence toC) ∷ refused (beside 3 0) ∷ []
+  unfolding computed
+  proofs-of-spoilt = refl
+
+  pub in-form-wins : readKey (hidden (lf (false ∷ true ∷ false ∷ []) 1 0 B b ∷ [])) 1 B ≡ accepted (present b)
+  unfolding computed
+  in-form-wins = refl
+
+  pub other-version-is-lost : readKey (store 0 1 (head (false ∷ true ∷ false ∷ []) 2 0 ∷ drop 1 (one .slots))) 1 B ≡ refused 17
+  unfolding computed
+  other-version-is-lost = refl
+
+  -- the first met: D's walk ends at the missing child 10, its left neighbour is the leaf 0, and its right one stands below 11
+  abbrev gap : Slot → Slot → Store
+  gap x y = store 0 1 (x ∷ y ∷ nd (true ∷ []) 1 0 0 zeros 1 (hC leafHash innerHash) ∷ nd [] 1 0 1 (hA leafHash innerHash) 1 (hB leafHash innerHash) ∷ [])
+
+  abbrev spoilt₀ : Slot
+  spoilt₀ = head (false ∷ []) 1 0
+
+  abbrev spoilt₁₁ : Slot
+  spoilt₁₁ = head (true ∷ true ∷ []) 1 0
+
+  pub left-before-right : proof (gap spoilt₀ free) 1 D ∷ proof (gap free spoilt₁₁) 1 D ∷ proof (gap (lf (false ∷ []) 1 0 A a) spoilt₁₁) 1 D ∷ []
+      ≡ refused (beside 3 0) ∷ refused 17 ∷ refused (beside 3 1) ∷ []
+  unfolding computed
+  left-before-right = refl
+
+  -- a root: lost, the version is empty, and a free slot agrees with none; spoilt, 3 with its slot, where its lifetime covers the version
+  abbrev noRoot : List Slot → Store
+  noRoot more = store 0 3 (free ∷ more)
+
+  pub roots-of-spoilt : map (readRoot leafHash innerHash (noRoot (head [] 1 3 ∷ []))) (0 ∷ 1 ∷ 2 ∷ 3 ∷ [])
+      ≡ accepted zeros ∷ refused (beside 3 1) ∷ refused (beside 3 1) ∷ accepted zeros ∷ []
+  unfolding computed
+  roots-of-spoilt = refl
+
+  pub proofs-without-root : proof (noRoot []) 1 A ∷ proof (noRoot (head [] 0 0 ∷ [])) 0 A ∷ [] ≡ refused 14 ∷ refused (beside 3 1) ∷ []
+  unfolding computed
+  proofs-without-root = refl
 
   -- a leaf whose key doesn't begin with its place gives 3 to the walk and to the descent
   abbrev misplaced : Store
@@ -150,8 +207,12 @@ abbrev checkGiven : Bytes → Bytes → Answer Proof → Answer Verdict
 checkGiven root k (refused n) = refused n
 checkGiven root k (accepted p) = checked toyLeaf toyInner root k p
 
+abbrev rootGiven : Answer Bytes → Bytes
+rootGiven (refused n) = zeros
+rootGiven (accepted root) = root
+
 abbrev shownOf : Store → ℕ → Bytes → Answer Verdict
-shownOf st v k = checkGiven (rootHash toyLeaf toyInner (rootOf st v)) k (proof st v k)
+shownOf st v k = checkGiven (rootGiven (rootRead toyLeaf toyInner (scan st .root v))) k (proof st v k)
 
 -- What it should be: what the version's grants say of the key, and 14 where it holds none.
 abbrev orEmpty : List Grant → Answer Verdict → Answer Verdict

@@ -2,6 +2,7 @@ pub mod Tree
 pub mod Runs
 pub mod Store
 pub mod Sound
+pub mod Sight
 pub mod Calls
 pub mod Reading
 pub mod Proving

@@ -1,5 +1,5 @@
--- Document 01, 'Reading and proving': the neighbours of a key, and the proof that the prover writes, for every store; and 2026-03: no
--- neighbour, no absence proof. Assumes nothing.
+-- Document 01, 'Reading and proving': the neighbours of a key, and the proof that the prover writes, for every store; with 2026-03: no
+-- neighbour, no absence proof; and 2026-07: which record is missing. Assumes nothing.
 use Prim.Native.Nat.{ℕ, _+_, _*_}
 use mathlib.Core.Path.{_≡_}
 use mathlib.Core.Bool.{Bool, true, false, cond, _&&_, not, Bool·beq}
@@ -8,11 +8,12 @@ use mathlib.Core.Option.{Option, none, some}
 use lib.ListN.{length}
 use lib.Dec.{ltb}
 use Rattle.terms.specs.Bits.{Bytes, Side, left, right, before, sameBytes}
-use Rattle.terms.specs.Records.{Record, Store, Step, Presence, Proof, presence, absence}
+use Rattle.terms.specs.Records.{Store, Step, Presence, Proof, presence, absence}
 use Rattle.meaning.specs.Tree.{grantsIn}
-use Rattle.meaning.specs.Store.{rootOf, treeAtVersion}
+use Rattle.meaning.specs.Store.{treeAtVersion}
+use Rattle.meaning.specs.Sight.{Sight, matches, nothing, spoilt, scan}
 use Rattle.meaning.specs.Calls.{Answer, refused, accepted, isKept}
-use Rattle.meaning.specs.Reading.{Seen, lost, gap, leafSeen, fork, seen, Pass, End, broken, atLeaf, atGap, walk}
+use Rattle.meaning.specs.Reading.{Trouble, lostRecord, refusalOf, Seen, lost, gap, leafSeen, fork, seen, Pass, End, broken, atLeaf, atGap, walk}
 
 abbrev pub step : Side → Bytes → Step
 step b h = record { side = b; sibling = h }
@@ -28,7 +29,7 @@ abbrev pub stepUp : Pass → Step
 stepUp p = step (p .turn) (p .hashes (not (p .turn)))
 
 abbrev pub isGap : Seen → Bool
-isGap lost = false
+isGap (lost t) = false
 isGap gap = true
 isGap (leafSeen k x) = false
 isGap (fork hashes kids) = false
@@ -37,29 +38,35 @@ isGap (fork hashes kids) = false
 abbrev pub raised : List Step → Presence → Presence
 raised steps p = presenceOf (p .key) (p .value) (p .steps ++ steps)
 
--- A search that may give 3, find nobody, or find a neighbour's presence proof.
+-- A search that may meet trouble, find nobody, or find a neighbour's presence proof.
 pub data Sought : Type 0 where
-  lostWay : Sought
+  lostWay : Trouble → Sought
   nobody : Sought
   somebody : Presence → Sought
 
-abbrev pub raisedBy : List Step → Option Presence → Option Presence
-raisedBy steps none = none
-raisedBy steps (some p) = some (raised steps p)
+-- A descent meets trouble, or comes to a leaf.
+pub data Descended : Type 0 where
+  stuck : Trouble → Descended
+  reached : Presence → Descended
 
--- The descent into a child: to side b where there is a child on side b, else to the other; none means 3.
-abbrev pub descend : Side → Seen → Option Presence
-descend b lost = none
-descend b gap = none
-descend b (leafSeen k x) = some (presenceOf k x [])
+abbrev pub raisedBy : List Step → Descended → Descended
+raisedBy steps (stuck t) = stuck t
+raisedBy steps (reached p) = reached (raised steps p)
+
+-- The descent into a child: to side b where there is a child on side b, else to the other. An inner record in form has a child, so no descent
+-- from a present child ends at a missing one.
+abbrev pub descend : Side → Seen → Descended
+descend b (lost t) = stuck t
+descend b gap = stuck lostRecord
+descend b (leafSeen k x) = reached (presenceOf k x [])
 descend b (fork hashes kids) =
     cond (isGap (kids b))
     (raisedBy (step (not b) (hashes b) ∷ []) (descend b (kids (not b))))
     (raisedBy (step b (hashes (not b)) ∷ []) (descend b (kids b)))
 
-abbrev pub sought : Option Presence → Sought
-sought none = lostWay
-sought (some p) = somebody p
+abbrev pub sought : Descended → Sought
+sought (stuck t) = lostWay t
+sought (reached p) = somebody p
 
 -- The walk turned away from side b at this node (or wanted to), and a child is present there.
 unfoldable pub turnsAway : Side → Pass → Bool
@@ -80,17 +87,17 @@ beyond true l k = before k l
 
 -- The neighbour of a key on side b: the leaf at the end, if its key is on that side; else from the trail.
 abbrev pub neighbour : Side → Bytes → End → Sought
-neighbour b k broken = lostWay
+neighbour b k (broken t) = lostWay t
 neighbour b k (atLeaf l x trail) = cond (beyond b l k) (somebody (presenceOf l x (map stepUp trail))) (fromTrail b trail)
 neighbour b k (atGap trail) = fromTrail b trail
 
--- The proof of absence from what the two searches found, the left one first; at least one neighbour is needed.
+-- The proof of absence from what the two searches found; at least one neighbour is needed. The left one's trouble is met first.
 abbrev pub absenceFrom : Bytes → Sought → Sought → Answer Proof
-absenceFrom k lostWay r = refused 3
-absenceFrom k nobody lostWay = refused 3
+absenceFrom k (lostWay t) r = refused (refusalOf t)
+absenceFrom k nobody (lostWay t) = refused (refusalOf t)
 absenceFrom k nobody nobody = refused 14
 absenceFrom k nobody (somebody q) = accepted (absenceOf k none (some q))
-absenceFrom k (somebody p) lostWay = refused 3
+absenceFrom k (somebody p) (lostWay t) = refused (refusalOf t)
 absenceFrom k (somebody p) nobody = accepted (absenceOf k (some p) none)
 absenceFrom k (somebody p) (somebody q) = accepted (absenceOf k (some p) (some q))
 
@@ -99,7 +106,7 @@ absenceAt k e = absenceFrom k (neighbour left k e) (neighbour right k e)
 
 -- A presence proof if the walk ends at a leaf with the key, else an absence proof.
 abbrev pub proveEnd : Bytes → End → Answer Proof
-proveEnd k broken = refused 3
+proveEnd k (broken t) = refused (refusalOf t)
 proveEnd k (atLeaf l x trail) =
     cond (sameBytes k l) (accepted (presence (presenceOf l x (map stepUp trail)))) (absenceAt k (atLeaf l x trail))
 proveEnd k (atGap trail) = absenceAt k (atGap trail)
@@ -111,14 +118,15 @@ proveSeen k s = proveEnd k (walk k 0 [] s)
 abbrev pub HoldsGrant : Store → ℕ → Type 0
 HoldsGrant st v = grantsIn (treeAtVersion st v) ≡ [] → ⊥
 
--- No root found means an empty version.
-abbrev pub hasRoot : Option Record → Bool
-hasRoot none = false
-hasRoot (some r) = true
+-- No slot that matches a root means an empty version.
+abbrev pub emptyVersion : Sight → Bool
+emptyVersion (matches r) = false
+emptyVersion nothing = true
+emptyVersion (spoilt i) = false
 
--- The proof for a key in a version: 8, then 14 in an empty version, then 3.
+-- The proof for a key in a version: 8, then 14 in an empty version, then the first of 3 and 17 that is met.
 unfoldable pub proof : Store → ℕ → Bytes → Answer Proof
-proof st v k = cond (isKept st v) (cond (hasRoot (rootOf st v)) (proveSeen k (seen st v)) (refused 14)) (refused 8)
+proof st v k = cond (isKept st v) (cond (emptyVersion (scan st .root v)) (refused 14) (proveSeen k (seen (scan st) v))) (refused 8)
 
 -- A presence proof of s steps has 72 + 33 s bytes.
 unfoldable pub presenceLength : Presence → ℕ
@@ -138,6 +146,6 @@ abbrev pub fitted : ℕ → Answer Proof → Answer Proof
 fitted room (refused n) = refused n
 fitted room (accepted p) = cond (ltb room (proofLength p)) (refused 9) (accepted p)
 
--- Proving into a buffer of `room` bytes: 8, 14, 3, 9.
+-- Proving into a buffer of `room` bytes: 8, 14, 3 or 17, 9.
 unfoldable pub prove : Store → ℕ → Bytes → ℕ → Answer Proof
 prove st v k room = fitted room (proof st v k)

@@ -1,42 +1,61 @@
--- Document 01, 'Reading and proving': what a read sees, for every store, sound or not. Assumes nothing.
-use Prim.Native.Nat.{ℕ, zero, suc}
+-- Document 01, 'Reading and proving', with 2026-07: what a read sees, for every store, sound or not. Assumes nothing.
+use Prim.Native.Nat.{ℕ, zero, suc, _+_, _*_}
 use mathlib.Core.Bool.{cond}
 use mathlib.Core.List.{List, [], _∷_}
-use mathlib.Core.Option.{Option, none, some}
 use lib.Dec.{eqb}
 use Rattle.terms.specs.Bits.{Bytes, Side, Place, longer, bit, begins, sameBytes}
-use Rattle.terms.specs.Records.{Grant, Child, Body, leafBody, innerBody, Record, Slot, Store, zeros}
-use Rattle.meaning.specs.Store.{find, rootOf, childOn}
+use Rattle.terms.specs.Records.{Grant, Child, Body, leafBody, innerBody, Store, zeros}
+use Rattle.meaning.specs.Store.{childOn}
+use Rattle.meaning.specs.Sight.{Sight, matches, nothing, spoilt, Looking, scan}
 use Rattle.meaning.specs.Calls.{Answer, refused, accepted, isKept}
 
--- What a read sees at a place: a present child that is not found, or a found leaf whose key doesn't begin with its place (both give 3);
--- no child; a leaf; or an inner node, with its children's hashes as stored and what is seen there, by the side.
+-- What stops a read: a present child that no slot matches; a record that is spoilt, by its slot; a found leaf whose key doesn't begin with its
+-- place.
+pub data Trouble : Type 0 where
+  lostRecord : Trouble
+  spoiltRecord : ℕ → Trouble
+  strayLeaf : Trouble
+
+-- The slot beside a number of refusal: slot + 1 in the high half of 64 bits.
+unfoldable pub beside : ℕ → ℕ → ℕ
+beside n i = n + 4294967296 * (i + 1)
+
+-- 17; 3 with the slot beside it; 3.
+abbrev pub refusalOf : Trouble → ℕ
+refusalOf lostRecord = 17
+refusalOf (spoiltRecord i) = beside 3 i
+refusalOf strayLeaf = 3
+
+-- What a read sees at a place: trouble; no child; a leaf; or an inner node, with its children's hashes as stored and what is seen there, by the
+-- side.
 pub data Seen : Type 0 where
-  lost : Seen
+  lost : Trouble → Seen
   gap : Seen
   leafSeen : Bytes → Bytes → Seen
   fork : (Side → Bytes) → (Side → Seen) → Seen
 
 abbrev pub seenBody : Place → Body → (Side → Child → Seen) → Seen
-seenBody p (leafBody k x) kid = cond (begins p k) (leafSeen k x) lost
+seenBody p (leafBody k x) kid = cond (begins p k) (leafSeen k x) (lost strayLeaf)
 seenBody p (innerBody l r) kid = fork (λ b. childOn b l r .hash) (λ b. kid b (childOn b l r))
 
-abbrev pub seenChild : Place → Option Record → (Side → Child → Seen) → Seen
-seenChild p none kid = lost
-seenChild p (some r) kid = seenBody p (r .body) kid
+abbrev pub seenChild : Place → Sight → (Side → Child → Seen) → Seen
+seenChild p (matches r) kid = seenBody p (r .body) kid
+seenChild p nothing kid = lost lostRecord
+seenChild p (spoilt i) kid = lost (spoiltRecord i)
 
 -- At a child, at a place which is n bits short of a key. Below the place of a whole key, which no inner record in form has, all is lost.
-abbrev pub seenAt : ℕ → List Slot → Place → Child → Seen
-seenAt zero s p c = cond (eqb (c .version) 0) gap (seenChild p (find (c .version) p s) (λ b d. lost))
-seenAt (suc n) s p c = cond (eqb (c .version) 0) gap (seenChild p (find (c .version) p s) (λ b d. seenAt n s (longer b p) d))
+abbrev pub seenAt : ℕ → Looking → Place → Child → Seen
+seenAt zero look p c = cond (eqb (c .version) 0) gap (seenChild p (look .node (c .version) p) (λ b d. lost lostRecord))
+seenAt (suc n) look p c = cond (eqb (c .version) 0) gap (seenChild p (look .node (c .version) p) (λ b d. seenAt n look (longer b p) d))
 
--- No root found means an empty version.
-abbrev pub seenRoot : Option Record → (Side → Child → Seen) → Seen
-seenRoot none kid = gap
-seenRoot (some r) kid = seenBody [] (r .body) kid
+-- No slot that matches a root means an empty version.
+abbrev pub seenRoot : Sight → (Side → Child → Seen) → Seen
+seenRoot (matches r) kid = seenBody [] (r .body) kid
+seenRoot nothing kid = gap
+seenRoot (spoilt i) kid = lost (spoiltRecord i)
 
-unfoldable pub seen : Store → ℕ → Seen
-seen st v = seenRoot (rootOf st v) (λ b d. seenAt 255 (st .slots) (b ∷ []) d)
+unfoldable pub seen : Looking → ℕ → Seen
+seen look v = seenRoot (look .root v) (λ b d. seenAt 255 look (b ∷ []) d)
 
 -- An inner node passed by a walk, and the side taken there.
 pub record Pass : Type 0 where
@@ -46,13 +65,13 @@ pub record Pass : Type 0 where
 
 -- Where a walk ends: refused, at a leaf, or at a missing child; with the nodes passed, the deepest first.
 pub data End : Type 0 where
-  broken : End
+  broken : Trouble → End
   atLeaf : Bytes → Bytes → List Pass → End
   atGap : List Pass → End
 
 -- The walk follows the key's bits, from bit i.
 abbrev pub walk : Bytes → ℕ → List Pass → Seen → End
-walk k i trail lost = broken
+walk k i trail (lost t) = broken t
 walk k i trail gap = atGap trail
 walk k i trail (leafSeen l x) = atLeaf l x trail
 walk k i trail (fork hashes kids) =
@@ -64,13 +83,13 @@ pub data Verdict : Type 0 where
   absent : Verdict
 
 abbrev pub readEnd : Bytes → End → Answer Verdict
-readEnd k broken = refused 3
+readEnd k (broken t) = refused (refusalOf t)
 readEnd k (atLeaf l x trail) = accepted (cond (sameBytes k l) (present x) absent)
 readEnd k (atGap trail) = accepted absent
 
--- A key read answers the value or "absent": 8, then 3.
+-- A key read answers the value or "absent": 8, then the first of 3 and 17 that is met.
 unfoldable pub readKey : Store → ℕ → Bytes → Answer Verdict
-readKey st v k = cond (isKept st v) (readEnd k (walk k 0 [] (seen st v))) (refused 8)
+readKey st v k = cond (isKept st v) (readEnd k (walk k 0 [] (seen (scan st) v))) (refused 8)
 
 -- What a set of grants says of a key.
 abbrev pub answerOf : Bytes → List Grant → Verdict
@@ -83,10 +102,12 @@ module _ (leafHash innerHash : Bytes → Bytes → Bytes) where
   bodyHash (leafBody k x) = leafHash k x
   bodyHash (innerBody l r) = innerHash (l .hash) (r .hash)
 
-  abbrev pub rootHash : Option Record → Bytes
-  rootHash none = zeros
-  rootHash (some r) = bodyHash (r .body)
+  -- A root read answers the hash of the root record alone, or zeros.
+  abbrev pub rootRead : Sight → Answer Bytes
+  rootRead (matches r) = accepted (bodyHash (r .body))
+  rootRead nothing = accepted zeros
+  rootRead (spoilt i) = refused (refusalOf (spoiltRecord i))
 
-  -- A root read answers the hash of the root record alone, or zeros; 8 is its only refusal.
+  -- 8, then 3.
   unfoldable pub readRoot : Store → ℕ → Answer Bytes
-  readRoot st v = cond (isKept st v) (accepted (rootHash (rootOf st v))) (refused 8)
+  readRoot st v = cond (isKept st v) (rootRead (scan st .root v)) (refused 8)

@@ -1,4 +1,6 @@
 // The numbers by which a call refuses, each once and in the documents' words. 0 is acceptance.
+pub mod wide;
+
 // 1: the store's length isn't 24 + 120n, n in 1 to 16,384.
 pub const WRONG_SIZE: u32 = 1;
 
@@ -37,6 +39,9 @@ pub const TOO_MANY_VISITS: u32 = 13;
 
 // 14: proving in an empty version: there is no neighbour to show.
 pub const EMPTY_VERSION: u32 = 14;
+
+// 17: no slot matches a present child.
+pub const LOST: u32 = 17;
 
 // 18: the number is not above latest.
 pub const NOT_ABOVE: u32 = 18;

@@ -108,7 +108,7 @@ presence-long s p w =
 
 -- a neighbour, by the ways a search ends
 way-count : (s : Bytes) (v : declared-way.Way) (p : declared-path.Path) → WayIn s v p → p .place .count ≤ 256
-way-count s Lost p w = w
+way-count s (Lost t) p w = w
 way-count s Nobody p w = w
 way-count s Somebody p w = w .proper .short
 
@@ -116,7 +116,7 @@ pub neighbour-count : (s : Bytes) (n : declared.Sought) → NeighbourIn s n → 
 neighbour-count s n w = way-count s (n .way) (n .path) w
 
 way-most : (v : declared-way.Way) (p : declared-path.Path) → p .place .count ≤ 256 → wayRoom v p ≤ 8520
-way-most Lost p h = omega arith
+way-most (Lost t) p h = omega arith
 way-most Nobody p h = omega arith
 way-most Somebody p h = omega arith
 

@@ -5,15 +5,16 @@ use Rattle.terms.specs.Bits.{Bytes}
 use Rattle.terms.specs.Records.{Presence, Absence}
 use Rattle.meaning.specs.Proving.{Sought, lostWay, nobody, somebody}
 use Rattle.proofrecords.specs.ProofBytes.{presenceHead, stepSize}
+use Rattle.read_step.specs.Walk.{troubleSays}
 use Rattle.paths.specs.Paths.{presenceAt, PathIn}
 use Rattle.paths.specs.declared.Path as declared-path
 use Rattle.paths.specs.declared.Way as declared-way
 use Rattle.paths.specs.declared.Way.the-variants.{Lost, Nobody, Somebody}
 use Rattle.paths.specs.declared.Sought as declared
 
--- A record on the way was lost, nobody was found, or the presence proof of the leaf that was found.
+-- What stopped the search, nobody was found, or the presence proof of the leaf that was found.
 abbrev pub wayAt : Bytes → declared-way.Way → declared-path.Path → Sought
-wayAt s Lost p = lostWay
+wayAt s (Lost t) p = lostWay (troubleSays t)
 wayAt s Nobody p = nobody
 wayAt s Somebody p = somebody (presenceAt s p)
 
@@ -22,7 +23,7 @@ soughtAt s n = wayAt s (n .way) (n .path)
 
 -- The neighbour, where there is one.
 abbrev pub found : Sought → Option Presence
-found lostWay = none
+found (lostWay t) = none
 found nobody = none
 found (somebody p) = some p
 
@@ -31,7 +32,7 @@ neighbourAt s n = found (soughtAt s n)
 
 -- A neighbour's path lies within the store.
 abbrev pub WayIn : Bytes → declared-way.Way → declared-path.Path → Type 0
-WayIn s Lost p = p .place .count ≤ 256
+WayIn s (Lost t) p = p .place .count ≤ 256
 WayIn s Nobody p = p .place .count ≤ 256
 WayIn s Somebody p = PathIn s p
 
@@ -40,7 +41,7 @@ NeighbourIn s n = WayIn s (n .way) (n .path)
 
 -- How many bytes its record has; and its flag.
 abbrev pub wayRoom : declared-way.Way → declared-path.Path → ℕ
-wayRoom Lost p = 0
+wayRoom (Lost t) p = 0
 wayRoom Nobody p = 0
 wayRoom Somebody p = presenceHead + stepSize * p .place .count
 
@@ -48,7 +49,7 @@ unfoldable pub roomFor : declared.Sought → ℕ
 roomFor n = wayRoom (n .way) (n .path)
 
 abbrev pub wayFlag : declared-way.Way → ℕ → ℕ
-wayFlag Lost bit = 0
+wayFlag (Lost t) bit = 0
 wayFlag Nobody bit = 0
 wayFlag Somebody bit = bit
 

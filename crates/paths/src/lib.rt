@@ -4,6 +4,10 @@ use fields::put_u16;
 use fields::put_u32;
 use place::Place;
 use place::key_bit;
+use proofrecords::PRESENCE_HEAD;
+use proofrecords::PRESENCE_KIND;
+use proofrecords::STEP_SIZE;
+use read_step::Trouble;
 use slots::child_hash;
 use slots::grant_of;
 use store::slot_of;
@@ -15,15 +19,6 @@ ghost use Rattle.layout.specs.Stores.{SlotWithin};
 ghost use Rattle.proofrecords.specs.ProofBytes.{stepSize, presenceHead, stepsBytes, presenceBytes};
 ghost use Rattle.paths.specs.Paths.{stepBytes, stepAt, pathSteps, presenceAt, PathIn};
 ghost use Rattle.paths.specs.Neighbours.{roomFor};
-
-// The sizes and kinds of proofs and steps.
-pub const STEP_SIZE: usize = 33;
-
-pub const PRESENCE_HEAD: usize = 72;
-
-const PRESENCE_KIND: u16 = 16;
-
-pub const ABSENCE_HEAD: usize = 40;
 
 // The way to a node: the slots of the inner nodes above it, the root's first; its place, whose bits are the sides taken; and its own slot.
 pub struct Path {
@@ -91,8 +86,8 @@ pub fn put_presence(part: &mut [u8], store: &[u8], path: Path)
 
 // How a search for a neighbour ended.
 pub enum Way {
-    // A record on the way was lost.
-    Lost,
+    // What stopped it.
+    Lost(Trouble),
     Nobody,
     Somebody,
 }
@@ -114,6 +109,6 @@ pub fn neighbour_length(n: Sought) -> usize
     match way {
         Way::Somebody => PRESENCE_HEAD + STEP_SIZE * place.count,
         Way::Nobody => 0,
-        Way::Lost => 0,
+        Way::Lost(_) => 0,
     }
 }

@@ -19,7 +19,7 @@ use Rattle.paths.specs.declared.Way.the-variants.{Lost, Nobody, Somebody}
 use Rattle.paths.specs.declared.Sought as declared
 
 way-flag : (v : declared-way.Way) (bit : ℕ) → wayFlag v bit ≤ bit
-way-flag Lost bit = omega arith
+way-flag (Lost t) bit = omega arith
 way-flag Nobody bit = omega arith
 way-flag Somebody bit = omega arith
 
@@ -28,7 +28,7 @@ unfolding flagFor
 flag-most n bit = way-flag (n .way) bit
 
 way-long : (s : Bytes) (v : declared-way.Way) (p : declared-path.Path) → WayIn s v p → length (neighbourBytes (found (wayAt s v p))) ≡ wayRoom v p
-way-long s Lost p w = refl
+way-long s (Lost t) p w = refl
 way-long s Nobody p w = refl
 way-long s Somebody p w = presence-long s p w
 
@@ -38,13 +38,13 @@ neighbour-long s n w = way-long s (n .way) (n .path) w
 
 flags-ways : (s : Bytes) (v w : declared-way.Way) (p q : declared-path.Path) →
     wayFlag v 1 + wayFlag w 2 ≡ flagsOf (found (wayAt s v p)) (found (wayAt s w q))
-flags-ways s Lost Lost p q = refl
-flags-ways s Lost Nobody p q = refl
-flags-ways s Lost Somebody p q = refl
-flags-ways s Nobody Lost p q = refl
+flags-ways s (Lost t) (Lost u) p q = refl
+flags-ways s (Lost t) Nobody p q = refl
+flags-ways s (Lost t) Somebody p q = refl
+flags-ways s Nobody (Lost t) p q = refl
 flags-ways s Nobody Nobody p q = refl
 flags-ways s Nobody Somebody p q = refl
-flags-ways s Somebody Lost p q = refl
+flags-ways s Somebody (Lost t) p q = refl
 flags-ways s Somebody Nobody p q = refl
 flags-ways s Somebody Somebody p q = refl
 

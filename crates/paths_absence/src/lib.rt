@@ -2,18 +2,17 @@
 use fields::copy;
 use fields::put_u16;
 use fields::put_u32;
-use paths::ABSENCE_HEAD;
 use paths::Sought;
 use paths::Way;
 use paths::neighbour_length;
 use paths::put_presence;
+use proofrecords::ABSENCE_HEAD;
+use proofrecords::ABSENCE_KIND;
 ghost use mathlib.Core.Path.{_≡_};
 ghost use Prim.Native.Nat.{_+_};
 ghost use lib.ListN.{length};
 ghost use Rattle.proofrecords.specs.ProofBytes.{absenceHead, neighbourBytes, absenceBytes};
 ghost use Rattle.paths.specs.Neighbours.{roomFor, flagFor, neighbourAt, NeighbourIn, absentOf};
-
-const ABSENCE_KIND: u16 = 17;
 
 // The flag where there is somebody, else 0.
 fn flag(n: Sought, bit: u16) -> u16
@@ -23,7 +22,7 @@ fn flag(n: Sought, bit: u16) -> u16
     match way {
         Way::Somebody => bit,
         Way::Nobody => 0,
-        Way::Lost => 0,
+        Way::Lost(_) => 0,
     }
 }
 
@@ -37,7 +36,7 @@ fn put_neighbour(part: &mut [u8], store: &[u8], n: Sought)
     match way {
         Way::Somebody => put_presence(part, store, path),
         Way::Nobody => {}
-        Way::Lost => {}
+        Way::Lost(_) => {}
     }
 }
 

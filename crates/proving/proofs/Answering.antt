@@ -7,6 +7,7 @@ use borrow.Author.Tests.{eq-eqb, ne-eqb}
 use Rattle.terms.specs.Bits.{Bytes}
 use Rattle.terms.specs.Records.{Proof}
 use Rattle.meaning.specs.Calls.{Answer, refused, isKept}
+use Rattle.meaning.specs.Sight.{scan}
 use Rattle.meaning.specs.Reading.{seen}
 use Rattle.meaning.specs.Proving.{proveSeen, prove, fitted}
 use Rattle.meaning.proofs.Empty.{proof-by-searches}
@@ -46,25 +47,25 @@ wrong-key s v k room f =
 
 module _ (s : Bytes) (v : ℕ) (k room : Bytes) (whole : length k ≡ 32) where
   opened-first : proveAnswer s v k (length room)
-      ≡ byHeader (headerOf s) (cond (isKept (storeOf s) v) (fitted (length room) (proveSeen k (seen (storeOf s) v))) (refused 8))
+      ≡ byHeader (headerOf s) (cond (isKept (storeOf s) v) (fitted (length room) (proveSeen k (seen (scan (storeOf s)) v))) (refused 8))
   unfolding proveAnswer prove
   opened-first =
       ap (λ b. cond b (byHeader (headerOf s) (prove (storeOf s) v k (length room))) (refused 12)) (eq-eqb (length k) 32 whole)
       ∙ ap (λ a. byHeader (headerOf s) (fitted (length room) a)) (proof-by-searches (storeOf s) v k)
-      ∙ ap (byHeader (headerOf s)) (fitted-kept (length room) (isKept (storeOf s) v) (proveSeen k (seen (storeOf s) v)))
+      ∙ ap (byHeader (headerOf s)) (fitted-kept (length room) (isKept (storeOf s) v) (proveSeen k (seen (scan (storeOf s)) v)))
 
   -- 1, 2, 8
   pub first-refused : {o : declared-opened.Opened} (n : ℕ) → openedSays o ≡ opened s v → o ≡ first.Refused n → Answers s v k room room (Refused n)
   first-refused n says e =
       answers s v k room room (Refused n) (gives-refusal n room refl)
-      (opening.refused-first (fitted (length room) (proveSeen k (seen (storeOf s) v))) s v (sym (ap openedSays e) ∙ says) ∙ sym opened-first)
+      (opening.refused-first (fitted (length room) (proveSeen k (seen (scan (storeOf s)) v))) s v (sym (ap openedSays e) ∙ says) ∙ sym opened-first)
 
   pub kept-proved : {o : declared-opened.Opened} {x : declared-plan.Plan} {after : Bytes} {r : declared.Proved} → openedSays o ≡ opened s v → o ≡ first.Kept →
-      Plans s k (proveSeen k (seen (storeOf s) v)) x → Gives (fitted (length room) (planSays s k x)) room after r → Answers s v k room after r
+      Plans s k (proveSeen k (seen (scan (storeOf s)) v)) x → Gives (fitted (length room) (planSays s k x)) room after r → Answers s v k room after r
   kept-proved {after = after} {r = r} says e plan g =
       answers s v k room after r g
       (ap (fitted (length room)) (plan .says)
-      ∙ sym (opened-first ∙ opening.rest-decides (fitted (length room) (proveSeen k (seen (storeOf s) v))) s v (sym (ap openedSays e) ∙ says)))
+      ∙ sym (opened-first ∙ opening.rest-decides (fitted (length room) (proveSeen k (seen (scan (storeOf s)) v))) s v (sym (ap openedSays e) ∙ says)))
 
 pub kept-size : {o : declared-opened.Opened} (s : Bytes) (v : ℕ) → openedSays o ≡ opened s v → o ≡ first.Kept → sizeRight (length s) ≡ true
 kept-size s v says e = opening.kept-size s v (sym (ap openedSays e) ∙ says)

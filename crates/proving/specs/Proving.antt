@@ -1,5 +1,5 @@
--- Document 01, 'Reading and proving' and 'Numbers of refusal', with 2026-03, of the call that proves, over bytes, for every store, sound or
--- damaged. Order: 12; then 1, 2; then 8, 14, 3, 9. Assumes nothing.
+-- Document 01, 'Reading and proving' and 'Numbers of refusal', with 2026-03 and 2026-07, of the call that proves, over bytes, for every store, sound or
+-- damaged. Order: 12; then 1, 2; then 8, 14, 3 or 17, 9. Assumes nothing.
 use Prim.Native.Nat.{ℕ}
 use mathlib.Core.Bool.{cond}
 use mathlib.Core.List.{_++_}
@@ -14,7 +14,7 @@ use Rattle.layout.specs.Headers.{headerOf}
 use Rattle.layout.specs.Stores.{storeOf}
 use Rattle.read_step.specs.Headed.{byHeader}
 
--- The proof for key k in version v of the store s, into this much room: 12 where the key isn't 32 bytes, then 1, 2, 8, 14, 3, 9.
+-- The proof for key k in version v of the store s, into this much room: 12 where the key isn't 32 bytes, then 1, 2, 8, 14, 3 or 17, 9.
 unfoldable pub proveAnswer : Bytes → ℕ → Bytes → ℕ → Answer Proof
 proveAnswer s v k room = cond (eqb (length k) 32) (byHeader (headerOf s) (prove (storeOf s) v k room)) (refused 12)
 

@@ -1,6 +1,6 @@
 // Proving over lent bytes, document 01, 'Reading and proving', and 2026-03: the proof for a key in a version, for every store, sound or damaged.
-use numbers::NO_ROOM;
 use numbers::NOT_32_BYTES;
+use numbers::wide::NO_ROOM;
 use proving_plan::Plan;
 use proving_plan::Shape;
 use proving_plan::plan_of;
@@ -15,7 +15,8 @@ ghost use Rattle.proving.specs.Parts.{Offers, provedSays, lengthAnswer};
 
 // What proving answers.
 pub enum Proved {
-    Refused(u32),
+    // The number, and in the high half a spoilt slot + 1.
+    Refused(u64),
     // The proof's length.
     Length(u32),
 }
@@ -43,11 +44,11 @@ pub fn prove(store: &[u8], version: u32, key: &[u8], room: &mut [u8]) -> Proved
     ensures bytes { λ _. ⌜ now (room .exit) ≡ roomAfter (proveAnswer (now (store .entry)) version (now (key .entry)) (length (now (room .entry)))) (now (room .entry)) ⌝ }
 {
     if key.len() != 32 {
-        return Proved::Refused(NOT_32_BYTES);
+        return Proved::Refused(NOT_32_BYTES as u64);
     }
     let opened = open(store, version);
     if let Opened::Refused(n) = opened {
-        return Proved::Refused(n);
+        return Proved::Refused(n as u64);
     }
     give(store, key, plan_of(store, version, key), room)
 }

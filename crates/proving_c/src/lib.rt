@@ -11,7 +11,7 @@ pub fn grants_prove(
     key: &[u8],
     room: &mut [u8],
     length: &mut [u8; 4],
-) -> u32
+) -> u64
     ensures { λ r. ⌜ Proves (now (store .entry)) version (now (key .entry)) (now (room .entry)) (now (length .entry)) r (now (room .exit)) (now (length .exit)) ⌝ }
 {
     let proved = prove(store, version, key, room);

@@ -11,12 +11,14 @@ use denote.Enum.Declared.{tagOf}
 use Rattle.terms.specs.Bits.{Bytes, Side, left, right, sameBytes}
 use Rattle.terms.specs.Records.{Proof, presence}
 use Rattle.meaning.specs.Calls.{Answer, refused, accepted}
-use Rattle.meaning.specs.Reading.{seen, atLeaf, atGap, walk}
+use Rattle.meaning.specs.Sight.{scan}
+use Rattle.meaning.specs.Reading.{refusalOf, seen, atLeaf, atGap, walk}
 use Rattle.meaning.specs.Proving.{presenceOf, stepUp, neighbour, beyond, somebody, fromTrail, absenceFrom, absenceAt, proveEnd, proveSeen}
 use Rattle.place.specs.Place.{placeOf}
 use Rattle.layout.specs.Slots.{keyIn, valueIn}
 use Rattle.layout.specs.Stores.{slotIn, storeOf}
-use Rattle.read_step.specs.Walk.{leafAt}
+use Rattle.read_step.specs.Walk.{troubleSays, leafAt}
+use Rattle.read_step.specs.declared.Trouble as declared-trouble
 use Rattle.read_step.specs.declared.Seen as declared-seen
 use Rattle.read_step.specs.declared.Seen.the-variants.{Gap, Lost, Leaf, Inner}
 use Rattle.read_step.proofs.Seen as Seen
@@ -53,7 +55,7 @@ module _ {x l : Bytes} {d : Bool} (s k : Bytes) (w : declared-walked.Walked) (i 
 module _ (s : Bytes) (v : ℕ) (k : Bytes) (w : declared-walked.Walked) (h : Walks s v k w) where
   -- what is proved, by what is seen at the end
   prove-at : (x : declared-seen.Seen) → w .trail .seen ≡ x →
-      proveSeen k (seen (storeOf s) v) ≡ proveEnd k (walk k (w .trail .place .count) (h .walking .passes) (shownAt s (placeOf (w .trail .place)) x))
+      proveSeen k (seen (scan (storeOf s)) v) ≡ proveEnd k (walk k (w .trail .place .count) (h .walking .passes) (shownAt s (placeOf (w .trail .place)) x))
   unfolding proveSeen shownBy
   prove-at x e =
       ap (proveEnd k)
@@ -78,7 +80,7 @@ module _ (s : Bytes) (v : ℕ) (k : Bytes) (w : declared-walked.Walked) (h : Wal
   gap-neighbour b e = from-fork b ∙ sym (ap (λ y. endSays s k (w .trail) b y (forkSays s (w .trail .slots) b (forkOn b (w .left) (w .right)))) e)
 
   at-leaf : (i : ℕ) → w .trail .seen ≡ Leaf i →
-      proveSeen k (seen (storeOf s) v)
+      proveSeen k (seen (scan (storeOf s)) v)
       ≡ provedAt s k w i
   unfolding leafAt absenceAt
   at-leaf i e =
@@ -86,25 +88,26 @@ module _ (s : Bytes) (v : ℕ) (k : Bytes) (w : declared-walked.Walked) (h : Wal
       ∙ ap₂ (λ p a. cond (sameBytes k (keyIn (slotIn i s))) (accepted (presence p)) a) (leaf-presence i)
       (ap₂ (absenceFrom k) (leaf-neighbour i left e) (leaf-neighbour i right e))
 
-  at-gap : w .trail .seen ≡ Gap → proveSeen k (seen (storeOf s) v) ≡ absentFrom s k w
+  at-gap : w .trail .seen ≡ Gap → proveSeen k (seen (scan (storeOf s)) v) ≡ absentFrom s k w
   unfolding absenceAt
   at-gap e = prove-at Gap e ∙ ap₂ (absenceFrom k) (gap-neighbour left e) (gap-neighbour right e)
 
   -- the walk is stopped
-  pub ends-lost : {p : declared.Plan} → w .trail .seen ≡ Lost → p ≡ ended w (shape.Refused 3) 0 0 → Plans s k (proveSeen k (seen (storeOf s) v)) p
+  pub ends-lost : {p : declared.Plan} {n : ℕ} (t : declared-trouble.Trouble) → w .trail .seen ≡ Lost t → n ≡ refusalOf (troubleSays t) →
+      p ≡ ended w (shape.Refused n) 0 0 → Plans s k (proveSeen k (seen (scan (storeOf s)) v)) p
   unfolding planSays
-  ends-lost e q =
-      subst (Plans s k (proveSeen k (seen (storeOf s) v))) (sym q) (record { says = sym (prove-at Lost e); within = tt })
+  ends-lost t e f q =
+      subst (Plans s k (proveSeen k (seen (scan (storeOf s)) v))) (sym q) (record { says = ap refused f ∙ sym (prove-at (Lost t) e); within = tt })
 
-  pub ends-at-leaf : {p : declared.Plan} (i : ℕ) → w .trail .seen ≡ Leaf i → Plans s k (provedAt s k w i) p → Plans s k (proveSeen k (seen (storeOf s) v)) p
+  pub ends-at-leaf : {p : declared.Plan} (i : ℕ) → w .trail .seen ≡ Leaf i → Plans s k (provedAt s k w i) p → Plans s k (proveSeen k (seen (scan (storeOf s)) v)) p
   ends-at-leaf i e g = plans-of (sym (at-leaf i e)) g
 
   gap-left : (x : declared-seen.Seen) → w .trail .seen ≡ x → OneOf (0 ∷ 3 ∷ []) (tagOf Seen.the-type x) → w .trail .seen ≡ Gap
   gap-left Gap e o = e
-  gap-left Lost e o = absurd (⊎-elim (λ e. omega arith) (λ e. omega arith) o)
+  gap-left (Lost t) e o = absurd (⊎-elim (λ e. omega arith) (λ e. omega arith) o)
   gap-left (Leaf i) e o = absurd (⊎-elim (λ e. omega arith) (λ e. omega arith) o)
   gap-left (Inner i) e o = absurd (h .ended i e)
 
   pub ends-at-gap : {p : declared.Plan} → OneOf (0 ∷ 3 ∷ []) (tagOf Seen.the-type (w .trail .seen)) → Plans s k (absentFrom s k w) p →
-      Plans s k (proveSeen k (seen (storeOf s) v)) p
+      Plans s k (proveSeen k (seen (scan (storeOf s)) v)) p
   ends-at-gap o g = plans-of (sym (at-gap (gap-left (w .trail .seen) refl o))) g

@@ -4,9 +4,11 @@ use mathlib.Core.Bool.{cond}
 use Rattle.terms.specs.Bits.{Bytes, left, right, sameBytes}
 use Rattle.terms.specs.Records.{Proof, presence}
 use Rattle.meaning.specs.Calls.{Answer, accepted}
+use Rattle.meaning.specs.Reading.{refusalOf}
 use Rattle.meaning.specs.Proving.{absenceFrom}
 use Rattle.layout.specs.Slots.{keyIn}
 use Rattle.layout.specs.Stores.{slotIn}
+use Rattle.read_step.specs.Walk.{troubleSays}
 use Rattle.paths.specs.Paths.{presenceAt}
 use Rattle.paths.specs.declared.Way as declared-way
 use Rattle.paths.specs.declared.Way.the-variants.{Lost, Nobody, Somebody}
@@ -18,12 +20,12 @@ use Rattle.proving_plan.specs.declared.Plan as declared
 
 -- The shape of an absence proof by how its searches ended, the left one first.
 abbrev pub rightShape : declared-way.Way → declared-shape.Shape → declared-shape.Shape
-rightShape Lost alone = Refused 3
+rightShape (Lost t) alone = Refused (refusalOf (troubleSays t))
 rightShape Nobody alone = alone
 rightShape Somebody alone = Absence
 
 abbrev pub absenceShape : declared-way.Way → declared-way.Way → declared-shape.Shape
-absenceShape Lost r = Refused 3
+absenceShape (Lost t) r = Refused (refusalOf (troubleSays t))
 absenceShape Nobody r = rightShape r (Refused 14)
 absenceShape Somebody r = rightShape r Absence
 

@@ -1,7 +1,6 @@
-// The plan of a proof over lent bytes, document 01, 'Reading and proving', with 2026-03: the walk and both searches, what the proof shows and how long it is.
+// The plan of a proof over lent bytes, document 01, 'Reading and proving', with 2026-03 and 2026-07: the walk and both searches, what the proof shows and how long it is.
 // Room is not looked at, and nothing is written.
-use numbers::EMPTY_VERSION;
-use numbers::NOT_SOUND;
+use numbers::wide::EMPTY_VERSION;
 use paths::Path;
 use paths::Sought;
 use paths::Way;
@@ -11,6 +10,7 @@ use proofrecords::ABSENCE_HEAD;
 use proofrecords::PRESENCE_HEAD;
 use proofrecords::STEP_SIZE;
 use read_step::Seen;
+use read_step::refusal;
 use slots::key_of;
 use store::slot_of;
 use trails::Walked;
@@ -19,6 +19,7 @@ use trails::walk;
 ghost use mathlib.Core.Path.{_≡_};
 ghost use mathlib.Core.Bool.{true};
 ghost use lib.ListN.{length};
+ghost use Rattle.meaning.specs.Sight.{scan};
 ghost use Rattle.meaning.specs.Reading.{seen};
 ghost use Rattle.meaning.specs.Proving.{proveSeen};
 ghost use Rattle.layout.specs.Headers.{sizeRight};
@@ -30,7 +31,8 @@ ghost use Rattle.proving_plan.specs.Parts.{rightShape, absenceShape, end
 
 // What a proof will be, or its refusal.
 pub enum Shape {
-    Refused(u32),
+    // The number, and in the high half a spoilt slot + 1.
+    Refused(u64),
     Presence,
     Absence,
 }
@@ -48,7 +50,7 @@ fn right_shape(right: Way, alone: Shape) -> Shape
     ensures { λ r. ⌜ r ≡ rightShape right alone ⌝ }
 {
     match right {
-        Way::Lost => Shape::Refused(NOT_SOUND),
+        Way::Lost(trouble) => Shape::Refused(refusal(trouble)),
         Way::Nobody => alone,
         Way::Somebody => Shape::Absence,
     }
@@ -59,7 +61,7 @@ fn absence_shape(left: Way, right: Way) -> Shape
     ensures { λ r. ⌜ r ≡ absenceShape left right ⌝ }
 {
     match left {
-        Way::Lost => Shape::Refused(NOT_SOUND),
+        Way::Lost(trouble) => Shape::Refused(refusal(trouble)),
         Way::Nobody => right_shape(right, Shape::Refused(EMPTY_VERSION)),
         Way::Somebody => right_shape(right, Shape::Absence),
     }
@@ -125,13 +127,16 @@ fn at_leaf(store: &[u8], key: &[u8], walked: Walked, i: usize) -> Plan
 // Plans the proof of a key in a version that is kept.
 pub fn plan_of(store: &[u8], version: u32, key: &[u8]) -> Plan
     requires { ⌜ (sizeRight (length (now store)) ≡ true) × (length (now key) ≡ 32) ⌝ }
-    ensures { λ r. ⌜ Plans (now (store .entry)) (now (key .entry)) (proveSeen (now (key .entry)) (seen (storeOf (now (store .entry))) version)) r ⌝ }
+    ensures { λ r. ⌜ Plans (now (store .entry)) (now (key .entry)) (proveSeen (now (key .entry)) (seen (scan (storeOf (now (store .entry)))) version)) r ⌝ }
 {
     let walked = walk(store, version, key);
     let trail = walked.trail;
     let seen = trail.seen;
     match seen {
-        Seen::Lost => at_end(walked, Shape::Refused(NOT_SOUND), 0, 0),
+        Seen::Lost(trouble) => {
+            let number = refusal(trouble);
+            at_end(walked, Shape::Refused(number), 0, 0)
+        }
         Seen::Leaf(i) => at_leaf(store, key, walked, i),
         // At a missing child: a walk doesn't end at an inner node.
         _ => absent(store, key, walked),

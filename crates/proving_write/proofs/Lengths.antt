@@ -36,7 +36,7 @@ unfolding presenceLength presenceAt pathSteps
 presence-length s p = ap (λ (n : ℕ). 72 + 33 * n) (steps-count s (p .slots) (placeOf (p .place)) (p .place .count))
 
 way-length : (s : Bytes) (v : declared-way.Way) (p : declared-path.Path) → neighbourLength (found (wayAt s v p)) ≡ wayRoom v p
-way-length s Lost p = refl
+way-length s (Lost t) p = refl
 way-length s Nobody p = refl
 way-length s Somebody p = presence-length s p
 

@@ -1,21 +1,24 @@
--- What is seen at the root and at a child, by the slot that is found there: a record in form is what its bytes say, and an inner one
+-- What is seen at the root and at a child, by the slot that is sighted there: a record in form is what its bytes say, and an inner one
 -- has a place shorter than a key. Assumes nothing.
 use Prim.Native.Nat.{ℕ, suc, _-_, _<_, _≤_}
 use native.Mathlib.Omega.{arith}
 use mathlib.Core.Path.{_≡_, refl, ap, sym, _∙_, subst}
 use mathlib.Core.Bool.{Bool, true, false, cond}
 use mathlib.Core.List.{[]}
-use mathlib.Core.Option.{Option, none, some}
 use lib.ListN.{length}
 use Rattle.terms.specs.Bits.{Bytes, Byte, All, Side, Place, longer, begins}
 use Rattle.terms.specs.Fields.{allZero}
-use Rattle.terms.specs.Records.{Child, leafBody, innerBody, Record, free, used, spoiled, zeros}
+use Rattle.terms.specs.Records.{Child, leafBody, innerBody, Record, free, used, spoiled}
 use Rattle.terms.specs.Form.{RecordForm, placeLimit}
 use Rattle.terms.proofs.Places.{length-longer}
-use Rattle.meaning.specs.Store.{find, rootOf, childOn}
-use Rattle.meaning.specs.Reading.{lost, gap, leafSeen, fork, seenAt, seen, bodyHash, rootHash}
+use Rattle.meaning.specs.Store.{childOn}
+use Rattle.meaning.specs.Sight.{Sight, matches, nothing, spoilt, rootSight, nodeSight, scan}
+use Rattle.meaning.specs.Calls.{accepted}
+use Rattle.meaning.specs.Reading.{lostRecord, spoiltRecord, strayLeaf, lost, gap, leafSeen, fork, seenAt, seen, bodyHash, rootRead}
 use Rattle.meaning.proofs.Finding.{found-in, used-eq}
 use Rattle.meaning.proofs.Roots.{root-at}
+use Rattle.meaning.proofs.Sights.{sighted-root, sighted-node}
+use Rattle.shown.proofs.SeenAt as shown
 use Rattle.shown.proofs.SeenAt.{root-gap, root-leaf, root-fork, child-gap, child-lost, child-leaf, child-fork}
 use Rattle.place.specs.declared.Place as declared-place
 use Rattle.place.specs.Place.{placeOf, Proper, Grown}
@@ -24,12 +27,14 @@ use Rattle.layout.specs.Sizes.{roomOf}
 use Rattle.layout.specs.Headers.{sizeRight}
 use Rattle.layout.specs.Slots.{keyIn, valueIn, leftIn, rightIn, kidOn, isLeaf, isInner, leafIn, innerIn, recordIn, slotOf, SlotForm}
 use Rattle.layout.specs.Stores.{slotIn, storeOf, Has}
+use Rattle.layout.proofs.Headers.{size-says}
 use Rattle.layout.proofs.Stores.{slot-at}
 use Rattle.store.proofs.Slots.{slots-many, slot-formed}
-use Rattle.lookup.specs.Lookup.{Located}
-use Rattle.lookup.specs.declared.Found as declared-found
-use Rattle.lookup.specs.declared.Found.the-variants.{At, Nothing}
-use Rattle.read_step.specs.Walk.{bodyIn, kidIn, seenBelow, bodySeen, leafAt, forkAt, Sees, Holds}
+use Rattle.sights.specs.Sights.{Sighted}
+use Rattle.sights.specs.declared.Sight as declared-sight
+use Rattle.sights.specs.declared.Sight.the-variants as sight
+use Rattle.read_step.specs.Walk.{bodyIn, kidIn, seenBelow, bodySeen, leafAt, forkAt, Sees, SlotHolds}
+use Rattle.read_step.specs.declared.Trouble.the-variants as trouble
 use Rattle.read_step.specs.declared.Seen as declared
 use Rattle.read_step.specs.declared.Seen.the-variants.{Lost, Leaf, Inner}
 
@@ -63,38 +68,52 @@ by-kind true f g = f refl
 by-kind false f g = g refl
 
 -- the record sought stands at this place, where there is one
-abbrev pub PlacedAt : Option Record → declared-place.Place → Type 0
-PlacedAt o p = (q : Record) → o ≡ some q → q .place ≡ placeOf p
+abbrev pub PlacedAt : Sight → declared-place.Place → Type 0
+PlacedAt o p = (q : Record) → o ≡ matches q → q .place ≡ placeOf p
 
 -- so it is with the node of a version and place, and with a root at the empty place
-pub node-placed : (s : Bytes) (v : ℕ) (p : declared-place.Place) → PlacedAt (find v (placeOf p) (storeOf s .slots)) p
-node-placed s v p q e = found-in (storeOf s .slots) v (placeOf p) q e .3
+pub node-placed : (s : Bytes) (v : ℕ) (p : declared-place.Place) → PlacedAt (nodeSight (storeOf s) v (placeOf p)) p
+node-placed s v p q e = found-in (storeOf s .slots) v (placeOf p) q (sighted-node (storeOf s) v (placeOf p) q e) .3
 
-pub root-placed : (s : Bytes) (v : ℕ) (p : declared-place.Place) → placeOf p ≡ [] → PlacedAt (rootOf (storeOf s) v) p
-root-placed s v p top q e = root-at (storeOf s) v q e .2 ∙ sym top
+pub root-placed : (s : Bytes) (v : ℕ) (p : declared-place.Place) → placeOf p ≡ [] → PlacedAt (rootSight (storeOf s) v) p
+root-placed s v p top q e = root-at (storeOf s) v q (sighted-root (storeOf s) v q e) .2 ∙ sym top
 
 -- what was found of the record sought
-module _ (s : Bytes) (o : Option Record) {r : declared-found.Found} (located : Located (storeOf s .slots) o r) where
+module _ (s : Bytes) (o : Sight) {r : declared-sight.Sight} (sighted : Sighted (storeOf s .slots) o r) where
   -- nothing
-  module _ (nothing : r ≡ Nothing) where
-    none-found : o ≡ none
-    none-found = subst (Located (storeOf s .slots) o) nothing located
+  module _ (no : r ≡ sight.Nothing) where
+    pub none-sighted : o ≡ nothing
+    none-sighted = subst (Sighted (storeOf s .slots) o) no sighted
 
-    pub root-nothing : (v : ℕ) → rootOf (storeOf s) v ≡ o → seen (storeOf s) v ≡ gap
-    root-nothing v e = root-gap (storeOf s) v (e ∙ none-found)
+    pub root-nothing : (v : ℕ) → rootSight (storeOf s) v ≡ o → seen (scan (storeOf s)) v ≡ gap
+    root-nothing v e = root-gap (scan (storeOf s)) v (e ∙ none-sighted)
 
-    pub no-root-hash : (leafHash innerHash : Bytes → Bytes → Bytes) (v : ℕ) → rootOf (storeOf s) v ≡ o →
-        zeros ≡ rootHash leafHash innerHash (rootOf (storeOf s) v)
-    no-root-hash leafHash innerHash v e = ap (rootHash leafHash innerHash) (sym (e ∙ none-found))
-
-    pub child-nothing : (p : Place) (c : Child) → find (c .version) p (storeOf s .slots) ≡ o → 1 ≤ c .version → seenBelow s p c ≡ lost
+    pub child-nothing : (p : Place) (c : Child) → nodeSight (storeOf s) (c .version) p ≡ o → 1 ≤ c .version → seenBelow s p c ≡ lost lostRecord
     unfolding seenBelow
-    child-nothing p c e h = child-lost (storeOf s .slots) p c (256 - length p) h (e ∙ none-found)
+    child-nothing p c e h = child-lost (scan (storeOf s)) p c (256 - length p) h (e ∙ none-sighted)
+
+  -- a spoilt slot
+  module _ {i : ℕ} (at-i : r ≡ sight.Spoilt i) where
+    is-spoilt : Sighted (storeOf s .slots) o (sight.Spoilt i)
+    is-spoilt = subst (Sighted (storeOf s .slots) o) at-i sighted
+
+    pub spoilt-sighted : o ≡ spoilt i
+    spoilt-sighted = is-spoilt .1
+
+    pub spoilt-small : sizeRight (length s) ≡ true → i < 65536
+    spoilt-small size = let h = rw (slots-many s) at (is-spoilt .0) in omega (arith, size-says (length s) size)
+
+    pub root-spoilt : (v : ℕ) → rootSight (storeOf s) v ≡ o → seen (scan (storeOf s)) v ≡ lost (spoiltRecord i)
+    root-spoilt v e = shown.root-spoilt (scan (storeOf s)) v i (e ∙ spoilt-sighted)
+
+    pub child-spoilt : (p : Place) (c : Child) → nodeSight (storeOf s) (c .version) p ≡ o → 1 ≤ c .version → seenBelow s p c ≡ lost (spoiltRecord i)
+    unfolding seenBelow
+    child-spoilt p c e h = shown.child-spoilt (scan (storeOf s)) p c (256 - length p) i h (e ∙ spoilt-sighted)
 
   -- a record, in slot i
-  module _ {i : ℕ} (at-i : r ≡ At i) where
-    found : Located (storeOf s .slots) o (At i)
-    found = subst (Located (storeOf s .slots) o) at-i located
+  module _ {i : ℕ} (at-i : r ≡ sight.Matches i) where
+    found : Sighted (storeOf s .slots) o (sight.Matches i)
+    found = subst (Sighted (storeOf s .slots) o) at-i sighted
 
     pub inside : i < roomOf (length s)
     inside = rw (slots-many s) at (found .0)
@@ -105,28 +124,28 @@ module _ (s : Bytes) (o : Option Record) {r : declared-found.Found} (located : L
     body : found .1 .0 .body ≡ bodyIn (slotIn i s)
     body = body-is (slotIn i s) (found .1 .0) slot-is
 
-    pub root-hash : (leafHash innerHash : Bytes → Bytes → Bytes) (v : ℕ) → rootOf (storeOf s) v ≡ o →
-        bodyHash leafHash innerHash (bodyIn (slotIn i s)) ≡ rootHash leafHash innerHash (rootOf (storeOf s) v)
-    root-hash leafHash innerHash v e =
-        ap (bodyHash leafHash innerHash) (sym body) ∙ ap (rootHash leafHash innerHash) (sym (e ∙ found .1 .2))
+    pub root-hash : (leafHash innerHash : Bytes → Bytes → Bytes) →
+        accepted (bodyHash leafHash innerHash (bodyIn (slotIn i s))) ≡ rootRead leafHash innerHash o
+    root-hash leafHash innerHash =
+        ap (λ b. accepted (bodyHash leafHash innerHash b)) (sym body) ∙ ap (rootRead leafHash innerHash) (sym (found .1 .2))
 
 -- and at its place
 module _ (s : Bytes) (size : sizeRight (length s) ≡ true) (bytes : All Byte s) (p : declared-place.Place) (proper : Proper p)
-    {o : Option Record} (placed : PlacedAt o p) {r : declared-found.Found} (located : Located (storeOf s .slots) o r) {i : ℕ} (at-i : r ≡ At i) where
+    {o : Sight} (placed : PlacedAt o p) {r : declared-sight.Sight} (sighted : Sighted (storeOf s .slots) o r) {i : ℕ} (at-i : r ≡ sight.Matches i) where
   abbrev it : Record
-  it = found s o located at-i .1 .0
+  it = found s o sighted at-i .1 .0
 
-  is-found : o ≡ some it
-  is-found = found s o located at-i .1 .2
+  is-found : o ≡ matches it
+  is-found = found s o sighted at-i .1 .2
 
   has : Has s i
-  has = record { size = size; inside = inside s o located at-i }
+  has = record { size = size; inside = inside s o sighted at-i }
 
   form : RecordForm it
-  form = subst SlotForm (slot-is s o located at-i) (slot-formed has bytes)
+  form = subst SlotForm (slot-is s o sighted at-i) (slot-formed has bytes)
 
   holds : it .body ≡ bodyIn (slotIn i s)
-  holds = body s o located at-i
+  holds = body s o sighted at-i
 
   place : it .place ≡ placeOf p
   place = placed it is-found
@@ -136,60 +155,60 @@ module _ (s : Bytes) (size : sizeRight (length s) ≡ true) (bytes : All Byte s)
       let limit : placeLimit (it .body) ≡ 255 = ap placeLimit (holds ∙ inner-body (slotIn i s) e) in
       omega (arith, form .short, ap length place)
 
-  pub holds-found : Holds s i p
+  pub holds-found : SlotHolds s i p
   holds-found = record {
     slotted = record { size = size; inside = has .inside; proper = proper };
     short = λ e. omega (arith, short e, proper-count p proper);
   }
 
   -- the root
-  module _ (v : ℕ) (root : rootOf (storeOf s) v ≡ o) (top : placeOf p ≡ []) where
-    root-is : rootOf (storeOf s) v ≡ some it
+  module _ (v : ℕ) (root : rootSight (storeOf s) v ≡ o) (top : placeOf p ≡ []) where
+    root-is : rootSight (storeOf s) v ≡ matches it
     root-is = root ∙ is-found
 
-    root-leaf-is : isLeaf (slotIn i s) ≡ true → seen (storeOf s) v ≡ bodySeen s (placeOf p) (bodyIn (slotIn i s))
+    root-leaf-is : isLeaf (slotIn i s) ≡ true → seen (scan (storeOf s)) v ≡ bodySeen s (placeOf p) (bodyIn (slotIn i s))
     unfolding begins
     root-leaf-is e =
         let k = keyIn (slotIn i s) in
         let y = valueIn (slotIn i s) in
         let b = leaf-body (slotIn i s) e in
-        root-leaf (storeOf s) v it k y root-is (holds ∙ b)
-        ∙ ap (λ q. cond (begins q k) (leafSeen k y) lost) (sym top)
+        root-leaf (scan (storeOf s)) v it k y root-is (holds ∙ b)
+        ∙ ap (λ q. cond (begins q k) (leafSeen k y) (lost strayLeaf)) (sym top)
         ∙ ap (bodySeen s (placeOf p)) (sym b)
 
-    root-fork-is : isLeaf (slotIn i s) ≡ false → seen (storeOf s) v ≡ bodySeen s (placeOf p) (bodyIn (slotIn i s))
+    root-fork-is : isLeaf (slotIn i s) ≡ false → seen (scan (storeOf s)) v ≡ bodySeen s (placeOf p) (bodyIn (slotIn i s))
     root-fork-is e =
         let n = 255 - length (placeOf p) in
         let l = leftIn (slotIn i s) in
         let m = rightIn (slotIn i s) in
         let b = inner-body (slotIn i s) e in
         let w : 255 - length (placeOf p) ≡ 255 = omega (arith, ap length top) in
-        root-fork (storeOf s) v n it l m w root-is (holds ∙ b)
-        ∙ ap (λ q. fork (λ c. childOn c l m .hash) (λ c. seenAt n (storeOf s .slots) (longer c q) (childOn c l m))) (sym top)
+        root-fork (scan (storeOf s)) v n it l m w root-is (holds ∙ b)
+        ∙ ap (λ q. fork (λ c. childOn c l m .hash) (λ c. seenAt n (scan (storeOf s)) (longer c q) (childOn c l m))) (sym top)
         ∙ ap (bodySeen s (placeOf p)) (sym b)
 
-    pub root-sees : (t : declared.Seen) → Sees s (placeOf p) (bodySeen s (placeOf p) (bodyIn (slotIn i s))) t → Sees s [] (seen (storeOf s) v) t
+    pub root-sees : (t : declared.Seen) → Sees s (placeOf p) (bodySeen s (placeOf p) (bodyIn (slotIn i s))) t → Sees s [] (seen (scan (storeOf s)) v) t
     root-sees t h =
         let e = by-kind (isLeaf (slotIn i s)) root-leaf-is root-fork-is in
-        subst (λ q. Sees s q (seen (storeOf s) v) t) top (subst (λ y. Sees s (placeOf p) y t) (sym e) h)
+        subst (λ q. Sees s q (seen (scan (storeOf s)) v) t) top (subst (λ y. Sees s (placeOf p) y t) (sym e) h)
 
   -- a child
-  module _ (c : Child) (child : find (c .version) (placeOf p) (storeOf s .slots) ≡ o) (present : 1 ≤ c .version) where
-    child-is : find (c .version) (placeOf p) (storeOf s .slots) ≡ some it
+  module _ (c : Child) (child : nodeSight (storeOf s) (c .version) (placeOf p) ≡ o) (present : 1 ≤ c .version) where
+    child-is : nodeSight (storeOf s) (c .version) (placeOf p) ≡ matches it
     child-is = child ∙ is-found
 
     child-leaf-is : isLeaf (slotIn i s) ≡ true → seenBelow s (placeOf p) c ≡ bodySeen s (placeOf p) (bodyIn (slotIn i s))
     unfolding seenBelow
     child-leaf-is e =
         let b = leaf-body (slotIn i s) e in
-        rw b (child-leaf (storeOf s .slots) (placeOf p) c (256 - length (placeOf p)) it _ _ present child-is (holds ∙ b))
+        rw b (child-leaf (scan (storeOf s)) (placeOf p) c (256 - length (placeOf p)) it _ _ present child-is (holds ∙ b))
 
     child-fork-is : isLeaf (slotIn i s) ≡ false → seenBelow s (placeOf p) c ≡ bodySeen s (placeOf p) (bodyIn (slotIn i s))
     unfolding seenBelow
     child-fork-is e =
         let b = inner-body (slotIn i s) e in
         let n : 256 - length (placeOf p) ≡ suc (255 - length (placeOf p)) = omega (arith, short e) in
-        rw (b, n) (child-fork (storeOf s .slots) (placeOf p) c (255 - length (placeOf p)) it _ _ present child-is (holds ∙ b))
+        rw (b, n) (child-fork (scan (storeOf s)) (placeOf p) c (255 - length (placeOf p)) it _ _ present child-is (holds ∙ b))
 
     pub child-sees : (t : declared.Seen) → Sees s (placeOf p) (bodySeen s (placeOf p) (bodyIn (slotIn i s))) t →
         Sees s (placeOf p) (seenBelow s (placeOf p) c) t
@@ -197,19 +216,19 @@ module _ (s : Bytes) (size : sizeRight (length s) ≡ true) (bytes : All Byte s)
 
 -- what an inner node has on a side is what is seen at the child's place
 pub kid-seen : {b : Side} {p q : declared-place.Place} (s : Bytes) (c : Child) → Grown b p q →
-    seenAt (255 - length (placeOf p)) (storeOf s .slots) (longer b (placeOf p)) c ≡ seenBelow s (placeOf q) c
+    seenAt (255 - length (placeOf p)) (scan (storeOf s)) (longer b (placeOf p)) c ≡ seenBelow s (placeOf q) c
 unfolding seenBelow
 kid-seen {b} {p} {q} s c g =
     let n : 255 - length (placeOf p) ≡ 256 - length (placeOf q) = omega (arith, ap length (g .place) ∙ length-longer b (placeOf p)) in
-    ap (λ l. seenAt (255 - length (placeOf p)) (storeOf s .slots) l c) (sym (g .place)) ∙ ap (λ m. seenAt m (storeOf s .slots) (placeOf q) c) n
+    ap (λ l. seenAt (255 - length (placeOf p)) (scan (storeOf s)) l c) (sym (g .place)) ∙ ap (λ m. seenAt m (scan (storeOf s)) (placeOf q) c) n
 
 -- version 0 is no child
 pub child-none : (s : Bytes) (p : Place) (c : Child) → c .version ≡ 0 → seenBelow s p c ≡ gap
 unfolding seenBelow
-child-none s p c e = child-gap (storeOf s .slots) p c (256 - length p) e
+child-none s p c e = child-gap (scan (storeOf s)) p c (256 - length p) e
 
 -- an inner node, a leaf whose key does not begin with its place, and one whose key does
-module _ {s : Bytes} {i : ℕ} {p : declared-place.Place} (h : Holds s i p) where
+module _ {s : Bytes} {i : ℕ} {p : declared-place.Place} (h : SlotHolds s i p) where
   -- What is seen there.
   abbrev Here : declared.Seen → Type 0
   Here t = Sees s (placeOf p) (bodySeen s (placeOf p) (bodyIn (slotIn i s))) t
@@ -230,7 +249,7 @@ module _ {s : Bytes} {i : ℕ} {p : declared-place.Place} (h : Holds s i p) wher
     its-key : {a : Bool} → a ≡ begins (placeOf p) k → begins (placeOf p) (keyIn (slotIn i s)) ≡ a
     its-key f = ap (λ y. begins (placeOf p) (keyIn y)) (sym q) ∙ ap (begins (placeOf p)) (sym key) ∙ sym f
 
-    pub leaf-lost : {a : Bool} → a ≡ begins (placeOf p) k → a ≡ false → Here Lost
+    pub leaf-lost : {a : Bool} → a ≡ begins (placeOf p) k → a ≡ false → Here (Lost trouble.Stray)
     leaf-lost f g = rw (its-body, its-key f, g)
 
     pub leaf-seen : {a : Bool} → a ≡ begins (placeOf p) k → a ≡ true → Here (Leaf i)

@@ -1,4 +1,4 @@
--- Document 01, 'Reading and proving', over the bytes of a store: whether a version is kept, and what a read sees at the root and at a
+-- Document 01, 'Reading and proving', with 2026-07, over the bytes of a store: whether a version is kept, and what a read sees at the root and at a
 -- child. Assumes nothing.
 use Prim.Native.Nat.{ℕ, _-_, _<_}
 use mathlib.Core.Path.{_≡_}
@@ -8,7 +8,8 @@ use Rattle.terms.specs.Bits.{Bytes, Side, Place, longer}
 use Rattle.terms.specs.Records.{Child, Body}
 use Rattle.meaning.specs.Store.{childOn}
 use Rattle.meaning.specs.Calls.{Answer, refused, accepted, isKept}
-use Rattle.meaning.specs.Reading.{Seen, lost, gap, leafSeen, fork, seenBody, seenAt}
+use Rattle.meaning.specs.Sight.{scan}
+use Rattle.meaning.specs.Reading.{Trouble, lostRecord, spoiltRecord, strayLeaf, Seen, lost, gap, leafSeen, fork, seenBody, seenAt}
 use Rattle.layout.specs.Sizes.{roomOf}
 use Rattle.layout.specs.Headers.{sizeRight, headerOf}
 use Rattle.layout.specs.Slots.{keyIn, valueIn, leftIn, rightIn, isLeaf, leafIn, innerIn}
@@ -18,6 +19,8 @@ use Rattle.place.specs.Place.{Proper}
 use Rattle.read_step.specs.Headed.{byHeader}
 use Rattle.read_step.specs.declared.Opened as declared-opened
 use Rattle.read_step.specs.declared.Opened.the-variants.{Refused, Kept}
+use Rattle.read_step.specs.declared.Trouble as declared-trouble
+use Rattle.read_step.specs.declared.Trouble.the-variants as trouble
 use Rattle.read_step.specs.declared.Seen as declared
 use Rattle.read_step.specs.declared.Seen.the-variants.{Gap, Lost, Leaf, Inner}
 
@@ -39,24 +42,30 @@ kidIn i s b = childOn b (leftIn (slotIn i s)) (rightIn (slotIn i s))
 
 -- What is seen at a child that stands at a place.
 unfoldable pub seenBelow : Bytes → Place → Child → Seen
-seenBelow s p c = seenAt (256 - length p) (storeOf s .slots) p c
+seenBelow s p c = seenAt (256 - length p) (scan (storeOf s)) p c
 
 -- What is seen at a place whose record holds a body.
 abbrev pub bodySeen : Bytes → Place → Body → Seen
-bodySeen s p b = seenBody p b (λ c d. seenAt (255 - length p) (storeOf s .slots) (longer c p) d)
+bodySeen s p b = seenBody p b (λ c d. seenAt (255 - length p) (scan (storeOf s)) (longer c p) d)
 
 -- The leaf in slot i; the inner node in slot i, which stands at a place.
 unfoldable pub leafAt : ℕ → Bytes → Seen
 leafAt i s = leafSeen (keyIn (slotIn i s)) (valueIn (slotIn i s))
 
 unfoldable pub forkAt : ℕ → Bytes → Place → Seen
-forkAt i s p = fork (λ b. kidIn i s b .hash) (λ b. seenAt (255 - length p) (storeOf s .slots) (longer b p) (kidIn i s b))
+forkAt i s p = fork (λ b. kidIn i s b .hash) (λ b. seenAt (255 - length p) (scan (storeOf s)) (longer b p) (kidIn i s b))
 
--- What each case of an answer says is seen at a place: a gap, lost, a leaf or an inner node in a slot of the store. An inner node's place is
+-- What each case of trouble says.
+abbrev pub troubleSays : declared-trouble.Trouble → Trouble
+troubleSays trouble.Lost = lostRecord
+troubleSays (trouble.Spoilt i) = spoiltRecord i
+troubleSays trouble.Stray = strayLeaf
+
+-- What each case of an answer says is seen at a place: a gap, trouble, a leaf or an inner node in a slot of the store. An inner node's place is
 -- shorter than a key.
 abbrev pub Sees : Bytes → Place → Seen → declared.Seen → Type 0
 Sees s p x Gap = x ≡ gap
-Sees s p x Lost = x ≡ lost
+Sees s p x (Lost t) = x ≡ lost (troubleSays t)
 Sees s p x (Leaf i) = (i < roomOf (length s)) × (x ≡ leafAt i s)
 Sees s p x (Inner i) = (i < roomOf (length s)) × (length p < 256) × (x ≡ forkAt i s p)
 
@@ -67,6 +76,6 @@ pub record Slotted (s : Bytes) (i : ℕ) (p : declared-place.Place) : Type 0 whe
   pub proper : Proper p
 
 -- Slot i holds a leaf, or an inner node whose place is shorter than a key.
-pub record Holds (s : Bytes) (i : ℕ) (p : declared-place.Place) : Type 0 where
+pub record SlotHolds (s : Bytes) (i : ℕ) (p : declared-place.Place) : Type 0 where
   pub slotted : Slotted s i p
   pub short : isLeaf (slotIn i s) ≡ false → p .count < 256

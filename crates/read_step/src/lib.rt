@@ -4,14 +4,16 @@ use hash::Hash;
 use hash::hash_at;
 use layout::Header;
 use layout::read_header;
-use lookup::Found;
-use lookup::find;
-use lookup::find_root;
 use nodehash::inner_hash;
 use nodehash::leaf_hash;
 use numbers::NOT_KEPT;
+use numbers::wide::LOST;
+use numbers::wide::NOT_SOUND;
 use place::Place;
 use place::begins;
+use sights::Sight;
+use sights::look;
+use sights::look_root;
 use slots::child_hash;
 use slots::grant_of;
 use slots::is_leaf;
@@ -23,14 +25,17 @@ ghost use mathlib.Core.Bool.{true};
 ghost use mathlib.Core.List.{[]};
 ghost use Prim.Native.Nat.{_<_};
 ghost use lib.ListN.{length};
-ghost use Rattle.meaning.specs.Reading.{seen, bodyHash};
+ghost use Rattle.meaning.specs.Sight.{scan};
+ghost use Rattle.meaning.specs.Reading.{refusalOf, seen, bodyHash};
 ghost use Rattle.hash.specs.Hash.{hashBytes};
 ghost use Rattle.nodehash.specs.Node.{leafHash, innerHash};
 ghost use Rattle.place.specs.Place.{placeOf};
 ghost use Rattle.layout.specs.Sizes.{slotSize, roomOf};
 ghost use Rattle.layout.specs.Headers.{sizeRight};
 ghost use Rattle.layout.specs.Stores.{slotIn, storeOf};
-ghost use Rattle.read_step.specs.Walk.{opened, openedSays, bodyIn, kidIn, seenBelow, bodySeen, Sees, Slotted, Holds};
+ghost use Rattle.read_step.specs.Walk.{opened, openedSays, troubleSays, bodyIn, kidIn, seenBelow, bodySeen, Sees, Slotted, SlotHolds};
+
+const HIGH: u64 = 4294967296;
 
 // What a read tests first.
 pub enum Opened {
@@ -61,12 +66,32 @@ pub fn open(store: &[u8], version: u32) -> Opened
     }
 }
 
+// What stops a read.
+pub enum Trouble {
+    // A present child that no slot matches.
+    Lost,
+    // No slot in form matches, but the fields of this one agree.
+    Spoilt(u16),
+    // A found leaf whose key doesn't begin with its place.
+    Stray,
+}
+
+// The number of refusal, with the slot beside it where a record is spoilt.
+pub fn refusal(trouble: Trouble) -> u64
+    ensures { λ r. ⌜ r ≡ refusalOf (troubleSays trouble) ⌝ }
+{
+    match trouble {
+        Trouble::Lost => LOST,
+        Trouble::Spoilt(i) => NOT_SOUND + HIGH * (i as u64 + 1),
+        Trouble::Stray => NOT_SOUND,
+    }
+}
+
 // What a read sees at a place; a leaf and an inner node by their slot.
 pub enum Seen {
     // There is no child.
     Gap,
-    // A present child that is not found, or a found leaf whose key doesn't begin with its place.
-    Lost,
+    Lost(Trouble),
     Leaf(usize),
     Inner(usize),
 }
@@ -86,7 +111,7 @@ pub fn record_hash(slot: &[u8]) -> Hash
 
 // What is seen at a place whose record was found in slot i.
 fn seen_in(store: &[u8], i: usize, place: Place) -> Seen
-    requires { ⌜ Holds (now store) i place ⌝ }
+    requires { ⌜ SlotHolds (now store) i place ⌝ }
     ensures { λ r. ⌜ Sees (now (store .entry)) (placeOf place) (bodySeen (now (store .entry)) (placeOf place) (bodyIn (slotIn i (now (store .entry))))) r ⌝ }
 {
     let slot = slot_of(store, i);
@@ -94,7 +119,7 @@ fn seen_in(store: &[u8], i: usize, place: Place) -> Seen
         return Seen::Inner(i);
     }
     if !begins(key_of(slot), place) {
-        return Seen::Lost;
+        return Seen::Lost(Trouble::Stray);
     }
     Seen::Leaf(i)
 }
@@ -102,14 +127,18 @@ fn seen_in(store: &[u8], i: usize, place: Place) -> Seen
 // What is seen at the root of a version.
 pub fn root(store: &[u8], version: u32) -> Seen
     requires { ⌜ sizeRight (length (now store)) ≡ true ⌝ }
-    ensures { λ r. ⌜ Sees (now (store .entry)) [] (seen (storeOf (now (store .entry))) version) r ⌝ }
+    ensures { λ r. ⌜ Sees (now (store .entry)) [] (seen (scan (storeOf (now (store .entry)))) version) r ⌝ }
 {
     let top = Place::top();
-    let found = find_root(store, version);
-    let Found::At(i) = found else {
-        return Seen::Gap;
-    };
-    seen_in(store, i, top)
+    let sight = look_root(store, version);
+    match sight {
+        Sight::Matches(i) => seen_in(store, i, top),
+        Sight::Nothing => Seen::Gap,
+        Sight::Spoilt(i) => {
+            let slot = i as u16;
+            Seen::Lost(Trouble::Spoilt(slot))
+        }
+    }
 }
 
 // The version of the child on a side of the inner node in slot i.
@@ -129,9 +158,13 @@ pub fn child(store: &[u8], i: usize, right: bool, place: Place) -> Seen
     if version == 0 {
         return Seen::Gap;
     }
-    let found = find(store, version, place);
-    let Found::At(j) = found else {
-        return Seen::Lost;
-    };
-    seen_in(store, j, place)
+    let sight = look(store, version, place);
+    match sight {
+        Sight::Matches(j) => seen_in(store, j, place),
+        Sight::Nothing => Seen::Lost(Trouble::Lost),
+        Sight::Spoilt(j) => {
+            let slot = j as u16;
+            Seen::Lost(Trouble::Spoilt(slot))
+        }
+    }
 }

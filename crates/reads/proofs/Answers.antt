@@ -8,9 +8,10 @@ use lib.Seq.{take-take}
 use borrow.Author.Tests.{eq-eqb, ne-eqb}
 use Rattle.terms.specs.Bits.{Bytes, sameBytes}
 use Rattle.terms.specs.Fields.{slice}
-use Rattle.meaning.specs.Store.{rootOf}
+use Rattle.terms.specs.Records.{zeros}
+use Rattle.meaning.specs.Sight.{Sight, nothing, spoilt, rootSight}
 use Rattle.meaning.specs.Calls.{refused, accepted}
-use Rattle.meaning.specs.Reading.{present, readRoot, readKey, rootHash}
+use Rattle.meaning.specs.Reading.{spoiltRecord, refusalOf, present, readRoot, readKey, rootRead}
 use Rattle.hash.specs.declared.Hash.{Hash}
 use Rattle.hash.specs.Hash.{hashBytes}
 use Rattle.nodehash.specs.Node.{leafHash, innerHash}
@@ -25,6 +26,7 @@ use Rattle.reads.specs.Reads.{rootAnswer, keyAnswer}
 use Rattle.reads.specs.Parts.{rootSays, readSays, leafRead, walkRead}
 use Rattle.reads.specs.declared.KeyRead as declared
 use Rattle.reads.specs.declared.KeyRead.the-variants as read
+use Rattle.reads.specs.declared.RootRead as declared-root
 use Rattle.reads.specs.declared.RootRead.the-variants as root
 
 -- what was tested first
@@ -40,13 +42,11 @@ module _ (s : Bytes) (v : ℕ) {o : declared-opened.Opened} (says : openedSays o
 
   pub root-refused : {n : ℕ} → o ≡ Refused n → rootSays (root.Refused n) ≡ rootAnswer s v
   unfolding rootSays rootAnswer readRoot
-  root-refused e = opening.refused-first (accepted (rootHash leafHash innerHash (rootOf (storeOf s) v))) s v (first-refused e)
+  root-refused e = opening.refused-first (rootRead leafHash innerHash (rootSight (storeOf s) v)) s v (first-refused e)
 
-  pub root-hashed : (h : Hash) → o ≡ Kept → hashBytes h ≡ rootHash leafHash innerHash (rootOf (storeOf s) v) →
-      rootSays (root.Hash h) ≡ rootAnswer s v
-  unfolding rootSays rootAnswer readRoot
-  root-hashed h e f =
-      ap accepted f ∙ sym (opening.rest-decides (accepted (rootHash leafHash innerHash (rootOf (storeOf s) v))) s v (first-kept e))
+  pub root-is-read : (r : declared-root.RootRead) → o ≡ Kept → rootSays r ≡ rootRead leafHash innerHash (rootSight (storeOf s) v) → rootSays r ≡ rootAnswer s v
+  unfolding rootAnswer readRoot
+  root-is-read r e f = f ∙ sym (opening.rest-decides (rootRead leafHash innerHash (rootSight (storeOf s) v)) s v (first-kept e))
 
   module _ (k : Bytes) (whole : length k ≡ 32) where
     pub key-refused : {n : ℕ} → o ≡ Refused n → readSays (read.Refused n) ≡ keyAnswer s v k
@@ -60,6 +60,20 @@ module _ (s : Bytes) (v : ℕ) {o : declared-opened.Opened} (says : openedSays o
 pub key-wrong : (s : Bytes) (v : ℕ) (k : Bytes) → (length k ≡ 32 → ⊥) → readSays (read.Refused 12) ≡ keyAnswer s v k
 unfolding readSays keyAnswer
 key-wrong s v k f = rw (ne-eqb (length k) 32 f)
+
+-- the root record's hash, or zeros; a spoilt one is refused
+module _ (x : Sight) where
+  pub root-hashed : (h : Hash) → accepted (hashBytes h) ≡ rootRead leafHash innerHash x → rootSays (root.Hash h) ≡ rootRead leafHash innerHash x
+  unfolding rootSays
+  root-hashed h e = e
+
+  pub root-empty : (h : Hash) → x ≡ nothing → hashBytes h ≡ zeros → rootSays (root.Hash h) ≡ rootRead leafHash innerHash x
+  unfolding rootSays
+  root-empty h e f = ap accepted f ∙ ap (rootRead leafHash innerHash) (sym e)
+
+  pub root-spoilt : {n : ℕ} (i : ℕ) → x ≡ spoilt i → n ≡ refusalOf (spoiltRecord i) → rootSays (root.Refused n) ≡ rootRead leafHash innerHash x
+  unfolding rootSays
+  root-spoilt i e f = ap refused f ∙ ap (rootRead leafHash innerHash) (sym e)
 
 -- a leaf's value as 32 bytes, and its key, which is the one asked for or another
 slice-whole : (i n : ℕ) (x : Bytes) → take n (slice i n x) ≡ slice i n x

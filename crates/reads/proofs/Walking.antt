@@ -8,15 +8,17 @@ use mathlib.Core.Bool.{true}
 use mathlib.Core.List.{List, [], _∷_}
 use lib.ListN.{length}
 use Rattle.terms.specs.Bits.{Bytes, Side, longer, bit}
-use Rattle.meaning.specs.Calls.{Answer}
-use Rattle.meaning.specs.Reading.{Seen, lost, gap, leafSeen, fork, seenAt, seen, Pass, walk, Verdict, readEnd}
+use Rattle.meaning.specs.Sight.{scan}
+use Rattle.meaning.specs.Calls.{Answer, refused}
+use Rattle.meaning.specs.Reading.{refusalOf, Seen, lost, gap, leafSeen, fork, seenAt, seen, Pass, walk, Verdict, readEnd}
 use Rattle.place.specs.declared.Place as declared-place
 use Rattle.place.specs.Place.{placeOf, Proper, Stands, Grown}
 use Rattle.place.proofs.Places.{proper-count}
 use Rattle.layout.specs.Sizes.{roomOf}
 use Rattle.layout.specs.Headers.{sizeRight}
 use Rattle.layout.specs.Stores.{storeOf}
-use Rattle.read_step.specs.Walk.{kidIn, seenBelow, leafAt, forkAt, Sees, Slotted}
+use Rattle.read_step.specs.Walk.{troubleSays, kidIn, seenBelow, leafAt, forkAt, Sees, Slotted}
+use Rattle.read_step.specs.declared.Trouble as declared-trouble
 use Rattle.read_step.specs.declared.Seen as declared
 use Rattle.read_step.specs.declared.Seen.the-variants.{Gap, Lost, Leaf, Inner}
 use Rattle.read_step.proofs.Seeing.{kid-seen}
@@ -29,7 +31,7 @@ saidFrom k i x = readEnd k (walk k i [] x)
 
 -- no read looks at the trail
 trail-unread : (k : Bytes) (i : ℕ) (a b : List Pass) (x : Seen) → readEnd k (walk k i a x) ≡ readEnd k (walk k i b x)
-trail-unread k i a b lost = refl
+trail-unread k i a b (lost t) = refl
 trail-unread k i a b gap = refl
 trail-unread k i a b (leafSeen l x) = refl
 trail-unread k i a b (fork hashes kids) = trail-unread k (suc i) _ _ (kids (bit i k))
@@ -49,15 +51,15 @@ pub record Walked (s : Bytes) (v : ℕ) (k : Bytes) (p : declared-place.Place) (
 
 -- at the root
 pub set-out : {s : Bytes} {v : ℕ} {k : Bytes} {p : declared-place.Place} {r : declared.Seen} → sizeRight (length s) ≡ true →
-    length k ≡ 32 → Stands [] 0 p → Sees s [] (seen (storeOf s) v) r → Walked s v k p r
+    length k ≡ 32 → Stands [] 0 p → Sees s [] (seen (scan (storeOf s)) v) r → Walked s v k p r
 unfolding walkRead
 set-out {s} {v} {k} {p} {r} size whole top sees = record {
   size = size;
   whole = whole;
   proper = top .proper;
-  here = seen (storeOf s) v;
-  sees = subst (λ q. Sees s q (seen (storeOf s) v) r) (sym (top .place)) sees;
-  rest = ap (λ n. saidFrom k n (seen (storeOf s) v)) (sym (top .count));
+  here = seen (scan (storeOf s)) v;
+  sees = subst (λ q. Sees s q (seen (scan (storeOf s)) v) r) (sym (top .place)) sees;
+  rest = ap (λ n. saidFrom k n (seen (scan (storeOf s)) v)) (sym (top .count));
 }
 
 module _ {s : Bytes} {v : ℕ} {k : Bytes} {p : declared-place.Place} {r : declared.Seen} (w : Walked s v k p r) where
@@ -71,9 +73,9 @@ module _ {s : Bytes} {v : ℕ} {k : Bytes} {p : declared-place.Place} {r : decla
   unfolding readSays
   ends-at-gap e = said (sees-as e)
 
-  pub ends-lost : r ≡ Lost → readSays (read.Refused 3) ≡ walkRead s v k
+  pub ends-lost : {n : ℕ} (t : declared-trouble.Trouble) → r ≡ Lost t → n ≡ refusalOf (troubleSays t) → readSays (read.Refused n) ≡ walkRead s v k
   unfolding readSays
-  ends-lost e = said (sees-as e)
+  ends-lost t e f = ap refused f ∙ said (sees-as e)
 
   pub leaf-inside : {i : ℕ} → r ≡ Leaf i → i < roomOf (length s)
   leaf-inside e = sees-as e .0
@@ -106,7 +108,7 @@ module _ {s : Bytes} {v : ℕ} {k : Bytes} {p : declared-place.Place} {r : decla
       where
         turned : walkRead s v k ≡ saidFrom k (q .count) (seenBelow s (placeOf q) (kidIn i s b))
         turned =
-            let kids : Side → Seen = λ c. seenAt (255 - length (placeOf p)) (storeOf s .slots) (longer c (placeOf p)) (kidIn i s c) in
+            let kids : Side → Seen = λ c. seenAt (255 - length (placeOf p)) (scan (storeOf s)) (longer c (placeOf p)) (kidIn i s c) in
             w .rest
             ∙ ap (saidFrom k (p .count)) (sees-as e .2)
             ∙ one-turn k (p .count) (λ c. kidIn i s c .hash) kids

@@ -3,6 +3,7 @@
 use Prim.Native.Nat.{ℕ}
 use mathlib.Core.List.{[]}
 use Rattle.terms.specs.Bits.{Bytes}
+use Rattle.meaning.specs.Sight.{scan}
 use Rattle.meaning.specs.Calls.{Answer, refused, accepted}
 use Rattle.meaning.specs.Reading.{Verdict, present, absent, seen, walk, readEnd}
 use Rattle.hash.specs.Hash.{hashBytes}
@@ -30,4 +31,4 @@ leafRead i s k = readEnd k (walk k 0 [] (leafAt i s))
 
 -- What the walk by a key says from the root of a version.
 unfoldable pub walkRead : Bytes → ℕ → Bytes → Answer Verdict
-walkRead s v k = readEnd k (walk k 0 [] (seen (storeOf s) v))
+walkRead s v k = readEnd k (walk k 0 [] (seen (scan (storeOf s)) v))

@@ -1,5 +1,5 @@
--- Document 01, 'Reading and proving' and 'Numbers of refusal', of the root read and the key read over bytes, for every store, sound or not.
--- Order: 12; then 1, 2; then 8, 3. Assumes nothing.
+-- Document 01, 'Reading and proving' and 'Numbers of refusal', with 2026-07, of the root read and the key read over bytes, for every store, sound or not.
+-- Order: 12; then 1, 2; then 8; then 3 or 17, the first met. Assumes nothing.
 use Prim.Native.Nat.{ℕ}
 use mathlib.Core.Bool.{cond}
 use lib.ListN.{length}
@@ -12,10 +12,10 @@ use Rattle.layout.specs.Headers.{headerOf}
 use Rattle.layout.specs.Stores.{storeOf}
 use Rattle.read_step.specs.Headed.{byHeader}
 
--- A root read answers the hash of the root record alone, or zeros: 1, 2, 8.
+-- A root read answers the hash of the root record alone, or zeros: 1, 2, 8, and 3 where the root is spoilt.
 unfoldable pub rootAnswer : Bytes → ℕ → Answer Bytes
 rootAnswer s v = byHeader (headerOf s) (readRoot leafHash innerHash (storeOf s) v)
 
--- A key read answers the value or "absent": 12 where the key isn't 32 bytes, then 1, 2, 8, 3.
+-- A key read answers the value or "absent": 12 where the key isn't 32 bytes, then 1, 2, 8, 3 or 17.
 unfoldable pub keyAnswer : Bytes → ℕ → Bytes → Answer Verdict
 keyAnswer s v k = cond (eqb (length k) 32) (byHeader (headerOf s) (readKey (storeOf s) v k)) (refused 12)

@@ -3,19 +3,20 @@
 use hash::Hash;
 use hash::hash_at;
 use hash::no_hash;
-use lookup::Found;
-use lookup::find_root;
 use numbers::NOT_32_BYTES;
-use numbers::NOT_SOUND;
 use place::Place;
 use place::child_place;
 use place::key_bit;
 use place::same;
 use read_step::Opened;
 use read_step::Seen;
+use read_step::Trouble;
 use read_step::child;
 use read_step::open;
 use read_step::record_hash;
+use read_step::refusal;
+use sights::Sight;
+use sights::look_root;
 use slots::key_of;
 use slots::value_of;
 use store::slot_of;
@@ -23,9 +24,8 @@ ghost use mathlib.Core.Path.{_≡_};
 ghost use mathlib.Core.Bool.{true};
 ghost use Prim.Native.Nat.{_<_};
 ghost use lib.ListN.{length};
-ghost use Rattle.meaning.specs.Reading.{rootHash};
-ghost use Rattle.meaning.specs.Store.{rootOf};
-ghost use Rattle.hash.specs.Hash.{hashBytes};
+ghost use Rattle.meaning.specs.Reading.{rootRead};
+ghost use Rattle.meaning.specs.Sight.{rootSight};
 ghost use Rattle.nodehash.specs.Node.{leafHash, innerHash};
 ghost use Rattle.layout.specs.Sizes.{roomOf};
 ghost use Rattle.layout.specs.Headers.{sizeRight};
@@ -35,28 +35,40 @@ ghost use Rattle.reads.specs.Parts.{rootSays, readSays, leafRead, walkRe
 
 // What a root read answers.
 pub enum RootRead {
-    Refused(u32),
+    // The number, and in the high half a spoilt slot + 1.
+    Refused(u64),
     Hash(Hash),
 }
 
 // What a key read answers.
 pub enum KeyRead {
-    Refused(u32),
+    Refused(u64),
     // The key's value.
     Present(Hash),
     Absent,
 }
 
-// The hash of a version's root record, or zeros.
-fn root_hash(store: &[u8], version: u32) -> Hash
+// The hash of a version's root record, or zeros; refused where it is spoilt.
+fn root_hash(store: &[u8], version: u32) -> RootRead
     requires { ⌜ sizeRight (length (now store)) ≡ true ⌝ }
-    ensures { λ r. ⌜ hashBytes r ≡ rootHash leafHash innerHash (rootOf (storeOf (now (store .entry))) version) ⌝ }
+    ensures { λ r. ⌜ rootSays r ≡ rootRead leafHash innerHash (rootSight (storeOf (now (store .entry))) version) ⌝ }
 {
-    let found = find_root(store, version);
-    let Found::At(i) = found else {
-        return no_hash();
-    };
-    record_hash(slot_of(store, i))
+    let sight = look_root(store, version);
+    match sight {
+        Sight::Matches(i) => {
+            let hash = record_hash(slot_of(store, i));
+            RootRead::Hash(hash)
+        }
+        Sight::Nothing => {
+            let zeros = no_hash();
+            RootRead::Hash(zeros)
+        }
+        Sight::Spoilt(i) => {
+            let slot = i as u16;
+            let number = refusal(Trouble::Spoilt(slot));
+            RootRead::Refused(number)
+        }
+    }
 }
 
 // Reads the root of a version.
@@ -65,10 +77,9 @@ pub fn root(store: &[u8], version: u32) -> RootRead
 {
     let opened = open(store, version);
     if let Opened::Refused(n) = opened {
-        return RootRead::Refused(n);
+        return RootRead::Refused(n as u64);
     }
-    let hash = root_hash(store, version);
-    RootRead::Hash(hash)
+    root_hash(store, version)
 }
 
 // What the leaf in slot i says of a key: its value if the key is its own.
@@ -94,7 +105,10 @@ fn walk_read(store: &[u8], version: u32, key: &[u8]) -> KeyRead
     loop {
         match seen {
             Seen::Gap => return KeyRead::Absent,
-            Seen::Lost => return KeyRead::Refused(NOT_SOUND),
+            Seen::Lost(trouble) => {
+                let number = refusal(trouble);
+                return KeyRead::Refused(number);
+            }
             Seen::Leaf(i) => return leaf_read(store, i, key),
             Seen::Inner(i) => {
                 let side = key_bit(key, place.count);
@@ -110,11 +124,11 @@ pub fn get(store: &[u8], version: u32, key: &[u8]) -> KeyRead
     ensures { λ r. ⌜ readSays r ≡ keyAnswer (now (store .entry)) version (now (key .entry)) ⌝ }
 {
     if key.len() != 32 {
-        return KeyRead::Refused(NOT_32_BYTES);
+        return KeyRead::Refused(NOT_32_BYTES as u64);
     }
     let opened = open(store, version);
     if let Opened::Refused(n) = opened {
-        return KeyRead::Refused(n);
+        return KeyRead::Refused(n as u64);
     }
     walk_read(store, version, key)
 }

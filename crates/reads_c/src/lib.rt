@@ -1,4 +1,4 @@
-// The reads at the boundary: each answers 0 where it is accepted, else the number of refusal, and then it writes nothing. `grants` exports them.
+// The reads at the boundary: each answers 0 where it is accepted, else the number of refusal, with a spoilt slot + 1 in the high half, and then it writes nothing. `grants` exports them.
 use hash::Hash;
 use hash::no_hash;
 use hash::put_hash;
@@ -11,7 +11,7 @@ ghost use Rattle.hash.specs.Hash.{hashBytes};
 ghost use Rattle.reads_c.specs.Export.{ReadsRoot, ReadsKey};
 
 // The root of a version.
-pub fn grants_root(store: &[u8], version: u32, root: &mut [u8; 32]) -> u32
+pub fn grants_root(store: &[u8], version: u32, root: &mut [u8; 32]) -> u64
     ensures { λ r. ⌜ ReadsRoot (now (store .entry)) version (now (root .entry)) r (now (root .exit)) ⌝ }
 {
     let read = reads::root(store, version);
@@ -34,7 +34,7 @@ fn put_found(found: &mut [u8], present: u8, value: Hash)
 }
 
 // A key in a version: 1 and its value, or 0 and 32 zero bytes where it is absent.
-pub fn grants_get(store: &[u8], version: u32, key: &[u8], found: &mut [u8; 33]) -> u32
+pub fn grants_get(store: &[u8], version: u32, key: &[u8], found: &mut [u8; 33]) -> u64
     ensures { λ r. ⌜ ReadsKey (now (store .entry)) version (now (key .entry)) (now (found .entry)) r (now (found .exit)) ⌝ }
 {
     let read = reads::get(store, version, key);

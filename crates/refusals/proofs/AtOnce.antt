@@ -10,9 +10,10 @@ use Rattle.refusals.specs.Rows.{
   TooFewFree,
   NotKept,
   EmptyVersion,
-  LostToGet,
-  LostToProve,
-  TooLong,
+  StopsGet,
+  StopsProve,
+  Lost,
+  Unsound,
   NotBothKept,
   TooManyVisits,
   ListTooLong,
@@ -33,18 +34,18 @@ module _ (number : ℕ) (batch s : Bytes) where
     eighteen-before-seven order a b = inr (form, inr (order, inl (a, refl)))
 
 module _ (s : Bytes) (v : ℕ) (k room : Bytes) where
-  eight-before-three : NotKept s v → LostToGet s v k → First (keyRows s v k) 8
+  eight-before-three : NotKept s v → Unsound (StopsGet s v k) → First (keyRows s v k) 8
   eight-before-three a b = inl (a, refl)
 
   eight-before-fourteen : NotKept s v → EmptyVersion s v → First (proofRows s v k room) 8
   eight-before-fourteen a b = inl (a, refl)
 
   module _ (kept : NotKept s v → ⊥) where
-    fourteen-before-three : EmptyVersion s v → LostToProve s v k → First (proofRows s v k room) 14
+    fourteen-before-three : EmptyVersion s v → Unsound (StopsProve s v k) → First (proofRows s v k room) 14
     fourteen-before-three a b = inr (kept, inl (a, refl))
 
-    three-before-nine : (EmptyVersion s v → ⊥) → LostToProve s v k → TooLong s v k room → First (proofRows s v k room) 3
-    three-before-nine some a b = inr (kept, inr (some, inl (a, refl)))
+    three-before-nine : (EmptyVersion s v → ⊥) → (Lost (StopsProve s v k) → ⊥) → Unsound (StopsProve s v k) → First (proofRows s v k room) 3
+    three-before-nine some found a = inr (kept, inr (some, inr (found, inl (a, refl))))
 
 module _ (s : Bytes) (first second limit : ℕ) (room : Bytes) where
   eight-before-thirteen : NotBothKept s first second → TooManyVisits s first second limit → First (comparisonRows s first second limit room) 8

@@ -8,7 +8,7 @@ use mathlib.Core.List.{[], _∷_, _++_}
 use lib.Dec.{eqb}
 use borrow.Author.Tests.{eq-eqb}
 use Rattle.terms.proofs.Tests.{and-left, and-right}
-use Rattle.refusals.specs.Exactly.{Table, Listed, EachAfter, Exactly}
+use Rattle.refusals.specs.Exactly.{Table, Listed, EachAfter, Exactly, NoneOf}
 
 -- the first row that holds
 abbrev pub First : Table → ℕ → Type 0
@@ -16,10 +16,6 @@ First [] r = r ≡ 0
 First (row ∷ rows) r = (row .1 × (r ≡ row .0)) ⊎ ((row .1 → ⊥) × First rows r)
 
 -- no row of the first table holds, so it is the first of the second
-abbrev pub NoneOf : Table → Type 0
-NoneOf [] = Unit {0}
-NoneOf (row ∷ rows) = (row .1 → ⊥) × NoneOf rows
-
 pub past : (rows more : Table) (r : ℕ) → NoneOf rows → First more r → First (rows ++ more) r
 past [] more r n f = f
 past (row ∷ rows) more r n f = inr (n .0, past rows more r (n .1) f)

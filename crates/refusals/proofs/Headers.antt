@@ -21,7 +21,8 @@ use Rattle.layout.proofs.Headers.{room-of, size-right-of, size-says, size-least
 use Rattle.layout.proofs.Stores.{store-form}
 use Rattle.refusals.specs.Rows.{WrongLength, RightHeader, WrongHeader}
 use Rattle.refusals.specs.Orders.{headerRows}
-use Rattle.refusals.proofs.Exactly.{First, NoneOf}
+use Rattle.refusals.specs.Exactly.{NoneOf}
+use Rattle.refusals.proofs.Exactly.{First}
 
 -- row 1 by the test of the length
 pub length-wrong : (s : Bytes) → sizeRight (length s) ≡ false → WrongLength s

@@ -1,39 +1,39 @@
--- Rows 8, 14, 3 and 9 of prune and of the reads: what the definitions answer is what they deserve. Assumes nothing.
+-- Rows 8, 14, 17, 3 and 9 of prune and of the reads: what the definitions answer is what they deserve. Assumes nothing.
 use Prim.Native.Nat.{ℕ}
 use native.Mathlib.Omega.{arith}
-use mathlib.Core.Path.{_≡_, refl, ap, sym, _∙_}
+use mathlib.Core.Path.{_≡_, refl, ap, sym, _∙_, subst}
 use mathlib.Core.Logic.{_⊎_, inl, inr}
 use mathlib.Core.Bool.{Bool, true, false, cond, true≢false}
 use mathlib.Core.List.{[], _∷_, map}
-use mathlib.Core.Option.{Option, none, some, Option·none-ne-some}
 use lib.ListN.{length}
 use lib.Dec.{leb, ltb}
 use borrow.Author.Tests.{leb-true, le-leb, ltb-true, ltb-false}
 use Rattle.terms.specs.Bits.{Bytes, left, right, sameBytes}
-use Rattle.terms.specs.Records.{Record, Store, Proof, presence}
+use Rattle.terms.specs.Records.{Store, Proof, presence}
 use Rattle.terms.proofs.Tests.{and-left, and-right}
-use Rattle.meaning.specs.Store.{rootOf}
+use Rattle.meaning.specs.Sight.{Sight, matches, nothing, spoilt, rootSight, scan}
 use Rattle.meaning.specs.Sound.{Kept}
 use Rattle.meaning.specs.Calls.{Answer, refused, accepted, isKept, refuse, prune}
 use Rattle.meaning.specs.Answers.{numberOf}
-use Rattle.meaning.specs.Reading.{seen, End, broken, atLeaf, atGap, walk, readEnd, readKey, rootHash, readRoot}
+use Rattle.meaning.specs.Reading.{Trouble, spoiltRecord, refusalOf, seen, End, broken, atLeaf, atGap, walk, readEnd, readKey, rootRead, readRoot}
 use Rattle.meaning.specs.Proving.{stepUp, presenceOf, Sought, lostWay, nobody, somebody, neighbour, absenceFrom, absenceAt, proveEnd, proveSeen, proof, proofLength, fitted, prove}
 use Rattle.meaning.proofs.Empty.{proof-by-searches}
 use Rattle.shown.proofs.Fourteen.{fourteen-exactly-without-root}
 use Rattle.histories.proofs.Calls.{prune-cases}
 use Rattle.ways.proofs.Walking.{Formed}
-use Rattle.ways.proofs.Theorems.{key-lost-exactly, proof-lost-exactly}
+use Rattle.ways.proofs.Theorems.{one-trouble, empty-exactly, root-stopped-exactly, key-stopped-exactly, proof-stopped-exactly}
 use Rattle.layout.specs.Stores.{storeOf}
-use Rattle.refusals.specs.Exactly.{Table}
-use Rattle.refusals.specs.Rows.{LostToGet, LostToProve, NotKept, TooLong, EmptyVersion}
-use Rattle.refusals.specs.Orders.{versionRows, keyRows, proofRows}
+use Rattle.refusals.specs.Exactly.{Table, low}
+use Rattle.refusals.specs.Rows.{StopsRoot, StopsGet, StopsProve, NotKept, TooLong, EmptyVersion}
+use Rattle.refusals.specs.Orders.{versionRows, keyRows, provingRows, proofRows}
 use Rattle.refusals.proofs.Exactly.{First}
+use Rattle.refusals.proofs.Stopped.{Stopped, tested, met, passed, stopped-past, stopped-first}
 
 clash : {A : Type 0} → _≡_ {A = ℕ} 0 1 → A
 clash e = absurd (omega arith)
 
 -- row 8 by its test
-kept-said : (st : Store) (v : ℕ) → isKept st v ≡ true → Kept st v
+pub kept-said : (st : Store) (v : ℕ) → isKept st v ≡ true → Kept st v
 unfolding isKept
 kept-said st v e =
     let a = leb (st .oldest) v in
@@ -44,111 +44,140 @@ said-kept : (st : Store) (v : ℕ) → Kept st v → isKept st v ≡ true
 unfolding isKept
 said-kept st v h = rw (le-leb (st .oldest) v (h .0), le-leb v (st .latest) (h .1))
 
--- a test of the version, and rows after it
-by-kept : {A : Type 0} (s : Bytes) (v : ℕ) (a : Answer A) (more : Table) → First more (numberOf a) →
-    First ((8, NotKept s v) ∷ more) (numberOf (cond (isKept (storeOf s) v) a (refused 8)))
-by-kept s v a more f = go (isKept (storeOf s) v) refl
-  where
-    go : (b : Bool) → isKept (storeOf s) v ≡ b → First ((8, NotKept s v) ∷ more) (numberOf (cond b a (refused 8)))
-    go true e = inr (λ n. n (kept-said (storeOf s) v e), f)
-    go false e = inl (λ h. true≢false (sym (said-kept (storeOf s) v h) ∙ e), refl)
-
 pub prune-first : (n : ℕ) (s : Bytes) → First (versionRows s n) (numberOf (prune n (storeOf s) .answer))
 unfolding refuse
 prune-first n s =
     prune-cases (λ o. First (versionRows s n) (numberOf (o .answer))) n (storeOf s) (λ h. inl (h, refl)) (λ h. inr (λ f. f h, refl))
 
-module _ (leafHash innerHash : Bytes → Bytes → Bytes) where
-  pub root-first : (s : Bytes) (v : ℕ) → First (versionRows s v) (numberOf (readRoot leafHash innerHash (storeOf s) v))
+-- a test of the version, and what a read is stopped by after it
+pub not-kept : (s : Bytes) (v : ℕ) → isKept (storeOf s) v ≡ false → NotKept s v
+not-kept s v e h = true≢false (sym (said-kept (storeOf s) v h) ∙ e)
+
+by-kept : {A : Type 0} {later : Table} {stops : Trouble → Type 0} (s : Bytes) (v : ℕ) (a : Answer A) → Stopped [] later stops (numberOf a) →
+    Stopped (versionRows s v) later stops (numberOf (cond (isKept (storeOf s) v) a (refused 8)))
+by-kept {later = later} {stops = stops} s v a w = go (isKept (storeOf s) v) refl
+  where
+    go : (b : Bool) → isKept (storeOf s) v ≡ b → Stopped (versionRows s v) later stops (numberOf (cond b a (refused 8)))
+    go true e = stopped-past (versionRows s v) [] (λ n. n (kept-said (storeOf s) v e), tt) w
+    go false e = tested (inl (not-kept s v e, refl)) (λ z. absurd (omega arith))
+
+-- refusals of one answer
+one-refusal : {A : Type 0} {a : Answer A} (t u : Trouble) → a ≡ refused (refusalOf t) → a ≡ refused (refusalOf u) → t ≡ u
+one-refusal t u e f = one-trouble t u (let g = sym e ∙ f in cc)
+
+-- the root read
+module _ (leafHash innerHash : Bytes → Bytes → Bytes) (s : Bytes) (v : ℕ) where
+  pub root-stopped : Stopped (versionRows s v) [] (StopsRoot s v) (numberOf (readRoot leafHash innerHash (storeOf s) v))
   unfolding readRoot
-  root-first s v = by-kept s v (accepted (rootHash leafHash innerHash (rootOf (storeOf s) v))) [] refl
+  root-stopped = by-kept s v (rootRead leafHash innerHash (rootSight (storeOf s) v)) (go (rootSight (storeOf s) v) refl)
+    where
+      not-stopped : {x : Sight} {root : Bytes} → rootSight (storeOf s) v ≡ x → rootRead leafHash innerHash x ≡ accepted root → (t : Trouble) → StopsRoot s v t → ⊥
+      not-stopped e f t p =
+          let g = sym (root-stopped-exactly (storeOf s) v leafHash innerHash t .1 p) ∙ ap (rootRead leafHash innerHash) e ∙ f in clash (cc)
+
+      go : (x : Sight) → rootSight (storeOf s) v ≡ x → Stopped [] [] (StopsRoot s v) (numberOf (rootRead leafHash innerHash x))
+      go (matches r) e = passed tt (not-stopped e refl) refl
+      go nothing e = passed tt (not-stopped e refl) refl
+      go (spoilt i) e =
+          let f = ap (rootRead leafHash innerHash) e in
+          met tt (spoiltRecord i) (root-stopped-exactly (storeOf s) v leafHash innerHash (spoiltRecord i) .0 f)
+          (λ u p. one-refusal (spoiltRecord i) u f (root-stopped-exactly (storeOf s) v leafHash innerHash u .1 p)) refl
 
 module _ (s : Bytes) (formed : Formed (storeOf s)) (v : ℕ) (k : Bytes) where
-  pub get-first : First (keyRows s v k) (numberOf (readKey (storeOf s) v k))
+  -- the key read
+  pub get-stopped : Stopped (versionRows s v) [] (StopsGet s v k) (numberOf (readKey (storeOf s) v k))
   unfolding readKey
-  get-first =
-      by-kept s v (readEnd k (walk k 0 [] (seen (storeOf s) v))) ((3, LostToGet s v k) ∷ [])
-      (go (walk k 0 [] (seen (storeOf s) v)) refl)
+  get-stopped = by-kept s v (readEnd k (walk k 0 [] (seen (scan (storeOf s)) v))) (go (walk k 0 [] (seen (scan (storeOf s)) v)) refl)
     where
-      not-lost : (e : End) → walk k 0 [] (seen (storeOf s) v) ≡ e → (e ≡ broken → ⊥) → LostToGet s v k → ⊥
-      not-lost e f n l = n (sym f ∙ key-lost-exactly (storeOf s) formed v k .1 l)
+      go : (e : End) → walk k 0 [] (seen (scan (storeOf s)) v) ≡ e → Stopped [] [] (StopsGet s v k) (numberOf (readEnd k e))
+      go (broken t) f =
+          met tt t (key-stopped-exactly (storeOf s) formed v k t .0 f) (λ u p. let g = sym f ∙ key-stopped-exactly (storeOf s) formed v k u .1 p in cc) refl
+      go (atLeaf l x trail) f = passed tt (λ t p. let g = sym f ∙ key-stopped-exactly (storeOf s) formed v k t .1 p in clash (cc)) refl
+      go (atGap trail) f = passed tt (λ t p. let g = sym f ∙ key-stopped-exactly (storeOf s) formed v k t .1 p in clash (cc)) refl
 
-      go : (e : End) → walk k 0 [] (seen (storeOf s) v) ≡ e → First ((3, LostToGet s v k) ∷ []) (numberOf (readEnd k e))
-      go broken f = inl (key-lost-exactly (storeOf s) formed v k .0 f, refl)
-      go (atLeaf l x trail) f = inr (not-lost (atLeaf l x trail) f (λ z. clash (cc)), refl)
-      go (atGap trail) f = inr (not-lost (atGap trail) f (λ z. clash (cc)), refl)
+  -- what isn't proved at the end of a walk is refused by what stopped a search, or with 14
+  abbrev By : ℕ → Type 0
+  By n = ((t : Trouble) × (n ≡ refusalOf t)) ⊎ (n ≡ 14)
 
-  -- what isn't proved at the end of a walk is refused with 3, or with 14
-  absence-refused : (x y : Sought) {n : ℕ} → absenceFrom k x y ≡ refused n → (n ≡ 3) ⊎ (n ≡ 14)
-  absence-refused lostWay y e = inl (cc)
-  absence-refused nobody lostWay e = inl (cc)
+  absence-refused : (x y : Sought) {n : ℕ} → absenceFrom k x y ≡ refused n → By n
+  absence-refused (lostWay t) y e = inl (t, cc)
+  absence-refused nobody (lostWay t) e = inl (t, cc)
   absence-refused nobody nobody e = inr (cc)
   absence-refused nobody (somebody q) e = clash (cc)
-  absence-refused (somebody p) lostWay e = inl (cc)
+  absence-refused (somebody p) (lostWay t) e = inl (t, cc)
   absence-refused (somebody p) nobody e = clash (cc)
   absence-refused (somebody p) (somebody q) e = clash (cc)
 
-  end-refused : (e : End) {n : ℕ} → proveEnd k e ≡ refused n → (n ≡ 3) ⊎ (n ≡ 14)
+  end-refused : (e : End) {n : ℕ} → proveEnd k e ≡ refused n → By n
   unfolding absenceAt
-  end-refused broken h = inl (cc)
+  end-refused (broken t) h = inl (t, cc)
   end-refused (atGap trail) h = absence-refused (neighbour left k (atGap trail)) (neighbour right k (atGap trail)) h
   end-refused (atLeaf l x trail) {n} h = go (sameBytes k l) h
     where
       go : (b : Bool) →
           cond b (accepted (presence (presenceOf l x (map stepUp trail))))
           (absenceFrom k (neighbour left k (atLeaf l x trail)) (neighbour right k (atLeaf l x trail)))
-          ≡ refused n → (n ≡ 3) ⊎ (n ≡ 14)
+          ≡ refused n → By n
       go true f = clash (cc)
       go false f = absence-refused (neighbour left k (atLeaf l x trail)) (neighbour right k (atLeaf l x trail)) f
 
-  -- a proof in a kept version with a root is 3, or it fits, or 9
-  proof-is : isKept (storeOf s) v ≡ true → proof (storeOf s) v k ≡ proveEnd k (walk k 0 [] (seen (storeOf s) v))
+  -- proving
+  pub proof-is : isKept (storeOf s) v ≡ true → proof (storeOf s) v k ≡ proveEnd k (walk k 0 [] (seen (scan (storeOf s)) v))
   unfolding proveSeen
   proof-is e =
-      proof-by-searches (storeOf s) v k ∙ ap (λ b. cond b (proveEnd k (walk k 0 [] (seen (storeOf s) v))) (refused 8)) e
+      proof-by-searches (storeOf s) v k ∙ ap (λ b. cond b (proveEnd k (walk k 0 [] (seen (scan (storeOf s)) v))) (refused 8)) e
 
-  not-kept : isKept (storeOf s) v ≡ false → proof (storeOf s) v k ≡ refused 8
-  not-kept e = proof-by-searches (storeOf s) v k ∙ ap (λ b. cond b (proveSeen k (seen (storeOf s) v)) (refused 8)) e
+  refused-8 : isKept (storeOf s) v ≡ false → proof (storeOf s) v k ≡ refused 8
+  refused-8 e = proof-by-searches (storeOf s) v k ∙ ap (λ b. cond b (proveSeen k (seen (scan (storeOf s)) v)) (refused 8)) e
 
   same-proof : {p q : Proof} → _≡_ {A = Answer Proof} (accepted p) (accepted q) → p ≡ q
   same-proof e = cc
 
-  kept-first : (room : Bytes) (a : Answer Proof) → isKept (storeOf s) v ≡ true → (EmptyVersion s v → ⊥) → proof (storeOf s) v k ≡ a →
-      First ((3, LostToProve s v k) ∷ (9, TooLong s v k room) ∷ []) (numberOf (fitted (length room) a))
-  kept-first room (refused n) h root f = go (end-refused (walk k 0 [] (seen (storeOf s) v)) (sym (proof-is h) ∙ f))
-    where
-      go : (n ≡ 3) ⊎ (n ≡ 14) → First ((3, LostToProve s v k) ∷ (9, TooLong s v k room) ∷ []) n
-      go (inl three) = inl (proof-lost-exactly (storeOf s) formed v k .0 (sym (proof-is h) ∙ f ∙ ap refused three), three)
-      go (inr fourteen) =
-          absurd (root (fourteen-exactly-without-root (storeOf s) formed v k .0 (f ∙ ap refused fourteen) .1))
-  kept-first room (accepted p) h root f = inr (not-lost, fits (ltb (length room) (proofLength p)) refl)
-    where
-      not-lost : LostToProve s v k → ⊥
-      not-lost l = let z = sym f ∙ proof-is h ∙ proof-lost-exactly (storeOf s) formed v k .1 l in clash (cc)
+  abbrev Deserved : Bytes → ℕ → Type 0
+  Deserved room n = Stopped (provingRows s v) ((9, TooLong s v k room) ∷ []) (StopsProve s v k) n
 
-      fits : (b : Bool) → ltb (length room) (proofLength p) ≡ b →
-          First ((9, TooLong s v k room) ∷ []) (numberOf {A = Proof} (cond b (refused 9) (accepted p)))
-      fits true e = inl ((p, f, ltb-true (length room) (proofLength p) e), refl)
-      fits false e =
-          inr (λ t. absurd (omega (arith, ltb-false (length room) (proofLength p) e, ap proofLength (same-proof (sym f ∙ t .1)), t .2)), refl)
+  module _ (room : Bytes) (kept : isKept (storeOf s) v ≡ true) where
+    not-8 : NotKept s v → ⊥
+    not-8 n = n (kept-said (storeOf s) v kept)
 
-  rooted-first : (room : Bytes) → isKept (storeOf s) v ≡ true → (o : Option Record) → rootOf (storeOf s) v ≡ o →
-      First ((14, EmptyVersion s v) ∷ (3, LostToProve s v k) ∷ (9, TooLong s v k room) ∷ [])
-      (numberOf (fitted (length room) (proof (storeOf s) v k)))
-  rooted-first room h none e =
-      inl (e, ap (λ a. numberOf (fitted (length room) a)) (fourteen-exactly-without-root (storeOf s) formed v k .1 (h, e)))
-  rooted-first room h (some r) e =
-      let root : EmptyVersion s v → ⊥ = λ n. Option·none-ne-some r (sym n ∙ e) in
-      inr (root, kept-first room (proof (storeOf s) v k) h root refl)
+    -- with a root, proving is stopped, or the proof fits, or 9
+    rooted : (EmptyVersion s v → ⊥) → (a : Answer Proof) → proof (storeOf s) v k ≡ a → Deserved room (numberOf (fitted (length room) a))
+    rooted full (refused n) f = go (end-refused (walk k 0 [] (seen (scan (storeOf s)) v)) (sym (proof-is kept) ∙ f))
+      where
+        go : By n → Deserved room n
+        go (inl (t, e)) =
+            let g = sym (proof-is kept) ∙ f ∙ ap refused e in
+            met (not-8, (full, tt)) t (proof-stopped-exactly (storeOf s) formed v k t .0 g)
+            (λ u p. one-refusal t u g (proof-stopped-exactly (storeOf s) formed v k u .1 p)) e
+        go (inr fourteen) =
+            absurd (full (empty-exactly (storeOf s) v .0 (fourteen-exactly-without-root (storeOf s) formed v k .0 (f ∙ ap refused fourteen) .1)))
+    rooted full (accepted p) f = passed (not-8, (full, tt)) not-stopped (fits (ltb (length room) (proofLength p)) refl)
+      where
+        not-stopped : (t : Trouble) → StopsProve s v k t → ⊥
+        not-stopped t l = let z = sym f ∙ proof-is kept ∙ proof-stopped-exactly (storeOf s) formed v k t .1 l in clash (cc)
 
-  pub prove-first : (room : Bytes) →
-      First (proofRows s v k room) (numberOf (prove (storeOf s) v k (length room)))
+        fits : (b : Bool) → ltb (length room) (proofLength p) ≡ b →
+            First ((9, TooLong s v k room) ∷ []) (numberOf {A = Proof} (cond b (refused 9) (accepted p)))
+        fits true e = inl ((p, f, ltb-true (length room) (proofLength p) e), refl)
+        fits false e =
+            inr (λ t. absurd (omega (arith, ltb-false (length room) (proofLength p) e, ap proofLength (same-proof (sym f ∙ t .1)), t .2)), refl)
+
+    by-root : (x : Sight) → rootSight (storeOf s) v ≡ x → Deserved room (numberOf (fitted (length room) (proof (storeOf s) v k)))
+    by-root nothing e =
+        subst (λ a. Deserved room (numberOf (fitted (length room) a))) (sym (fourteen-exactly-without-root (storeOf s) formed v k .1 (kept, e)))
+        (tested (inr (not-8, inl (empty-exactly (storeOf s) v .0 e, refl))) (λ z. absurd (omega arith)))
+    by-root (matches r) e = rooted (λ w. let f = sym e ∙ empty-exactly (storeOf s) v .1 w in clash (cc)) (proof (storeOf s) v k) refl
+    by-root (spoilt i) e = rooted (λ w. let f = sym e ∙ empty-exactly (storeOf s) v .1 w in clash (cc)) (proof (storeOf s) v k) refl
+
+  pub refused-by : isKept (storeOf s) v ≡ true → {n : ℕ} → proof (storeOf s) v k ≡ refused n → ((t : Trouble) × (n ≡ refusalOf t)) ⊎ (n ≡ 14)
+  refused-by kept f = end-refused (walk k 0 [] (seen (scan (storeOf s)) v)) (sym (proof-is kept) ∙ f)
+
+  pub prove-stopped : (room : Bytes) → Deserved room (numberOf (prove (storeOf s) v k (length room)))
   unfolding prove
-  prove-first room = go (isKept (storeOf s) v) refl
+  prove-stopped room = go (isKept (storeOf s) v) refl
     where
-      go : (b : Bool) → isKept (storeOf s) v ≡ b →
-          First (proofRows s v k room)
-          (numberOf (fitted (length room) (proof (storeOf s) v k)))
-      go true e = inr (λ n. n (kept-said (storeOf s) v e), rooted-first room e (rootOf (storeOf s) v) refl)
+      go : (b : Bool) → isKept (storeOf s) v ≡ b → Deserved room (numberOf (fitted (length room) (proof (storeOf s) v k)))
+      go true e = by-root room e (rootSight (storeOf s) v) refl
       go false e =
-          inl (λ h. true≢false (sym (said-kept (storeOf s) v h) ∙ e), ap (λ a. numberOf (fitted (length room) a)) (not-kept e))
+          subst (λ a. Deserved room (numberOf (fitted (length room) a))) (sym (refused-8 e))
+          (tested (inl (not-kept s v e, refl)) (λ z. absurd (omega arith)))

@@ -1,5 +1,5 @@
 -- What it is for a call to answer exactly by a table of refusals. Assumes nothing.
-use Prim.Native.Nat.{ℕ}
+use Prim.Native.Nat.{ℕ, _+_, _/_, _%_}
 use mathlib.Core.Path.{_≡_}
 use mathlib.Core.Logic.{_↔_, _⊎_}
 use mathlib.Core.List.{List, [], _∷_}
@@ -21,3 +21,20 @@ EachAfter none (row ∷ rows) r = ((r ≡ row .0) ↔ (none × row .1)) × EachA
 pub record Exactly (rows : Table) (r : ℕ) : Type 0 where
   pub listed : Listed rows r
   pub each : EachAfter (Unit {0}) rows r
+
+-- No row of a table holds.
+abbrev pub NoneOf : Table → Type 0
+NoneOf [] = Unit {0}
+NoneOf (row ∷ rows) = (row .1 → ⊥) × NoneOf rows
+
+-- A read's answer in 64 bits: the number of refusal in the low half, and in the high half a spoilt slot + 1, or 0 (2026-07).
+unfoldable pub low : ℕ → ℕ
+low r = r % 4294967296
+
+unfoldable pub high : ℕ → ℕ
+high r = r / 4294967296
+
+-- The slot that it names is exactly the one that deserves it, and it names none exactly if none does.
+pub record Names (deserves : ℕ → Type 0) (r : ℕ) : Type 0 where
+  pub slot : (i : ℕ) → (high r ≡ i + 1) ↔ deserves i
+  pub none : (high r ≡ 0) ↔ ((i : ℕ) → deserves i → ⊥)

@@ -1,10 +1,10 @@
--- Document 01, 'Numbers of refusal', 14 of 2026-03 and 18 of 2026-13: rows in the order in which they are tested, as far as the calls
+-- Document 01, 'Numbers of refusal', 14 of 2026-03, 17 of 2026-07 and 18 of 2026-13: rows in the order in which they are tested, as far as the calls
 -- share them or the definitions of `meaning` test them. Assumes nothing.
 use Prim.Native.Nat.{ℕ}
 use mathlib.Core.List.{[], _∷_}
 use Rattle.terms.specs.Bits.{Bytes}
 use Rattle.refusals.specs.Exactly.{Table}
-use Rattle.refusals.specs.Rows.{WrongLength, WrongHeader, LostToGet, LostToProve, BatchOffForm, NotAscending, NotAbove, TooFewFree, NotKept, TooLong, ProofOffForm, DoesNotHold, EmptyVersion, NotBothKept, TooManyVisits, ListTooLong}
+use Rattle.refusals.specs.Rows.{WrongLength, WrongHeader, StopsRoot, StopsGet, StopsProve, Lost, Unsound, BatchOffForm, NotAscending, NotAbove, TooFewFree, NotKept, TooLong, ProofOffForm, DoesNotHold, EmptyVersion, NotBothKept, TooManyVisits, ListTooLong}
 
 -- 1, 2.
 abbrev pub headerRows : Bytes → Table
@@ -19,13 +19,22 @@ batchRows number batch s =
 abbrev pub versionRows : Bytes → ℕ → Table
 versionRows s v = (8, NotKept s v) ∷ []
 
--- A key read's own: 8, 3.
-abbrev pub keyRows : Bytes → ℕ → Bytes → Table
-keyRows s v k = (8, NotKept s v) ∷ (3, LostToGet s v k) ∷ []
+-- The reads' own, each with the rows that it tests before it looks for records. 17 and 3 exclude each other: the first met is given.
+-- Of the root: 8, 3.
+abbrev pub lookupRows : Bytes → ℕ → Table
+lookupRows s v = (8, NotKept s v) ∷ (3, Unsound (StopsRoot s v)) ∷ []
 
--- Proving's own: 8, 14, 3, 9.
+-- Of a key: 8, then 17 or 3.
+abbrev pub keyRows : Bytes → ℕ → Bytes → Table
+keyRows s v k = (8, NotKept s v) ∷ (17, Lost (StopsGet s v k)) ∷ (3, Unsound (StopsGet s v k)) ∷ []
+
+-- Proving: 8, 14, then 17 or 3, 9.
+abbrev pub provingRows : Bytes → ℕ → Table
+provingRows s v = (8, NotKept s v) ∷ (14, EmptyVersion s v) ∷ []
+
 abbrev pub proofRows : Bytes → ℕ → Bytes → Bytes → Table
-proofRows s v k room = (8, NotKept s v) ∷ (14, EmptyVersion s v) ∷ (3, LostToProve s v k) ∷ (9, TooLong s v k room) ∷ []
+proofRows s v k room =
+    (8, NotKept s v) ∷ (14, EmptyVersion s v) ∷ (17, Lost (StopsProve s v k)) ∷ (3, Unsound (StopsProve s v k)) ∷ (9, TooLong s v k room) ∷ []
 
 -- A comparison's own (document 02, 2026-01): 8, 13, 9.
 abbrev pub comparisonRows : Bytes → ℕ → ℕ → ℕ → Bytes → Table

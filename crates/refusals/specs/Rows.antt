@@ -1,24 +1,25 @@
--- Document 01, 'Numbers of refusal', 14 of 2026-03 and 18 of 2026-13: the rows, each a proposition in its words. Assumes nothing.
+-- Document 01, 'Numbers of refusal', 14 of 2026-03, 17 of 2026-07 and 18 of 2026-13: the rows, each a proposition in its words. Assumes nothing.
 use Prim.Native.Nat.{ℕ, _+_, _*_, _≤_, _<_}
 use mathlib.Core.Path.{_≡_}
+use mathlib.Core.Logic.{_⊎_}
 use mathlib.Core.Bool.{false}
-use mathlib.Core.List.{List}
-use mathlib.Core.Option.{none}
+use mathlib.Core.List.{List, []}
 use lib.ListN.{length}
 use Rattle.terms.specs.Bits.{Bytes, All}
-use Rattle.terms.specs.Fields.{field, slice, zeroBytes}
+use Rattle.terms.specs.Fields.{field, slice, flat, zeroBytes}
 use Rattle.terms.specs.Records.{Ask, Proof}
 use Rattle.terms.specs.Form.{AskForm}
 use Rattle.meaning.specs.Tree.{nextTree}
-use Rattle.meaning.specs.Store.{rootOf, treeAtVersion, freeSlots, newRecords}
+use Rattle.meaning.specs.Store.{treeAtVersion, freeSlots, newRecords}
 use Rattle.meaning.specs.Sound.{Kept, Sound}
 use Rattle.meaning.specs.Calls.{accepted, ascending}
-use Rattle.meaning.specs.Reading.{Verdict}
+use Rattle.meaning.specs.Reading.{Trouble, lostRecord, spoiltRecord, strayLeaf, Verdict}
 use Rattle.meaning.specs.Proving.{proof, proofLength}
 use Rattle.changed.specs.Changes.{items, itemSize}
 use Rattle.changed.specs.Compare.{changesOf, visitsOf}
 use Rattle.checker.specs.Holding.{Holds}
-use Rattle.ways.specs.Ways.{KeyLost, ProofLost}
+use Rattle.ways.specs.Ways as ways
+use Rattle.ways.specs.Ways.{RootStopped, KeyStopped, ProofStopped}
 use Rattle.nodehash.specs.Node.{leafHash, innerHash}
 use Rattle.proofrecords.specs.ProofBytes.{proofBytes, ProofForm}
 use Rattle.layout.specs.Sizes.{headerSize, headerKind, mostSlots, kindAt, capacityAt, oldestAt, latestAt, slotSize}
@@ -46,12 +47,23 @@ WrongHeader s = RightHeader s → ⊥
 abbrev pub NotSound : Bytes → Type 0
 NotSound s = Sound leafHash innerHash (storeOf s) → ⊥
 
--- 3 of the reads: the walk says so, in proving also the descent to a neighbour.
-abbrev pub LostToGet : Bytes → ℕ → Bytes → Type 0
-LostToGet s v k = KeyLost (storeOf s) v k
+-- What stops a read (2026-07): of the root, its lookup; of a key, the walk; in proving also the descent to a neighbour.
+abbrev pub StopsRoot : Bytes → ℕ → Trouble → Type 0
+StopsRoot s v t = RootStopped (storeOf s) v t
 
-abbrev pub LostToProve : Bytes → ℕ → Bytes → Type 0
-LostToProve s v k = ProofLost (storeOf s) v k
+abbrev pub StopsGet : Bytes → ℕ → Bytes → Trouble → Type 0
+StopsGet s v k t = KeyStopped (storeOf s) v k t
+
+abbrev pub StopsProve : Bytes → ℕ → Bytes → Trouble → Type 0
+StopsProve s v k t = ProofStopped (storeOf s) v k t
+
+-- 17: a present child that no slot matches, the first that is met.
+abbrev pub Lost : (Trouble → Type 0) → Type 0
+Lost stops = stops lostRecord
+
+-- 3 of the reads: a spoilt record, or a leaf whose key doesn't begin with its place, the first that is met.
+abbrev pub Unsound : (Trouble → Type 0) → Type 0
+Unsound stops = stops strayLeaf ⊎ ((i : ℕ) × stops (spoiltRecord i))
 
 -- The bytes of a batch are whole records in form, at most 1,024, and ask for this.
 pub record AskedBy (batch : Bytes) (as′ : List Ask) : Type 0 where
@@ -117,6 +129,6 @@ TooManyVisits s first second limit = limit < visitsOf (storeOf s) first second
 abbrev pub ListTooLong : Bytes → ℕ → ℕ → Bytes → Type 0
 ListTooLong s first second room = length room < itemSize * length (items (changesOf (storeOf s) first second))
 
--- 14: proving in an empty version, one whose root is not found (2026-03).
+-- 14: proving in an empty version (2026-03), one that no slot matches a root for, and no spoilt one agrees.
 abbrev pub EmptyVersion : Bytes → ℕ → Type 0
-EmptyVersion s v = rootOf (storeOf s) v ≡ none
+EmptyVersion s v = ways.EmptyVersion (storeOf s) v

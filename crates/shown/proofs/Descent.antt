@@ -2,11 +2,10 @@
 use mathlib.Core.Path.{_≡_, refl, ap, sym, _∙_, subst}
 use mathlib.Core.Bool.{Bool, true, false, cond, not, false≢true}
 use mathlib.Core.List.{[], _∷_}
-use mathlib.Core.Option.{Option, some}
 use Rattle.terms.specs.Bits.{Bytes, Side, left, right, Place, longer}
 use Rattle.terms.specs.Records.{Step, Presence}
 use Rattle.meaning.specs.Tree.{Tree, none, leaf, inner, hash}
-use Rattle.meaning.specs.Proving.{step, presenceOf, isGap, raised, raisedBy, descend}
+use Rattle.meaning.specs.Proving.{step, presenceOf, isGap, raised, Descended, reached, raisedBy, descend}
 use Rattle.meaning.specs.Checking.{keepsTo, outermost}
 use Rattle.shown.proofs.Paths.{outermost-top, keeps-by-side, keeps-by-zeros, topOf, raised-leads}
 use Rattle.shown.proofs.Views.{onSide, each-side, occupied, Seat, seat-above, Seated, child-seated, other-child, viewed, viewed-inner, gap-or-node, missing-is-zeros, inner-from, inner-from-other}
@@ -17,9 +16,9 @@ outermost-raised b s p h e = outermost-top b (p .steps) s ∙ rw (h, e)
 
 module _ (leafHash innerHash : Bytes → Bytes → Bytes) where
   -- The descent to side b from a place comes to a path, outermost on that side, from a leaf with its seat there up to the hash h.
-  pub record Descent (b : Side) (p : Place) (h : Bytes) (o : Option Presence) : Type 0 where
+  pub record Descent (b : Side) (p : Place) (h : Bytes) (o : Descended) : Type 0 where
     pub path : Presence
-    pub found : o ≡ some path
+    pub found : o ≡ reached path
     pub leads : topOf leafHash innerHash path ≡ h
     pub outer : outermost b (path .steps) ≡ true
     pub seat : Seat p (path .key)

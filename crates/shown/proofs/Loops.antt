@@ -6,31 +6,31 @@ use mathlib.Core.List.{List, [], _∷_}
 use mathlib.Core.Option.{Option, none, some}
 use Rattle.terms.specs.Bits.{Side}
 use Rattle.terms.specs.Records.{Step, Presence}
-use Rattle.meaning.specs.Reading.{Seen, lost, gap, leafSeen, fork}
-use Rattle.meaning.specs.Proving.{step, presenceOf, isGap, raisedBy, descend}
+use Rattle.meaning.specs.Reading.{lostRecord, Seen, lost, gap, leafSeen, fork}
+use Rattle.meaning.specs.Proving.{step, presenceOf, isGap, Descended, stuck, reached, raisedBy, descend}
 use Rattle.shown.proofs.Searches.{raised-twice}
 
 -- The descent to side b with the steps above it.
-abbrev pub descendBelow : Side → List Step → Seen → Option Presence
-descendBelow b above lost = none
-descendBelow b above gap = none
-descendBelow b above (leafSeen k x) = some (presenceOf k x above)
+abbrev pub descendBelow : Side → List Step → Seen → Descended
+descendBelow b above (lost t) = stuck t
+descendBelow b above gap = stuck lostRecord
+descendBelow b above (leafSeen k x) = reached (presenceOf k x above)
 descendBelow b above (fork hashes kids) =
     cond (isGap (kids b))
     (descendBelow b (step (not b) (hashes b) ∷ above) (kids (not b)))
     (descendBelow b (step b (hashes (not b)) ∷ above) (kids b))
 
-raisedBy-twice : (s : Step) (above : List Step) (o : Option Presence) → raisedBy (s ∷ above) o ≡ raisedBy above (raisedBy (s ∷ []) o)
-raisedBy-twice s above none = refl
-raisedBy-twice s above (some p) = ap some (raised-twice s above p)
+raisedBy-twice : (s : Step) (above : List Step) (o : Descended) → raisedBy (s ∷ above) o ≡ raisedBy above (raisedBy (s ∷ []) o)
+raisedBy-twice s above (stuck t) = refl
+raisedBy-twice s above (reached p) = ap reached (raised-twice s above p)
 
-either-raised : (b : Bool) (above : List Step) (o q : Option Presence) →
+either-raised : (b : Bool) (above : List Step) (o q : Descended) →
     cond b (raisedBy above o) (raisedBy above q) ≡ raisedBy above (cond b o q)
 either-raised true above o q = refl
 either-raised false above o q = refl
 
 pub descend-below : (b : Side) (above : List Step) (s : Seen) → descendBelow b above s ≡ raisedBy above (descend b s)
-descend-below b above lost = refl
+descend-below b above (lost t) = refl
 descend-below b above gap = refl
 descend-below b above (leafSeen k x) = refl
 descend-below b above (fork hashes kids) =

@@ -14,7 +14,7 @@ use Rattle.meaning.specs.Tree.{Tree, leaf, inner, grants, hash}
 use Rattle.meaning.specs.Tree as T
 use Rattle.meaning.specs.Calls.{accepted}
 use Rattle.meaning.specs.Reading.{Seen}
-use Rattle.meaning.specs.Proving.{step, presenceOf, raisedBy, isGap, descend, Sought, nobody, somebody, sought, fromTrail, beyond, absenceFrom}
+use Rattle.meaning.specs.Proving.{step, presenceOf, Descended, stuck, reached, raisedBy, isGap, descend, Sought, nobody, somebody, sought, fromTrail, beyond, absenceFrom}
 use Rattle.shown.proofs.Views.{onSide, each-side, Compared, same, other, compared, not-not, occupied, Seat, Seated, child-seated, viewed, viewed-inner, passing, gap-or-node}
 use Rattle.shown.proofs.Walks.{Reached, next, grants-off-walk}
 use Rattle.shown.proofs.Descent.{descent}
@@ -113,9 +113,14 @@ abbrev pub grantIf : Option Presence → Option Grant
 grantIf none = none
 grantIf (some p) = some (grantOf p)
 
-raised-grant : (steps : List Step) (o : Option Presence) → grantIf (raisedBy steps o) ≡ grantIf o
-raised-grant steps none = refl
-raised-grant steps (some p) = refl
+-- The grant that a descent comes to.
+abbrev grantAt : Descended → Option Grant
+grantAt (stuck t) = none
+grantAt (reached p) = some (grantOf p)
+
+raised-grant : (steps : List Step) (o : Descended) → grantAt (raisedBy steps o) ≡ grantAt o
+raised-grant steps (stuck t) = refl
+raised-grant steps (reached p) = refl
 
 -- A search finds a grant, or nobody where there is none.
 pub data Names : Sought → Option Grant → Type 0 where
@@ -158,11 +163,11 @@ absence-names k x y l r a (one p) (one q) e = given-neighbours _ _ a _ (refl, re
 module _ (leafHash innerHash : Bytes → Bytes → Bytes) where
   -- the descent to side b comes to the grant at the end on side b
   abbrev Ends : Side → Place → Tree → Type 0
-  Ends b p t = Seated p t → grantIf (descend b (viewed leafHash innerHash t)) ≡ endOf b (grants t)
+  Ends b p t = Seated p t → grantAt (descend b (viewed leafHash innerHash t)) ≡ endOf b (grants t)
 
   ends-inner : (b : Side) (p : Place) (l r : Tree) → Seated p (inner l r) → ((c : Side) → Ends b (longer c p) (onSide l r c)) →
       (there : Bool) → occupied (onSide l r b) ≡ there → (x y : Bytes) →
-      grantIf (cond (isGap (viewed leafHash innerHash (onSide l r b)))
+      grantAt (cond (isGap (viewed leafHash innerHash (onSide l r b)))
       (raisedBy (step (not b) x ∷ []) (descend b (viewed leafHash innerHash (onSide l r (not b)))))
       (raisedBy (step b y ∷ []) (descend b (viewed leafHash innerHash (onSide l r b)))))
       ≡ orFirst (endOf b (grants (onSide l r b))) (endOf b (grants (onSide l r (not b))))
@@ -181,7 +186,7 @@ module _ (leafHash innerHash : Bytes → Bytes → Bytes) where
   descent-ends b p T.none s = sym (end-none b)
   descent-ends b p (leaf g) s = sym (end-one b g)
   descent-ends b p (inner l r) s =
-      subst (λ seen. grantIf (descend b seen) ≡ endOf b (grants (inner l r))) (sym (viewed-inner leafHash innerHash l r))
+      subst (λ seen. grantAt (descend b seen) ≡ endOf b (grants (inner l r))) (sym (viewed-inner leafHash innerHash l r))
       (ends-inner b p l r s (each-side (λ c. Ends b (longer c p) (onSide l r c)) (descent-ends b (longer left p) l)
       (descent-ends b (longer right p) r)) _ refl _ _
       ∙ sym (end-inner b l r))

@@ -9,31 +9,31 @@ use Rattle.terms.specs.Bits.{Bytes, Side, bit}
 use Rattle.terms.specs.Records.{Step, Presence}
 use Rattle.meaning.specs.Tree.{Tree, hash}
 use Rattle.meaning.specs.Reading.{Seen, lost, gap, leafSeen, fork, Pass, walk}
-use Rattle.meaning.specs.Proving.{step, presenceOf, stepUp, raised, raisedBy, descend, Sought, lostWay, nobody, somebody, sought, turnsAway, fromTrail, beyond, neighbour}
+use Rattle.meaning.specs.Proving.{step, presenceOf, stepUp, raised, Descended, stuck, reached, raisedBy, descend, Sought, lostWay, nobody, somebody, sought, turnsAway, fromTrail, beyond, neighbour}
 use Rattle.shown.proofs.Views.{onSide, not-not, occupied, viewed, passing, gap-or-node}
 
 -- Where the first search finds nobody, the second.
 abbrev pub orElse : Sought → Sought → Sought
-orElse lostWay y = lostWay
+orElse (lostWay t) y = lostWay t
 orElse nobody y = y
 orElse (somebody p) y = somebody p
 
 -- What a search found, with more steps above it.
 abbrev pub soughtBelow : List Step → Sought → Sought
-soughtBelow steps lostWay = lostWay
+soughtBelow steps (lostWay t) = lostWay t
 soughtBelow steps nobody = nobody
 soughtBelow steps (somebody p) = somebody (raised steps p)
 
 pub raised-twice : (s : Step) (steps : List Step) (p : Presence) → raised (s ∷ steps) p ≡ raised steps (raised (s ∷ []) p)
 raised-twice s steps p = ap (presenceOf (p .key) (p .value)) (sym (append-assoc (p .steps) (s ∷ []) steps))
 
-at-node : (s u : Step) (steps : List Step) (below : Sought) (turn : Option Presence) (above : Sought) (away : Bool) →
+at-node : (s u : Step) (steps : List Step) (below : Sought) (turn : Descended) (above : Sought) (away : Bool) →
     orElse (soughtBelow (s ∷ steps) below) (cond away (sought (raisedBy (u ∷ steps) turn)) above)
     ≡ orElse (soughtBelow steps (orElse (soughtBelow (s ∷ []) below) (cond away (sought (raisedBy (u ∷ []) turn)) nobody))) above
-at-node s u steps lostWay turn above away = refl
+at-node s u steps (lostWay t) turn above away = refl
 at-node s u steps nobody turn above false = refl
-at-node s u steps nobody none above true = refl
-at-node s u steps nobody (some p) above true = ap somebody (raised-twice u steps p)
+at-node s u steps nobody (stuck t) above true = refl
+at-node s u steps nobody (reached p) above true = ap somebody (raised-twice u steps p)
 at-node s u steps (somebody p) turn above away = ap somebody (raised-twice s steps p)
 
 at-leaf : (l x : Bytes) (steps : List Step) (above : Sought) (on-side : Bool) →
@@ -48,7 +48,7 @@ neighbourBelow b k i s = neighbour b k (walk k i [] s)
 
 pub neighbour-from-trail : (b : Side) (k : Bytes) (i : ℕ) (trail : List Pass) (s : Seen) →
     neighbour b k (walk k i trail s) ≡ orElse (soughtBelow (map stepUp trail) (neighbourBelow b k i s)) (fromTrail b trail)
-neighbour-from-trail b k i trail lost = refl
+neighbour-from-trail b k i trail (lost t) = refl
 neighbour-from-trail b k i trail gap = refl
 neighbour-from-trail b k i trail (leafSeen l x) = at-leaf l x (map stepUp trail) (fromTrail b trail) (beyond b l k)
 neighbour-from-trail b k i trail (fork hashes kids) =

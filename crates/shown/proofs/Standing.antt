@@ -16,9 +16,12 @@ use Rattle.terms.proofs.Places.{length-longer}
 use Rattle.meaning.specs.Tree.{VTree, vnone, vleaf, vinner, topVersion, unversioned, hash}
 use Rattle.meaning.specs.Store.{find, rootOf, childOn, treeBelow, treeFound, treeFrom, treeAtVersion, childOf}
 use Rattle.meaning.specs.Sound.{Kept, Found, Stands, Sound}
-use Rattle.meaning.specs.Reading.{Seen, gap, fork, seenBody, seenChild, seenAt, seenRoot, seen, bodyHash, rootHash}
+use Rattle.meaning.specs.Sight.{Sight, matches, nothing, scan}
+use Rattle.meaning.specs.Calls.{Answer, accepted}
+use Rattle.meaning.specs.Reading.{Seen, gap, fork, seenBody, seenChild, seenAt, seenRoot, seen, bodyHash, rootRead}
 use Rattle.meaning.proofs.Finding.{found-at, at-find, some-body}
 use Rattle.meaning.proofs.Roots.{root-at}
+use Rattle.meaning.proofs.Sights.{root-sighted, no-root-sighted, node-sighted}
 use Rattle.shown.proofs.Views.{onSide, each-side, occupied, Seated, viewed}
 
 module _ (leafHash innerHash : Bytes → Bytes → Bytes) where
@@ -78,17 +81,17 @@ module _ (leafHash innerHash : Bytes → Bytes → Bytes) where
 
     -- a child that is found is seen by its body
     seen-found : (v : ℕ) (p : Place) (b : Body) (kid : Side → Child → Seen) → Found st v p b →
-        cond (eqb v 0) gap (seenChild p (find v p (st .slots)) kid) ≡ seenBody p b kid
+        cond (eqb v 0) gap (seenChild p (scan st .node v p) kid) ≡ seenBody p b kid
     unfolding Found
     seen-found v p b kid f =
         let one = formed v p b f .version in
-        rw (ne-eqb v 0 (omega arith), f .1) (ap (λ y. seenBody p y kid) (f .2))
+        rw (ne-eqb v 0 (omega arith), node-sighted st v p (f .0) (f .1)) (ap (λ y. seenBody p y kid) (f .2))
 
     abbrev SeenSo : ℕ → Place → VTree → Type 0
-    SeenSo n p t = seenAt n (st .slots) p (childOf leafHash innerHash t) ≡ viewed leafHash innerHash (unversioned t)
+    SeenSo n p t = seenAt n (scan st) p (childOf leafHash innerHash t) ≡ viewed leafHash innerHash (unversioned t)
 
     children-seen : (n : ℕ) (p : Place) (l r : VTree) → SeenSo n (longer left p) l → SeenSo n (longer right p) r → (b : Side) →
-        seenAt n (st .slots) (longer b p) (childOn b (childOf leafHash innerHash l) (childOf leafHash innerHash r))
+        seenAt n (scan st) (longer b p) (childOn b (childOf leafHash innerHash l) (childOf leafHash innerHash r))
         ≡ onSide (viewed leafHash innerHash (unversioned l)) (viewed leafHash innerHash (unversioned r)) b
     children-seen n p l r f g = each-side _ f g
 
@@ -118,9 +121,9 @@ module _ (leafHash innerHash : Bytes → Bytes → Bytes) where
     -- what is seen at the root, from its record
     root-seen : (n : ℕ) (t : VTree) (r : Record) → suc n ≡ 256 → Stands leafHash innerHash st [] t → 1 ≤ topVersion t →
         find (topVersion t) [] (st .slots) ≡ some r →
-        seenBody [] (r .body) (λ b d. seenAt n (st .slots) (b ∷ []) d) ≡ viewed leafHash innerHash (unversioned t)
+        seenBody [] (r .body) (λ b d. seenAt n (scan st) (b ∷ []) d) ≡ viewed leafHash innerHash (unversioned t)
     unfolding childOf longer
-    root-seen n t r m s one e = rw (ne-eqb (topVersion t) 0 (omega arith), e) at (stands-seen (suc n) [] t (omega arith) s)
+    root-seen n t r m s one e = rw (ne-eqb (topVersion t) 0 (omega arith), node-sighted st (topVersion t) [] r e) at (stands-seen (suc n) [] t (omega arith) s)
 
     -- the tree at a root record
     module _ (v : ℕ) (below : Side → ℕ → VTree) where
@@ -140,24 +143,25 @@ module _ (leafHash innerHash : Bytes → Bytes → Bytes) where
           (omega arith, ap₂ (λ w q. find w q (st .slots)) top (sym p) ∙ at-find st (ok .unique) i r a)
 
       seen-go : (n : ℕ) (o : Option Record) → suc n ≡ 256 → rootOf st v ≡ o → Stands leafHash innerHash st [] (treeFound o below) →
-          seenRoot o (λ b d. seenAt n (st .slots) (b ∷ []) d) ≡ viewed leafHash innerHash (unversioned (treeFound o below))
-      seen-go n none m e s = refl
-      seen-go n (some r) m e s = root-seen n (treeFound (some r) below) r m s (at-root r e .0) (at-root r e .1)
+          seenRoot (scan st .root v) (λ b d. seenAt n (scan st) (b ∷ []) d) ≡ viewed leafHash innerHash (unversioned (treeFound o below))
+      seen-go n none m e s = rw (no-root-sighted st v (ok .whole) e)
+      seen-go n (some r) m e s = rw (root-sighted st v r e) (root-seen n (treeFound (some r) below) r m s (at-root r e .0) (at-root r e .1))
 
       hash-go : (o : Option Record) → rootOf st v ≡ o → Stands leafHash innerHash st [] (treeFound o below) →
-          rootHash leafHash innerHash o ≡ hash leafHash innerHash (unversioned (treeFound o below))
-      hash-go none e s = refl
+          rootRead leafHash innerHash (scan st .root v) ≡ accepted (hash leafHash innerHash (unversioned (treeFound o below)))
+      hash-go none e s = rw (no-root-sighted st v (ok .whole) e)
       hash-go (some r) e s =
-          body-hash (treeFound (some r) below) (r .body) (root-body (treeFound (some r) below) r s (at-root r e .1) (is-there r))
+          rw (root-sighted st v r e)
+          (ap accepted (body-hash (treeFound (some r) below) (r .body) (root-body (treeFound (some r) below) r s (at-root r e .1) (is-there r))))
 
     -- what a read sees of a kept version is its tree
-    pub version-seen : (v : ℕ) → Kept st v → seen st v ≡ viewed leafHash innerHash (unversioned (treeAtVersion st v))
+    pub version-seen : (v : ℕ) → Kept st v → seen (scan st) v ≡ viewed leafHash innerHash (unversioned (treeAtVersion st v))
     unfolding seen treeAtVersion
     version-seen v kept = seen-go v (λ b w. treeFrom 255 (st .slots) w (b ∷ [])) 255 (rootOf st v) refl refl (ok .stands v kept)
 
     -- the root read gives its hash
     pub version-hash : (v : ℕ) → Kept st v →
-        rootHash leafHash innerHash (rootOf st v) ≡ hash leafHash innerHash (unversioned (treeAtVersion st v))
+        rootRead leafHash innerHash (scan st .root v) ≡ accepted (hash leafHash innerHash (unversioned (treeAtVersion st v)))
     unfolding treeAtVersion
     version-hash v kept = hash-go v (λ b w. treeFrom 255 (st .slots) w (b ∷ [])) (rootOf st v) refl (ok .stands v kept)
 

@@ -8,18 +8,21 @@ use mathlib.Core.Logic.{_↔_}
 use mathlib.Core.List.{List, [], _∷_, nil≢cons}
 use lib.ListN.{length}
 use borrow.Author.Tests.{le-leb, lt-ltb, le-ltb}
-use Rattle.terms.specs.Bits.{Bytes, Whole32, left, right, All, sameBytes}
-use Rattle.terms.specs.Records.{Grant, Presence, Absence, Proof, presence, absence, Store, zeros}
+use mathlib.Core.Option as option
+use Rattle.terms.specs.Bits.{Bytes, Whole32, Place, left, right, All, sameBytes}
+use Rattle.terms.specs.Records.{Grant, Record, Presence, Absence, Proof, presence, absence, Store, zeros}
 use Rattle.terms.proofs.Tests.{same-bytes, and-left, and-right}
 use Rattle.terms.proofs.Lists.{all-map}
 use Rattle.meaning.specs.Tree.{none, smaller, greater, hash, unversioned, grantsIn}
-use Rattle.meaning.specs.Store.{treeAtVersion}
+use Rattle.meaning.specs.Store.{find, rootOf, treeAtVersion}
+use Rattle.meaning.specs.Sight.{spoilt, rootSight, nodeSight, scan}
 use Rattle.meaning.specs.Sound.{Sound, Kept}
 use Rattle.meaning.specs.Calls.{refused, accepted, isKept}
 use Rattle.meaning.specs.Reading.{seen, walk, readEnd, readKey, readRoot, present, absent, answerOf}
 use Rattle.meaning.specs.Proving.{neighbour, absenceAt, proveEnd, proveSeen, HoldsGrant, proof, presenceLength, proofLength, prove}
 use Rattle.meaning.specs.Checking.{leadsTo, absenceHolds, checked}
 use Rattle.meaning.proofs.Empty.{gap-refused, proof-by-searches}
+use Rattle.meaning.proofs.Sights.{root-sighted, no-root-sighted, node-sighted, no-node-sighted}
 use Rattle.shown.proofs.Views.{granted-occupied, no-grant-no-node, viewed}
 use Rattle.shown.proofs.Walks.{present-absent, start, walk-answers}
 use Rattle.shown.proofs.Trees.{tree-shown}
@@ -37,9 +40,9 @@ pub proof-agrees-with-read : (st : Store) (v : ℕ) (k : Bytes) (p : Proof) → 
 unfolding readKey proveSeen
 proof-agrees-with-read st v k p e = go (isKept st v) (sym (proof-by-searches st v k) ∙ e)
   where
-    go : (b : Bool) → cond b (proveEnd k (walk k 0 [] (seen st v))) (refused 8) ≡ accepted p →
-        Agrees k (cond b (readEnd k (walk k 0 [] (seen st v))) (refused 8)) p
-    go true e = end-agrees k (walk k 0 [] (seen st v)) p e
+    go : (b : Bool) → cond b (proveEnd k (walk k 0 [] (seen (scan st) v))) (refused 8) ≡ accepted p →
+        Agrees k (cond b (readEnd k (walk k 0 [] (seen (scan st) v))) (refused 8)) p
+    go true e = end-agrees k (walk k 0 [] (seen (scan st) v)) p e
     go false e = let z : _≡_ {A = ℕ} 0 1 = cc in absurd (omega arith)
 
 -- On any store: every path has at most 256 steps, a presence proof at most 8,520 bytes, any proof at most 17,080.
@@ -89,6 +92,19 @@ module _ (leafHash innerHash : Bytes → Bytes → Bytes) where
       let holds = absenceHolds leafHash innerHash root k (a .leftward) (a .rightward) in
       let w = passed (sameBytes k (a .key) && holds) absent absent e in
       (a, refl, sym (same-bytes k (a .key) (and-left _ holds (w .0))), and-right (sameBytes k (a .key)) _ (w .0))
+
+  -- In a sound store no lookup finds a spoilt slot (2026-07): a root or a node is matched, or there is none.
+  pub sound-sees-no-spoilt : (st : Store) → Sound leafHash innerHash st → (v i : ℕ) →
+      (scan st .root v ≡ spoilt i → ⊥) × ((p : Place) → scan st .node v p ≡ spoilt i → ⊥)
+  sound-sees-no-spoilt st ok v i = (λ e. root (rootOf st v) refl e, λ p e. node p (find v p (st .slots)) refl e)
+    where
+      root : (o : option.Option Record) → rootOf st v ≡ o → rootSight st v ≡ spoilt i → ⊥
+      root option.none f e = let g = sym (no-root-sighted st v (ok .whole) f) ∙ e in let z : _≡_ {A = ℕ} 0 1 = cc in omega arith
+      root (option.some r) f e = let g = sym (root-sighted st v r f) ∙ e in let z : _≡_ {A = ℕ} 0 1 = cc in omega arith
+
+      node : (p : Place) (o : option.Option Record) → find v p (st .slots) ≡ o → nodeSight st v p ≡ spoilt i → ⊥
+      node p option.none f e = let g = sym (no-node-sighted st v (ok .whole) p f) ∙ e in let z : _≡_ {A = ℕ} 0 1 = cc in omega arith
+      node p (option.some r) f e = let g = sym (node-sighted st v p r f) ∙ e in let z : _≡_ {A = ℕ} 0 1 = cc in omega arith
 
   -- In a sound store, for a kept version:
   module _ (st : Store) (ok : Sound leafHash innerHash st) (v : ℕ) (kept : Kept st v) where
@@ -179,7 +195,7 @@ module _ (leafHash innerHash : Bytes → Bytes → Bytes) where
       -- The search on the left names the last of the smaller grants, that on the right the first of the greater; or nobody where there is
       -- none.
       pub left-neighbour-is-last-smaller :
-          Names (neighbour left k (walk k 0 [] (seen st v))) (lastOf (smaller k (grantsIn (treeAtVersion st v))))
+          Names (neighbour left k (walk k 0 [] (seen (scan st) v))) (lastOf (smaller k (grantsIn (treeAtVersion st v))))
       unfolding smaller
       left-neighbour-is-last-smaller =
           rw (version-seen leafHash innerHash st ok v kept)
@@ -187,7 +203,7 @@ module _ (leafHash innerHash : Bytes → Bytes → Bytes) where
           (version-seated leafHash innerHash st ok v kept))
 
       pub right-neighbour-is-first-greater :
-          Names (neighbour right k (walk k 0 [] (seen st v))) (firstOf (greater k (grantsIn (treeAtVersion st v))))
+          Names (neighbour right k (walk k 0 [] (seen (scan st) v))) (firstOf (greater k (grantsIn (treeAtVersion st v))))
       unfolding greater
       right-neighbour-is-first-greater =
           rw (version-seen leafHash innerHash st ok v kept)
@@ -201,4 +217,4 @@ module _ (leafHash innerHash : Bytes → Bytes → Bytes) where
       unfolding proveSeen absenceAt
       absence-has-nearest a e =
           absence-names k _ _ _ _ a left-neighbour-is-last-smaller right-neighbour-is-first-greater
-          (end-absence k (walk k 0 [] (seen st v)) a (rw (kept-test st v kept) at (sym (proof-by-searches st v k) ∙ e)))
+          (end-absence k (walk k 0 [] (seen (scan st) v)) a (rw (kept-test st v kept) at (sym (proof-by-searches st v k) ∙ e)))

@@ -74,7 +74,7 @@ module _ (leafHash innerHash : Bytes → Bytes → Bytes) where
         shown-absent (atLeaf l x trail) came (sym (accepted-same _ _ (rw e at (end-answers (atLeaf l x trail) came))))
 
     shown-end : (e : End) → Came e → Shows root k (answerOf k (grants t)) (proveEnd k e)
-    shown-end broken came = absurd (end-climbs broken came)
+    shown-end (broken t) came = absurd (end-climbs (broken t) came)
     shown-end (atLeaf l x trail) came = shown-leaf l x trail came _ refl
     shown-end (atGap trail) came = shown-absent (atGap trail) came (sym (accepted-same _ _ (end-answers (atGap trail) came)))
 

@@ -1,4 +1,4 @@
--- Comparisons of two versions, part 1. Written by tests/tables/generate.py; compared with a second reading of document 01 with 2026-01 and 2026-13. Assumes nothing.
+-- Comparisons of two versions, part 1. Written by tests/tables/generate.py; compared with a second reading of document 01, 2026-07 and 2026-01 and 2026-13. Assumes nothing.
 use mathlib.Core.Path.{_≡_, refl}
 use mathlib.Core.Bool.{true, false}
 use mathlib.Core.List.{List, [], _∷_}
@@ -17,252 +17,211 @@ use Rattle.tables.specs.Compared.{Comparison, comparison, ComparisonHold
 
 module _ (leafHash innerHash : Bytes → Bytes → Bytes) where
   abbrev h0 : Bytes
-  h0 = leafHash (keyOf 64 0) (valueOf 1)
+  h0 = leafHash (keyOf 64 0) (valueOf 2)
 
   abbrev h1 : Bytes
-  h1 = leafHash (keyOf 96 0) (valueOf 2)
+  h1 = leafHash (keyOf 144 0) (valueOf 3)
 
   abbrev h2 : Bytes
-  h2 = innerHash h0 h1
+  h2 = leafHash (keyOf 64 0) (valueOf 3)
 
   abbrev h3 : Bytes
-  h3 = innerHash zeros h2
+  h3 = leafHash (keyOf 144 0) (valueOf 4)
 
   abbrev h4 : Bytes
-  h4 = leafHash (keyOf 16 0) (valueOf 4)
+  h4 = leafHash (keyOf 144 0) (valueOf 2)
 
   abbrev h5 : Bytes
-  h5 = innerHash h4 h2
+  h5 = leafHash (keyOf 255 0) (valueOf 3)
 
   abbrev h6 : Bytes
-  h6 = leafHash (keyOf 104 0) (valueOf 2)
+  h6 = leafHash (keyOf 64 0) (valueOf 1)
 
   abbrev h7 : Bytes
-  h7 = innerHash h0 h6
+  h7 = innerHash h4 h5
 
   abbrev h8 : Bytes
-  h8 = innerHash zeros h7
+  h8 = leafHash (keyOf 8 0) (valueOf 1)
 
   abbrev h9 : Bytes
-  h9 = leafHash (keyOf 144 0) (valueOf 3)
+  h9 = leafHash (keyOf 96 0) (valueOf 2)
 
   abbrev h10 : Bytes
-  h10 = leafHash (keyOf 0 0) (valueOf 3)
+  h10 = innerHash h8 h9
 
   abbrev h11 : Bytes
-  h11 = leafHash (keyOf 16 0) (valueOf 2)
+  h11 = leafHash (keyOf 254 0) (valueOf 2)
 
   abbrev h12 : Bytes
-  h12 = innerHash h10 h11
+  h12 = innerHash h3 h11
 
   abbrev h13 : Bytes
-  h13 = innerHash h12 zeros
+  h13 = leafHash (keyOf 8 0) (valueOf 2)
 
   abbrev h14 : Bytes
-  h14 = innerHash h13 zeros
+  h14 = leafHash (keyOf 16 0) (valueOf 2)
 
   abbrev h15 : Bytes
-  h15 = leafHash (keyOf 254 0) (valueOf 3)
+  h15 = innerHash h13 h14
 
   abbrev h16 : Bytes
-  h16 = leafHash (keyOf 128 0) (valueOf 3)
+  h16 = innerHash h15 zeros
 
   abbrev h17 : Bytes
-  h17 = leafHash (keyOf 0 0) (valueOf 4)
+  h17 = innerHash h16 zeros
 
   abbrev h18 : Bytes
-  h18 = leafHash (keyOf 96 0) (valueOf 3)
+  h18 = leafHash (keyOf 8 0) (valueOf 3)
 
   abbrev h19 : Bytes
-  h19 = innerHash h17 h18
+  h19 = innerHash h18 h14
 
   abbrev h20 : Bytes
-  h20 = leafHash (keyOf 144 0) (valueOf 4)
+  h20 = innerHash h19 zeros
 
   abbrev h21 : Bytes
-  h21 = leafHash (keyOf 96 0) (valueOf 1)
+  h21 = innerHash h20 zeros
 
   abbrev h22 : Bytes
-  h22 = innerHash h21 h6
+  h22 = leafHash (keyOf 16 0) (valueOf 3)
 
   abbrev h23 : Bytes
-  h23 = innerHash h22 zeros
+  h23 = leafHash (keyOf 128 0) (valueOf 2)
 
   abbrev h24 : Bytes
-  h24 = innerHash zeros h23
+  h24 = leafHash (keyOf 254 0) (valueOf 1)
 
   abbrev h25 : Bytes
-  h25 = innerHash zeros h24
+  h25 = innerHash h4 h24
 
   abbrev h26 : Bytes
-  h26 = leafHash (keyOf 192 0) (valueOf 3)
+  h26 = leafHash (keyOf 64 0) (valueOf 4)
 
   abbrev h27 : Bytes
-  h27 = leafHash (keyOf 104 0) (valueOf 3)
+  h27 = innerHash h22 h26
 
   abbrev h28 : Bytes
-  h28 = leafHash (keyOf 254 0) (valueOf 4)
+  h28 = leafHash (keyOf 144 0) (valueOf 1)
 
   abbrev h29 : Bytes
-  h29 = leafHash (keyOf 16 0) (valueOf 3)
+  h29 = leafHash (keyOf 192 0) (valueOf 1)
 
   abbrev h30 : Bytes
-  h30 = leafHash (keyOf 64 0) (valueOf 3)
+  h30 = innerHash h28 h29
 
   abbrev h31 : Bytes
-  h31 = leafHash (keyOf 96 0) (valueOf 4)
+  h31 = leafHash (keyOf 16 0) (valueOf 1)
 
   abbrev h32 : Bytes
-  h32 = innerHash h30 h31
+  h32 = leafHash (keyOf 16 0) (valueOf 4)
 
   abbrev h33 : Bytes
-  h33 = innerHash zeros h32
+  h33 = leafHash (keyOf 192 0) (valueOf 3)
 
   abbrev h34 : Bytes
-  h34 = leafHash (keyOf 144 0) (valueOf 2)
+  h34 = leafHash (keyOf 128 0) (valueOf 3)
 
   abbrev h35 : Bytes
-  h35 = leafHash (keyOf 254 0) (valueOf 2)
+  h35 = leafHash (keyOf 96 0) (valueOf 3)
 
   abbrev h36 : Bytes
-  h36 = innerHash h34 h35
+  h36 = leafHash (keyOf 254 0) (valueOf 4)
 
   abbrev h37 : Bytes
-  h37 = leafHash (keyOf 8 0) (valueOf 4)
+  h37 = innerHash h1 h36
 
   abbrev h38 : Bytes
-  h38 = leafHash (keyOf 254 0) (valueOf 1)
+  h38 = leafHash (keyOf 104 0) (valueOf 2)
 
   abbrev h39 : Bytes
-  h39 = leafHash (keyOf 64 0) (valueOf 2)
+  h39 = leafHash (keyOf 128 0) (valueOf 1)
 
   abbrev h40 : Bytes
-  h40 = leafHash (keyOf 255 0) (valueOf 1)
+  h40 = leafHash (keyOf 104 0) (valueOf 4)
 
   abbrev h41 : Bytes
-  h41 = leafHash (keyOf 104 0) (valueOf 1)
+  h41 = leafHash (keyOf 96 0) (valueOf 1)
 
   abbrev h42 : Bytes
-  h42 = innerHash h18 h41
+  h42 = leafHash (keyOf 192 0) (valueOf 4)
 
   abbrev h43 : Bytes
-  h43 = innerHash h42 zeros
+  h43 = leafHash (keyOf 0 0) (valueOf 2)
 
   abbrev h44 : Bytes
-  h44 = innerHash zeros h43
+  h44 = innerHash h43 h0
 
   abbrev h45 : Bytes
-  h45 = innerHash zeros h44
+  h45 = innerHash h4 h33
 
   abbrev h46 : Bytes
-  h46 = innerHash h1 h41
+  h46 = leafHash (keyOf 0 0) (valueOf 3)
 
   abbrev h47 : Bytes
-  h47 = innerHash h46 zeros
+  h47 = leafHash (keyOf 192 0) (valueOf 2)
 
   abbrev h48 : Bytes
-  h48 = innerHash zeros h47
+  h48 = innerHash h26 h9
 
   abbrev h49 : Bytes
   h49 = innerHash zeros h48
 
   abbrev h50 : Bytes
-  h50 = leafHash (keyOf 255 0) (valueOf 2)
+  h50 = innerHash h0 h9
 
   abbrev h51 : Bytes
-  h51 = innerHash h9 h50
+  h51 = innerHash zeros h50
 
   abbrev h52 : Bytes
-  h52 = leafHash (keyOf 16 0) (valueOf 1)
+  h52 = leafHash (keyOf 255 0) (valueOf 4)
 
   abbrev h53 : Bytes
-  h53 = innerHash h52 h1
+  h53 = innerHash h42 h52
 
   abbrev h54 : Bytes
-  h54 = innerHash h4 h6
+  h54 = innerHash zeros h53
 
   abbrev h55 : Bytes
-  h55 = leafHash (keyOf 104 0) (valueOf 4)
+  h55 = leafHash (keyOf 0 0) (valueOf 1)
 
   abbrev h56 : Bytes
-  h56 = leafHash (keyOf 128 0) (valueOf 4)
+  h56 = innerHash h0 h35
 
   abbrev h57 : Bytes
-  h57 = innerHash h56 h28
-
-  abbrev h58 : Bytes
-  h58 = leafHash (keyOf 0 0) (valueOf 2)
-
-  abbrev h59 : Bytes
-  h59 = innerHash h58 h27
-
-  abbrev h60 : Bytes
-  h60 = leafHash (keyOf 8 0) (valueOf 3)
-
-  abbrev h61 : Bytes
-  h61 = leafHash (keyOf 128 0) (valueOf 2)
-
-  abbrev h62 : Bytes
-  h62 = innerHash h61 h15
-
-  abbrev h63 : Bytes
-  h63 = innerHash h15 h40
-
-  abbrev h64 : Bytes
-  h64 = innerHash zeros h63
-
-  abbrev h65 : Bytes
-  h65 = innerHash zeros h64
-
-  abbrev h66 : Bytes
-  h66 = innerHash zeros h65
-
-  abbrev h67 : Bytes
-  h67 = innerHash zeros h66
-
-  abbrev h68 : Bytes
-  h68 = innerHash zeros h67
-
-  abbrev h69 : Bytes
-  h69 = innerHash zeros h68
-
-  abbrev h70 : Bytes
-  h70 = innerHash h52 h21
-
-  abbrev h71 : Bytes
-  h71 = innerHash h52 h31
-
-  abbrev h72 : Bytes
-  h72 = innerHash h52 h0
+  h57 = innerHash h55 h56
 
   abbrev kept0 : Store
   kept0 =
-      storeOf 3 20
-      (leafSlot (false ∷ true ∷ false ∷ []) 14 0 (keyOf 64 0) (valueOf 1)
-      ∷ leafSlot (false ∷ true ∷ true ∷ []) 14 0 (keyOf 96 0) (valueOf 2)
-      ∷ innerSlot (false ∷ true ∷ []) 14 0 14 h0 14 h1
-      ∷ innerSlot (false ∷ []) 14 20 0 zeros 14 h2
-      ∷ innerSlot ([]) 14 19 14 h3 0 zeros
-      ∷ innerSlot ([]) 19 20 14 h3 0 zeros
-      ∷ leafSlot (false ∷ false ∷ []) 20 0 (keyOf 16 0) (valueOf 4)
-      ∷ innerSlot (false ∷ []) 20 0 20 h4 14 h2
-      ∷ innerSlot ([]) 20 0 20 h5 0 zeros
-      ∷ free
-      ∷ free
-      ∷ free
-      ∷ free
-      ∷ free
-      ∷ free
-      ∷ free
+      storeOf 10 16
+      (leafSlot (false ∷ []) 1 12 (keyOf 64 0) (valueOf 2)
+      ∷ leafSlot (true ∷ []) 1 12 (keyOf 144 0) (valueOf 3)
+      ∷ leafSlot (true ∷ false ∷ []) 16 0 (keyOf 144 0) (valueOf 2)
+      ∷ leafSlot (true ∷ true ∷ []) 16 0 (keyOf 255 0) (valueOf 3)
+      ∷ leafSlot (false ∷ []) 16 0 (keyOf 64 0) (valueOf 1)
+      ∷ innerSlot ([]) 9 11 1 h0 1 h1
+      ∷ innerSlot ([]) 11 12 1 h0 1 h1
+      ∷ leafSlot (false ∷ []) 12 16 (keyOf 64 0) (valueOf 3)
+      ∷ leafSlot (true ∷ []) 12 16 (keyOf 144 0) (valueOf 4)
+      ∷ innerSlot ([]) 12 16 12 h2 12 h3
+      ∷ innerSlot (true ∷ []) 16 0 16 h4 16 h5
+      ∷ innerSlot ([]) 16 0 16 h6 16 h7
       ∷ [])
 
   abbrev kept1 : Store
   kept1 =
-      storeOf 5 15
-      (leafSlot ([]) 10 11 (keyOf 192 0) (valueOf 2)
-      ∷ leafSlot ([]) 11 12 (keyOf 64 0) (valueOf 2)
-      ∷ leafSlot ([]) 12 15 (keyOf 64 0) (valueOf 2)
-      ∷ leafSlot ([]) 15 0 (keyOf 192 0) (valueOf 1)
+      storeOf 1 4
+      (leafSlot ([]) 1 4 (keyOf 96 0) (valueOf 2)
+      ∷ leafSlot (false ∷ false ∷ []) 4 0 (keyOf 8 0) (valueOf 1)
+      ∷ leafSlot (false ∷ true ∷ []) 4 0 (keyOf 96 0) (valueOf 2)
+      ∷ innerSlot (false ∷ []) 4 0 4 h8 4 h9
+      ∷ innerSlot ([]) 4 0 4 h10 0 zeros
+      ∷ free
+      ∷ free
+      ∷ free
+      ∷ free
+      ∷ free
+      ∷ free
+      ∷ free
       ∷ free
       ∷ free
       ∷ free
@@ -271,18 +230,18 @@ module _ (leafHash innerHash : Bytes → Bytes → Bytes) where
 
   abbrev kept2 : Store
   kept2 =
-      storeOf 7 13
-      (leafSlot (false ∷ []) 13 0 (keyOf 64 0) (valueOf 1)
-      ∷ leafSlot ([]) 3 8 (keyOf 104 0) (valueOf 2)
-      ∷ leafSlot ([]) 8 9 (keyOf 104 0) (valueOf 2)
-      ∷ leafSlot (false ∷ true ∷ false ∷ []) 9 13 (keyOf 64 0) (valueOf 1)
-      ∷ leafSlot (false ∷ true ∷ true ∷ []) 9 13 (keyOf 104 0) (valueOf 2)
-      ∷ innerSlot (false ∷ true ∷ []) 9 13 9 h0 9 h6
-      ∷ innerSlot (false ∷ []) 9 13 0 zeros 9 h7
-      ∷ innerSlot ([]) 9 12 9 h8 0 zeros
-      ∷ innerSlot ([]) 12 13 9 h8 0 zeros
-      ∷ leafSlot (true ∷ []) 13 0 (keyOf 144 0) (valueOf 3)
-      ∷ innerSlot ([]) 13 0 13 h0 13 h9
+      storeOf 0 5
+      (leafSlot ([]) 1 5 (keyOf 144 0) (valueOf 4)
+      ∷ leafSlot (true ∷ false ∷ []) 5 0 (keyOf 144 0) (valueOf 4)
+      ∷ leafSlot (true ∷ true ∷ []) 5 0 (keyOf 254 0) (valueOf 2)
+      ∷ leafSlot (false ∷ []) 5 0 (keyOf 64 0) (valueOf 1)
+      ∷ innerSlot (true ∷ []) 5 0 5 h3 5 h11
+      ∷ innerSlot ([]) 5 0 5 h6 5 h12
+      ∷ free
+      ∷ free
+      ∷ free
+      ∷ free
+      ∷ free
       ∷ free
       ∷ free
       ∷ free
@@ -292,15 +251,23 @@ module _ (leafHash innerHash : Bytes → Bytes → Bytes) where
 
   abbrev kept3 : Store
   kept3 =
-      storeOf 0 5
-      (leafSlot (false ∷ false ∷ false ∷ false ∷ []) 4 0 (keyOf 0 0) (valueOf 3)
-      ∷ leafSlot (false ∷ false ∷ false ∷ true ∷ []) 4 0 (keyOf 16 0) (valueOf 2)
-      ∷ innerSlot (false ∷ false ∷ false ∷ []) 4 0 4 h10 4 h11
-      ∷ innerSlot (false ∷ false ∷ []) 4 0 4 h12 0 zeros
-      ∷ innerSlot (false ∷ []) 4 0 4 h13 0 zeros
-      ∷ innerSlot ([]) 4 5 4 h14 0 zeros
-      ∷ leafSlot (true ∷ []) 5 0 (keyOf 254 0) (valueOf 3)
-      ∷ innerSlot ([]) 5 0 4 h14 5 h15
+      storeOf 4294967293 4294967295
+      (leafSlot ([]) 4294967295 0 (keyOf 128 0) (valueOf 4)
+      ∷ free
+      ∷ free
+      ∷ free
+      ∷ free
+      ∷ free
+      ∷ free
+      ∷ free
+      ∷ free
+      ∷ free
+      ∷ free
+      ∷ free
+      ∷ free
+      ∷ free
+      ∷ free
+      ∷ free
       ∷ free
       ∷ free
       ∷ free
@@ -313,73 +280,69 @@ module _ (leafHash innerHash : Bytes → Bytes → Bytes) where
 
   abbrev kept4 : Store
   kept4 =
-      storeOf 1 11
-      (leafSlot ([]) 3 6 (keyOf 254 0) (valueOf 2)
-      ∷ leafSlot ([]) 6 10 (keyOf 254 0) (valueOf 2)
+      storeOf 2 7
+      (leafSlot (false ∷ false ∷ false ∷ false ∷ []) 4 5 (keyOf 8 0) (valueOf 2)
+      ∷ leafSlot (false ∷ false ∷ false ∷ true ∷ []) 4 7 (keyOf 16 0) (valueOf 2)
+      ∷ innerSlot (false ∷ false ∷ false ∷ []) 4 5 4 h13 4 h14
+      ∷ innerSlot (false ∷ false ∷ []) 4 5 4 h15 0 zeros
+      ∷ innerSlot (false ∷ []) 4 5 4 h16 0 zeros
+      ∷ innerSlot ([]) 4 5 4 h17 0 zeros
+      ∷ leafSlot (false ∷ false ∷ false ∷ false ∷ []) 5 7 (keyOf 8 0) (valueOf 3)
+      ∷ innerSlot (false ∷ false ∷ false ∷ []) 5 7 5 h18 4 h14
+      ∷ innerSlot (false ∷ false ∷ []) 5 7 5 h19 0 zeros
+      ∷ innerSlot (false ∷ []) 5 7 5 h20 0 zeros
+      ∷ innerSlot ([]) 5 7 5 h21 0 zeros
+      ∷ leafSlot ([]) 7 0 (keyOf 8 0) (valueOf 3)
+      ∷ free
+      ∷ free
+      ∷ free
+      ∷ free
+      ∷ free
+      ∷ free
+      ∷ free
+      ∷ free
+      ∷ free
+      ∷ free
       ∷ free
       ∷ free
       ∷ [])
 
   abbrev kept5 : Store
   kept5 =
-      storeOf 9 14
-      (free
-      ∷ free
-      ∷ leafSlot ([]) 9 13 (keyOf 128 0) (valueOf 3)
-      ∷ leafSlot ([]) 13 14 (keyOf 128 0) (valueOf 3)
-      ∷ leafSlot (false ∷ []) 14 0 (keyOf 0 0) (valueOf 3)
-      ∷ leafSlot (true ∷ []) 14 0 (keyOf 128 0) (valueOf 3)
-      ∷ innerSlot ([]) 14 0 14 h10 14 h16
-      ∷ free
-      ∷ free
-      ∷ free
-      ∷ free
-      ∷ free
-      ∷ free
-      ∷ free
-      ∷ free
-      ∷ free
-      ∷ free
-      ∷ free
-      ∷ free
-      ∷ free
-      ∷ free
-      ∷ free
-      ∷ free
-      ∷ free
+      storeOf 3 8
+      (leafSlot ([]) 1 6 (keyOf 64 0) (valueOf 4)
+      ∷ leafSlot ([]) 6 7 (keyOf 64 0) (valueOf 4)
+      ∷ leafSlot ([]) 7 8 (keyOf 64 0) (valueOf 4)
+      ∷ leafSlot ([]) 8 0 (keyOf 64 0) (valueOf 4)
       ∷ [])
 
   abbrev kept6 : Store
   kept6 =
-      storeOf 6 6
-      (free
-      ∷ free
-      ∷ leafSlot (false ∷ true ∷ []) 4 0 (keyOf 96 0) (valueOf 3)
+      storeOf 4294967294 4294967295
+      (leafSlot ([]) 4294967295 0 (keyOf 64 0) (valueOf 2)
       ∷ free
       ∷ free
-      ∷ leafSlot (false ∷ false ∷ []) 5 0 (keyOf 0 0) (valueOf 4)
-      ∷ innerSlot (false ∷ []) 5 0 5 h17 4 h18
-      ∷ leafSlot (true ∷ []) 5 0 (keyOf 144 0) (valueOf 4)
       ∷ free
-      ∷ innerSlot ([]) 6 0 5 h19 5 h20
+      ∷ free
+      ∷ free
+      ∷ free
+      ∷ free
+      ∷ free
+      ∷ free
+      ∷ free
+      ∷ free
+      ∷ free
+      ∷ free
       ∷ free
       ∷ free
       ∷ [])
 
   abbrev kept7 : Store
   kept7 =
-      storeOf 0 11
-      (leafSlot ([]) 6 7 (keyOf 104 0) (valueOf 2)
-      ∷ leafSlot (false ∷ true ∷ true ∷ false ∷ false ∷ []) 7 0 (keyOf 96 0) (valueOf 1)
-      ∷ leafSlot (false ∷ true ∷ true ∷ false ∷ true ∷ []) 7 0 (keyOf 104 0) (valueOf 2)
-      ∷ innerSlot (false ∷ true ∷ true ∷ false ∷ []) 7 0 7 h21 7 h6
-      ∷ innerSlot (false ∷ true ∷ true ∷ []) 7 0 7 h22 0 zeros
-      ∷ innerSlot (false ∷ true ∷ []) 7 0 0 zeros 7 h23
-      ∷ innerSlot (false ∷ []) 7 0 0 zeros 7 h24
-      ∷ leafSlot (true ∷ []) 7 0 (keyOf 192 0) (valueOf 3)
-      ∷ innerSlot ([]) 7 11 7 h25 7 h26
-      ∷ innerSlot ([]) 11 0 7 h25 7 h26
-      ∷ free
+      storeOf 0 5
+      (leafSlot ([]) 3 4 (keyOf 0 0) (valueOf 4)
+      ∷ leafSlot ([]) 4 5 (keyOf 8 0) (valueOf 1)
+      ∷ leafSlot ([]) 5 0 (keyOf 8 0) (valueOf 1)
       ∷ free
       ∷ free
       ∷ free
@@ -397,55 +360,59 @@ module _ (leafHash innerHash : Bytes → Bytes → Bytes) where
 
   abbrev kept8 : Store
   kept8 =
-      storeOf 0 12
-      (leafSlot ([]) 1 3 (keyOf 104 0) (valueOf 3)
-      ∷ leafSlot (false ∷ []) 3 6 (keyOf 104 0) (valueOf 3)
-      ∷ leafSlot (true ∷ []) 3 11 (keyOf 254 0) (valueOf 4)
-      ∷ innerSlot ([]) 3 4 3 h27 3 h28
-      ∷ innerSlot ([]) 4 6 3 h27 3 h28
-      ∷ leafSlot (false ∷ []) 6 11 (keyOf 16 0) (valueOf 3)
-      ∷ innerSlot ([]) 6 11 6 h29 3 h28
-      ∷ leafSlot ([]) 11 12 (keyOf 16 0) (valueOf 3)
-      ∷ leafSlot ([]) 12 0 (keyOf 16 0) (valueOf 3)
-      ∷ free
-      ∷ free
-      ∷ free
+      storeOf 6 16
+      (leafSlot (false ∷ []) 15 16 (keyOf 16 0) (valueOf 3)
+      ∷ leafSlot (true ∷ []) 15 16 (keyOf 128 0) (valueOf 2)
+      ∷ innerSlot ([]) 15 16 15 h22 15 h23
+      ∷ leafSlot ([]) 16 0 (keyOf 16 0) (valueOf 3)
       ∷ [])
 
   abbrev kept9 : Store
   kept9 =
-      storeOf 0 8
-      (leafSlot ([]) 1 2 (keyOf 254 0) (valueOf 4)
-      ∷ leafSlot ([]) 2 3 (keyOf 254 0) (valueOf 4)
-      ∷ leafSlot ([]) 3 8 (keyOf 254 0) (valueOf 2)
-      ∷ leafSlot ([]) 8 0 (keyOf 254 0) (valueOf 3)
+      storeOf 0 4
+      (leafSlot (true ∷ false ∷ []) 3 4 (keyOf 144 0) (valueOf 2)
+      ∷ leafSlot (true ∷ true ∷ []) 3 4 (keyOf 254 0) (valueOf 1)
+      ∷ innerSlot (true ∷ []) 3 4 3 h4 3 h24
+      ∷ innerSlot ([]) 3 4 0 zeros 3 h25
       ∷ [])
 
   abbrev kept10 : Store
   kept10 =
-      storeOf 4294967293 4294967295
-      (leafSlot ([]) 4294967295 0 (keyOf 8 0) (valueOf 1)
-      ∷ free
-      ∷ free
-      ∷ free
-      ∷ free
-      ∷ free
-      ∷ free
-      ∷ free
-      ∷ free
-      ∷ free
-      ∷ free
-      ∷ free
-      ∷ free
-      ∷ free
-      ∷ free
-      ∷ free
+      storeOf 0 12
+      (leafSlot (false ∷ false ∷ []) 4 0 (keyOf 16 0) (valueOf 3)
+      ∷ leafSlot (false ∷ true ∷ []) 4 0 (keyOf 64 0) (valueOf 4)
+      ∷ innerSlot (false ∷ []) 4 0 4 h22 4 h26
+      ∷ leafSlot (true ∷ []) 4 6 (keyOf 144 0) (valueOf 1)
+      ∷ innerSlot ([]) 4 5 4 h27 4 h28
+      ∷ innerSlot ([]) 5 6 4 h27 4 h28
+      ∷ leafSlot (true ∷ false ∷ []) 6 0 (keyOf 144 0) (valueOf 1)
+      ∷ leafSlot (true ∷ true ∷ []) 6 0 (keyOf 192 0) (valueOf 1)
+      ∷ innerSlot (true ∷ []) 6 0 6 h28 6 h29
+      ∷ innerSlot ([]) 6 10 4 h27 6 h30
+      ∷ innerSlot ([]) 10 12 4 h27 6 h30
+      ∷ innerSlot ([]) 12 0 4 h27 6 h30
       ∷ [])
 
   abbrev kept11 : Store
   kept11 =
-      storeOf 0 4
-      (leafSlot ([]) 4 0 (keyOf 104 0) (valueOf 1)
+      storeOf 4294967294 4294967295
+      (leafSlot ([]) 4294967294 4294967295 (keyOf 16 0) (valueOf 3)
+      ∷ leafSlot ([]) 4294967295 0 (keyOf 16 0) (valueOf 1)
+      ∷ free
+      ∷ free
+      ∷ free
+      ∷ free
+      ∷ free
+      ∷ free
+      ∷ free
+      ∷ free
+      ∷ free
+      ∷ free
+      ∷ free
+      ∷ free
+      ∷ free
+      ∷ free
+      ∷ free
       ∷ free
       ∷ free
       ∷ free
@@ -457,10 +424,8 @@ module _ (leafHash innerHash : Bytes → Bytes → Bytes) where
 
   abbrev kept12 : Store
   kept12 =
-      storeOf 5 8
-      (leafSlot ([]) 1 6 (keyOf 192 0) (valueOf 2)
-      ∷ leafSlot ([]) 6 8 (keyOf 192 0) (valueOf 2)
-      ∷ leafSlot ([]) 8 0 (keyOf 192 0) (valueOf 2)
+      storeOf 5 7
+      (free
       ∷ free
       ∷ free
       ∷ free
@@ -468,6 +433,8 @@ module _ (leafHash innerHash : Bytes → Bytes → Bytes) where
       ∷ free
       ∷ free
       ∷ free
+      ∷ free
+      ∷ leafSlot ([]) 4 6 (keyOf 128 0) (valueOf 2)
       ∷ free
       ∷ free
       ∷ free
@@ -486,13 +453,17 @@ module _ (leafHash innerHash : Bytes → Bytes → Bytes) where
 
   abbrev kept13 : Store
   kept13 =
-      storeOf 5 9
-      (leafSlot ([]) 7 9 (keyOf 64 0) (valueOf 3)
-      ∷ leafSlot (false ∷ true ∷ false ∷ []) 5 7 (keyOf 64 0) (valueOf 3)
-      ∷ leafSlot (false ∷ true ∷ true ∷ []) 5 7 (keyOf 96 0) (valueOf 4)
-      ∷ innerSlot (false ∷ true ∷ []) 5 7 5 h30 5 h31
-      ∷ innerSlot (false ∷ []) 5 7 0 zeros 5 h32
-      ∷ innerSlot ([]) 5 7 5 h33 0 zeros
+      storeOf 0 2
+      (free
+      ∷ free
+      ∷ free
+      ∷ free
+      ∷ free
+      ∷ free
+      ∷ free
+      ∷ free
+      ∷ free
+      ∷ free
       ∷ free
       ∷ free
       ∷ free
@@ -503,22 +474,38 @@ module _ (leafHash innerHash : Bytes → Bytes → Bytes) where
 
   abbrev kept14 : Store
   kept14 =
-      storeOf 5 6
-      (leafSlot (true ∷ false ∷ []) 6 0 (keyOf 144 0) (valueOf 2)
-      ∷ leafSlot (true ∷ true ∷ []) 6 0 (keyOf 254 0) (valueOf 2)
-      ∷ innerSlot (true ∷ []) 6 0 6 h34 6 h35
-      ∷ innerSlot ([]) 6 0 0 zeros 6 h36
+      storeOf 13 18
+      (leafSlot ([]) 18 0 (keyOf 104 0) (valueOf 1)
+      ∷ free
+      ∷ free
+      ∷ free
+      ∷ free
+      ∷ free
+      ∷ free
+      ∷ free
+      ∷ free
+      ∷ free
+      ∷ free
+      ∷ free
+      ∷ free
+      ∷ free
+      ∷ free
+      ∷ free
+      ∷ free
+      ∷ free
+      ∷ free
+      ∷ free
+      ∷ free
+      ∷ free
+      ∷ free
+      ∷ free
       ∷ [])
 
   abbrev kept15 : Store
   kept15 =
-      storeOf 0 6
-      (leafSlot (false ∷ []) 5 0 (keyOf 8 0) (valueOf 4)
-      ∷ leafSlot (true ∷ []) 5 0 (keyOf 254 0) (valueOf 1)
-      ∷ innerSlot ([]) 5 6 5 h37 5 h38
-      ∷ innerSlot ([]) 6 0 5 h37 5 h38
-      ∷ free
-      ∷ free
+      storeOf 4294967295 4294967295
+      (free
+      ∷ leafSlot ([]) 4294967295 0 (keyOf 192 0) (valueOf 2)
       ∷ free
       ∷ free
       ∷ free
@@ -533,21 +520,57 @@ module _ (leafHash innerHash : Bytes → Bytes → Bytes) where
 
   abbrev kept16 : Store
   kept16 =
-      storeOf 0 10
-      (leafSlot ([]) 1 6 (keyOf 144 0) (valueOf 4)
-      ∷ leafSlot ([]) 6 9 (keyOf 144 0) (valueOf 4)
-      ∷ leafSlot ([]) 9 10 (keyOf 144 0) (valueOf 4)
-      ∷ leafSlot ([]) 10 0 (keyOf 144 0) (valueOf 2)
+      storeOf 4294967293 4294967295
+      (free
+      ∷ free
+      ∷ free
+      ∷ free
+      ∷ free
+      ∷ free
+      ∷ free
+      ∷ free
+      ∷ free
+      ∷ free
+      ∷ free
+      ∷ free
+      ∷ free
+      ∷ free
+      ∷ free
+      ∷ free
+      ∷ free
+      ∷ free
+      ∷ free
+      ∷ free
+      ∷ free
+      ∷ free
+      ∷ free
+      ∷ free
       ∷ [])
 
   abbrev kept17 : Store
   kept17 =
-      storeOf 0 5
-      (leafSlot (false ∷ []) 1 4 (keyOf 64 0) (valueOf 2)
-      ∷ leafSlot (true ∷ []) 1 4 (keyOf 255 0) (valueOf 1)
-      ∷ innerSlot ([]) 1 4 1 h39 1 h40
-      ∷ leafSlot ([]) 4 5 (keyOf 64 0) (valueOf 2)
-      ∷ leafSlot ([]) 5 0 (keyOf 64 0) (valueOf 2)
+      storeOf 0 10
+      (leafSlot (false ∷ []) 1 5 (keyOf 16 0) (valueOf 1)
+      ∷ leafSlot (true ∷ []) 1 4 (keyOf 144 0) (valueOf 3)
+      ∷ innerSlot ([]) 1 2 1 h31 1 h1
+      ∷ innerSlot ([]) 2 4 1 h31 1 h1
+      ∷ leafSlot (true ∷ []) 4 5 (keyOf 144 0) (valueOf 4)
+      ∷ innerSlot ([]) 4 5 1 h31 4 h3
+      ∷ leafSlot ([]) 5 9 (keyOf 144 0) (valueOf 4)
+      ∷ leafSlot ([]) 9 10 (keyOf 144 0) (valueOf 1)
+      ∷ leafSlot ([]) 10 0 (keyOf 144 0) (valueOf 1)
+      ∷ free
+      ∷ free
+      ∷ free
+      ∷ free
+      ∷ free
+      ∷ free
+      ∷ free
+      ∷ free
+      ∷ free
+      ∷ free
+      ∷ free
+      ∷ free
       ∷ free
       ∷ free
       ∷ free
@@ -555,83 +578,35 @@ module _ (leafHash innerHash : Bytes → Bytes → Bytes) where
 
   abbrev kept18 : Store
   kept18 =
-      storeOf 3 9
-      (leafSlot (true ∷ false ∷ []) 9 0 (keyOf 144 0) (valueOf 3)
-      ∷ leafSlot (false ∷ true ∷ true ∷ false ∷ false ∷ []) 2 6 (keyOf 96 0) (valueOf 3)
-      ∷ leafSlot (false ∷ true ∷ true ∷ false ∷ true ∷ []) 2 9 (keyOf 104 0) (valueOf 1)
-      ∷ innerSlot (false ∷ true ∷ true ∷ false ∷ []) 2 6 2 h18 2 h41
-      ∷ innerSlot (false ∷ true ∷ true ∷ []) 2 6 2 h42 0 zeros
-      ∷ innerSlot (false ∷ true ∷ []) 2 6 0 zeros 2 h43
-      ∷ innerSlot (false ∷ []) 2 6 0 zeros 2 h44
-      ∷ innerSlot ([]) 2 6 2 h45 0 zeros
-      ∷ leafSlot (false ∷ true ∷ true ∷ false ∷ false ∷ []) 6 9 (keyOf 96 0) (valueOf 2)
-      ∷ innerSlot (false ∷ true ∷ true ∷ false ∷ []) 6 9 6 h1 2 h41
-      ∷ innerSlot (false ∷ true ∷ true ∷ []) 6 9 6 h46 0 zeros
-      ∷ innerSlot (false ∷ true ∷ []) 6 9 0 zeros 6 h47
-      ∷ innerSlot (false ∷ []) 6 9 0 zeros 6 h48
-      ∷ leafSlot (true ∷ []) 6 9 (keyOf 255 0) (valueOf 2)
-      ∷ innerSlot ([]) 6 9 6 h49 6 h50
-      ∷ leafSlot (true ∷ true ∷ []) 9 0 (keyOf 255 0) (valueOf 2)
-      ∷ innerSlot (true ∷ []) 9 0 9 h9 9 h50
-      ∷ innerSlot ([]) 9 0 0 zeros 9 h51
-      ∷ free
-      ∷ free
-      ∷ free
-      ∷ free
-      ∷ free
+      storeOf 0 4
+      (leafSlot ([]) 1 2 (keyOf 254 0) (valueOf 3)
+      ∷ leafSlot ([]) 2 3 (keyOf 255 0) (valueOf 2)
+      ∷ leafSlot ([]) 4 0 (keyOf 255 0) (valueOf 1)
       ∷ free
       ∷ [])
 
   abbrev kept19 : Store
   kept19 =
-      storeOf 0 4
-      (leafSlot ([]) 2 3 (keyOf 0 0) (valueOf 2)
-      ∷ leafSlot ([]) 3 4 (keyOf 0 0) (valueOf 2)
-      ∷ leafSlot ([]) 4 0 (keyOf 0 0) (valueOf 2)
-      ∷ free
+      storeOf 4294967294 4294967295
+      (leafSlot ([]) 4294967294 4294967295 (keyOf 192 0) (valueOf 4)
+      ∷ leafSlot (false ∷ []) 4294967295 0 (keyOf 16 0) (valueOf 4)
+      ∷ leafSlot (true ∷ []) 4294967295 0 (keyOf 192 0) (valueOf 3)
+      ∷ innerSlot ([]) 4294967295 0 4294967295 h32 4294967295 h33
       ∷ [])
 
   abbrev kept20 : Store
   kept20 =
-      storeOf 4294967293 4294967295
-      (leafSlot (false ∷ false ∷ []) 4294967294 4294967295 (keyOf 16 0) (valueOf 1)
-      ∷ leafSlot (false ∷ true ∷ []) 4294967294 4294967295 (keyOf 96 0) (valueOf 2)
-      ∷ innerSlot (false ∷ []) 4294967294 4294967295 4294967294 h52 4294967294 h1
-      ∷ innerSlot ([]) 4294967294 4294967295 4294967294 h53 0 zeros
-      ∷ leafSlot ([]) 4294967295 0 (keyOf 96 0) (valueOf 2)
-      ∷ free
-      ∷ free
-      ∷ free
-      ∷ free
-      ∷ free
-      ∷ free
-      ∷ free
-      ∷ free
-      ∷ free
-      ∷ free
-      ∷ free
-      ∷ free
-      ∷ free
-      ∷ free
-      ∷ free
-      ∷ free
-      ∷ free
-      ∷ free
-      ∷ free
+      storeOf 0 9
+      (leafSlot ([]) 4 6 (keyOf 16 0) (valueOf 3)
+      ∷ leafSlot ([]) 6 7 (keyOf 16 0) (valueOf 3)
+      ∷ leafSlot ([]) 7 9 (keyOf 16 0) (valueOf 3)
+      ∷ leafSlot ([]) 9 0 (keyOf 16 0) (valueOf 3)
       ∷ [])
 
   abbrev kept21 : Store
   kept21 =
-      storeOf 7 7
-      (free
-      ∷ free
-      ∷ leafSlot ([]) 7 0 (keyOf 254 0) (valueOf 1)
-      ∷ free
-      ∷ free
-      ∷ free
-      ∷ free
-      ∷ free
-      ∷ free
+      storeOf 3 5
+      (leafSlot ([]) 5 0 (keyOf 104 0) (valueOf 1)
       ∷ free
       ∷ free
       ∷ free
@@ -643,32 +618,20 @@ module _ (leafHash innerHash : Bytes → Bytes → Bytes) where
 
   abbrev kept22 : Store
   kept22 =
-      storeOf 2 2
-      (leafSlot (false ∷ false ∷ []) 2 0 (keyOf 16 0) (valueOf 4)
-      ∷ leafSlot (false ∷ true ∷ []) 2 0 (keyOf 104 0) (valueOf 2)
-      ∷ innerSlot (false ∷ []) 2 0 2 h4 2 h6
-      ∷ leafSlot (true ∷ []) 2 0 (keyOf 254 0) (valueOf 3)
-      ∷ innerSlot ([]) 2 0 2 h54 2 h15
-      ∷ free
-      ∷ free
-      ∷ free
-      ∷ free
-      ∷ free
+      storeOf 0 3
+      (leafSlot ([]) 2 3 (keyOf 104 0) (valueOf 2)
+      ∷ leafSlot ([]) 3 0 (keyOf 104 0) (valueOf 1)
       ∷ free
       ∷ free
       ∷ [])
 
   abbrev kept23 : Store
   kept23 =
-      storeOf 4 6
-      (leafSlot (false ∷ []) 4 6 (keyOf 104 0) (valueOf 4)
-      ∷ leafSlot (true ∷ []) 4 6 (keyOf 254 0) (valueOf 3)
-      ∷ innerSlot ([]) 4 5 4 h55 4 h15
-      ∷ innerSlot ([]) 5 6 4 h55 4 h15
-      ∷ leafSlot ([]) 6 0 (keyOf 254 0) (valueOf 3)
-      ∷ free
-      ∷ free
-      ∷ free
+      storeOf 1 5
+      (leafSlot ([]) 1 5 (keyOf 16 0) (valueOf 4)
+      ∷ leafSlot (false ∷ []) 5 0 (keyOf 16 0) (valueOf 4)
+      ∷ leafSlot (true ∷ []) 5 0 (keyOf 128 0) (valueOf 3)
+      ∷ innerSlot ([]) 5 0 5 h32 5 h34
       ∷ free
       ∷ free
       ∷ free
@@ -677,14 +640,14 @@ module _ (leafHash innerHash : Bytes → Bytes → Bytes) where
 
   abbrev kept24 : Store
   kept24 =
-      storeOf 1 6
-      (leafSlot ([]) 1 5 (keyOf 254 0) (valueOf 4)
-      ∷ leafSlot (true ∷ false ∷ []) 5 0 (keyOf 128 0) (valueOf 4)
-      ∷ leafSlot (true ∷ true ∷ []) 5 0 (keyOf 254 0) (valueOf 4)
-      ∷ innerSlot (true ∷ []) 5 0 5 h56 5 h28
-      ∷ innerSlot ([]) 5 6 0 zeros 5 h57
-      ∷ innerSlot ([]) 6 0 0 zeros 5 h57
-      ∷ free
+      storeOf 4 7
+      (leafSlot (true ∷ false ∷ []) 4 0 (keyOf 144 0) (valueOf 3)
+      ∷ innerSlot ([]) 6 7 4 h35 4 h37
+      ∷ leafSlot (true ∷ true ∷ []) 4 0 (keyOf 254 0) (valueOf 4)
+      ∷ leafSlot (false ∷ []) 4 0 (keyOf 96 0) (valueOf 3)
+      ∷ innerSlot (true ∷ []) 4 0 4 h1 4 h36
+      ∷ innerSlot ([]) 4 6 4 h35 4 h37
+      ∷ innerSlot ([]) 7 0 4 h35 4 h37
       ∷ free
       ∷ free
       ∷ free
@@ -706,44 +669,92 @@ module _ (leafHash innerHash : Bytes → Bytes → Bytes) where
 
   abbrev kept25 : Store
   kept25 =
-      storeOf 8 12
-      (leafSlot ([]) 5 9 (keyOf 8 0) (valueOf 1)
-      ∷ leafSlot ([]) 9 12 (keyOf 8 0) (valueOf 1)
-      ∷ leafSlot ([]) 12 0 (keyOf 8 0) (valueOf 1)
+      storeOf 2 8
+      (leafSlot (false ∷ []) 6 8 (keyOf 8 0) (valueOf 1)
+      ∷ leafSlot (true ∷ []) 6 0 (keyOf 144 0) (valueOf 4)
+      ∷ innerSlot ([]) 6 7 6 h8 6 h3
+      ∷ innerSlot ([]) 7 8 6 h8 6 h3
+      ∷ leafSlot (false ∷ []) 8 0 (keyOf 8 0) (valueOf 3)
+      ∷ innerSlot ([]) 8 0 8 h18 6 h3
+      ∷ free
+      ∷ free
+      ∷ free
+      ∷ free
+      ∷ free
+      ∷ free
+      ∷ free
+      ∷ free
+      ∷ free
+      ∷ free
+      ∷ free
+      ∷ free
+      ∷ free
+      ∷ free
+      ∷ free
+      ∷ free
+      ∷ free
       ∷ free
       ∷ [])
 
   abbrev kept26 : Store
   kept26 =
-      storeOf 9 9
-      (leafSlot (false ∷ false ∷ []) 9 0 (keyOf 0 0) (valueOf 2)
-      ∷ leafSlot (false ∷ true ∷ []) 9 0 (keyOf 104 0) (valueOf 3)
-      ∷ innerSlot (false ∷ []) 9 0 9 h58 9 h27
-      ∷ innerSlot ([]) 9 0 9 h59 0 zeros
+      storeOf 2 5
+      (leafSlot ([]) 4 5 (keyOf 128 0) (valueOf 4)
+      ∷ leafSlot ([]) 5 0 (keyOf 128 0) (valueOf 1)
+      ∷ free
+      ∷ free
       ∷ [])
 
   abbrev kept27 : Store
   kept27 =
-      storeOf 1 9
-      (leafSlot ([]) 6 7 (keyOf 254 0) (valueOf 4)
-      ∷ leafSlot ([]) 7 8 (keyOf 254 0) (valueOf 4)
-      ∷ leafSlot ([]) 8 9 (keyOf 254 0) (valueOf 4)
-      ∷ leafSlot ([]) 9 0 (keyOf 0 0) (valueOf 3)
+      storeOf 0 3
+      (leafSlot ([]) 1 2 (keyOf 144 0) (valueOf 1)
+      ∷ leafSlot ([]) 2 3 (keyOf 144 0) (valueOf 4)
+      ∷ leafSlot ([]) 3 0 (keyOf 144 0) (valueOf 4)
+      ∷ free
+      ∷ free
+      ∷ free
+      ∷ free
+      ∷ free
+      ∷ free
+      ∷ free
+      ∷ free
+      ∷ free
+      ∷ free
+      ∷ free
+      ∷ free
+      ∷ free
       ∷ [])
 
   abbrev kept28 : Store
   kept28 =
-      storeOf 0 10
-      (leafSlot ([]) 7 8 (keyOf 8 0) (valueOf 1)
-      ∷ leafSlot ([]) 8 9 (keyOf 8 0) (valueOf 1)
-      ∷ leafSlot ([]) 9 10 (keyOf 8 0) (valueOf 1)
-      ∷ leafSlot ([]) 10 0 (keyOf 8 0) (valueOf 1)
+      storeOf 0 4
+      (leafSlot ([]) 1 2 (keyOf 104 0) (valueOf 2)
+      ∷ leafSlot (false ∷ []) 2 4 (keyOf 104 0) (valueOf 2)
+      ∷ leafSlot (true ∷ []) 2 3 (keyOf 144 0) (valueOf 2)
+      ∷ innerSlot ([]) 2 3 2 h38 2 h4
+      ∷ leafSlot (true ∷ []) 3 4 (keyOf 128 0) (valueOf 1)
+      ∷ innerSlot ([]) 3 4 2 h38 3 h39
+      ∷ leafSlot (false ∷ []) 4 0 (keyOf 104 0) (valueOf 4)
+      ∷ leafSlot (true ∷ []) 4 0 (keyOf 128 0) (valueOf 2)
+      ∷ innerSlot ([]) 4 0 4 h40 4 h23
+      ∷ free
+      ∷ free
+      ∷ free
+      ∷ free
+      ∷ free
+      ∷ free
+      ∷ free
       ∷ [])
 
   abbrev kept29 : Store
   kept29 =
-      storeOf 0 1
-      (leafSlot ([]) 1 0 (keyOf 192 0) (valueOf 4)
+      storeOf 0 4
+      (leafSlot (false ∷ []) 3 4 (keyOf 96 0) (valueOf 1)
+      ∷ leafSlot (true ∷ []) 3 4 (keyOf 128 0) (valueOf 2)
+      ∷ innerSlot ([]) 3 4 3 h41 3 h23
+      ∷ leafSlot ([]) 4 0 (keyOf 128 0) (valueOf 2)
+      ∷ free
       ∷ free
       ∷ free
       ∷ free
@@ -751,28 +762,16 @@ module _ (leafHash innerHash : Bytes → Bytes → Bytes) where
 
   abbrev kept30 : Store
   kept30 =
-      storeOf 2 17
-      (leafSlot (false ∷ []) 1 10 (keyOf 96 0) (valueOf 4)
-      ∷ leafSlot (true ∷ []) 1 10 (keyOf 254 0) (valueOf 2)
-      ∷ innerSlot ([]) 1 5 1 h31 1 h35
-      ∷ innerSlot ([]) 5 10 1 h31 1 h35
-      ∷ leafSlot ([]) 10 11 (keyOf 96 0) (valueOf 4)
-      ∷ leafSlot ([]) 11 16 (keyOf 96 0) (valueOf 4)
-      ∷ leafSlot ([]) 16 17 (keyOf 96 0) (valueOf 4)
-      ∷ free
-      ∷ free
-      ∷ free
-      ∷ free
-      ∷ free
-      ∷ free
-      ∷ free
-      ∷ free
-      ∷ free
-      ∷ free
-      ∷ free
-      ∷ free
-      ∷ free
-      ∷ free
+      storeOf 0 12
+      (leafSlot ([]) 1 4 (keyOf 64 0) (valueOf 2)
+      ∷ leafSlot ([]) 4 9 (keyOf 64 0) (valueOf 2)
+      ∷ leafSlot (false ∷ []) 9 12 (keyOf 64 0) (valueOf 2)
+      ∷ leafSlot (true ∷ []) 9 0 (keyOf 192 0) (valueOf 4)
+      ∷ innerSlot ([]) 9 12 9 h0 9 h42
+      ∷ leafSlot (false ∷ false ∷ []) 12 0 (keyOf 0 0) (valueOf 2)
+      ∷ leafSlot (false ∷ true ∷ []) 12 0 (keyOf 64 0) (valueOf 2)
+      ∷ innerSlot (false ∷ []) 12 0 12 h43 12 h0
+      ∷ innerSlot ([]) 12 0 12 h44 9 h42
       ∷ free
       ∷ free
       ∷ free
@@ -780,25 +779,9 @@ module _ (leafHash innerHash : Bytes → Bytes → Bytes) where
 
   abbrev kept31 : Store
   kept31 =
-      storeOf 1 1
-      (leafSlot (false ∷ []) 1 0 (keyOf 96 0) (valueOf 2)
-      ∷ leafSlot (true ∷ []) 1 0 (keyOf 255 0) (valueOf 2)
-      ∷ innerSlot ([]) 1 0 1 h1 1 h50
-      ∷ free
-      ∷ free
-      ∷ free
-      ∷ free
-      ∷ free
-      ∷ free
-      ∷ free
-      ∷ free
-      ∷ free
-      ∷ free
-      ∷ free
-      ∷ free
-      ∷ free
-      ∷ free
-      ∷ free
+      storeOf 0 5
+      (leafSlot ([]) 1 5 (keyOf 0 0) (valueOf 3)
+      ∷ leafSlot ([]) 5 0 (keyOf 0 0) (valueOf 3)
       ∷ free
       ∷ free
       ∷ free
@@ -809,20 +792,20 @@ module _ (leafHash innerHash : Bytes → Bytes → Bytes) where
 
   abbrev kept32 : Store
   kept32 =
-      storeOf 2 9
-      (leafSlot (false ∷ []) 3 0 (keyOf 8 0) (valueOf 3)
-      ∷ leafSlot (true ∷ []) 3 8 (keyOf 254 0) (valueOf 3)
-      ∷ innerSlot ([]) 3 7 3 h60 3 h15
-      ∷ innerSlot ([]) 7 8 3 h60 3 h15
-      ∷ leafSlot (true ∷ false ∷ []) 8 0 (keyOf 128 0) (valueOf 2)
-      ∷ leafSlot (true ∷ true ∷ []) 8 0 (keyOf 254 0) (valueOf 3)
-      ∷ innerSlot (true ∷ []) 8 0 8 h61 8 h15
-      ∷ innerSlot ([]) 8 9 3 h60 8 h62
-      ∷ innerSlot ([]) 9 0 3 h60 8 h62
-      ∷ free
-      ∷ free
-      ∷ free
-      ∷ free
+      storeOf 0 19
+      (leafSlot ([]) 1 5 (keyOf 16 0) (valueOf 2)
+      ∷ leafSlot ([]) 5 10 (keyOf 16 0) (valueOf 2)
+      ∷ leafSlot ([]) 10 11 (keyOf 16 0) (valueOf 2)
+      ∷ leafSlot ([]) 12 14 (keyOf 144 0) (valueOf 2)
+      ∷ leafSlot ([]) 14 16 (keyOf 144 0) (valueOf 2)
+      ∷ leafSlot (false ∷ []) 16 19 (keyOf 16 0) (valueOf 1)
+      ∷ leafSlot (true ∷ []) 16 18 (keyOf 144 0) (valueOf 2)
+      ∷ innerSlot ([]) 16 18 16 h31 16 h4
+      ∷ leafSlot (true ∷ false ∷ []) 18 0 (keyOf 144 0) (valueOf 2)
+      ∷ leafSlot (true ∷ true ∷ []) 18 0 (keyOf 192 0) (valueOf 3)
+      ∷ innerSlot (true ∷ []) 18 0 18 h4 18 h33
+      ∷ innerSlot ([]) 18 19 16 h31 18 h45
+      ∷ innerSlot ([]) 19 0 0 zeros 18 h45
       ∷ free
       ∷ free
       ∷ free
@@ -838,12 +821,12 @@ module _ (leafHash innerHash : Bytes → Bytes → Bytes) where
 
   abbrev kept33 : Store
   kept33 =
-      storeOf 3 7
-      (leafSlot ([]) 5 6 (keyOf 254 0) (valueOf 1)
-      ∷ leafSlot (false ∷ []) 6 0 (keyOf 96 0) (valueOf 1)
-      ∷ leafSlot (true ∷ []) 6 0 (keyOf 254 0) (valueOf 1)
-      ∷ innerSlot ([]) 6 7 6 h21 6 h38
-      ∷ innerSlot ([]) 7 0 6 h21 6 h38
+      storeOf 1 3
+      (leafSlot ([]) 1 2 (keyOf 192 0) (valueOf 1)
+      ∷ leafSlot ([]) 2 3 (keyOf 192 0) (valueOf 1)
+      ∷ leafSlot (false ∷ []) 3 0 (keyOf 0 0) (valueOf 3)
+      ∷ leafSlot (true ∷ []) 3 0 (keyOf 192 0) (valueOf 2)
+      ∷ innerSlot ([]) 3 0 3 h46 3 h47
       ∷ free
       ∷ free
       ∷ free
@@ -855,68 +838,92 @@ module _ (leafHash innerHash : Bytes → Bytes → Bytes) where
 
   abbrev kept34 : Store
   kept34 =
-      storeOf 0 7
-      (leafSlot (false ∷ []) 5 6 (keyOf 104 0) (valueOf 2)
-      ∷ leafSlot (true ∷ []) 5 6 (keyOf 254 0) (valueOf 3)
-      ∷ innerSlot ([]) 5 6 5 h6 5 h15
-      ∷ leafSlot (true ∷ true ∷ true ∷ true ∷ true ∷ true ∷ true ∷ false ∷ []) 6 0 (keyOf 254 0) (valueOf 3)
-      ∷ leafSlot (true ∷ true ∷ true ∷ true ∷ true ∷ true ∷ true ∷ true ∷ []) 6 0 (keyOf 255 0) (valueOf 1)
-      ∷ innerSlot (true ∷ true ∷ true ∷ true ∷ true ∷ true ∷ true ∷ []) 6 0 6 h15 6 h40
-      ∷ innerSlot (true ∷ true ∷ true ∷ true ∷ true ∷ true ∷ []) 6 0 0 zeros 6 h63
-      ∷ innerSlot (true ∷ true ∷ true ∷ true ∷ true ∷ []) 6 0 0 zeros 6 h64
-      ∷ innerSlot (true ∷ true ∷ true ∷ true ∷ []) 6 0 0 zeros 6 h65
-      ∷ innerSlot (true ∷ true ∷ true ∷ []) 6 0 0 zeros 6 h66
-      ∷ innerSlot (true ∷ true ∷ []) 6 0 0 zeros 6 h67
-      ∷ innerSlot (true ∷ []) 6 0 0 zeros 6 h68
-      ∷ innerSlot ([]) 6 7 0 zeros 6 h69
-      ∷ leafSlot (false ∷ []) 7 0 (keyOf 104 0) (valueOf 4)
-      ∷ innerSlot ([]) 7 0 7 h55 6 h69
+      storeOf 2 7
+      (leafSlot ([]) 4 7 (keyOf 254 0) (valueOf 3)
+      ∷ leafSlot ([]) 7 0 (keyOf 254 0) (valueOf 3)
+      ∷ free
+      ∷ free
+      ∷ free
+      ∷ free
+      ∷ free
       ∷ free
       ∷ [])
 
   abbrev kept35 : Store
   kept35 =
-      storeOf 1 2
-      (leafSlot (false ∷ []) 1 2 (keyOf 104 0) (valueOf 3)
-      ∷ leafSlot (true ∷ []) 1 2 (keyOf 144 0) (valueOf 2)
-      ∷ innerSlot ([]) 1 2 1 h27 1 h34
-      ∷ leafSlot ([]) 2 0 (keyOf 104 0) (valueOf 3)
+      storeOf 1 17
+      (leafSlot ([]) 4 5 (keyOf 64 0) (valueOf 4)
+      ∷ leafSlot ([]) 5 10 (keyOf 64 0) (valueOf 4)
+      ∷ leafSlot (false ∷ true ∷ false ∷ []) 10 12 (keyOf 64 0) (valueOf 4)
+      ∷ leafSlot (false ∷ true ∷ true ∷ []) 10 12 (keyOf 96 0) (valueOf 2)
+      ∷ innerSlot (false ∷ true ∷ []) 10 12 10 h26 10 h9
+      ∷ innerSlot (false ∷ []) 10 12 0 zeros 10 h48
+      ∷ innerSlot ([]) 10 11 10 h49 0 zeros
+      ∷ innerSlot ([]) 11 12 10 h49 0 zeros
+      ∷ leafSlot (false ∷ true ∷ false ∷ []) 17 0 (keyOf 64 0) (valueOf 2)
+      ∷ leafSlot (false ∷ true ∷ true ∷ []) 17 0 (keyOf 96 0) (valueOf 2)
+      ∷ innerSlot (false ∷ true ∷ []) 17 0 17 h0 17 h9
+      ∷ innerSlot (false ∷ []) 17 0 0 zeros 17 h50
+      ∷ innerSlot ([]) 17 0 17 h51 0 zeros
+      ∷ free
+      ∷ free
+      ∷ free
       ∷ [])
 
   abbrev kept36 : Store
   kept36 =
-      storeOf 6 11
-      (leafSlot ([]) 6 11 (keyOf 255 0) (valueOf 4)
-      ∷ leafSlot ([]) 11 0 (keyOf 255 0) (valueOf 4)
-      ∷ free
-      ∷ free
-      ∷ free
-      ∷ free
-      ∷ free
+      storeOf 2 6
+      (leafSlot (true ∷ true ∷ false ∷ []) 4 0 (keyOf 192 0) (valueOf 4)
+      ∷ leafSlot (true ∷ true ∷ true ∷ []) 4 0 (keyOf 255 0) (valueOf 4)
+      ∷ innerSlot (true ∷ true ∷ []) 4 0 4 h42 4 h52
+      ∷ innerSlot (true ∷ []) 4 0 0 zeros 4 h53
+      ∷ innerSlot ([]) 4 5 0 zeros 4 h54
+      ∷ innerSlot ([]) 5 6 0 zeros 4 h54
+      ∷ innerSlot ([]) 6 0 0 zeros 4 h54
       ∷ free
       ∷ [])
 
   abbrev kept37 : Store
   kept37 =
-      storeOf 10 15
-      (leafSlot ([]) 15 0 (keyOf 64 0) (valueOf 4)
+      storeOf 12 17
+      (leafSlot ([]) 12 16 (keyOf 96 0) (valueOf 3)
+      ∷ leafSlot ([]) 16 17 (keyOf 96 0) (valueOf 3)
+      ∷ leafSlot (false ∷ true ∷ false ∷ []) 17 0 (keyOf 64 0) (valueOf 2)
+      ∷ leafSlot (false ∷ true ∷ true ∷ []) 17 0 (keyOf 96 0) (valueOf 3)
+      ∷ leafSlot (false ∷ false ∷ []) 17 0 (keyOf 0 0) (valueOf 1)
+      ∷ innerSlot (false ∷ true ∷ []) 17 0 17 h0 17 h35
+      ∷ innerSlot (false ∷ []) 17 0 17 h55 17 h56
+      ∷ innerSlot ([]) 17 0 17 h57 0 zeros
       ∷ free
-      ∷ leafSlot ([]) 10 15 (keyOf 64 0) (valueOf 1)
+      ∷ free
+      ∷ free
+      ∷ free
+      ∷ free
+      ∷ free
+      ∷ free
+      ∷ free
+      ∷ free
+      ∷ free
+      ∷ free
+      ∷ free
+      ∷ free
+      ∷ free
+      ∷ free
       ∷ free
       ∷ [])
 
   abbrev kept38 : Store
   kept38 =
-      storeOf 6 10
-      (innerSlot ([]) 6 10 4 h70 4 h50
-      ∷ leafSlot (false ∷ false ∷ []) 4 0 (keyOf 16 0) (valueOf 1)
-      ∷ leafSlot (false ∷ true ∷ []) 4 10 (keyOf 96 0) (valueOf 1)
-      ∷ innerSlot (false ∷ []) 4 10 4 h52 4 h21
-      ∷ leafSlot (true ∷ []) 4 10 (keyOf 255 0) (valueOf 2)
-      ∷ leafSlot (false ∷ true ∷ []) 10 0 (keyOf 96 0) (valueOf 4)
-      ∷ innerSlot (false ∷ []) 10 0 4 h52 10 h31
-      ∷ leafSlot (true ∷ []) 10 0 (keyOf 255 0) (valueOf 1)
-      ∷ innerSlot ([]) 10 0 10 h71 10 h40
+      storeOf 4294967293 4294967295
+      (leafSlot ([]) 4294967295 0 (keyOf 192 0) (valueOf 3)
+      ∷ free
+      ∷ free
+      ∷ free
+      ∷ free
+      ∷ free
+      ∷ free
+      ∷ free
+      ∷ free
       ∷ free
       ∷ free
       ∷ free
@@ -924,183 +931,175 @@ module _ (leafHash innerHash : Bytes → Bytes → Bytes) where
 
   abbrev kept39 : Store
   kept39 =
-      storeOf 4294967293 4294967295
-      (leafSlot (false ∷ false ∷ []) 4294967294 0 (keyOf 16 0) (valueOf 1)
-      ∷ leafSlot (false ∷ true ∷ []) 4294967294 0 (keyOf 64 0) (valueOf 1)
-      ∷ innerSlot (false ∷ []) 4294967294 0 4294967294 h52 4294967294 h0
-      ∷ innerSlot ([]) 4294967294 4294967295 4294967294 h72 0 zeros
-      ∷ innerSlot ([]) 4294967295 0 4294967294 h72 0 zeros
-      ∷ free
-      ∷ free
-      ∷ free
-      ∷ free
-      ∷ free
+      storeOf 4294967295 4294967295
+      (free
+      ∷ leafSlot ([]) 4294967295 0 (keyOf 192 0) (valueOf 1)
       ∷ free
       ∷ free
       ∷ [])
 
   abbrev rows : List Comparison
   rows =
-      comparison kept0 10 9 (([]) ∷ []) ([])
-      ∷ comparison kept0 11 6 (([]) ∷ []) ([])
-      ∷ comparison kept0 9 10 (([]) ∷ []) ([])
-      ∷ comparison kept0 11 5 (([]) ∷ []) ([])
-      ∷ comparison kept1 14 6 (([]) ∷ []) (deletes (grant (keyOf 64 0) (valueOf 2)) ∷ [])
-      ∷ comparison kept1 12 11 (([]) ∷ []) ([])
-      ∷ comparison kept1 7 6 (([]) ∷ []) ([])
-      ∷ comparison kept1 13 6 (([]) ∷ []) (deletes (grant (keyOf 64 0) (valueOf 2)) ∷ [])
-      ∷ comparison kept2 13 7 (([]) ∷ (false ∷ []) ∷ (true ∷ []) ∷ []) (deletes (grant (keyOf 64 0) (valueOf 1)) ∷ inserts (grant (keyOf 104 0) (valueOf 2)) ∷ deletes (grant (keyOf 144 0) (valueOf 3)) ∷ [])
-      ∷ comparison kept2 11 9 (([]) ∷ []) ([])
-      ∷ comparison kept2 11 11 (([]) ∷ []) ([])
-      ∷ comparison kept2 12 8 (([]) ∷ (false ∷ []) ∷ (false ∷ false ∷ []) ∷ (false ∷ true ∷ []) ∷ (false ∷ true ∷ false ∷ []) ∷ (false ∷ true ∷ true ∷ []) ∷ (true ∷ []) ∷ []) (deletes (grant (keyOf 64 0) (valueOf 1)) ∷ [])
-      ∷ comparison kept3 1 3 (([]) ∷ []) ([])
-      ∷ comparison kept3 0 0 (([]) ∷ []) ([])
-      ∷ comparison kept3 5 1 (([]) ∷ (false ∷ []) ∷ (false ∷ false ∷ []) ∷ (false ∷ false ∷ false ∷ []) ∷ (false ∷ false ∷ false ∷ false ∷ []) ∷ (false ∷ false ∷ false ∷ true ∷ []) ∷ (false ∷ false ∷ true ∷ []) ∷ (false ∷ true ∷ []) ∷ (true ∷ []) ∷ []) (deletes (grant (keyOf 0 0) (valueOf 3)) ∷ deletes (grant (keyOf 16 0) (valueOf 2)) ∷ deletes (grant (keyOf 254 0) (valueOf 3)) ∷ [])
-      ∷ comparison kept3 0 3 (([]) ∷ []) ([])
-      ∷ comparison kept4 9 6 (([]) ∷ []) ([])
-      ∷ comparison kept4 1 8 (([]) ∷ []) (inserts (grant (keyOf 254 0) (valueOf 2)) ∷ [])
-      ∷ comparison kept4 10 4 (([]) ∷ []) (inserts (grant (keyOf 254 0) (valueOf 2)) ∷ [])
-      ∷ comparison kept4 2 1 (([]) ∷ []) ([])
-      ∷ comparison kept5 11 12 (([]) ∷ []) ([])
-      ∷ comparison kept5 14 11 (([]) ∷ (false ∷ []) ∷ (true ∷ []) ∷ []) (deletes (grant (keyOf 0 0) (valueOf 3)) ∷ [])
-      ∷ comparison kept5 14 9 (([]) ∷ (false ∷ []) ∷ (true ∷ []) ∷ []) (deletes (grant (keyOf 0 0) (valueOf 3)) ∷ [])
-      ∷ comparison kept5 9 9 (([]) ∷ []) ([])
-      ∷ comparison kept6 6 6 (([]) ∷ []) ([])
-      ∷ comparison kept6 6 6 (([]) ∷ []) ([])
-      ∷ comparison kept6 6 6 (([]) ∷ []) ([])
-      ∷ comparison kept6 6 6 (([]) ∷ []) ([])
-      ∷ comparison kept7 11 7 (([]) ∷ (false ∷ []) ∷ (true ∷ []) ∷ []) ([])
-      ∷ comparison kept7 4 11 (([]) ∷ (false ∷ []) ∷ (false ∷ false ∷ []) ∷ (false ∷ true ∷ []) ∷ (false ∷ true ∷ false ∷ []) ∷ (false ∷ true ∷ true ∷ []) ∷ (false ∷ true ∷ true ∷ false ∷ []) ∷ (false ∷ true ∷ true ∷ false ∷ false ∷ []) ∷ (false ∷ true ∷ true ∷ false ∷ true ∷ []) ∷ (false ∷ true ∷ true ∷ true ∷ []) ∷ (true ∷ []) ∷ []) (inserts (grant (keyOf 96 0) (valueOf 1)) ∷ inserts (grant (keyOf 104 0) (valueOf 2)) ∷ inserts (grant (keyOf 192 0) (valueOf 3)) ∷ [])
-      ∷ comparison kept7 3 7 (([]) ∷ (false ∷ []) ∷ (false ∷ false ∷ []) ∷ (false ∷ true ∷ []) ∷ (false ∷ true ∷ false ∷ []) ∷ (false ∷ true ∷ true ∷ []) ∷ (false ∷ true ∷ true ∷ false ∷ []) ∷ (false ∷ true ∷ true ∷ false ∷ false ∷ []) ∷ (false ∷ true ∷ true ∷ false ∷ true ∷ []) ∷ (false ∷ true ∷ true ∷ true ∷ []) ∷ (true ∷ []) ∷ []) (inserts (grant (keyOf 96 0) (valueOf 1)) ∷ inserts (grant (keyOf 104 0) (valueOf 2)) ∷ inserts (grant (keyOf 192 0) (valueOf 3)) ∷ [])
-      ∷ comparison kept7 7 1 (([]) ∷ (false ∷ []) ∷ (false ∷ false ∷ []) ∷ (false ∷ true ∷ []) ∷ (false ∷ true ∷ false ∷ []) ∷ (false ∷ true ∷ true ∷ []) ∷ (false ∷ true ∷ true ∷ false ∷ []) ∷ (false ∷ true ∷ true ∷ false ∷ false ∷ []) ∷ (false ∷ true ∷ true ∷ false ∷ true ∷ []) ∷ (false ∷ true ∷ true ∷ true ∷ []) ∷ (true ∷ []) ∷ []) (deletes (grant (keyOf 96 0) (valueOf 1)) ∷ deletes (grant (keyOf 104 0) (valueOf 2)) ∷ deletes (grant (keyOf 192 0) (valueOf 3)) ∷ [])
-      ∷ comparison kept8 10 8 (([]) ∷ []) ([])
-      ∷ comparison kept8 8 0 (([]) ∷ (false ∷ []) ∷ (true ∷ []) ∷ []) (deletes (grant (keyOf 16 0) (valueOf 3)) ∷ deletes (grant (keyOf 254 0) (valueOf 4)) ∷ [])
-      ∷ comparison kept8 2 12 (([]) ∷ []) (inserts (grant (keyOf 16 0) (valueOf 3)) ∷ deletes (grant (keyOf 104 0) (valueOf 3)) ∷ [])
-      ∷ comparison kept8 4 0 (([]) ∷ (false ∷ []) ∷ (true ∷ []) ∷ []) (deletes (grant (keyOf 104 0) (valueOf 3)) ∷ deletes (grant (keyOf 254 0) (valueOf 4)) ∷ [])
-      ∷ comparison kept9 0 3 (([]) ∷ []) (inserts (grant (keyOf 254 0) (valueOf 2)) ∷ [])
-      ∷ comparison kept9 7 8 (([]) ∷ []) (deletes (grant (keyOf 254 0) (valueOf 2)) ∷ inserts (grant (keyOf 254 0) (valueOf 3)) ∷ [])
-      ∷ comparison kept9 6 4 (([]) ∷ []) ([])
-      ∷ comparison kept9 4 5 (([]) ∷ []) ([])
-      ∷ comparison kept10 4294967293 4294967293 (([]) ∷ []) ([])
-      ∷ comparison kept10 4294967293 4294967293 (([]) ∷ []) ([])
-      ∷ comparison kept10 4294967293 4294967293 (([]) ∷ []) ([])
-      ∷ comparison kept10 4294967294 4294967295 (([]) ∷ []) (inserts (grant (keyOf 8 0) (valueOf 1)) ∷ [])
-      ∷ comparison kept11 1 1 (([]) ∷ []) ([])
-      ∷ comparison kept11 4 3 (([]) ∷ []) (deletes (grant (keyOf 104 0) (valueOf 1)) ∷ [])
-      ∷ comparison kept11 0 4 (([]) ∷ []) (inserts (grant (keyOf 104 0) (valueOf 1)) ∷ [])
-      ∷ comparison kept11 4 2 (([]) ∷ []) (deletes (grant (keyOf 104 0) (valueOf 1)) ∷ [])
-      ∷ comparison kept12 5 8 (([]) ∷ []) ([])
-      ∷ comparison kept12 5 8 (([]) ∷ []) ([])
-      ∷ comparison kept12 7 5 (([]) ∷ []) ([])
-      ∷ comparison kept12 7 7 (([]) ∷ []) ([])
-      ∷ comparison kept13 6 6 (([]) ∷ []) ([])
-      ∷ comparison kept13 9 7 (([]) ∷ []) (inserts (grant (keyOf 64 0) (valueOf 3)) ∷ [])
-      ∷ comparison kept13 9 7 (([]) ∷ []) (inserts (grant (keyOf 64 0) (valueOf 3)) ∷ [])
-      ∷ comparison kept13 7 7 (([]) ∷ []) ([])
-      ∷ comparison kept14 5 5 (([]) ∷ []) ([])
-      ∷ comparison kept14 5 5 (([]) ∷ []) ([])
-      ∷ comparison kept14 6 5 (([]) ∷ (false ∷ []) ∷ (true ∷ []) ∷ (true ∷ false ∷ []) ∷ (true ∷ true ∷ []) ∷ []) (deletes (grant (keyOf 144 0) (valueOf 2)) ∷ deletes (grant (keyOf 254 0) (valueOf 2)) ∷ [])
-      ∷ comparison kept14 5 6 (([]) ∷ (false ∷ []) ∷ (true ∷ []) ∷ (true ∷ false ∷ []) ∷ (true ∷ true ∷ []) ∷ []) (inserts (grant (keyOf 144 0) (valueOf 2)) ∷ inserts (grant (keyOf 254 0) (valueOf 2)) ∷ [])
-      ∷ comparison kept15 6 6 (([]) ∷ []) ([])
-      ∷ comparison kept15 6 3 (([]) ∷ (false ∷ []) ∷ (true ∷ []) ∷ []) (deletes (grant (keyOf 8 0) (valueOf 4)) ∷ deletes (grant (keyOf 254 0) (valueOf 1)) ∷ [])
-      ∷ comparison kept15 1 2 (([]) ∷ []) ([])
-      ∷ comparison kept15 4 1 (([]) ∷ []) ([])
-      ∷ comparison kept16 8 0 (([]) ∷ []) (deletes (grant (keyOf 144 0) (valueOf 4)) ∷ [])
-      ∷ comparison kept16 2 8 (([]) ∷ []) ([])
-      ∷ comparison kept16 3 10 (([]) ∷ []) (deletes (grant (keyOf 144 0) (valueOf 4)) ∷ inserts (grant (keyOf 144 0) (valueOf 2)) ∷ [])
-      ∷ comparison kept16 6 2 (([]) ∷ []) ([])
-      ∷ comparison kept17 0 1 (([]) ∷ (false ∷ []) ∷ (true ∷ []) ∷ []) (inserts (grant (keyOf 64 0) (valueOf 2)) ∷ inserts (grant (keyOf 255 0) (valueOf 1)) ∷ [])
-      ∷ comparison kept17 5 5 (([]) ∷ []) ([])
-      ∷ comparison kept17 4 0 (([]) ∷ []) (deletes (grant (keyOf 64 0) (valueOf 2)) ∷ [])
-      ∷ comparison kept17 0 1 (([]) ∷ (false ∷ []) ∷ (true ∷ []) ∷ []) (inserts (grant (keyOf 64 0) (valueOf 2)) ∷ inserts (grant (keyOf 255 0) (valueOf 1)) ∷ [])
-      ∷ comparison kept18 9 7 (([]) ∷ (false ∷ []) ∷ (false ∷ false ∷ []) ∷ (false ∷ true ∷ []) ∷ (false ∷ true ∷ false ∷ []) ∷ (false ∷ true ∷ true ∷ []) ∷ (false ∷ true ∷ true ∷ false ∷ []) ∷ (false ∷ true ∷ true ∷ false ∷ false ∷ []) ∷ (false ∷ true ∷ true ∷ false ∷ true ∷ []) ∷ (false ∷ true ∷ true ∷ true ∷ []) ∷ (true ∷ []) ∷ (true ∷ false ∷ []) ∷ (true ∷ true ∷ []) ∷ []) (inserts (grant (keyOf 96 0) (valueOf 2)) ∷ inserts (grant (keyOf 104 0) (valueOf 1)) ∷ deletes (grant (keyOf 144 0) (valueOf 3)) ∷ [])
-      ∷ comparison kept18 6 5 (([]) ∷ (false ∷ []) ∷ (false ∷ false ∷ []) ∷ (false ∷ true ∷ []) ∷ (false ∷ true ∷ false ∷ []) ∷ (false ∷ true ∷ true ∷ []) ∷ (false ∷ true ∷ true ∷ false ∷ []) ∷ (false ∷ true ∷ true ∷ false ∷ false ∷ []) ∷ (false ∷ true ∷ true ∷ false ∷ true ∷ []) ∷ (false ∷ true ∷ true ∷ true ∷ []) ∷ (true ∷ []) ∷ []) (deletes (grant (keyOf 96 0) (valueOf 2)) ∷ inserts (grant (keyOf 96 0) (valueOf 3)) ∷ deletes (grant (keyOf 255 0) (valueOf 2)) ∷ [])
-      ∷ comparison kept18 7 9 (([]) ∷ (false ∷ []) ∷ (false ∷ false ∷ []) ∷ (false ∷ true ∷ []) ∷ (false ∷ true ∷ false ∷ []) ∷ (false ∷ true ∷ true ∷ []) ∷ (false ∷ true ∷ true ∷ false ∷ []) ∷ (false ∷ true ∷ true ∷ false ∷ false ∷ []) ∷ (false ∷ true ∷ true ∷ false ∷ true ∷ []) ∷ (false ∷ true ∷ true ∷ true ∷ []) ∷ (true ∷ []) ∷ (true ∷ false ∷ []) ∷ (true ∷ true ∷ []) ∷ []) (deletes (grant (keyOf 96 0) (valueOf 2)) ∷ deletes (grant (keyOf 104 0) (valueOf 1)) ∷ inserts (grant (keyOf 144 0) (valueOf 3)) ∷ [])
-      ∷ comparison kept18 3 7 (([]) ∷ (false ∷ []) ∷ (false ∷ false ∷ []) ∷ (false ∷ true ∷ []) ∷ (false ∷ true ∷ false ∷ []) ∷ (false ∷ true ∷ true ∷ []) ∷ (false ∷ true ∷ true ∷ false ∷ []) ∷ (false ∷ true ∷ true ∷ false ∷ false ∷ []) ∷ (false ∷ true ∷ true ∷ false ∷ true ∷ []) ∷ (false ∷ true ∷ true ∷ true ∷ []) ∷ (true ∷ []) ∷ []) (deletes (grant (keyOf 96 0) (valueOf 3)) ∷ inserts (grant (keyOf 96 0) (valueOf 2)) ∷ inserts (grant (keyOf 255 0) (valueOf 2)) ∷ [])
-      ∷ comparison kept19 2 2 (([]) ∷ []) ([])
-      ∷ comparison kept19 0 1 (([]) ∷ []) ([])
-      ∷ comparison kept19 1 3 (([]) ∷ []) (inserts (grant (keyOf 0 0) (valueOf 2)) ∷ [])
-      ∷ comparison kept19 0 2 (([]) ∷ []) (inserts (grant (keyOf 0 0) (valueOf 2)) ∷ [])
-      ∷ comparison kept20 4294967295 4294967295 (([]) ∷ []) ([])
-      ∷ comparison kept20 4294967294 4294967295 (([]) ∷ (false ∷ []) ∷ (false ∷ false ∷ []) ∷ (false ∷ true ∷ []) ∷ (true ∷ []) ∷ []) (deletes (grant (keyOf 16 0) (valueOf 1)) ∷ [])
-      ∷ comparison kept20 4294967295 4294967295 (([]) ∷ []) ([])
-      ∷ comparison kept20 4294967293 4294967295 (([]) ∷ []) (inserts (grant (keyOf 96 0) (valueOf 2)) ∷ [])
-      ∷ comparison kept21 7 7 (([]) ∷ []) ([])
-      ∷ comparison kept21 7 7 (([]) ∷ []) ([])
-      ∷ comparison kept21 7 7 (([]) ∷ []) ([])
-      ∷ comparison kept21 7 7 (([]) ∷ []) ([])
-      ∷ comparison kept22 2 2 (([]) ∷ []) ([])
-      ∷ comparison kept22 2 2 (([]) ∷ []) ([])
-      ∷ comparison kept22 2 2 (([]) ∷ []) ([])
-      ∷ comparison kept22 2 2 (([]) ∷ []) ([])
-      ∷ comparison kept23 5 6 (([]) ∷ (false ∷ []) ∷ (true ∷ []) ∷ []) (deletes (grant (keyOf 104 0) (valueOf 4)) ∷ [])
-      ∷ comparison kept23 5 4 (([]) ∷ (false ∷ []) ∷ (true ∷ []) ∷ []) ([])
-      ∷ comparison kept23 6 5 (([]) ∷ (false ∷ []) ∷ (true ∷ []) ∷ []) (inserts (grant (keyOf 104 0) (valueOf 4)) ∷ [])
-      ∷ comparison kept23 6 4 (([]) ∷ (false ∷ []) ∷ (true ∷ []) ∷ []) (inserts (grant (keyOf 104 0) (valueOf 4)) ∷ [])
-      ∷ comparison kept24 2 2 (([]) ∷ []) ([])
-      ∷ comparison kept24 2 2 (([]) ∷ []) ([])
-      ∷ comparison kept24 4 1 (([]) ∷ []) ([])
-      ∷ comparison kept24 2 2 (([]) ∷ []) ([])
-      ∷ comparison kept25 9 8 (([]) ∷ []) ([])
-      ∷ comparison kept25 11 11 (([]) ∷ []) ([])
-      ∷ comparison kept25 12 11 (([]) ∷ []) ([])
-      ∷ comparison kept25 9 12 (([]) ∷ []) ([])
-      ∷ comparison kept26 9 9 (([]) ∷ []) ([])
-      ∷ comparison kept26 9 9 (([]) ∷ []) ([])
-      ∷ comparison kept26 9 9 (([]) ∷ []) ([])
-      ∷ comparison kept26 9 9 (([]) ∷ []) ([])
-      ∷ comparison kept27 8 6 (([]) ∷ []) ([])
-      ∷ comparison kept27 1 5 (([]) ∷ []) ([])
-      ∷ comparison kept27 9 3 (([]) ∷ []) (deletes (grant (keyOf 0 0) (valueOf 3)) ∷ [])
-      ∷ comparison kept27 8 1 (([]) ∷ []) (deletes (grant (keyOf 254 0) (valueOf 4)) ∷ [])
-      ∷ comparison kept28 0 6 (([]) ∷ []) ([])
-      ∷ comparison kept28 10 8 (([]) ∷ []) ([])
-      ∷ comparison kept28 9 2 (([]) ∷ []) (deletes (grant (keyOf 8 0) (valueOf 1)) ∷ [])
-      ∷ comparison kept28 9 3 (([]) ∷ []) (deletes (grant (keyOf 8 0) (valueOf 1)) ∷ [])
+      comparison kept0 14 10 (([]) ∷ (false ∷ []) ∷ (true ∷ []) ∷ []) (deletes (grant (keyOf 64 0) (valueOf 3)) ∷ inserts (grant (keyOf 64 0) (valueOf 2)) ∷ deletes (grant (keyOf 144 0) (valueOf 4)) ∷ inserts (grant (keyOf 144 0) (valueOf 3)) ∷ [])
+      ∷ comparison kept0 10 14 (([]) ∷ (false ∷ []) ∷ (true ∷ []) ∷ []) (deletes (grant (keyOf 64 0) (valueOf 2)) ∷ inserts (grant (keyOf 64 0) (valueOf 3)) ∷ deletes (grant (keyOf 144 0) (valueOf 3)) ∷ inserts (grant (keyOf 144 0) (valueOf 4)) ∷ [])
+      ∷ comparison kept0 13 14 (([]) ∷ []) ([])
+      ∷ comparison kept0 14 15 (([]) ∷ []) ([])
+      ∷ comparison kept1 1 1 (([]) ∷ []) ([])
+      ∷ comparison kept1 1 1 (([]) ∷ []) ([])
+      ∷ comparison kept1 3 3 (([]) ∷ []) ([])
+      ∷ comparison kept1 2 1 (([]) ∷ []) ([])
+      ∷ comparison kept2 1 1 (([]) ∷ []) ([])
+      ∷ comparison kept2 5 1 (([]) ∷ (false ∷ []) ∷ (true ∷ []) ∷ (true ∷ false ∷ []) ∷ (true ∷ true ∷ []) ∷ []) (deletes (grant (keyOf 64 0) (valueOf 1)) ∷ deletes (grant (keyOf 254 0) (valueOf 2)) ∷ [])
+      ∷ comparison kept2 0 1 (([]) ∷ []) (inserts (grant (keyOf 144 0) (valueOf 4)) ∷ [])
+      ∷ comparison kept2 5 0 (([]) ∷ (false ∷ []) ∷ (true ∷ []) ∷ (true ∷ false ∷ []) ∷ (true ∷ true ∷ []) ∷ []) (deletes (grant (keyOf 64 0) (valueOf 1)) ∷ deletes (grant (keyOf 144 0) (valueOf 4)) ∷ deletes (grant (keyOf 254 0) (valueOf 2)) ∷ [])
+      ∷ comparison kept3 4294967295 4294967293 (([]) ∷ []) (deletes (grant (keyOf 128 0) (valueOf 4)) ∷ [])
+      ∷ comparison kept3 4294967294 4294967293 (([]) ∷ []) ([])
+      ∷ comparison kept3 4294967294 4294967294 (([]) ∷ []) ([])
+      ∷ comparison kept3 4294967294 4294967293 (([]) ∷ []) ([])
+      ∷ comparison kept4 2 2 (([]) ∷ []) ([])
+      ∷ comparison kept4 5 5 (([]) ∷ []) ([])
+      ∷ comparison kept4 7 6 (([]) ∷ (false ∷ []) ∷ (false ∷ false ∷ []) ∷ (false ∷ false ∷ false ∷ []) ∷ (false ∷ false ∷ false ∷ false ∷ []) ∷ (false ∷ false ∷ false ∷ true ∷ []) ∷ (false ∷ false ∷ true ∷ []) ∷ (false ∷ true ∷ []) ∷ (true ∷ []) ∷ []) (inserts (grant (keyOf 16 0) (valueOf 2)) ∷ [])
+      ∷ comparison kept4 3 6 (([]) ∷ (false ∷ []) ∷ (false ∷ false ∷ []) ∷ (false ∷ false ∷ false ∷ []) ∷ (false ∷ false ∷ false ∷ false ∷ []) ∷ (false ∷ false ∷ false ∷ true ∷ []) ∷ (false ∷ false ∷ true ∷ []) ∷ (false ∷ true ∷ []) ∷ (true ∷ []) ∷ []) (inserts (grant (keyOf 8 0) (valueOf 3)) ∷ inserts (grant (keyOf 16 0) (valueOf 2)) ∷ [])
+      ∷ comparison kept5 6 6 (([]) ∷ []) ([])
+      ∷ comparison kept5 7 7 (([]) ∷ []) ([])
+      ∷ comparison kept5 5 7 (([]) ∷ []) ([])
+      ∷ comparison kept5 5 3 (([]) ∷ []) ([])
+      ∷ comparison kept6 4294967295 4294967295 (([]) ∷ []) ([])
+      ∷ comparison kept6 4294967294 4294967295 (([]) ∷ []) (inserts (grant (keyOf 64 0) (valueOf 2)) ∷ [])
+      ∷ comparison kept6 4294967294 4294967294 (([]) ∷ []) ([])
+      ∷ comparison kept6 4294967294 4294967294 (([]) ∷ []) ([])
+      ∷ comparison kept7 3 3 (([]) ∷ []) ([])
+      ∷ comparison kept7 1 4 (([]) ∷ []) (inserts (grant (keyOf 8 0) (valueOf 1)) ∷ [])
+      ∷ comparison kept7 3 0 (([]) ∷ []) (deletes (grant (keyOf 0 0) (valueOf 4)) ∷ [])
+      ∷ comparison kept7 4 2 (([]) ∷ []) (deletes (grant (keyOf 8 0) (valueOf 1)) ∷ [])
+      ∷ comparison kept8 9 6 (([]) ∷ []) ([])
+      ∷ comparison kept8 13 16 (([]) ∷ []) (inserts (grant (keyOf 16 0) (valueOf 3)) ∷ [])
+      ∷ comparison kept8 11 11 (([]) ∷ []) ([])
+      ∷ comparison kept8 12 6 (([]) ∷ []) ([])
+      ∷ comparison kept9 2 4 (([]) ∷ []) ([])
+      ∷ comparison kept9 2 3 (([]) ∷ (false ∷ []) ∷ (true ∷ []) ∷ (true ∷ false ∷ []) ∷ (true ∷ true ∷ []) ∷ []) (inserts (grant (keyOf 144 0) (valueOf 2)) ∷ inserts (grant (keyOf 254 0) (valueOf 1)) ∷ [])
+      ∷ comparison kept9 2 4 (([]) ∷ []) ([])
+      ∷ comparison kept9 3 3 (([]) ∷ []) ([])
+      ∷ comparison kept10 6 1 (([]) ∷ (false ∷ []) ∷ (false ∷ false ∷ []) ∷ (false ∷ true ∷ []) ∷ (true ∷ []) ∷ (true ∷ false ∷ []) ∷ (true ∷ true ∷ []) ∷ []) (deletes (grant (keyOf 16 0) (valueOf 3)) ∷ deletes (grant (keyOf 64 0) (valueOf 4)) ∷ deletes (grant (keyOf 144 0) (valueOf 1)) ∷ deletes (grant (keyOf 192 0) (valueOf 1)) ∷ [])
+      ∷ comparison kept10 3 9 (([]) ∷ (false ∷ []) ∷ (false ∷ false ∷ []) ∷ (false ∷ true ∷ []) ∷ (true ∷ []) ∷ (true ∷ false ∷ []) ∷ (true ∷ true ∷ []) ∷ []) (inserts (grant (keyOf 16 0) (valueOf 3)) ∷ inserts (grant (keyOf 64 0) (valueOf 4)) ∷ inserts (grant (keyOf 144 0) (valueOf 1)) ∷ inserts (grant (keyOf 192 0) (valueOf 1)) ∷ [])
+      ∷ comparison kept10 0 10 (([]) ∷ (false ∷ []) ∷ (false ∷ false ∷ []) ∷ (false ∷ true ∷ []) ∷ (true ∷ []) ∷ (true ∷ false ∷ []) ∷ (true ∷ true ∷ []) ∷ []) (inserts (grant (keyOf 16 0) (valueOf 3)) ∷ inserts (grant (keyOf 64 0) (valueOf 4)) ∷ inserts (grant (keyOf 144 0) (valueOf 1)) ∷ inserts (grant (keyOf 192 0) (valueOf 1)) ∷ [])
+      ∷ comparison kept10 4 4 (([]) ∷ []) ([])
+      ∷ comparison kept11 4294967294 4294967294 (([]) ∷ []) ([])
+      ∷ comparison kept11 4294967294 4294967295 (([]) ∷ []) (deletes (grant (keyOf 16 0) (valueOf 3)) ∷ inserts (grant (keyOf 16 0) (valueOf 1)) ∷ [])
+      ∷ comparison kept11 4294967294 4294967295 (([]) ∷ []) (deletes (grant (keyOf 16 0) (valueOf 3)) ∷ inserts (grant (keyOf 16 0) (valueOf 1)) ∷ [])
+      ∷ comparison kept11 4294967294 4294967295 (([]) ∷ []) (deletes (grant (keyOf 16 0) (valueOf 3)) ∷ inserts (grant (keyOf 16 0) (valueOf 1)) ∷ [])
+      ∷ comparison kept12 6 7 (([]) ∷ []) ([])
+      ∷ comparison kept12 7 5 (([]) ∷ []) (inserts (grant (keyOf 128 0) (valueOf 2)) ∷ [])
+      ∷ comparison kept12 5 6 (([]) ∷ []) (deletes (grant (keyOf 128 0) (valueOf 2)) ∷ [])
+      ∷ comparison kept12 5 7 (([]) ∷ []) (deletes (grant (keyOf 128 0) (valueOf 2)) ∷ [])
+      ∷ comparison kept13 1 1 (([]) ∷ []) ([])
+      ∷ comparison kept13 1 0 (([]) ∷ []) ([])
+      ∷ comparison kept13 1 0 (([]) ∷ []) ([])
+      ∷ comparison kept13 2 2 (([]) ∷ []) ([])
+      ∷ comparison kept14 18 14 (([]) ∷ []) (deletes (grant (keyOf 104 0) (valueOf 1)) ∷ [])
+      ∷ comparison kept14 17 13 (([]) ∷ []) ([])
+      ∷ comparison kept14 16 15 (([]) ∷ []) ([])
+      ∷ comparison kept14 16 16 (([]) ∷ []) ([])
+      ∷ comparison kept15 4294967295 4294967295 (([]) ∷ []) ([])
+      ∷ comparison kept15 4294967295 4294967295 (([]) ∷ []) ([])
+      ∷ comparison kept15 4294967295 4294967295 (([]) ∷ []) ([])
+      ∷ comparison kept15 4294967295 4294967295 (([]) ∷ []) ([])
+      ∷ comparison kept16 4294967294 4294967294 (([]) ∷ []) ([])
+      ∷ comparison kept16 4294967295 4294967295 (([]) ∷ []) ([])
+      ∷ comparison kept16 4294967295 4294967295 (([]) ∷ []) ([])
+      ∷ comparison kept16 4294967295 4294967294 (([]) ∷ []) ([])
+      ∷ comparison kept17 9 9 (([]) ∷ []) ([])
+      ∷ comparison kept17 3 2 (([]) ∷ []) ([])
+      ∷ comparison kept17 6 3 (([]) ∷ (false ∷ []) ∷ (true ∷ []) ∷ []) (inserts (grant (keyOf 16 0) (valueOf 1)) ∷ deletes (grant (keyOf 144 0) (valueOf 4)) ∷ inserts (grant (keyOf 144 0) (valueOf 3)) ∷ [])
+      ∷ comparison kept17 10 0 (([]) ∷ []) (deletes (grant (keyOf 144 0) (valueOf 1)) ∷ [])
+      ∷ comparison kept18 0 3 (([]) ∷ []) ([])
+      ∷ comparison kept18 4 4 (([]) ∷ []) ([])
+      ∷ comparison kept18 1 4 (([]) ∷ []) (deletes (grant (keyOf 254 0) (valueOf 3)) ∷ inserts (grant (keyOf 255 0) (valueOf 1)) ∷ [])
+      ∷ comparison kept18 1 0 (([]) ∷ []) (deletes (grant (keyOf 254 0) (valueOf 3)) ∷ [])
+      ∷ comparison kept19 4294967295 4294967294 (([]) ∷ (false ∷ []) ∷ (true ∷ []) ∷ []) (deletes (grant (keyOf 16 0) (valueOf 4)) ∷ deletes (grant (keyOf 192 0) (valueOf 3)) ∷ inserts (grant (keyOf 192 0) (valueOf 4)) ∷ [])
+      ∷ comparison kept19 4294967295 4294967294 (([]) ∷ (false ∷ []) ∷ (true ∷ []) ∷ []) (deletes (grant (keyOf 16 0) (valueOf 4)) ∷ deletes (grant (keyOf 192 0) (valueOf 3)) ∷ inserts (grant (keyOf 192 0) (valueOf 4)) ∷ [])
+      ∷ comparison kept19 4294967294 4294967295 (([]) ∷ (false ∷ []) ∷ (true ∷ []) ∷ []) (inserts (grant (keyOf 16 0) (valueOf 4)) ∷ deletes (grant (keyOf 192 0) (valueOf 4)) ∷ inserts (grant (keyOf 192 0) (valueOf 3)) ∷ [])
+      ∷ comparison kept19 4294967294 4294967295 (([]) ∷ (false ∷ []) ∷ (true ∷ []) ∷ []) (inserts (grant (keyOf 16 0) (valueOf 4)) ∷ deletes (grant (keyOf 192 0) (valueOf 4)) ∷ inserts (grant (keyOf 192 0) (valueOf 3)) ∷ [])
+      ∷ comparison kept20 6 6 (([]) ∷ []) ([])
+      ∷ comparison kept20 2 8 (([]) ∷ []) (inserts (grant (keyOf 16 0) (valueOf 3)) ∷ [])
+      ∷ comparison kept20 3 9 (([]) ∷ []) (inserts (grant (keyOf 16 0) (valueOf 3)) ∷ [])
+      ∷ comparison kept20 8 8 (([]) ∷ []) ([])
+      ∷ comparison kept21 5 4 (([]) ∷ []) (deletes (grant (keyOf 104 0) (valueOf 1)) ∷ [])
+      ∷ comparison kept21 3 4 (([]) ∷ []) ([])
+      ∷ comparison kept21 5 3 (([]) ∷ []) (deletes (grant (keyOf 104 0) (valueOf 1)) ∷ [])
+      ∷ comparison kept21 4 3 (([]) ∷ []) ([])
+      ∷ comparison kept22 2 1 (([]) ∷ []) (deletes (grant (keyOf 104 0) (valueOf 2)) ∷ [])
+      ∷ comparison kept22 2 3 (([]) ∷ []) (deletes (grant (keyOf 104 0) (valueOf 2)) ∷ inserts (grant (keyOf 104 0) (valueOf 1)) ∷ [])
+      ∷ comparison kept22 1 0 (([]) ∷ []) ([])
+      ∷ comparison kept22 3 1 (([]) ∷ []) (deletes (grant (keyOf 104 0) (valueOf 1)) ∷ [])
+      ∷ comparison kept23 5 1 (([]) ∷ (false ∷ []) ∷ (true ∷ []) ∷ []) (deletes (grant (keyOf 128 0) (valueOf 3)) ∷ [])
+      ∷ comparison kept23 5 5 (([]) ∷ []) ([])
+      ∷ comparison kept23 2 5 (([]) ∷ (false ∷ []) ∷ (true ∷ []) ∷ []) (inserts (grant (keyOf 128 0) (valueOf 3)) ∷ [])
+      ∷ comparison kept23 4 3 (([]) ∷ []) ([])
+      ∷ comparison kept24 4 6 (([]) ∷ (false ∷ []) ∷ (true ∷ []) ∷ []) ([])
+      ∷ comparison kept24 6 5 (([]) ∷ (false ∷ []) ∷ (true ∷ []) ∷ []) ([])
+      ∷ comparison kept24 7 4 (([]) ∷ (false ∷ []) ∷ (true ∷ []) ∷ []) ([])
+      ∷ comparison kept24 4 7 (([]) ∷ (false ∷ []) ∷ (true ∷ []) ∷ []) ([])
+      ∷ comparison kept25 7 4 (([]) ∷ (false ∷ []) ∷ (true ∷ []) ∷ []) (deletes (grant (keyOf 8 0) (valueOf 1)) ∷ deletes (grant (keyOf 144 0) (valueOf 4)) ∷ [])
+      ∷ comparison kept25 7 8 (([]) ∷ (false ∷ []) ∷ (true ∷ []) ∷ []) (deletes (grant (keyOf 8 0) (valueOf 1)) ∷ inserts (grant (keyOf 8 0) (valueOf 3)) ∷ [])
+      ∷ comparison kept25 4 7 (([]) ∷ (false ∷ []) ∷ (true ∷ []) ∷ []) (inserts (grant (keyOf 8 0) (valueOf 1)) ∷ inserts (grant (keyOf 144 0) (valueOf 4)) ∷ [])
+      ∷ comparison kept25 4 3 (([]) ∷ []) ([])
+      ∷ comparison kept26 4 5 (([]) ∷ []) (deletes (grant (keyOf 128 0) (valueOf 4)) ∷ inserts (grant (keyOf 128 0) (valueOf 1)) ∷ [])
+      ∷ comparison kept26 3 5 (([]) ∷ []) (inserts (grant (keyOf 128 0) (valueOf 1)) ∷ [])
+      ∷ comparison kept26 4 4 (([]) ∷ []) ([])
+      ∷ comparison kept26 3 4 (([]) ∷ []) (inserts (grant (keyOf 128 0) (valueOf 4)) ∷ [])
+      ∷ comparison kept27 0 1 (([]) ∷ []) (inserts (grant (keyOf 144 0) (valueOf 1)) ∷ [])
+      ∷ comparison kept27 3 1 (([]) ∷ []) (deletes (grant (keyOf 144 0) (valueOf 4)) ∷ inserts (grant (keyOf 144 0) (valueOf 1)) ∷ [])
+      ∷ comparison kept27 1 0 (([]) ∷ []) (deletes (grant (keyOf 144 0) (valueOf 1)) ∷ [])
+      ∷ comparison kept27 2 3 (([]) ∷ []) ([])
+      ∷ comparison kept28 1 4 (([]) ∷ (false ∷ []) ∷ (true ∷ []) ∷ []) (deletes (grant (keyOf 104 0) (valueOf 2)) ∷ inserts (grant (keyOf 104 0) (valueOf 4)) ∷ inserts (grant (keyOf 128 0) (valueOf 2)) ∷ [])
+      ∷ comparison kept28 2 2 (([]) ∷ []) ([])
+      ∷ comparison kept28 3 3 (([]) ∷ []) ([])
+      ∷ comparison kept28 2 1 (([]) ∷ (false ∷ []) ∷ (true ∷ []) ∷ []) (deletes (grant (keyOf 144 0) (valueOf 2)) ∷ [])
+      ∷ comparison kept29 3 2 (([]) ∷ (false ∷ []) ∷ (true ∷ []) ∷ []) (deletes (grant (keyOf 96 0) (valueOf 1)) ∷ deletes (grant (keyOf 128 0) (valueOf 2)) ∷ [])
       ∷ comparison kept29 1 1 (([]) ∷ []) ([])
-      ∷ comparison kept29 1 1 (([]) ∷ []) ([])
-      ∷ comparison kept29 1 0 (([]) ∷ []) (deletes (grant (keyOf 192 0) (valueOf 4)) ∷ [])
-      ∷ comparison kept29 0 1 (([]) ∷ []) (inserts (grant (keyOf 192 0) (valueOf 4)) ∷ [])
-      ∷ comparison kept30 15 12 (([]) ∷ []) ([])
-      ∷ comparison kept30 12 7 (([]) ∷ (false ∷ []) ∷ (true ∷ []) ∷ []) (inserts (grant (keyOf 254 0) (valueOf 2)) ∷ [])
-      ∷ comparison kept30 12 17 (([]) ∷ []) (deletes (grant (keyOf 96 0) (valueOf 4)) ∷ [])
-      ∷ comparison kept30 3 8 (([]) ∷ (false ∷ []) ∷ (true ∷ []) ∷ []) ([])
-      ∷ comparison kept31 1 1 (([]) ∷ []) ([])
-      ∷ comparison kept31 1 1 (([]) ∷ []) ([])
-      ∷ comparison kept31 1 1 (([]) ∷ []) ([])
-      ∷ comparison kept31 1 1 (([]) ∷ []) ([])
-      ∷ comparison kept32 5 4 (([]) ∷ []) ([])
-      ∷ comparison kept32 3 6 (([]) ∷ []) ([])
-      ∷ comparison kept32 7 5 (([]) ∷ (false ∷ []) ∷ (true ∷ []) ∷ []) ([])
-      ∷ comparison kept32 7 3 (([]) ∷ (false ∷ []) ∷ (true ∷ []) ∷ []) ([])
-      ∷ comparison kept33 4 3 (([]) ∷ []) ([])
-      ∷ comparison kept33 3 5 (([]) ∷ []) (inserts (grant (keyOf 254 0) (valueOf 1)) ∷ [])
-      ∷ comparison kept33 3 5 (([]) ∷ []) (inserts (grant (keyOf 254 0) (valueOf 1)) ∷ [])
-      ∷ comparison kept33 6 5 (([]) ∷ (false ∷ []) ∷ (true ∷ []) ∷ []) (deletes (grant (keyOf 96 0) (valueOf 1)) ∷ [])
-      ∷ comparison kept34 2 6 (([]) ∷ (false ∷ []) ∷ (true ∷ []) ∷ (true ∷ false ∷ []) ∷ (true ∷ true ∷ []) ∷ (true ∷ true ∷ false ∷ []) ∷ (true ∷ true ∷ true ∷ []) ∷ (true ∷ true ∷ true ∷ false ∷ []) ∷ (true ∷ true ∷ true ∷ true ∷ []) ∷ (true ∷ true ∷ true ∷ true ∷ false ∷ []) ∷ (true ∷ true ∷ true ∷ true ∷ true ∷ []) ∷ (true ∷ true ∷ true ∷ true ∷ true ∷ false ∷ []) ∷ (true ∷ true ∷ true ∷ true ∷ true ∷ true ∷ []) ∷ (true ∷ true ∷ true ∷ true ∷ true ∷ true ∷ false ∷ []) ∷ (true ∷ true ∷ true ∷ true ∷ true ∷ true ∷ true ∷ []) ∷ (true ∷ true ∷ true ∷ true ∷ true ∷ true ∷ true ∷ false ∷ []) ∷ (true ∷ true ∷ true ∷ true ∷ true ∷ true ∷ true ∷ true ∷ []) ∷ []) (inserts (grant (keyOf 254 0) (valueOf 3)) ∷ inserts (grant (keyOf 255 0) (valueOf 1)) ∷ [])
-      ∷ comparison kept34 5 5 (([]) ∷ []) ([])
-      ∷ comparison kept34 5 4 (([]) ∷ (false ∷ []) ∷ (true ∷ []) ∷ []) (deletes (grant (keyOf 104 0) (valueOf 2)) ∷ deletes (grant (keyOf 254 0) (valueOf 3)) ∷ [])
-      ∷ comparison kept34 2 5 (([]) ∷ (false ∷ []) ∷ (true ∷ []) ∷ []) (inserts (grant (keyOf 104 0) (valueOf 2)) ∷ inserts (grant (keyOf 254 0) (valueOf 3)) ∷ [])
-      ∷ comparison kept35 1 1 (([]) ∷ []) ([])
-      ∷ comparison kept35 2 2 (([]) ∷ []) ([])
-      ∷ comparison kept35 1 2 (([]) ∷ (false ∷ []) ∷ (true ∷ []) ∷ []) (deletes (grant (keyOf 144 0) (valueOf 2)) ∷ [])
-      ∷ comparison kept35 2 1 (([]) ∷ (false ∷ []) ∷ (true ∷ []) ∷ []) (inserts (grant (keyOf 144 0) (valueOf 2)) ∷ [])
-      ∷ comparison kept36 8 8 (([]) ∷ []) ([])
-      ∷ comparison kept36 11 10 (([]) ∷ []) ([])
-      ∷ comparison kept36 9 8 (([]) ∷ []) ([])
-      ∷ comparison kept36 8 11 (([]) ∷ []) ([])
-      ∷ comparison kept37 12 12 (([]) ∷ []) ([])
-      ∷ comparison kept37 11 15 (([]) ∷ []) (deletes (grant (keyOf 64 0) (valueOf 1)) ∷ inserts (grant (keyOf 64 0) (valueOf 4)) ∷ [])
-      ∷ comparison kept37 11 11 (([]) ∷ []) ([])
-      ∷ comparison kept37 15 15 (([]) ∷ []) ([])
-      ∷ comparison kept38 10 10 (([]) ∷ []) ([])
-      ∷ comparison kept38 8 9 (([]) ∷ []) ([])
-      ∷ comparison kept38 7 9 (([]) ∷ []) ([])
-      ∷ comparison kept38 8 10 (([]) ∷ (false ∷ []) ∷ (false ∷ false ∷ []) ∷ (false ∷ true ∷ []) ∷ (true ∷ []) ∷ []) (deletes (grant (keyOf 96 0) (valueOf 1)) ∷ inserts (grant (keyOf 96 0) (valueOf 4)) ∷ deletes (grant (keyOf 255 0) (valueOf 2)) ∷ inserts (grant (keyOf 255 0) (valueOf 1)) ∷ [])
-      ∷ comparison kept39 4294967295 4294967293 (([]) ∷ (false ∷ []) ∷ (false ∷ false ∷ []) ∷ (false ∷ true ∷ []) ∷ (true ∷ []) ∷ []) (deletes (grant (keyOf 16 0) (valueOf 1)) ∷ deletes (grant (keyOf 64 0) (valueOf 1)) ∷ [])
+      ∷ comparison kept29 0 4 (([]) ∷ []) (inserts (grant (keyOf 128 0) (valueOf 2)) ∷ [])
+      ∷ comparison kept29 3 4 (([]) ∷ (false ∷ []) ∷ (true ∷ []) ∷ []) (deletes (grant (keyOf 96 0) (valueOf 1)) ∷ [])
+      ∷ comparison kept30 0 1 (([]) ∷ []) (inserts (grant (keyOf 64 0) (valueOf 2)) ∷ [])
+      ∷ comparison kept30 6 9 (([]) ∷ (false ∷ []) ∷ (true ∷ []) ∷ []) (inserts (grant (keyOf 192 0) (valueOf 4)) ∷ [])
+      ∷ comparison kept30 11 1 (([]) ∷ (false ∷ []) ∷ (true ∷ []) ∷ []) (deletes (grant (keyOf 192 0) (valueOf 4)) ∷ [])
+      ∷ comparison kept30 7 9 (([]) ∷ (false ∷ []) ∷ (true ∷ []) ∷ []) (inserts (grant (keyOf 192 0) (valueOf 4)) ∷ [])
+      ∷ comparison kept31 2 2 (([]) ∷ []) ([])
+      ∷ comparison kept31 0 1 (([]) ∷ []) (inserts (grant (keyOf 0 0) (valueOf 3)) ∷ [])
+      ∷ comparison kept31 0 5 (([]) ∷ []) (inserts (grant (keyOf 0 0) (valueOf 3)) ∷ [])
+      ∷ comparison kept31 2 3 (([]) ∷ []) ([])
+      ∷ comparison kept32 18 12 (([]) ∷ (false ∷ []) ∷ (true ∷ []) ∷ (true ∷ false ∷ []) ∷ (true ∷ true ∷ []) ∷ []) (deletes (grant (keyOf 16 0) (valueOf 1)) ∷ deletes (grant (keyOf 192 0) (valueOf 3)) ∷ [])
+      ∷ comparison kept32 4 19 (([]) ∷ (false ∷ []) ∷ (true ∷ []) ∷ (true ∷ false ∷ []) ∷ (true ∷ true ∷ []) ∷ []) (deletes (grant (keyOf 16 0) (valueOf 2)) ∷ inserts (grant (keyOf 144 0) (valueOf 2)) ∷ inserts (grant (keyOf 192 0) (valueOf 3)) ∷ [])
+      ∷ comparison kept32 17 2 (([]) ∷ (false ∷ []) ∷ (true ∷ []) ∷ []) (deletes (grant (keyOf 16 0) (valueOf 1)) ∷ inserts (grant (keyOf 16 0) (valueOf 2)) ∷ deletes (grant (keyOf 144 0) (valueOf 2)) ∷ [])
+      ∷ comparison kept32 6 11 (([]) ∷ []) (deletes (grant (keyOf 16 0) (valueOf 2)) ∷ [])
+      ∷ comparison kept33 2 1 (([]) ∷ []) ([])
+      ∷ comparison kept33 2 1 (([]) ∷ []) ([])
+      ∷ comparison kept33 2 2 (([]) ∷ []) ([])
+      ∷ comparison kept33 2 3 (([]) ∷ (false ∷ []) ∷ (true ∷ []) ∷ []) (inserts (grant (keyOf 0 0) (valueOf 3)) ∷ deletes (grant (keyOf 192 0) (valueOf 1)) ∷ inserts (grant (keyOf 192 0) (valueOf 2)) ∷ [])
+      ∷ comparison kept34 3 3 (([]) ∷ []) ([])
+      ∷ comparison kept34 2 2 (([]) ∷ []) ([])
+      ∷ comparison kept34 2 4 (([]) ∷ []) (inserts (grant (keyOf 254 0) (valueOf 3)) ∷ [])
+      ∷ comparison kept34 5 4 (([]) ∷ []) ([])
+      ∷ comparison kept35 8 9 (([]) ∷ []) ([])
+      ∷ comparison kept35 13 8 (([]) ∷ []) (inserts (grant (keyOf 64 0) (valueOf 4)) ∷ [])
+      ∷ comparison kept35 8 7 (([]) ∷ []) ([])
+      ∷ comparison kept35 2 12 (([]) ∷ []) ([])
+      ∷ comparison kept36 4 5 (([]) ∷ (false ∷ []) ∷ (true ∷ []) ∷ []) ([])
+      ∷ comparison kept36 2 3 (([]) ∷ []) ([])
+      ∷ comparison kept36 6 3 (([]) ∷ (false ∷ []) ∷ (true ∷ []) ∷ (true ∷ false ∷ []) ∷ (true ∷ true ∷ []) ∷ (true ∷ true ∷ false ∷ []) ∷ (true ∷ true ∷ true ∷ []) ∷ []) (deletes (grant (keyOf 192 0) (valueOf 4)) ∷ deletes (grant (keyOf 255 0) (valueOf 4)) ∷ [])
+      ∷ comparison kept36 4 3 (([]) ∷ (false ∷ []) ∷ (true ∷ []) ∷ (true ∷ false ∷ []) ∷ (true ∷ true ∷ []) ∷ (true ∷ true ∷ false ∷ []) ∷ (true ∷ true ∷ true ∷ []) ∷ []) (deletes (grant (keyOf 192 0) (valueOf 4)) ∷ deletes (grant (keyOf 255 0) (valueOf 4)) ∷ [])
+      ∷ comparison kept37 16 15 (([]) ∷ []) ([])
+      ∷ comparison kept37 17 13 (([]) ∷ (false ∷ []) ∷ (false ∷ false ∷ []) ∷ (false ∷ true ∷ []) ∷ (false ∷ true ∷ false ∷ []) ∷ (false ∷ true ∷ true ∷ []) ∷ (true ∷ []) ∷ []) (deletes (grant (keyOf 0 0) (valueOf 1)) ∷ deletes (grant (keyOf 64 0) (valueOf 2)) ∷ [])
+      ∷ comparison kept37 13 12 (([]) ∷ []) ([])
+      ∷ comparison kept37 17 13 (([]) ∷ (false ∷ []) ∷ (false ∷ false ∷ []) ∷ (false ∷ true ∷ []) ∷ (false ∷ true ∷ false ∷ []) ∷ (false ∷ true ∷ true ∷ []) ∷ (true ∷ []) ∷ []) (deletes (grant (keyOf 0 0) (valueOf 1)) ∷ deletes (grant (keyOf 64 0) (valueOf 2)) ∷ [])
+      ∷ comparison kept38 4294967293 4294967293 (([]) ∷ []) ([])
+      ∷ comparison kept38 4294967294 4294967294 (([]) ∷ []) ([])
+      ∷ comparison kept38 4294967295 4294967295 (([]) ∷ []) ([])
+      ∷ comparison kept38 4294967294 4294967293 (([]) ∷ []) ([])
       ∷ comparison kept39 4294967295 4294967295 (([]) ∷ []) ([])
-      ∷ comparison kept39 4294967294 4294967294 (([]) ∷ []) ([])
-      ∷ comparison kept39 4294967294 4294967294 (([]) ∷ []) ([])
+      ∷ comparison kept39 4294967295 4294967295 (([]) ∷ []) ([])
+      ∷ comparison kept39 4294967295 4294967295 (([]) ∷ []) ([])
+      ∷ comparison kept39 4294967295 4294967295 (([]) ∷ []) ([])
       ∷ []
 
   pub comparisons : All ComparisonHolds rows

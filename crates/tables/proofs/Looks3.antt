@@ -1,4 +1,4 @@
--- Proofs and reads of whole and damaged stores, part 3. Written by tests/tables/generate.py; compared with a second reading of document 01 with 2026-13. Assumes nothing.
+-- Proofs and reads of whole and damaged stores, part 3. Written by tests/tables/generate.py; compared with a second reading of document 01, 2026-07 and 2026-13. Assumes nothing.
 use mathlib.Core.Path.{_≡_, refl}
 use mathlib.Core.Bool.{true, false}
 use mathlib.Core.List.{List, [], _∷_}
@@ -10,206 +10,206 @@ use Rattle.meaning.specs.Calls.{refused, accepted}
 use Rattle.meaning.specs.Desk.{keyOf}
 use Rattle.meaning.specs.Proving.{step, presenceOf, absenceOf}
 use Rattle.meaning.specs.Reading.{present, absent}
-use Rattle.tables.specs.Tables.{Look, look, LookHolds, leafSlot, innerSlot, storeOf, freeSlots, valueOf}
+use Rattle.tables.specs.Tables.{Look, look, LookHolds, leafSlot, innerSlot, spoiltSlot, storeOf, freeSlots, valueOf}
 
 module _ (leafHash innerHash : Bytes → Bytes → Bytes) where
   abbrev h0 : Bytes
-  h0 = leafHash (keyOf 0 0) (valueOf 3)
+  h0 = leafHash (keyOf 128 0) (valueOf 1)
 
   abbrev h1 : Bytes
-  h1 = leafHash (keyOf 104 0) (valueOf 1)
+  h1 = leafHash (keyOf 192 0) (valueOf 2)
 
   abbrev h2 : Bytes
-  h2 = innerHash h0 h1
+  h2 = leafHash (keyOf 104 0) (valueOf 1)
 
   abbrev h3 : Bytes
-  h3 = innerHash h2 zeros
+  h3 = innerHash h0 h1
 
   abbrev h4 : Bytes
-  h4 = leafHash (keyOf 128 0) (valueOf 3)
+  h4 = innerHash h2 h3
 
   abbrev h5 : Bytes
-  h5 = leafHash (keyOf 0 0) (valueOf 1)
+  h5 = innerHash h2 h1
 
   abbrev h6 : Bytes
-  h6 = leafHash (keyOf 128 0) (valueOf 2)
+  h6 = leafHash (keyOf 16 0) (valueOf 2)
 
   abbrev h7 : Bytes
-  h7 = innerHash h5 h6
+  h7 = leafHash (keyOf 96 0) (valueOf 3)
 
   abbrev h8 : Bytes
-  h8 = leafHash (keyOf 128 0) (valueOf 1)
+  h8 = innerHash h6 h7
 
   abbrev h9 : Bytes
-  h9 = leafHash (keyOf 144 0) (valueOf 1)
+  h9 = innerHash h7 h0
 
   abbrev h10 : Bytes
-  h10 = innerHash h8 h9
+  h10 = leafHash (keyOf 16 0) (valueOf 1)
 
   abbrev h11 : Bytes
-  h11 = innerHash h10 zeros
+  h11 = leafHash (keyOf 64 0) (valueOf 2)
 
   abbrev h12 : Bytes
-  h12 = leafHash (keyOf 64 0) (valueOf 2)
+  h12 = innerHash h10 h11
 
   abbrev h13 : Bytes
-  h13 = innerHash h11 zeros
+  h13 = leafHash (keyOf 64 0) (valueOf 1)
 
   abbrev h14 : Bytes
-  h14 = innerHash h12 h13
+  h14 = leafHash (keyOf 104 0) (valueOf 3)
 
   abbrev h15 : Bytes
-  h15 = leafHash (keyOf 16 0) (valueOf 2)
+  h15 = innerHash h13 h14
 
   abbrev h16 : Bytes
-  h16 = leafHash (keyOf 96 0) (valueOf 3)
+  h16 = innerHash zeros h15
 
   abbrev h17 : Bytes
-  h17 = innerHash h15 h16
+  h17 = innerHash h12 zeros
 
   abbrev h18 : Bytes
-  h18 = leafHash (keyOf 104 0) (valueOf 3)
+  h18 = leafHash (keyOf 64 0) (valueOf 4)
 
   abbrev h19 : Bytes
-  h19 = innerHash h5 h18
+  h19 = leafHash (keyOf 144 0) (valueOf 3)
 
   abbrev h20 : Bytes
-  h20 = leafHash (keyOf 96 0) (valueOf 2)
+  h20 = innerHash h18 h19
 
   abbrev h21 : Bytes
-  h21 = leafHash (keyOf 104 0) (valueOf 2)
+  h21 = leafHash (keyOf 0 0) (valueOf 4)
 
   abbrev h22 : Bytes
-  h22 = innerHash h20 h21
+  h22 = leafHash (keyOf 144 0) (valueOf 2)
 
   abbrev h23 : Bytes
-  h23 = innerHash h22 zeros
+  h23 = innerHash h21 h22
 
   abbrev h24 : Bytes
-  h24 = innerHash zeros h23
+  h24 = leafHash (keyOf 254 0) (valueOf 1)
 
   abbrev h25 : Bytes
-  h25 = innerHash h0 h24
+  h25 = leafHash (keyOf 128 0) (valueOf 3)
 
   abbrev h26 : Bytes
-  h26 = innerHash h19 zeros
+  h26 = leafHash (keyOf 144 0) (valueOf 1)
 
   abbrev h27 : Bytes
-  h27 = innerHash h25 zeros
+  h27 = leafHash (keyOf 255 0) (valueOf 2)
 
   abbrev h28 : Bytes
-  h28 = leafHash (keyOf 8 0) (valueOf 2)
+  h28 = innerHash h26 h27
 
   abbrev h29 : Bytes
-  h29 = leafHash (keyOf 64 0) (valueOf 3)
+  h29 = innerHash zeros h28
 
   abbrev h30 : Bytes
-  h30 = innerHash h28 h29
+  h30 = leafHash (keyOf 0 0) (valueOf 2)
 
   abbrev h31 : Bytes
-  h31 = leafHash (keyOf 192 0) (valueOf 3)
+  h31 = innerHash h30 h6
 
   abbrev h32 : Bytes
-  h32 = innerHash h30 h31
+  h32 = innerHash h31 zeros
 
   abbrev h33 : Bytes
-  h33 = leafHash (keyOf 0 0) (valueOf 4)
+  h33 = leafHash (keyOf 96 0) (valueOf 1)
 
   abbrev h34 : Bytes
-  h34 = leafHash (keyOf 254 0) (valueOf 3)
+  h34 = leafHash (keyOf 254 0) (valueOf 2)
 
   abbrev h35 : Bytes
-  h35 = innerHash h33 h34
+  h35 = innerHash h25 h34
 
   abbrev h36 : Bytes
-  h36 = leafHash (keyOf 254 0) (valueOf 2)
+  h36 = innerHash h33 h35
 
   abbrev h37 : Bytes
-  h37 = leafHash (keyOf 255 0) (valueOf 4)
+  h37 = innerHash h33 h25
 
   abbrev h38 : Bytes
-  h38 = innerHash h36 h37
+  h38 = leafHash (keyOf 8 0) (valueOf 4)
 
   abbrev h39 : Bytes
-  h39 = innerHash zeros h38
+  h39 = leafHash (keyOf 16 0) (valueOf 4)
 
   abbrev h40 : Bytes
-  h40 = innerHash zeros h39
+  h40 = innerHash h38 h39
 
   abbrev h41 : Bytes
-  h41 = innerHash zeros h40
+  h41 = innerHash h40 zeros
 
   abbrev h42 : Bytes
-  h42 = innerHash zeros h41
+  h42 = innerHash h41 zeros
 
   abbrev h43 : Bytes
-  h43 = innerHash zeros h42
+  h43 = innerHash h38 h10
 
   abbrev h44 : Bytes
-  h44 = innerHash zeros h43
+  h44 = innerHash h43 zeros
 
   abbrev h45 : Bytes
-  h45 = innerHash h0 h44
+  h45 = innerHash h44 zeros
 
   abbrev h46 : Bytes
-  h46 = leafHash (keyOf 0 0) (valueOf 2)
+  h46 = innerHash h45 zeros
 
   abbrev h47 : Bytes
-  h47 = leafHash (keyOf 144 0) (valueOf 2)
+  h47 = leafHash (keyOf 8 0) (valueOf 1)
 
   abbrev h48 : Bytes
-  h48 = innerHash h46 h47
+  h48 = leafHash (keyOf 96 0) (valueOf 4)
 
   abbrev h49 : Bytes
-  h49 = leafHash (keyOf 96 0) (valueOf 4)
+  h49 = innerHash h33 h19
 
   abbrev h50 : Bytes
-  h50 = innerHash zeros h24
+  h50 = innerHash h48 h19
 
   abbrev h51 : Bytes
-  h51 = innerHash h28 h24
+  h51 = leafHash (keyOf 104 0) (valueOf 2)
 
   abbrev h52 : Bytes
-  h52 = innerHash h51 zeros
+  h52 = leafHash (keyOf 192 0) (valueOf 1)
 
   abbrev h53 : Bytes
-  h53 = leafHash (keyOf 96 0) (valueOf 1)
+  h53 = innerHash h51 h52
 
   abbrev h54 : Bytes
-  h54 = innerHash h29 h16
+  h54 = leafHash (keyOf 8 0) (valueOf 3)
 
   abbrev h55 : Bytes
-  h55 = innerHash zeros h54
+  h55 = leafHash (keyOf 128 0) (valueOf 4)
 
   abbrev h56 : Bytes
-  h56 = innerHash h55 zeros
+  h56 = innerHash h54 h25
 
   abbrev h57 : Bytes
-  h57 = leafHash (keyOf 255 0) (valueOf 3)
+  h57 = innerHash h54 h2
 
   abbrev h58 : Bytes
-  h58 = innerHash h8 h57
+  h58 = innerHash h54 h22
 
   abbrev h59 : Bytes
-  h59 = leafHash (keyOf 255 0) (valueOf 1)
+  h59 = innerHash h57 h22
 
   abbrev h60 : Bytes
-  h60 = leafHash (keyOf 192 0) (valueOf 1)
+  h60 = innerHash h38 h51
 
   abbrev h61 : Bytes
-  h61 = innerHash h21 h60
+  h61 = leafHash (keyOf 104 0) (valueOf 4)
 
   abbrev h62 : Bytes
-  h62 = leafHash (keyOf 8 0) (valueOf 3)
+  h62 = innerHash h47 h61
 
   abbrev h63 : Bytes
-  h63 = leafHash (keyOf 128 0) (valueOf 4)
+  h63 = innerHash h62 zeros
 
   abbrev h64 : Bytes
-  h64 = innerHash h62 h4
+  h64 = innerHash h6 h22
 
   abbrev h65 : Bytes
-  h65 = innerHash h46 h28
+  h65 = innerHash h0 h22
 
   abbrev h66 : Bytes
   h66 = innerHash h65 zeros
@@ -218,120 +218,121 @@ module _ (leafHash innerHash : Bytes → Bytes → Bytes) where
   h67 = innerHash h66 zeros
 
   abbrev h68 : Bytes
-  h68 = innerHash h67 h1
+  h68 = innerHash zeros h67
 
   abbrev h69 : Bytes
-  h69 = leafHash (keyOf 255 0) (valueOf 2)
+  h69 = leafHash (keyOf 0 0) (valueOf 1)
 
   abbrev h70 : Bytes
-  h70 = innerHash h68 h69
+  h70 = leafHash (keyOf 64 0) (valueOf 3)
 
   abbrev h71 : Bytes
-  h71 = leafHash (keyOf 16 0) (valueOf 3)
+  h71 = innerHash h13 h1
 
   abbrev h72 : Bytes
-  h72 = innerHash h71 h29
+  h72 = innerHash h70 h27
 
   abbrev h73 : Bytes
-  h73 = innerHash h72 zeros
+  h73 = leafHash (keyOf 128 0) (valueOf 2)
 
   abbrev h74 : Bytes
-  h74 = innerHash h60 h57
+  h74 = innerHash h39 h73
 
   abbrev h75 : Bytes
-  h75 = innerHash zeros h74
+  h75 = leafHash (keyOf 192 0) (valueOf 4)
 
   abbrev h76 : Bytes
-  h76 = innerHash h15 h75
+  h76 = innerHash h55 h75
 
   abbrev h77 : Bytes
-  h77 = innerHash h20 h1
+  h77 = innerHash h73 h52
 
   abbrev h78 : Bytes
-  h78 = innerHash h77 zeros
+  h78 = innerHash h10 h76
 
   abbrev h79 : Bytes
-  h79 = innerHash zeros h78
-
-  abbrev h80 : Bytes
-  h80 = innerHash zeros h79
-
-  abbrev h81 : Bytes
-  h81 = innerHash h60 h34
-
-  abbrev h82 : Bytes
-  h82 = innerHash zeros h81
-
-  abbrev h83 : Bytes
-  h83 = innerHash h71 h20
-
-  abbrev h84 : Bytes
-  h84 = innerHash h83 h60
+  h79 = innerHash h10 h77
 
   abbrev seen0 : Store
   seen0 =
-      storeOf 2 8
-      (leafSlot (false ∷ false ∷ []) 8 0 (keyOf 0 0) (valueOf 3)
-      ∷ leafSlot (false ∷ true ∷ []) 8 0 (keyOf 104 0) (valueOf 1)
-      ∷ innerSlot (false ∷ []) 8 0 8 h0 8 h1
-      ∷ innerSlot ([]) 8 0 8 h2 0 zeros
+      storeOf 7 13
+      (leafSlot (true ∷ false ∷ []) 8 13 (keyOf 128 0) (valueOf 1)
+      ∷ leafSlot ([]) 7 8 (keyOf 128 0) (valueOf 1)
+      ∷ leafSlot (true ∷ true ∷ []) 8 13 (keyOf 192 0) (valueOf 2)
+      ∷ leafSlot (false ∷ []) 8 0 (keyOf 104 0) (valueOf 1)
+      ∷ innerSlot (true ∷ []) 8 13 8 h0 8 h1
+      ∷ innerSlot ([]) 8 13 8 h2 8 h3
+      ∷ leafSlot (true ∷ []) 13 0 (keyOf 192 0) (valueOf 2)
+      ∷ innerSlot ([]) 13 0 8 h2 13 h1
       ∷ [])
 
   abbrev seen1 : Store
   seen1 =
-      storeOf 7 11
-      (free
+      storeOf 7 13
+      (leafSlot (false ∷ false ∷ []) 11 13 (keyOf 16 0) (valueOf 2)
+      ∷ leafSlot (false ∷ true ∷ []) 11 13 (keyOf 96 0) (valueOf 3)
+      ∷ leafSlot ([]) 7 11 (keyOf 16 0) (valueOf 2)
       ∷ free
-      ∷ leafSlot ([]) 10 10 (keyOf 128 0) (valueOf 4)
-      ∷ leafSlot ([]) 10 11 (keyOf 128 0) (valueOf 3)
+      ∷ innerSlot ([]) 11 12 11 h8 0 zeros
+      ∷ innerSlot ([]) 12 13 11 h8 0 zeros
+      ∷ leafSlot (false ∷ []) 13 0 (keyOf 0 0) (valueOf 3)
+      ∷ leafSlot (true ∷ []) 13 0 (keyOf 128 0) (valueOf 1)
+      ∷ innerSlot ([]) 13 0 13 h7 13 h0
+      ∷ free
+      ∷ free
+      ∷ free
       ∷ [])
 
   abbrev seen2 : Store
   seen2 =
-      storeOf 2 6
-      (leafSlot ([]) 3 4 (keyOf 128 0) (valueOf 3)
-      ∷ leafSlot (false ∷ []) 4 0 (keyOf 0 0) (valueOf 1)
-      ∷ leafSlot (true ∷ []) 4 0 (keyOf 128 0) (valueOf 2)
-      ∷ innerSlot ([]) 4 6 4 h5 4 h6
-      ∷ innerSlot ([]) 6 0 4 h5 4 h6
-      ∷ free
-      ∷ free
-      ∷ free
-      ∷ free
-      ∷ free
-      ∷ free
-      ∷ free
-      ∷ free
-      ∷ free
-      ∷ free
+      storeOf 8 11
+      (leafSlot (false ∷ true ∷ false ∷ []) 10 11 (keyOf 64 0) (valueOf 1)
+      ∷ leafSlot (false ∷ false ∷ []) 7 10 (keyOf 16 0) (valueOf 1)
+      ∷ leafSlot (false ∷ true ∷ []) 7 10 (keyOf 64 0) (valueOf 2)
+      ∷ innerSlot (false ∷ []) 7 10 7 h10 7 h11
+      ∷ innerSlot ([]) 7 9 7 h12 0 zeros
+      ∷ innerSlot ([]) 9 10 7 h12 0 zeros
+      ∷ leafSlot (false ∷ true ∷ true ∷ []) 10 11 (keyOf 104 0) (valueOf 3)
+      ∷ innerSlot (false ∷ true ∷ []) 10 11 10 h13 10 h14
+      ∷ innerSlot (false ∷ []) 10 11 0 zeros 10 h15
+      ∷ innerSlot ([]) 10 11 10 h16 0 zeros
+      ∷ leafSlot ([]) 11 0 (keyOf 64 0) (valueOf 1)
       ∷ free
       ∷ [])
 
   abbrev seen3 : Store
   seen3 =
-      storeOf 1 2
-      (leafSlot (true ∷ false ∷ false ∷ false ∷ []) 2 0 (keyOf 128 0) (valueOf 1)
-      ∷ leafSlot (true ∷ false ∷ false ∷ true ∷ []) 2 0 (keyOf 144 0) (valueOf 1)
-      ∷ free
-      ∷ innerSlot (true ∷ false ∷ []) 2 0 2 h10 0 zeros
-      ∷ leafSlot (false ∷ []) 2 0 (keyOf 64 0) (valueOf 2)
-      ∷ innerSlot (true ∷ []) 2 0 2 h11 0 zeros
-      ∷ innerSlot ([]) 2 0 2 h12 2 h13
-      ∷ free
+      storeOf 0 4
+      (leafSlot (false ∷ []) 2 4 (keyOf 64 0) (valueOf 4)
+      ∷ leafSlot (true ∷ []) 1 4 (keyOf 144 0) (valueOf 3)
+      ∷ innerSlot ([]) 1 4 1 h18 1 h19
+      ∷ leafSlot ([]) 4 0 (keyOf 144 0) (valueOf 3)
       ∷ [])
 
   abbrev seen4 : Store
   seen4 =
-      storeOf 7 13
-      (leafSlot (false ∷ false ∷ []) 11 13 (keyOf 16 0) (valueOf 2)
-      ∷ leafSlot (false ∷ true ∷ []) 11 13 (keyOf 96 0) (valueOf 3)
-      ∷ leafSlot ([]) 7 11 (keyOf 16 0) (valueOf 2)
-      ∷ innerSlot (false ∷ []) 11 13 11 h15 11 h16
-      ∷ innerSlot ([]) 11 12 11 h17 0 zeros
-      ∷ innerSlot ([]) 12 13 11 h17 0 zeros
-      ∷ leafSlot (false ∷ []) 13 0 (keyOf 96 0) (valueOf 3)
-      ∷ leafSlot (true ∷ []) 13 0 (keyOf 128 0) (valueOf 1)
-      ∷ innerSlot ([]) 13 0 13 h16 13 h8
+      storeOf 4294967293 4294967295
+      (leafSlot (false ∷ []) 4294967295 0 (keyOf 0 0) (valueOf 4)
+      ∷ leafSlot (true ∷ []) 4294967295 0 (keyOf 144 0) (valueOf 2)
+      ∷ innerSlot ([]) 4294967295 0 4294967295 h21 4294967295 h22
+      ∷ free
+      ∷ free
+      ∷ free
+      ∷ free
+      ∷ free
+      ∷ free
+      ∷ free
+      ∷ free
+      ∷ free
+      ∷ free
+      ∷ free
+      ∷ free
+      ∷ free
+      ∷ free
+      ∷ free
+      ∷ free
+      ∷ free
+      ∷ free
       ∷ free
       ∷ free
       ∷ free
@@ -339,43 +340,43 @@ module _ (leafHash innerHash : Bytes → Bytes → Bytes) where
 
   abbrev seen5 : Store
   seen5 =
-      storeOf 3 5
-      (leafSlot (false ∷ false ∷ []) 5 0 (keyOf 0 0) (valueOf 1)
-      ∷ leafSlot (false ∷ false ∷ []) 2 5 (keyOf 0 0) (valueOf 3)
-      ∷ leafSlot (false ∷ true ∷ []) 5 0 (keyOf 104 0) (valueOf 3)
-      ∷ innerSlot (false ∷ []) 5 0 5 h5 5 h18
-      ∷ innerSlot ([]) 5 0 5 h19 0 zeros
-      ∷ leafSlot (false ∷ true ∷ true ∷ false ∷ false ∷ []) 3 5 (keyOf 96 0) (valueOf 2)
-      ∷ leafSlot (false ∷ true ∷ true ∷ false ∷ true ∷ []) 3 5 (keyOf 104 0) (valueOf 2)
-      ∷ innerSlot (false ∷ true ∷ true ∷ false ∷ []) 3 5 3 h20 3 h21
-      ∷ innerSlot (false ∷ true ∷ true ∷ []) 3 5 3 h22 0 zeros
-      ∷ innerSlot (false ∷ true ∷ []) 3 5 0 zeros 3 h23
-      ∷ innerSlot (false ∷ []) 3 5 2 h0 3 h24
-      ∷ innerSlot ([]) 3 4 3 h25 0 zeros
-      ∷ innerSlot ([]) 4 5 3 h25 0 zeros
-      ∷ leafSlot (false ∷ []) 3 5 (keyOf 192 0) (valueOf 9)
+      storeOf 5 7
+      (leafSlot ([]) 4 6 (keyOf 192 0) (valueOf 2)
+      ∷ leafSlot ([]) 6 7 (keyOf 192 0) (valueOf 2)
+      ∷ leafSlot ([]) 7 0 (keyOf 254 0) (valueOf 1)
+      ∷ spoiltSlot 0 ([]) 4 6
+      ∷ free
+      ∷ free
+      ∷ free
+      ∷ free
+      ∷ free
+      ∷ free
+      ∷ free
+      ∷ free
+      ∷ free
+      ∷ free
+      ∷ free
+      ∷ free
+      ∷ free
+      ∷ free
+      ∷ free
+      ∷ free
+      ∷ free
+      ∷ free
       ∷ free
       ∷ free
       ∷ [])
 
   abbrev seen6 : Store
   seen6 =
-      storeOf 6 21
-      (leafSlot ([]) 11 16 (keyOf 8 0) (valueOf 2)
-      ∷ leafSlot ([]) 16 21 (keyOf 8 0) (valueOf 2)
-      ∷ leafSlot ([]) 21 0 (keyOf 8 0) (valueOf 2)
-      ∷ free
-      ∷ free
-      ∷ free
-      ∷ free
-      ∷ free
-      ∷ free
-      ∷ free
-      ∷ free
-      ∷ free
-      ∷ free
-      ∷ free
-      ∷ free
+      storeOf 4 12
+      (leafSlot ([]) 5 9 (keyOf 96 0) (valueOf 2)
+      ∷ leafSlot ([]) 9 10 (keyOf 96 0) (valueOf 2)
+      ∷ leafSlot ([]) 10 11 (keyOf 128 0) (valueOf 1)
+      ∷ leafSlot (false ∷ []) 11 12 (keyOf 64 0) (valueOf 2)
+      ∷ leafSlot (true ∷ []) 11 12 (keyOf 128 0) (valueOf 3)
+      ∷ innerSlot ([]) 11 12 11 h11 11 h25
+      ∷ leafSlot ([]) 12 0 (keyOf 128 0) (valueOf 3)
       ∷ free
       ∷ free
       ∷ free
@@ -389,16 +390,20 @@ module _ (leafHash innerHash : Bytes → Bytes → Bytes) where
 
   abbrev seen7 : Store
   seen7 =
-      storeOf 4 16
-      (leafSlot ([]) 1 6 (keyOf 8 0) (valueOf 2)
-      ∷ leafSlot (false ∷ false ∷ []) 6 0 (keyOf 8 0) (valueOf 2)
-      ∷ leafSlot (false ∷ true ∷ []) 6 0 (keyOf 64 0) (valueOf 3)
-      ∷ innerSlot (false ∷ []) 6 0 6 h28 6 h29
-      ∷ innerSlot ([]) 7 7 6 h30 0 zeros
-      ∷ leafSlot (true ∷ []) 7 0 (keyOf 192 0) (valueOf 3)
-      ∷ innerSlot ([]) 7 11 6 h30 7 h31
-      ∷ innerSlot ([]) 11 16 6 h30 7 h31
-      ∷ innerSlot ([]) 16 0 6 h30 7 h31
+      storeOf 12 12
+      (free
+      ∷ free
+      ∷ leafSlot ([]) 13 14 (keyOf 96 0) (valueOf 4)
+      ∷ free
+      ∷ free
+      ∷ free
+      ∷ free
+      ∷ free
+      ∷ free
+      ∷ free
+      ∷ free
+      ∷ free
+      ∷ free
       ∷ free
       ∷ free
       ∷ free
@@ -406,12 +411,20 @@ module _ (leafHash innerHash : Bytes → Bytes → Bytes) where
 
   abbrev seen8 : Store
   seen8 =
-      storeOf 0 6
-      (leafSlot ([]) 1 2 (keyOf 0 0) (valueOf 3)
-      ∷ leafSlot ([]) 2 6 (keyOf 0 0) (valueOf 3)
-      ∷ leafSlot (false ∷ []) 6 0 (keyOf 0 0) (valueOf 4)
-      ∷ leafSlot (true ∷ []) 6 0 (keyOf 254 0) (valueOf 3)
-      ∷ innerSlot ([]) 6 0 6 h33 6 h34
+      storeOf 7 8
+      (leafSlot (true ∷ false ∷ []) 8 0 (keyOf 144 0) (valueOf 1)
+      ∷ leafSlot (true ∷ true ∷ []) 8 0 (keyOf 255 0) (valueOf 2)
+      ∷ innerSlot (true ∷ []) 8 0 8 h26 8 h27
+      ∷ innerSlot ([]) 8 0 0 zeros 8 h28
+      ∷ free
+      ∷ free
+      ∷ leafSlot (false ∷ []) 7 8 (keyOf 64 0) (valueOf 2)
+      ∷ leafSlot (true ∷ []) 7 8 (keyOf 144 0) (valueOf 1)
+      ∷ innerSlot ([]) 7 8 7 h11 7 h26
+      ∷ free
+      ∷ free
+      ∷ free
+      ∷ free
       ∷ free
       ∷ free
       ∷ free
@@ -419,44 +432,52 @@ module _ (leafHash innerHash : Bytes → Bytes → Bytes) where
 
   abbrev seen9 : Store
   seen9 =
-      storeOf 0 1
-      (leafSlot ([]) 2 0 (keyOf 104 0) (valueOf 4)
+      storeOf 3 3
+      (leafSlot (false ∷ false ∷ false ∷ false ∷ []) 2 0 (keyOf 0 0) (valueOf 2)
+      ∷ leafSlot (false ∷ false ∷ false ∷ true ∷ []) 2 0 (keyOf 16 0) (valueOf 2)
+      ∷ innerSlot (false ∷ false ∷ false ∷ []) 2 0 2 h30 2 h6
+      ∷ innerSlot (false ∷ false ∷ []) 2 0 2 h31 0 zeros
+      ∷ innerSlot (false ∷ []) 2 0 2 h32 0 zeros
+      ∷ leafSlot (true ∷ []) 2 0 (keyOf 254 0) (valueOf 1)
       ∷ free
-      ∷ free
-      ∷ free
-      ∷ free
-      ∷ free
-      ∷ free
-      ∷ free
+      ∷ spoiltSlot 0 ([]) 3 0
       ∷ [])
 
   abbrev seen10 : Store
   seen10 =
-      storeOf 0 10
-      (leafSlot ([]) 5 10 (keyOf 0 0) (valueOf 3)
-      ∷ leafSlot (true ∷ true ∷ true ∷ true ∷ true ∷ true ∷ true ∷ false ∷ []) 10 0 (keyOf 254 0) (valueOf 2)
-      ∷ leafSlot (true ∷ true ∷ true ∷ true ∷ true ∷ true ∷ true ∷ true ∷ []) 10 0 (keyOf 255 0) (valueOf 4)
-      ∷ innerSlot (true ∷ true ∷ true ∷ true ∷ true ∷ true ∷ true ∷ []) 10 0 10 h36 10 h37
-      ∷ innerSlot (true ∷ true ∷ true ∷ true ∷ true ∷ true ∷ []) 10 0 0 zeros 10 h38
-      ∷ innerSlot (true ∷ true ∷ true ∷ true ∷ true ∷ []) 10 0 0 zeros 10 h39
-      ∷ innerSlot (true ∷ true ∷ true ∷ true ∷ []) 10 0 0 zeros 10 h40
-      ∷ innerSlot (true ∷ true ∷ true ∷ []) 10 0 0 zeros 10 h41
-      ∷ innerSlot (true ∷ true ∷ []) 10 0 0 zeros 10 h42
-      ∷ leafSlot (false ∷ []) 10 0 (keyOf 0 0) (valueOf 3)
-      ∷ innerSlot (true ∷ []) 10 0 0 zeros 10 h43
-      ∷ innerSlot ([]) 10 0 10 h0 10 h44
+      storeOf 2 10
+      (leafSlot (false ∷ []) 6 0 (keyOf 96 0) (valueOf 1)
+      ∷ leafSlot (true ∷ []) 6 10 (keyOf 128 0) (valueOf 3)
+      ∷ innerSlot ([]) 6 10 6 h33 6 h25
+      ∷ leafSlot (true ∷ false ∷ []) 10 0 (keyOf 128 0) (valueOf 3)
+      ∷ leafSlot (true ∷ true ∷ []) 10 0 (keyOf 254 0) (valueOf 2)
+      ∷ innerSlot (true ∷ []) 10 0 10 h25 10 h34
+      ∷ innerSlot ([]) 10 0 6 h33 10 h35
+      ∷ free
       ∷ [])
 
   abbrev seen11 : Store
   seen11 =
-      storeOf 2 5
-      (leafSlot ([]) 2 3 (keyOf 0 0) (valueOf 4)
-      ∷ leafSlot ([]) 3 4 (keyOf 0 0) (valueOf 4)
-      ∷ leafSlot (false ∷ []) 4 0 (keyOf 0 0) (valueOf 2)
-      ∷ leafSlot (true ∷ []) 4 5 (keyOf 144 0) (valueOf 1)
-      ∷ innerSlot ([]) 4 5 4 h46 4 h9
-      ∷ leafSlot (true ∷ []) 5 0 (keyOf 144 0) (valueOf 2)
-      ∷ innerSlot ([]) 5 0 4 h46 5 h47
+      storeOf 0 7
+      (leafSlot ([]) 1 2 (keyOf 16 0) (valueOf 1)
+      ∷ leafSlot ([]) 2 3 (keyOf 8 0) (valueOf 4)
+      ∷ leafSlot (false ∷ false ∷ false ∷ false ∷ []) 3 0 (keyOf 8 0) (valueOf 4)
+      ∷ leafSlot (false ∷ false ∷ false ∷ true ∷ []) 3 7 (keyOf 16 0) (valueOf 4)
+      ∷ innerSlot (false ∷ false ∷ false ∷ []) 3 7 3 h38 3 h39
+      ∷ innerSlot (false ∷ false ∷ []) 3 7 3 h40 0 zeros
+      ∷ innerSlot (false ∷ []) 4 7 3 h41 0 zeros
+      ∷ innerSlot ([]) 3 7 3 h42 0 zeros
+      ∷ leafSlot (false ∷ false ∷ false ∷ true ∷ []) 7 0 (keyOf 16 0) (valueOf 1)
+      ∷ innerSlot (false ∷ false ∷ false ∷ []) 7 0 3 h38 7 h10
+      ∷ innerSlot (false ∷ false ∷ []) 7 0 7 h43 0 zeros
+      ∷ innerSlot (false ∷ []) 7 0 7 h44 0 zeros
+      ∷ innerSlot ([]) 7 0 7 h45 0 zeros
+      ∷ free
+      ∷ free
+      ∷ free
+      ∷ free
+      ∷ free
+      ∷ free
       ∷ free
       ∷ free
       ∷ free
@@ -466,60 +487,56 @@ module _ (leafHash innerHash : Bytes → Bytes → Bytes) where
 
   abbrev seen12 : Store
   seen12 =
-      storeOf 0 8
-      (leafSlot ([]) 2 6 (keyOf 96 0) (valueOf 4)
-      ∷ leafSlot ([]) 6 7 (keyOf 96 0) (valueOf 3)
-      ∷ leafSlot ([]) 7 8 (keyOf 96 0) (valueOf 3)
-      ∷ leafSlot ([]) 8 0 (keyOf 96 0) (valueOf 3)
+      storeOf 8 14
+      (free
+      ∷ free
+      ∷ free
+      ∷ free
+      ∷ free
+      ∷ free
+      ∷ free
+      ∷ free
+      ∷ free
+      ∷ free
+      ∷ free
+      ∷ free
       ∷ [])
 
   abbrev seen13 : Store
   seen13 =
-      storeOf 0 9
-      (leafSlot ([]) 4 5 (keyOf 104 0) (valueOf 3)
-      ∷ leafSlot (false ∷ true ∷ true ∷ false ∷ false ∷ []) 5 0 (keyOf 96 0) (valueOf 2)
-      ∷ leafSlot (false ∷ true ∷ true ∷ false ∷ true ∷ []) 5 0 (keyOf 104 0) (valueOf 2)
-      ∷ innerSlot (false ∷ true ∷ true ∷ false ∷ []) 5 0 5 h20 5 h21
-      ∷ innerSlot (false ∷ true ∷ true ∷ []) 5 0 5 h22 0 zeros
-      ∷ innerSlot (false ∷ true ∷ []) 5 0 0 zeros 5 h23
-      ∷ innerSlot (false ∷ []) 5 8 0 zeros 5 h24
-      ∷ innerSlot ([]) 5 8 5 h50 0 zeros
-      ∷ leafSlot (false ∷ false ∷ []) 8 0 (keyOf 8 0) (valueOf 2)
-      ∷ innerSlot (false ∷ []) 8 0 8 h28 5 h24
-      ∷ innerSlot ([]) 9 9 8 h51 0 zeros
-      ∷ innerSlot ([]) 9 0 8 h51 0 zeros
+      storeOf 0 10
+      (spoiltSlot 0 ([]) 3 5
+      ∷ leafSlot ([]) 5 9 (keyOf 8 0) (valueOf 1)
+      ∷ leafSlot ([]) 9 10 (keyOf 8 0) (valueOf 1)
+      ∷ leafSlot ([]) 11 0 (keyOf 8 0) (valueOf 1)
       ∷ [])
 
   abbrev seen14 : Store
   seen14 =
-      storeOf 18 19
-      (free
-      ∷ free
-      ∷ leafSlot (false ∷ []) 9 19 (keyOf 8 0) (valueOf 2)
-      ∷ free
-      ∷ free
-      ∷ leafSlot (true ∷ []) 14 19 (keyOf 254 0) (valueOf 2)
-      ∷ innerSlot ([]) 14 19 9 h28 14 h36
+      storeOf 15 22
+      (innerSlot ([]) 22 0 21 h33 10 h19
       ∷ free
       ∷ free
       ∷ free
+      ∷ leafSlot (true ∷ []) 10 0 (keyOf 144 0) (valueOf 3)
       ∷ free
+      ∷ leafSlot (false ∷ []) 15 21 (keyOf 96 0) (valueOf 4)
+      ∷ innerSlot ([]) 15 16 15 h48 10 h19
+      ∷ innerSlot ([]) 16 21 15 h48 10 h19
+      ∷ leafSlot (false ∷ []) 21 0 (keyOf 96 0) (valueOf 1)
+      ∷ innerSlot ([]) 21 22 21 h33 10 h19
       ∷ free
       ∷ [])
 
   abbrev seen15 : Store
   seen15 =
-      storeOf 0 17
-      (leafSlot ([]) 3 4 (keyOf 255 0) (valueOf 4)
-      ∷ leafSlot (false ∷ []) 4 6 (keyOf 192 0) (valueOf 1)
-      ∷ leafSlot (true ∷ []) 5 10 (keyOf 255 0) (valueOf 4)
-      ∷ innerSlot ([]) 4 6 4 h53 4 h37
-      ∷ leafSlot (false ∷ []) 6 10 (keyOf 96 0) (valueOf 4)
-      ∷ innerSlot ([]) 6 10 6 h49 4 h37
-      ∷ leafSlot ([]) 10 11 (keyOf 255 0) (valueOf 4)
-      ∷ leafSlot ([]) 11 12 (keyOf 255 0) (valueOf 4)
-      ∷ leafSlot ([]) 12 15 (keyOf 255 0) (valueOf 4)
-      ∷ leafSlot ([]) 17 0 (keyOf 96 0) (valueOf 3)
+      storeOf 0 4
+      (spoiltSlot 1 (false ∷ []) 5 0
+      ∷ leafSlot (true ∷ []) 4 0 (keyOf 192 0) (valueOf 1)
+      ∷ innerSlot ([]) 4 0 4 h51 4 h52
+      ∷ free
+      ∷ free
+      ∷ free
       ∷ free
       ∷ free
       ∷ [])
@@ -527,20 +544,28 @@ module _ (leafHash innerHash : Bytes → Bytes → Bytes) where
   abbrev seen16 : Store
   seen16 =
       storeOf 0 5
-      (leafSlot (false ∷ true ∷ false ∷ []) 4 0 (keyOf 64 0) (valueOf 3)
-      ∷ leafSlot (false ∷ true ∷ true ∷ []) 4 0 (keyOf 96 0) (valueOf 3)
-      ∷ innerSlot (false ∷ true ∷ []) 4 0 4 h29 4 h16
-      ∷ innerSlot (false ∷ []) 4 0 0 zeros 4 h54
-      ∷ innerSlot ([]) 4 5 4 h55 0 zeros
-      ∷ innerSlot ([]) 5 0 4 h55 0 zeros
+      (leafSlot (false ∷ []) 2 5 (keyOf 8 0) (valueOf 3)
+      ∷ leafSlot (true ∷ []) 2 3 (keyOf 128 0) (valueOf 3)
+      ∷ innerSlot ([]) 2 3 2 h54 2 h25
+      ∷ leafSlot (true ∷ []) 3 5 (keyOf 128 0) (valueOf 4)
+      ∷ innerSlot ([]) 3 5 2 h54 3 h55
+      ∷ free
+      ∷ free
+      ∷ free
+      ∷ free
+      ∷ free
       ∷ free
       ∷ free
       ∷ [])
 
   abbrev seen17 : Store
   seen17 =
-      storeOf 0 7
-      (free
+      storeOf 7 10
+      (leafSlot ([]) 10 0 (keyOf 192 0) (valueOf 1)
+      ∷ spoiltSlot 0 ([]) 7 8
+      ∷ leafSlot ([]) 9 10 (keyOf 192 0) (valueOf 1)
+      ∷ free
+      ∷ free
       ∷ free
       ∷ free
       ∷ free
@@ -548,16 +573,8 @@ module _ (leafHash innerHash : Bytes → Bytes → Bytes) where
 
   abbrev seen18 : Store
   seen18 =
-      storeOf 0 14
-      (leafSlot ([]) 8 9 (keyOf 128 0) (valueOf 1)
-      ∷ leafSlot ([]) 9 11 (keyOf 128 0) (valueOf 1)
-      ∷ leafSlot (true ∷ false ∷ []) 11 12 (keyOf 128 0) (valueOf 1)
-      ∷ leafSlot (true ∷ true ∷ []) 11 12 (keyOf 255 0) (valueOf 3)
-      ∷ innerSlot (true ∷ []) 11 12 11 h8 11 h57
-      ∷ innerSlot ([]) 11 12 0 zeros 11 h58
-      ∷ leafSlot ([]) 12 14 (keyOf 255 0) (valueOf 1)
-      ∷ leafSlot ([]) 14 0 (keyOf 255 0) (valueOf 1)
-      ∷ free
+      storeOf 0 0
+      (free
       ∷ free
       ∷ free
       ∷ free
@@ -565,12 +582,8 @@ module _ (leafHash innerHash : Bytes → Bytes → Bytes) where
 
   abbrev seen19 : Store
   seen19 =
-      storeOf 0 4
-      (leafSlot (false ∷ []) 5 0 (keyOf 104 0) (valueOf 2)
-      ∷ leafSlot (true ∷ []) 4 0 (keyOf 192 0) (valueOf 1)
-      ∷ innerSlot ([]) 4 0 4 h21 4 h60
-      ∷ leafSlot (false ∷ []) 5 0 (keyOf 16 0) (valueOf 9)
-      ∷ free
+      storeOf 4294967293 4294967295
+      (free
       ∷ free
       ∷ free
       ∷ free
@@ -578,12 +591,16 @@ module _ (leafHash innerHash : Bytes → Bytes → Bytes) where
 
   abbrev seen20 : Store
   seen20 =
-      storeOf 0 5
-      (leafSlot (false ∷ []) 2 5 (keyOf 8 0) (valueOf 3)
-      ∷ leafSlot (true ∷ []) 2 3 (keyOf 128 0) (valueOf 3)
-      ∷ innerSlot ([]) 2 3 2 h62 2 h4
-      ∷ leafSlot (true ∷ []) 3 5 (keyOf 128 0) (valueOf 4)
-      ∷ innerSlot ([]) 3 5 2 h62 3 h63
+      storeOf 0 4
+      (leafSlot ([]) 1 2 (keyOf 8 0) (valueOf 3)
+      ∷ leafSlot (false ∷ []) 2 4 (keyOf 8 0) (valueOf 3)
+      ∷ leafSlot (true ∷ []) 2 0 (keyOf 144 0) (valueOf 2)
+      ∷ innerSlot ([]) 2 4 2 h54 2 h22
+      ∷ leafSlot (false ∷ false ∷ []) 4 0 (keyOf 8 0) (valueOf 3)
+      ∷ leafSlot (false ∷ true ∷ []) 4 0 (keyOf 104 0) (valueOf 1)
+      ∷ innerSlot (false ∷ []) 4 0 4 h54 4 h2
+      ∷ innerSlot ([]) 4 0 4 h57 2 h22
+      ∷ free
       ∷ free
       ∷ free
       ∷ free
@@ -595,12 +612,8 @@ module _ (leafHash innerHash : Bytes → Bytes → Bytes) where
 
   abbrev seen21 : Store
   seen21 =
-      storeOf 7 10
-      (leafSlot ([]) 11 0 (keyOf 192 0) (valueOf 1)
-      ∷ leafSlot ([]) 7 8 (keyOf 0 0) (valueOf 1)
-      ∷ leafSlot ([]) 9 10 (keyOf 192 0) (valueOf 1)
-      ∷ free
-      ∷ free
+      storeOf 0 2
+      (spoiltSlot 0 ([]) 2 3
       ∷ free
       ∷ free
       ∷ free
@@ -608,16 +621,16 @@ module _ (leafHash innerHash : Bytes → Bytes → Bytes) where
 
   abbrev seen22 : Store
   seen22 =
-      storeOf 0 2
-      (free
-      ∷ free
-      ∷ free
-      ∷ free
-      ∷ free
-      ∷ free
-      ∷ free
-      ∷ free
-      ∷ free
+      storeOf 2 10
+      (leafSlot ([]) 2 5 (keyOf 104 0) (valueOf 2)
+      ∷ leafSlot (false ∷ false ∷ []) 5 10 (keyOf 8 0) (valueOf 4)
+      ∷ leafSlot (false ∷ true ∷ []) 5 10 (keyOf 104 0) (valueOf 2)
+      ∷ innerSlot (false ∷ []) 5 10 5 h38 5 h51
+      ∷ innerSlot ([]) 5 10 5 h60 0 zeros
+      ∷ leafSlot (false ∷ false ∷ []) 10 0 (keyOf 8 0) (valueOf 1)
+      ∷ leafSlot (false ∷ true ∷ []) 10 0 (keyOf 104 0) (valueOf 4)
+      ∷ innerSlot (false ∷ []) 10 0 10 h47 10 h61
+      ∷ innerSlot ([]) 10 0 10 h62 0 zeros
       ∷ free
       ∷ free
       ∷ free
@@ -625,52 +638,40 @@ module _ (leafHash innerHash : Bytes → Bytes → Bytes) where
 
   abbrev seen23 : Store
   seen23 =
-      storeOf 0 3
-      (leafSlot (false ∷ []) 2 3 (keyOf 96 0) (valueOf 2)
-      ∷ leafSlot (true ∷ []) 2 3 (keyOf 255 0) (valueOf 1)
-      ∷ innerSlot ([]) 4 3 2 h20 2 h59
-      ∷ leafSlot ([]) 3 0 (keyOf 96 0) (valueOf 2)
+      storeOf 0 10
+      (leafSlot ([]) 5 10 (keyOf 144 0) (valueOf 2)
+      ∷ leafSlot (false ∷ []) 10 0 (keyOf 16 0) (valueOf 2)
+      ∷ leafSlot (true ∷ []) 10 0 (keyOf 64 0) (valueOf 2)
+      ∷ innerSlot ([]) 10 0 10 h6 10 h22
       ∷ [])
 
   abbrev seen24 : Store
   seen24 =
-      storeOf 2 8
-      (leafSlot ([]) 3 8 (keyOf 8 0) (valueOf 2)
-      ∷ leafSlot (false ∷ false ∷ false ∷ false ∷ false ∷ []) 8 0 (keyOf 0 0) (valueOf 2)
-      ∷ leafSlot (false ∷ false ∷ false ∷ false ∷ true ∷ []) 8 0 (keyOf 8 0) (valueOf 2)
-      ∷ innerSlot (false ∷ false ∷ false ∷ false ∷ []) 8 0 8 h46 8 h28
-      ∷ innerSlot (false ∷ false ∷ false ∷ []) 8 0 8 h65 0 zeros
-      ∷ innerSlot (false ∷ false ∷ []) 8 0 8 h66 0 zeros
-      ∷ leafSlot (false ∷ true ∷ []) 8 0 (keyOf 104 0) (valueOf 1)
-      ∷ innerSlot (false ∷ []) 8 0 8 h67 8 h1
-      ∷ leafSlot (true ∷ []) 8 0 (keyOf 255 0) (valueOf 2)
-      ∷ innerSlot ([]) 8 0 8 h68 8 h69
-      ∷ free
+      storeOf 6 13
+      (leafSlot ([]) 10 11 (keyOf 254 0) (valueOf 2)
+      ∷ leafSlot ([]) 11 13 (keyOf 254 0) (valueOf 2)
+      ∷ leafSlot ([]) 13 0 (keyOf 254 0) (valueOf 2)
       ∷ free
       ∷ [])
 
   abbrev seen25 : Store
   seen25 =
-      storeOf 0 5
-      (leafSlot (false ∷ false ∷ []) 4 0 (keyOf 16 0) (valueOf 3)
-      ∷ leafSlot (false ∷ true ∷ []) 4 0 (keyOf 64 0) (valueOf 3)
-      ∷ innerSlot (false ∷ []) 4 0 4 h71 4 h29
-      ∷ innerSlot ([]) 5 5 4 h72 0 zeros
-      ∷ innerSlot ([]) 5 0 4 h72 0 zeros
+      storeOf 1 1
+      (spoiltSlot 4 (true ∷ false ∷ false ∷ false ∷ []) 1 0
+      ∷ leafSlot (true ∷ false ∷ false ∷ true ∷ []) 1 0 (keyOf 144 0) (valueOf 2)
       ∷ free
-      ∷ free
-      ∷ free
-      ∷ free
-      ∷ free
+      ∷ innerSlot (true ∷ false ∷ []) 1 0 1 h65 0 zeros
+      ∷ innerSlot (true ∷ []) 1 0 1 h66 0 zeros
+      ∷ innerSlot ([]) 1 0 0 zeros 1 h67
       ∷ free
       ∷ free
       ∷ [])
 
   abbrev seen26 : Store
   seen26 =
-      storeOf 2 13
-      (leafSlot ([]) 13 0 (keyOf 255 0) (valueOf 4)
-      ∷ free
+      storeOf 0 9
+      (leafSlot ([]) 5 9 (keyOf 0 0) (valueOf 1)
+      ∷ leafSlot ([]) 9 0 (keyOf 0 0) (valueOf 1)
       ∷ free
       ∷ free
       ∷ free
@@ -689,173 +690,185 @@ module _ (leafHash innerHash : Bytes → Bytes → Bytes) where
 
   abbrev seen27 : Store
   seen27 =
-      storeOf 0 7
-      (leafSlot (true ∷ true ∷ false ∷ []) 3 0 (keyOf 192 0) (valueOf 1)
-      ∷ leafSlot (true ∷ true ∷ true ∷ []) 3 0 (keyOf 255 0) (valueOf 3)
-      ∷ innerSlot (true ∷ true ∷ []) 3 0 3 h60 3 h57
-      ∷ leafSlot (false ∷ []) 3 7 (keyOf 16 0) (valueOf 2)
-      ∷ innerSlot (true ∷ []) 3 0 0 zeros 3 h74
-      ∷ innerSlot ([]) 3 8 3 h15 3 h75
-      ∷ leafSlot (false ∷ []) 8 0 (keyOf 8 0) (valueOf 2)
-      ∷ innerSlot ([]) 7 0 7 h28 3 h75
+      storeOf 2 10
+      (leafSlot ([]) 9 10 (keyOf 64 0) (valueOf 1)
+      ∷ leafSlot (false ∷ []) 2 5 (keyOf 64 0) (valueOf 3)
+      ∷ leafSlot (true ∷ []) 2 5 (keyOf 255 0) (valueOf 2)
+      ∷ innerSlot ([]) 2 5 2 h70 2 h27
+      ∷ leafSlot ([]) 5 7 (keyOf 64 0) (valueOf 3)
+      ∷ leafSlot ([]) 7 8 (keyOf 64 0) (valueOf 1)
+      ∷ leafSlot ([]) 8 9 (keyOf 64 0) (valueOf 1)
+      ∷ spoiltSlot 1 (false ∷ []) 10 0
+      ∷ leafSlot (true ∷ []) 10 0 (keyOf 192 0) (valueOf 2)
+      ∷ innerSlot ([]) 10 0 10 h13 10 h1
+      ∷ spoiltSlot 1 (false ∷ []) 10 0
+      ∷ free
       ∷ [])
 
   abbrev seen28 : Store
   seen28 =
-      storeOf 0 2
-      (leafSlot (false ∷ true ∷ true ∷ false ∷ false ∷ []) 1 2 (keyOf 96 0) (valueOf 2)
-      ∷ leafSlot (false ∷ true ∷ true ∷ false ∷ true ∷ []) 1 2 (keyOf 104 0) (valueOf 1)
-      ∷ innerSlot (false ∷ true ∷ true ∷ false ∷ []) 1 2 1 h20 1 h1
-      ∷ innerSlot (false ∷ true ∷ true ∷ []) 1 2 1 h77 0 zeros
-      ∷ innerSlot (false ∷ true ∷ []) 1 2 0 zeros 1 h78
-      ∷ innerSlot (false ∷ []) 1 2 0 zeros 1 h79
-      ∷ innerSlot ([]) 1 2 1 h80 0 zeros
-      ∷ leafSlot ([]) 2 0 (keyOf 96 0) (valueOf 2)
+      storeOf 0 3
+      (leafSlot ([]) 2 3 (keyOf 16 0) (valueOf 4)
+      ∷ leafSlot (false ∷ []) 3 0 (keyOf 16 0) (valueOf 4)
+      ∷ leafSlot (true ∷ []) 3 0 (keyOf 128 0) (valueOf 2)
+      ∷ innerSlot ([]) 3 0 3 h39 3 h73
+      ∷ free
+      ∷ free
+      ∷ free
+      ∷ free
+      ∷ free
+      ∷ free
+      ∷ free
+      ∷ free
+      ∷ free
+      ∷ free
+      ∷ free
+      ∷ free
       ∷ [])
 
   abbrev seen29 : Store
   seen29 =
-      storeOf 0 8
-      (leafSlot ([]) 3 4 (keyOf 254 0) (valueOf 3)
-      ∷ leafSlot (true ∷ true ∷ false ∷ []) 4 5 (keyOf 192 0) (valueOf 1)
-      ∷ leafSlot (true ∷ true ∷ true ∷ []) 4 5 (keyOf 254 0) (valueOf 3)
-      ∷ innerSlot (true ∷ true ∷ []) 4 5 4 h60 4 h34
-      ∷ innerSlot (true ∷ []) 4 5 0 zeros 4 h81
-      ∷ innerSlot ([]) 5 5 0 zeros 4 h82
-      ∷ leafSlot (false ∷ false ∷ []) 5 0 (keyOf 16 0) (valueOf 3)
-      ∷ leafSlot (false ∷ true ∷ []) 5 0 (keyOf 96 0) (valueOf 2)
-      ∷ innerSlot (false ∷ []) 5 0 5 h71 5 h20
-      ∷ leafSlot (true ∷ []) 5 0 (keyOf 192 0) (valueOf 1)
-      ∷ innerSlot ([]) 5 6 5 h83 5 h60
-      ∷ innerSlot ([]) 6 7 5 h83 5 h60
-      ∷ innerSlot ([]) 7 8 5 h83 5 h60
-      ∷ innerSlot ([]) 8 0 5 h83 5 h60
+      storeOf 7 9
+      (leafSlot (true ∷ false ∷ []) 8 9 (keyOf 128 0) (valueOf 4)
+      ∷ leafSlot (true ∷ true ∷ []) 8 9 (keyOf 192 0) (valueOf 4)
+      ∷ innerSlot (true ∷ []) 9 9 8 h55 8 h75
+      ∷ leafSlot (false ∷ []) 2 0 (keyOf 16 0) (valueOf 1)
+      ∷ innerSlot ([]) 8 9 2 h10 8 h76
+      ∷ leafSlot (true ∷ false ∷ []) 9 0 (keyOf 128 0) (valueOf 2)
+      ∷ leafSlot (true ∷ []) 6 8 (keyOf 192 0) (valueOf 4)
+      ∷ innerSlot ([]) 6 8 2 h10 6 h75
+      ∷ leafSlot (true ∷ true ∷ []) 9 0 (keyOf 192 0) (valueOf 1)
+      ∷ innerSlot (true ∷ []) 9 0 9 h73 9 h52
+      ∷ innerSlot ([]) 9 0 2 h10 9 h77
+      ∷ free
+      ∷ free
+      ∷ free
       ∷ free
       ∷ free
       ∷ [])
 
   abbrev rows : List Look
   rows =
-      look seen0 8 (keyOf 104 0) (accepted (presence (presenceOf (keyOf 104 0) (valueOf 1) (step true h0 ∷ step false zeros ∷ [])))) (accepted (present (valueOf 1))) (accepted h3)
-      ∷ look seen0 8 (keyOf 128 0) (accepted (absenceOf (keyOf 128 0) (some (presenceOf (keyOf 104 0) (valueOf 1) (step true h0 ∷ step false zeros ∷ []))) none)) (accepted absent) (accepted h3)
-      ∷ look seen0 8 (keyOf 144 0) (accepted (absenceOf (keyOf 144 0) (some (presenceOf (keyOf 104 0) (valueOf 1) (step true h0 ∷ step false zeros ∷ []))) none)) (accepted absent) (accepted h3)
-      ∷ look seen0 8 (keyOf 128 0) (accepted (absenceOf (keyOf 128 0) (some (presenceOf (keyOf 104 0) (valueOf 1) (step true h0 ∷ step false zeros ∷ []))) none)) (accepted absent) (accepted h3)
-      ∷ look seen1 7 (keyOf 128 0) (refused 14) (accepted absent) (accepted zeros)
-      ∷ look seen1 11 (keyOf 8 1) (refused 14) (accepted absent) (accepted zeros)
-      ∷ look seen1 8 (keyOf 128 0) (refused 14) (accepted absent) (accepted zeros)
-      ∷ look seen1 10 (keyOf 128 0) (accepted (presence (presenceOf (keyOf 128 0) (valueOf 3) ([])))) (accepted (present (valueOf 3))) (accepted h4)
-      ∷ look seen2 6 (keyOf 96 0) (accepted (absenceOf (keyOf 96 0) (some (presenceOf (keyOf 0 0) (valueOf 1) (step false h6 ∷ []))) (some (presenceOf (keyOf 128 0) (valueOf 2) (step true h5 ∷ []))))) (accepted absent) (accepted h7)
-      ∷ look seen2 2 (keyOf 0 0) (refused 14) (accepted absent) (accepted zeros)
-      ∷ look seen2 6 (keyOf 96 0) (accepted (absenceOf (keyOf 96 0) (some (presenceOf (keyOf 0 0) (valueOf 1) (step false h6 ∷ []))) (some (presenceOf (keyOf 128 0) (valueOf 2) (step true h5 ∷ []))))) (accepted absent) (accepted h7)
-      ∷ look seen2 6 (keyOf 16 0) (accepted (absenceOf (keyOf 16 0) (some (presenceOf (keyOf 0 0) (valueOf 1) (step false h6 ∷ []))) (some (presenceOf (keyOf 128 0) (valueOf 2) (step true h5 ∷ []))))) (accepted absent) (accepted h7)
-      ∷ look seen3 1 (keyOf 144 0) (refused 14) (accepted absent) (accepted zeros)
-      ∷ look seen3 2 (keyOf 144 0) (refused 3) (refused 3) (accepted h14)
-      ∷ look seen3 0 (keyOf 128 0) (refused 8) (refused 8) (refused 8)
-      ∷ look seen3 2 (keyOf 128 0) (refused 3) (refused 3) (accepted h14)
-      ∷ look seen4 8 (keyOf 16 0) (accepted (presence (presenceOf (keyOf 16 0) (valueOf 2) ([])))) (accepted (present (valueOf 2))) (accepted h15)
-      ∷ look seen4 7 (keyOf 128 0) (accepted (absenceOf (keyOf 128 0) (some (presenceOf (keyOf 16 0) (valueOf 2) ([]))) none)) (accepted absent) (accepted h15)
-      ∷ look seen4 8 (keyOf 8 0) (accepted (absenceOf (keyOf 8 0) none (some (presenceOf (keyOf 16 0) (valueOf 2) ([]))))) (accepted absent) (accepted h15)
-      ∷ look seen4 10 (keyOf 16 0) (accepted (presence (presenceOf (keyOf 16 0) (valueOf 2) ([])))) (accepted (present (valueOf 2))) (accepted h15)
-      ∷ look seen5 5 (keyOf 96 0) (accepted (absenceOf (keyOf 96 0) (some (presenceOf (keyOf 0 0) (valueOf 1) (step false h18 ∷ step false zeros ∷ []))) (some (presenceOf (keyOf 104 0) (valueOf 3) (step true h5 ∷ step false zeros ∷ []))))) (accepted absent) (accepted h26)
-      ∷ look seen5 5 (keyOf 104 0) (accepted (presence (presenceOf (keyOf 104 0) (valueOf 3) (step true h5 ∷ step false zeros ∷ [])))) (accepted (present (valueOf 3))) (accepted h26)
-      ∷ look seen5 5 (keyOf 0 0) (accepted (presence (presenceOf (keyOf 0 0) (valueOf 1) (step false h18 ∷ step false zeros ∷ [])))) (accepted (present (valueOf 1))) (accepted h26)
-      ∷ look seen5 3 (keyOf 104 0) (accepted (presence (presenceOf (keyOf 104 0) (valueOf 2) (step true h20 ∷ step false zeros ∷ step true zeros ∷ step true h0 ∷ step false zeros ∷ [])))) (accepted (present (valueOf 2))) (accepted h27)
-      ∷ look seen6 21 (keyOf 255 0) (accepted (absenceOf (keyOf 255 0) (some (presenceOf (keyOf 8 0) (valueOf 2) ([]))) none)) (accepted absent) (accepted h28)
-      ∷ look seen6 21 (keyOf 8 0) (accepted (presence (presenceOf (keyOf 8 0) (valueOf 2) ([])))) (accepted (present (valueOf 2))) (accepted h28)
-      ∷ look seen6 21 (keyOf 255 0) (accepted (absenceOf (keyOf 255 0) (some (presenceOf (keyOf 8 0) (valueOf 2) ([]))) none)) (accepted absent) (accepted h28)
-      ∷ look seen6 16 (keyOf 0 0) (accepted (absenceOf (keyOf 0 0) none (some (presenceOf (keyOf 8 0) (valueOf 2) ([]))))) (accepted absent) (accepted h28)
-      ∷ look seen7 16 (keyOf 64 0) (accepted (presence (presenceOf (keyOf 64 0) (valueOf 3) (step true h28 ∷ step false h31 ∷ [])))) (accepted (present (valueOf 3))) (accepted h32)
-      ∷ look seen7 6 (keyOf 8 0) (refused 14) (accepted absent) (accepted zeros)
-      ∷ look seen7 11 (keyOf 8 0) (accepted (presence (presenceOf (keyOf 8 0) (valueOf 2) (step false h29 ∷ step false h31 ∷ [])))) (accepted (present (valueOf 2))) (accepted h32)
-      ∷ look seen7 16 (keyOf 0 1) (accepted (absenceOf (keyOf 0 1) none (some (presenceOf (keyOf 8 0) (valueOf 2) (step false h29 ∷ step false h31 ∷ []))))) (accepted absent) (accepted h32)
-      ∷ look seen8 6 (keyOf 144 0) (accepted (absenceOf (keyOf 144 0) (some (presenceOf (keyOf 0 0) (valueOf 4) (step false h34 ∷ []))) (some (presenceOf (keyOf 254 0) (valueOf 3) (step true h33 ∷ []))))) (accepted absent) (accepted h35)
-      ∷ look seen8 3 (keyOf 192 0) (accepted (absenceOf (keyOf 192 0) (some (presenceOf (keyOf 0 0) (valueOf 3) ([]))) none)) (accepted absent) (accepted h0)
-      ∷ look seen8 0 (keyOf 104 0) (refused 14) (accepted absent) (accepted zeros)
-      ∷ look seen8 1 (keyOf 254 0) (accepted (absenceOf (keyOf 254 0) (some (presenceOf (keyOf 0 0) (valueOf 3) ([]))) none)) (accepted absent) (accepted h0)
-      ∷ look seen9 1 (keyOf 0 0) (refused 14) (accepted absent) (accepted zeros)
-      ∷ look seen9 0 (keyOf 96 0) (refused 14) (accepted absent) (accepted zeros)
-      ∷ look seen9 1 (keyOf 96 0) (refused 14) (accepted absent) (accepted zeros)
-      ∷ look seen9 0 (keyOf 254 0) (refused 14) (accepted absent) (accepted zeros)
-      ∷ look seen10 1 (keyOf 254 0) (refused 14) (accepted absent) (accepted zeros)
-      ∷ look seen10 10 (keyOf 0 0) (accepted (presence (presenceOf (keyOf 0 0) (valueOf 3) (step false h44 ∷ [])))) (accepted (present (valueOf 3))) (accepted h45)
-      ∷ look seen10 1 (keyOf 254 0) (refused 14) (accepted absent) (accepted zeros)
-      ∷ look seen10 10 (keyOf 255 0) (accepted (presence (presenceOf (keyOf 255 0) (valueOf 4) (step true h36 ∷ step true zeros ∷ step true zeros ∷ step true zeros ∷ step true zeros ∷ step true zeros ∷ step true zeros ∷ step true h0 ∷ [])))) (accepted (present (valueOf 4))) (accepted h45)
-      ∷ look seen11 5 (keyOf 144 0) (accepted (presence (presenceOf (keyOf 144 0) (valueOf 2) (step true h46 ∷ [])))) (accepted (present (valueOf 2))) (accepted h48)
-      ∷ look seen11 5 (keyOf 0 0) (accepted (presence (presenceOf (keyOf 0 0) (valueOf 2) (step false h47 ∷ [])))) (accepted (present (valueOf 2))) (accepted h48)
-      ∷ look seen11 5 (keyOf 144 0) (accepted (presence (presenceOf (keyOf 144 0) (valueOf 2) (step true h46 ∷ [])))) (accepted (present (valueOf 2))) (accepted h48)
-      ∷ look seen11 5 (keyOf 0 0) (accepted (presence (presenceOf (keyOf 0 0) (valueOf 2) (step false h47 ∷ [])))) (accepted (present (valueOf 2))) (accepted h48)
-      ∷ look seen12 0 (keyOf 255 0) (refused 14) (accepted absent) (accepted zeros)
-      ∷ look seen12 8 (keyOf 255 0) (accepted (absenceOf (keyOf 255 0) (some (presenceOf (keyOf 96 0) (valueOf 3) ([]))) none)) (accepted absent) (accepted h16)
-      ∷ look seen12 8 (keyOf 96 0) (accepted (presence (presenceOf (keyOf 96 0) (valueOf 3) ([])))) (accepted (present (valueOf 3))) (accepted h16)
-      ∷ look seen12 2 (keyOf 96 0) (accepted (presence (presenceOf (keyOf 96 0) (valueOf 4) ([])))) (accepted (present (valueOf 4))) (accepted h49)
-      ∷ look seen13 9 (keyOf 144 0) (accepted (absenceOf (keyOf 144 0) (some (presenceOf (keyOf 104 0) (valueOf 2) (step true h20 ∷ step false zeros ∷ step true zeros ∷ step true h28 ∷ step false zeros ∷ []))) none)) (accepted absent) (accepted h52)
-      ∷ look seen13 9 (keyOf 104 0) (accepted (presence (presenceOf (keyOf 104 0) (valueOf 2) (step true h20 ∷ step false zeros ∷ step true zeros ∷ step true h28 ∷ step false zeros ∷ [])))) (accepted (present (valueOf 2))) (accepted h52)
-      ∷ look seen13 9 (keyOf 192 0) (accepted (absenceOf (keyOf 192 0) (some (presenceOf (keyOf 104 0) (valueOf 2) (step true h20 ∷ step false zeros ∷ step true zeros ∷ step true h28 ∷ step false zeros ∷ []))) none)) (accepted absent) (accepted h52)
-      ∷ look seen13 10 (keyOf 96 0) (refused 8) (refused 8) (refused 8)
-      ∷ look seen14 19 (keyOf 8 0) (refused 14) (accepted absent) (accepted zeros)
-      ∷ look seen14 19 (keyOf 254 0) (refused 14) (accepted absent) (accepted zeros)
-      ∷ look seen14 20 (keyOf 104 0) (refused 8) (refused 8) (refused 8)
-      ∷ look seen14 19 (keyOf 254 0) (refused 14) (accepted absent) (accepted zeros)
-      ∷ look seen15 17 (keyOf 16 0) (accepted (absenceOf (keyOf 16 0) none (some (presenceOf (keyOf 96 0) (valueOf 3) ([]))))) (accepted absent) (accepted h16)
-      ∷ look seen15 17 (keyOf 96 0) (accepted (presence (presenceOf (keyOf 96 0) (valueOf 3) ([])))) (accepted (present (valueOf 3))) (accepted h16)
-      ∷ look seen15 17 (keyOf 255 0) (accepted (absenceOf (keyOf 255 0) (some (presenceOf (keyOf 96 0) (valueOf 3) ([]))) none)) (accepted absent) (accepted h16)
-      ∷ look seen15 13 (keyOf 96 0) (accepted (absenceOf (keyOf 96 0) none (some (presenceOf (keyOf 255 0) (valueOf 4) ([]))))) (accepted absent) (accepted h37)
-      ∷ look seen16 0 (keyOf 16 1) (refused 14) (accepted absent) (accepted zeros)
-      ∷ look seen16 5 (keyOf 64 0) (accepted (presence (presenceOf (keyOf 64 0) (valueOf 3) (step false h16 ∷ step true zeros ∷ step false zeros ∷ [])))) (accepted (present (valueOf 3))) (accepted h56)
-      ∷ look seen16 5 (keyOf 128 0) (accepted (absenceOf (keyOf 128 0) (some (presenceOf (keyOf 96 0) (valueOf 3) (step true h29 ∷ step true zeros ∷ step false zeros ∷ []))) none)) (accepted absent) (accepted h56)
-      ∷ look seen16 5 (keyOf 64 0) (accepted (presence (presenceOf (keyOf 64 0) (valueOf 3) (step false h16 ∷ step true zeros ∷ step false zeros ∷ [])))) (accepted (present (valueOf 3))) (accepted h56)
-      ∷ look seen17 1 (keyOf 16 0) (refused 14) (accepted absent) (accepted zeros)
-      ∷ look seen17 7 (keyOf 144 0) (refused 14) (accepted absent) (accepted zeros)
-      ∷ look seen17 7 (keyOf 255 0) (refused 14) (accepted absent) (accepted zeros)
-      ∷ look seen17 6 (keyOf 144 0) (refused 14) (accepted absent) (accepted zeros)
-      ∷ look seen18 6 (keyOf 255 0) (refused 14) (accepted absent) (accepted zeros)
-      ∷ look seen18 14 (keyOf 255 0) (accepted (presence (presenceOf (keyOf 255 0) (valueOf 1) ([])))) (accepted (present (valueOf 1))) (accepted h59)
-      ∷ look seen18 14 (keyOf 96 0) (accepted (absenceOf (keyOf 96 0) none (some (presenceOf (keyOf 255 0) (valueOf 1) ([]))))) (accepted absent) (accepted h59)
-      ∷ look seen18 2 (keyOf 96 0) (refused 14) (accepted absent) (accepted zeros)
-      ∷ look seen19 4 (keyOf 192 0) (accepted (presence (presenceOf (keyOf 192 0) (valueOf 1) (step true h21 ∷ [])))) (accepted (present (valueOf 1))) (accepted h61)
-      ∷ look seen19 1 (keyOf 16 0) (refused 14) (accepted absent) (accepted zeros)
-      ∷ look seen19 5 (keyOf 104 0) (refused 8) (refused 8) (refused 8)
-      ∷ look seen19 0 (keyOf 104 0) (refused 14) (accepted absent) (accepted zeros)
-      ∷ look seen20 0 (keyOf 8 0) (refused 14) (accepted absent) (accepted zeros)
-      ∷ look seen20 0 (keyOf 254 0) (refused 14) (accepted absent) (accepted zeros)
-      ∷ look seen20 2 (keyOf 8 0) (accepted (presence (presenceOf (keyOf 8 0) (valueOf 3) (step false h4 ∷ [])))) (accepted (present (valueOf 3))) (accepted h64)
-      ∷ look seen20 5 (keyOf 8 0) (refused 14) (accepted absent) (accepted zeros)
-      ∷ look seen21 8 (keyOf 16 0) (refused 14) (accepted absent) (accepted zeros)
-      ∷ look seen21 8 (keyOf 192 0) (refused 14) (accepted absent) (accepted zeros)
-      ∷ look seen21 10 (keyOf 192 0) (refused 14) (accepted absent) (accepted zeros)
-      ∷ look seen21 11 (keyOf 0 0) (refused 8) (refused 8) (refused 8)
-      ∷ look seen22 1 (keyOf 104 0) (refused 14) (accepted absent) (accepted zeros)
-      ∷ look seen22 0 (keyOf 96 1) (refused 14) (accepted absent) (accepted zeros)
-      ∷ look seen22 2 (keyOf 0 0) (refused 14) (accepted absent) (accepted zeros)
-      ∷ look seen22 2 (keyOf 104 0) (refused 14) (accepted absent) (accepted zeros)
-      ∷ look seen23 2 (keyOf 96 0) (refused 14) (accepted absent) (accepted zeros)
-      ∷ look seen23 3 (keyOf 255 0) (accepted (absenceOf (keyOf 255 0) (some (presenceOf (keyOf 96 0) (valueOf 2) ([]))) none)) (accepted absent) (accepted h20)
-      ∷ look seen23 3 (keyOf 255 0) (accepted (absenceOf (keyOf 255 0) (some (presenceOf (keyOf 96 0) (valueOf 2) ([]))) none)) (accepted absent) (accepted h20)
-      ∷ look seen23 2 (keyOf 128 0) (refused 14) (accepted absent) (accepted zeros)
-      ∷ look seen24 8 (keyOf 0 0) (accepted (presence (presenceOf (keyOf 0 0) (valueOf 2) (step false h28 ∷ step false zeros ∷ step false zeros ∷ step false h1 ∷ step false h69 ∷ [])))) (accepted (present (valueOf 2))) (accepted h70)
-      ∷ look seen24 8 (keyOf 255 0) (accepted (presence (presenceOf (keyOf 255 0) (valueOf 2) (step true h68 ∷ [])))) (accepted (present (valueOf 2))) (accepted h70)
-      ∷ look seen24 8 (keyOf 8 0) (accepted (presence (presenceOf (keyOf 8 0) (valueOf 2) (step true h46 ∷ step false zeros ∷ step false zeros ∷ step false h1 ∷ step false h69 ∷ [])))) (accepted (present (valueOf 2))) (accepted h70)
-      ∷ look seen24 7 (keyOf 104 0) (accepted (absenceOf (keyOf 104 0) (some (presenceOf (keyOf 8 0) (valueOf 2) ([]))) none)) (accepted absent) (accepted h28)
-      ∷ look seen25 5 (keyOf 255 0) (accepted (absenceOf (keyOf 255 0) (some (presenceOf (keyOf 64 0) (valueOf 3) (step true h71 ∷ step false zeros ∷ []))) none)) (accepted absent) (accepted h73)
-      ∷ look seen25 4 (keyOf 16 0) (refused 14) (accepted absent) (accepted zeros)
-      ∷ look seen25 1 (keyOf 255 0) (refused 14) (accepted absent) (accepted zeros)
-      ∷ look seen25 5 (keyOf 16 0) (accepted (presence (presenceOf (keyOf 16 0) (valueOf 3) (step false h29 ∷ step false zeros ∷ [])))) (accepted (present (valueOf 3))) (accepted h73)
-      ∷ look seen26 13 (keyOf 255 0) (accepted (presence (presenceOf (keyOf 255 0) (valueOf 4) ([])))) (accepted (present (valueOf 4))) (accepted h37)
-      ∷ look seen26 8 (keyOf 16 0) (refused 14) (accepted absent) (accepted zeros)
-      ∷ look seen26 11 (keyOf 16 0) (refused 14) (accepted absent) (accepted zeros)
-      ∷ look seen26 13 (keyOf 16 0) (accepted (absenceOf (keyOf 16 0) none (some (presenceOf (keyOf 255 0) (valueOf 4) ([]))))) (accepted absent) (accepted h37)
-      ∷ look seen27 2 (keyOf 8 0) (refused 14) (accepted absent) (accepted zeros)
-      ∷ look seen27 7 (keyOf 104 0) (accepted (absenceOf (keyOf 104 0) (some (presenceOf (keyOf 16 0) (valueOf 2) (step false h75 ∷ []))) (some (presenceOf (keyOf 192 0) (valueOf 1) (step false h57 ∷ step true zeros ∷ step true h15 ∷ []))))) (accepted absent) (accepted h76)
-      ∷ look seen27 8 (keyOf 128 1) (refused 8) (refused 8) (refused 8)
-      ∷ look seen27 7 (keyOf 8 0) (accepted (absenceOf (keyOf 8 0) none (some (presenceOf (keyOf 16 0) (valueOf 2) (step false h75 ∷ []))))) (accepted absent) (accepted h76)
-      ∷ look seen28 2 (keyOf 104 0) (accepted (absenceOf (keyOf 104 0) (some (presenceOf (keyOf 96 0) (valueOf 2) ([]))) none)) (accepted absent) (accepted h20)
-      ∷ look seen28 2 (keyOf 96 0) (accepted (presence (presenceOf (keyOf 96 0) (valueOf 2) ([])))) (accepted (present (valueOf 2))) (accepted h20)
-      ∷ look seen28 2 (keyOf 96 0) (accepted (presence (presenceOf (keyOf 96 0) (valueOf 2) ([])))) (accepted (present (valueOf 2))) (accepted h20)
-      ∷ look seen28 2 (keyOf 192 0) (accepted (absenceOf (keyOf 192 0) (some (presenceOf (keyOf 96 0) (valueOf 2) ([]))) none)) (accepted absent) (accepted h20)
-      ∷ look seen29 1 (keyOf 192 0) (refused 14) (accepted absent) (accepted zeros)
-      ∷ look seen29 8 (keyOf 144 0) (accepted (absenceOf (keyOf 144 0) (some (presenceOf (keyOf 96 0) (valueOf 2) (step true h71 ∷ step false h60 ∷ []))) (some (presenceOf (keyOf 192 0) (valueOf 1) (step true h83 ∷ []))))) (accepted absent) (accepted h84)
-      ∷ look seen29 8 (keyOf 144 0) (accepted (absenceOf (keyOf 144 0) (some (presenceOf (keyOf 96 0) (valueOf 2) (step true h71 ∷ step false h60 ∷ []))) (some (presenceOf (keyOf 192 0) (valueOf 1) (step true h83 ∷ []))))) (accepted absent) (accepted h84)
-      ∷ look seen29 8 (keyOf 96 0) (accepted (presence (presenceOf (keyOf 96 0) (valueOf 2) (step true h71 ∷ step false h60 ∷ [])))) (accepted (present (valueOf 2))) (accepted h84)
+      look seen0 8 (keyOf 144 1) (accepted (absenceOf (keyOf 144 1) (some (presenceOf (keyOf 128 0) (valueOf 1) (step false h1 ∷ step true h2 ∷ []))) (some (presenceOf (keyOf 192 0) (valueOf 2) (step true h0 ∷ step true h2 ∷ []))))) (accepted absent) (accepted h4)
+      ∷ look seen0 13 (keyOf 128 0) (accepted (absenceOf (keyOf 128 0) (some (presenceOf (keyOf 104 0) (valueOf 1) (step false h1 ∷ []))) (some (presenceOf (keyOf 192 0) (valueOf 2) (step true h2 ∷ []))))) (accepted absent) (accepted h5)
+      ∷ look seen0 6 (keyOf 104 0) (refused 8) (refused 8) (refused 8)
+      ∷ look seen0 13 (keyOf 104 0) (accepted (presence (presenceOf (keyOf 104 0) (valueOf 1) (step false h1 ∷ [])))) (accepted (present (valueOf 1))) (accepted h5)
+      ∷ look seen1 13 (keyOf 128 0) (accepted (presence (presenceOf (keyOf 128 0) (valueOf 1) (step true h7 ∷ [])))) (accepted (present (valueOf 1))) (accepted h9)
+      ∷ look seen1 8 (keyOf 8 0) (accepted (absenceOf (keyOf 8 0) none (some (presenceOf (keyOf 16 0) (valueOf 2) ([]))))) (accepted absent) (accepted h6)
+      ∷ look seen1 10 (keyOf 16 0) (accepted (presence (presenceOf (keyOf 16 0) (valueOf 2) ([])))) (accepted (present (valueOf 2))) (accepted h6)
+      ∷ look seen1 13 (keyOf 8 0) (accepted (absenceOf (keyOf 8 0) (some (presenceOf (keyOf 0 0) (valueOf 3) (step false h0 ∷ []))) (some (presenceOf (keyOf 128 0) (valueOf 1) (step true h7 ∷ []))))) (accepted absent) (accepted h9)
+      ∷ look seen2 12 (keyOf 104 1) (refused 8) (refused 8) (refused 8)
+      ∷ look seen2 11 (keyOf 16 0) (accepted (absenceOf (keyOf 16 0) none (some (presenceOf (keyOf 64 0) (valueOf 1) ([]))))) (accepted absent) (accepted h13)
+      ∷ look seen2 9 (keyOf 255 0) (accepted (absenceOf (keyOf 255 0) (some (presenceOf (keyOf 64 0) (valueOf 2) (step true h10 ∷ step false zeros ∷ []))) none)) (accepted absent) (accepted h17)
+      ∷ look seen2 11 (keyOf 104 0) (accepted (absenceOf (keyOf 104 0) (some (presenceOf (keyOf 64 0) (valueOf 1) ([]))) none)) (accepted absent) (accepted h13)
+      ∷ look seen3 2 (keyOf 144 0) (accepted (presence (presenceOf (keyOf 144 0) (valueOf 3) (step true h18 ∷ [])))) (accepted (present (valueOf 3))) (accepted h20)
+      ∷ look seen3 4 (keyOf 144 0) (accepted (presence (presenceOf (keyOf 144 0) (valueOf 3) ([])))) (accepted (present (valueOf 3))) (accepted h19)
+      ∷ look seen3 4 (keyOf 64 0) (accepted (absenceOf (keyOf 64 0) none (some (presenceOf (keyOf 144 0) (valueOf 3) ([]))))) (accepted absent) (accepted h19)
+      ∷ look seen3 2 (keyOf 64 0) (refused 17) (refused 17) (accepted h20)
+      ∷ look seen4 4294967295 (keyOf 0 0) (accepted (presence (presenceOf (keyOf 0 0) (valueOf 4) (step false h22 ∷ [])))) (accepted (present (valueOf 4))) (accepted h23)
+      ∷ look seen4 4294967295 (keyOf 0 0) (accepted (presence (presenceOf (keyOf 0 0) (valueOf 4) (step false h22 ∷ [])))) (accepted (present (valueOf 4))) (accepted h23)
+      ∷ look seen4 4294967295 (keyOf 0 1) (accepted (absenceOf (keyOf 0 1) (some (presenceOf (keyOf 0 0) (valueOf 4) (step false h22 ∷ []))) (some (presenceOf (keyOf 144 0) (valueOf 2) (step true h21 ∷ []))))) (accepted absent) (accepted h23)
+      ∷ look seen4 4294967295 (keyOf 0 0) (accepted (presence (presenceOf (keyOf 0 0) (valueOf 4) (step false h22 ∷ [])))) (accepted (present (valueOf 4))) (accepted h23)
+      ∷ look seen5 7 (keyOf 254 0) (accepted (presence (presenceOf (keyOf 254 0) (valueOf 1) ([])))) (accepted (present (valueOf 1))) (accepted h24)
+      ∷ look seen5 7 (keyOf 192 0) (accepted (absenceOf (keyOf 192 0) none (some (presenceOf (keyOf 254 0) (valueOf 1) ([]))))) (accepted absent) (accepted h24)
+      ∷ look seen5 7 (keyOf 192 0) (accepted (absenceOf (keyOf 192 0) none (some (presenceOf (keyOf 254 0) (valueOf 1) ([]))))) (accepted absent) (accepted h24)
+      ∷ look seen5 7 (keyOf 192 0) (accepted (absenceOf (keyOf 192 0) none (some (presenceOf (keyOf 254 0) (valueOf 1) ([]))))) (accepted absent) (accepted h24)
+      ∷ look seen6 12 (keyOf 96 0) (accepted (absenceOf (keyOf 96 0) none (some (presenceOf (keyOf 128 0) (valueOf 3) ([]))))) (accepted absent) (accepted h25)
+      ∷ look seen6 12 (keyOf 254 0) (accepted (absenceOf (keyOf 254 0) (some (presenceOf (keyOf 128 0) (valueOf 3) ([]))) none)) (accepted absent) (accepted h25)
+      ∷ look seen6 12 (keyOf 96 0) (accepted (absenceOf (keyOf 96 0) none (some (presenceOf (keyOf 128 0) (valueOf 3) ([]))))) (accepted absent) (accepted h25)
+      ∷ look seen6 12 (keyOf 128 0) (accepted (presence (presenceOf (keyOf 128 0) (valueOf 3) ([])))) (accepted (present (valueOf 3))) (accepted h25)
+      ∷ look seen7 12 (keyOf 144 0) (refused 14) (accepted absent) (accepted zeros)
+      ∷ look seen7 12 (keyOf 96 1) (refused 14) (accepted absent) (accepted zeros)
+      ∷ look seen7 13 (keyOf 254 1) (refused 8) (refused 8) (refused 8)
+      ∷ look seen7 12 (keyOf 96 0) (refused 14) (accepted absent) (accepted zeros)
+      ∷ look seen8 8 (keyOf 64 0) (accepted (absenceOf (keyOf 64 0) none (some (presenceOf (keyOf 144 0) (valueOf 1) (step false h27 ∷ step true zeros ∷ []))))) (accepted absent) (accepted h29)
+      ∷ look seen8 8 (keyOf 96 0) (accepted (absenceOf (keyOf 96 0) none (some (presenceOf (keyOf 144 0) (valueOf 1) (step false h27 ∷ step true zeros ∷ []))))) (accepted absent) (accepted h29)
+      ∷ look seen8 8 (keyOf 254 0) (accepted (absenceOf (keyOf 254 0) (some (presenceOf (keyOf 144 0) (valueOf 1) (step false h27 ∷ step true zeros ∷ []))) (some (presenceOf (keyOf 255 0) (valueOf 2) (step true h26 ∷ step true zeros ∷ []))))) (accepted absent) (accepted h29)
+      ∷ look seen8 9 (keyOf 64 0) (refused 8) (refused 8) (refused 8)
+      ∷ look seen9 3 (keyOf 64 0) (refused 34359738371) (refused 34359738371) (refused 34359738371)
+      ∷ look seen9 3 (keyOf 8 1) (refused 34359738371) (refused 34359738371) (refused 34359738371)
+      ∷ look seen9 3 (keyOf 128 0) (refused 34359738371) (refused 34359738371) (refused 34359738371)
+      ∷ look seen9 3 (keyOf 254 0) (refused 34359738371) (refused 34359738371) (refused 34359738371)
+      ∷ look seen10 10 (keyOf 254 0) (accepted (presence (presenceOf (keyOf 254 0) (valueOf 2) (step true h25 ∷ step true h33 ∷ [])))) (accepted (present (valueOf 2))) (accepted h36)
+      ∷ look seen10 10 (keyOf 96 0) (accepted (presence (presenceOf (keyOf 96 0) (valueOf 1) (step false h35 ∷ [])))) (accepted (present (valueOf 1))) (accepted h36)
+      ∷ look seen10 7 (keyOf 128 0) (accepted (presence (presenceOf (keyOf 128 0) (valueOf 3) (step true h33 ∷ [])))) (accepted (present (valueOf 3))) (accepted h37)
+      ∷ look seen10 3 (keyOf 128 0) (refused 14) (accepted absent) (accepted zeros)
+      ∷ look seen11 1 (keyOf 144 1) (accepted (absenceOf (keyOf 144 1) (some (presenceOf (keyOf 16 0) (valueOf 1) ([]))) none)) (accepted absent) (accepted h10)
+      ∷ look seen11 7 (keyOf 104 0) (accepted (absenceOf (keyOf 104 0) (some (presenceOf (keyOf 16 0) (valueOf 1) (step true h38 ∷ step false zeros ∷ step false zeros ∷ step false zeros ∷ []))) none)) (accepted absent) (accepted h46)
+      ∷ look seen11 0 (keyOf 254 0) (refused 14) (accepted absent) (accepted zeros)
+      ∷ look seen11 7 (keyOf 144 0) (accepted (absenceOf (keyOf 144 0) (some (presenceOf (keyOf 16 0) (valueOf 1) (step true h38 ∷ step false zeros ∷ step false zeros ∷ step false zeros ∷ []))) none)) (accepted absent) (accepted h46)
+      ∷ look seen12 10 (keyOf 104 0) (refused 14) (accepted absent) (accepted zeros)
+      ∷ look seen12 14 (keyOf 16 0) (refused 14) (accepted absent) (accepted zeros)
+      ∷ look seen12 14 (keyOf 144 0) (refused 14) (accepted absent) (accepted zeros)
+      ∷ look seen12 14 (keyOf 144 0) (refused 14) (accepted absent) (accepted zeros)
+      ∷ look seen13 10 (keyOf 255 0) (refused 14) (accepted absent) (accepted zeros)
+      ∷ look seen13 10 (keyOf 255 0) (refused 14) (accepted absent) (accepted zeros)
+      ∷ look seen13 5 (keyOf 255 0) (accepted (absenceOf (keyOf 255 0) (some (presenceOf (keyOf 8 0) (valueOf 1) ([]))) none)) (accepted absent) (accepted h47)
+      ∷ look seen13 7 (keyOf 8 0) (accepted (presence (presenceOf (keyOf 8 0) (valueOf 1) ([])))) (accepted (present (valueOf 1))) (accepted h47)
+      ∷ look seen14 22 (keyOf 64 1) (accepted (absenceOf (keyOf 64 1) none (some (presenceOf (keyOf 96 0) (valueOf 1) (step false h19 ∷ []))))) (accepted absent) (accepted h49)
+      ∷ look seen14 22 (keyOf 144 0) (accepted (presence (presenceOf (keyOf 144 0) (valueOf 3) (step true h33 ∷ [])))) (accepted (present (valueOf 3))) (accepted h49)
+      ∷ look seen14 22 (keyOf 96 0) (accepted (presence (presenceOf (keyOf 96 0) (valueOf 1) (step false h19 ∷ [])))) (accepted (present (valueOf 1))) (accepted h49)
+      ∷ look seen14 17 (keyOf 96 0) (accepted (presence (presenceOf (keyOf 96 0) (valueOf 4) (step false h19 ∷ [])))) (accepted (present (valueOf 4))) (accepted h50)
+      ∷ look seen15 4 (keyOf 192 0) (accepted (presence (presenceOf (keyOf 192 0) (valueOf 1) (step true h51 ∷ [])))) (accepted (present (valueOf 1))) (accepted h53)
+      ∷ look seen15 1 (keyOf 16 0) (refused 14) (accepted absent) (accepted zeros)
+      ∷ look seen15 5 (keyOf 104 0) (refused 8) (refused 8) (refused 8)
+      ∷ look seen15 0 (keyOf 104 0) (refused 14) (accepted absent) (accepted zeros)
+      ∷ look seen16 0 (keyOf 8 0) (refused 14) (accepted absent) (accepted zeros)
+      ∷ look seen16 0 (keyOf 254 0) (refused 14) (accepted absent) (accepted zeros)
+      ∷ look seen16 2 (keyOf 8 0) (accepted (presence (presenceOf (keyOf 8 0) (valueOf 3) (step false h25 ∷ [])))) (accepted (present (valueOf 3))) (accepted h56)
+      ∷ look seen16 5 (keyOf 8 0) (refused 14) (accepted absent) (accepted zeros)
+      ∷ look seen17 10 (keyOf 192 0) (accepted (presence (presenceOf (keyOf 192 0) (valueOf 1) ([])))) (accepted (present (valueOf 1))) (accepted h52)
+      ∷ look seen17 10 (keyOf 192 0) (accepted (presence (presenceOf (keyOf 192 0) (valueOf 1) ([])))) (accepted (present (valueOf 1))) (accepted h52)
+      ∷ look seen17 11 (keyOf 0 0) (refused 8) (refused 8) (refused 8)
+      ∷ look seen17 9 (keyOf 192 0) (accepted (presence (presenceOf (keyOf 192 0) (valueOf 1) ([])))) (accepted (present (valueOf 1))) (accepted h52)
+      ∷ look seen18 0 (keyOf 0 1) (refused 14) (accepted absent) (accepted zeros)
+      ∷ look seen18 0 (keyOf 254 0) (refused 14) (accepted absent) (accepted zeros)
+      ∷ look seen18 0 (keyOf 16 0) (refused 14) (accepted absent) (accepted zeros)
+      ∷ look seen18 0 (keyOf 16 0) (refused 14) (accepted absent) (accepted zeros)
+      ∷ look seen19 4294967295 (keyOf 96 0) (refused 14) (accepted absent) (accepted zeros)
+      ∷ look seen19 4294967295 (keyOf 255 0) (refused 14) (accepted absent) (accepted zeros)
+      ∷ look seen19 4294967295 (keyOf 255 0) (refused 14) (accepted absent) (accepted zeros)
+      ∷ look seen19 4294967295 (keyOf 16 0) (refused 14) (accepted absent) (accepted zeros)
+      ∷ look seen20 3 (keyOf 0 1) (accepted (absenceOf (keyOf 0 1) none (some (presenceOf (keyOf 8 0) (valueOf 3) (step false h22 ∷ []))))) (accepted absent) (accepted h58)
+      ∷ look seen20 5 (keyOf 8 0) (refused 8) (refused 8) (refused 8)
+      ∷ look seen20 4 (keyOf 144 0) (accepted (presence (presenceOf (keyOf 144 0) (valueOf 2) (step true h57 ∷ [])))) (accepted (present (valueOf 2))) (accepted h59)
+      ∷ look seen20 3 (keyOf 96 1) (accepted (absenceOf (keyOf 96 1) (some (presenceOf (keyOf 8 0) (valueOf 3) (step false h22 ∷ []))) (some (presenceOf (keyOf 144 0) (valueOf 2) (step true h54 ∷ []))))) (accepted absent) (accepted h58)
+      ∷ look seen21 2 (keyOf 128 0) (refused 4294967299) (refused 4294967299) (refused 4294967299)
+      ∷ look seen21 1 (keyOf 104 0) (refused 14) (accepted absent) (accepted zeros)
+      ∷ look seen21 2 (keyOf 16 0) (refused 4294967299) (refused 4294967299) (refused 4294967299)
+      ∷ look seen21 1 (keyOf 16 0) (refused 14) (accepted absent) (accepted zeros)
+      ∷ look seen22 10 (keyOf 8 0) (accepted (presence (presenceOf (keyOf 8 0) (valueOf 1) (step false h61 ∷ step false zeros ∷ [])))) (accepted (present (valueOf 1))) (accepted h63)
+      ∷ look seen22 10 (keyOf 104 0) (accepted (presence (presenceOf (keyOf 104 0) (valueOf 4) (step true h47 ∷ step false zeros ∷ [])))) (accepted (present (valueOf 4))) (accepted h63)
+      ∷ look seen22 1 (keyOf 144 1) (refused 8) (refused 8) (refused 8)
+      ∷ look seen22 3 (keyOf 192 0) (accepted (absenceOf (keyOf 192 0) (some (presenceOf (keyOf 104 0) (valueOf 2) ([]))) none)) (accepted absent) (accepted h51)
+      ∷ look seen23 6 (keyOf 144 0) (accepted (presence (presenceOf (keyOf 144 0) (valueOf 2) ([])))) (accepted (present (valueOf 2))) (accepted h22)
+      ∷ look seen23 0 (keyOf 144 0) (refused 14) (accepted absent) (accepted zeros)
+      ∷ look seen23 4 (keyOf 16 0) (refused 14) (accepted absent) (accepted zeros)
+      ∷ look seen23 10 (keyOf 16 1) (refused 3) (accepted absent) (accepted h64)
+      ∷ look seen24 13 (keyOf 144 0) (accepted (absenceOf (keyOf 144 0) none (some (presenceOf (keyOf 254 0) (valueOf 2) ([]))))) (accepted absent) (accepted h34)
+      ∷ look seen24 13 (keyOf 192 0) (accepted (absenceOf (keyOf 192 0) none (some (presenceOf (keyOf 254 0) (valueOf 2) ([]))))) (accepted absent) (accepted h34)
+      ∷ look seen24 13 (keyOf 144 0) (accepted (absenceOf (keyOf 144 0) none (some (presenceOf (keyOf 254 0) (valueOf 2) ([]))))) (accepted absent) (accepted h34)
+      ∷ look seen24 14 (keyOf 192 0) (refused 8) (refused 8) (refused 8)
+      ∷ look seen25 1 (keyOf 16 0) (refused 17) (accepted absent) (accepted h68)
+      ∷ look seen25 1 (keyOf 128 0) (refused 17) (refused 17) (accepted h68)
+      ∷ look seen25 0 (keyOf 128 0) (refused 8) (refused 8) (refused 8)
+      ∷ look seen25 0 (keyOf 144 0) (refused 8) (refused 8) (refused 8)
+      ∷ look seen26 9 (keyOf 8 1) (accepted (absenceOf (keyOf 8 1) (some (presenceOf (keyOf 0 0) (valueOf 1) ([]))) none)) (accepted absent) (accepted h69)
+      ∷ look seen26 9 (keyOf 128 0) (accepted (absenceOf (keyOf 128 0) (some (presenceOf (keyOf 0 0) (valueOf 1) ([]))) none)) (accepted absent) (accepted h69)
+      ∷ look seen26 9 (keyOf 128 0) (accepted (absenceOf (keyOf 128 0) (some (presenceOf (keyOf 0 0) (valueOf 1) ([]))) none)) (accepted absent) (accepted h69)
+      ∷ look seen26 5 (keyOf 128 0) (accepted (absenceOf (keyOf 128 0) (some (presenceOf (keyOf 0 0) (valueOf 1) ([]))) none)) (accepted absent) (accepted h69)
+      ∷ look seen27 5 (keyOf 255 0) (accepted (absenceOf (keyOf 255 0) (some (presenceOf (keyOf 64 0) (valueOf 3) ([]))) none)) (accepted absent) (accepted h70)
+      ∷ look seen27 9 (keyOf 64 0) (accepted (presence (presenceOf (keyOf 64 0) (valueOf 1) ([])))) (accepted (present (valueOf 1))) (accepted h13)
+      ∷ look seen27 10 (keyOf 255 0) (accepted (absenceOf (keyOf 255 0) (some (presenceOf (keyOf 192 0) (valueOf 2) (step true h13 ∷ []))) none)) (accepted absent) (accepted h71)
+      ∷ look seen27 2 (keyOf 255 0) (accepted (presence (presenceOf (keyOf 255 0) (valueOf 2) (step true h70 ∷ [])))) (accepted (present (valueOf 2))) (accepted h72)
+      ∷ look seen28 3 (keyOf 128 0) (accepted (presence (presenceOf (keyOf 128 0) (valueOf 2) (step true h39 ∷ [])))) (accepted (present (valueOf 2))) (accepted h74)
+      ∷ look seen28 0 (keyOf 192 0) (refused 14) (accepted absent) (accepted zeros)
+      ∷ look seen28 0 (keyOf 16 0) (refused 14) (accepted absent) (accepted zeros)
+      ∷ look seen28 3 (keyOf 0 0) (accepted (absenceOf (keyOf 0 0) none (some (presenceOf (keyOf 16 0) (valueOf 4) (step false h73 ∷ []))))) (accepted absent) (accepted h74)
+      ∷ look seen29 8 (keyOf 192 0) (refused 17) (refused 17) (accepted h78)
+      ∷ look seen29 9 (keyOf 192 0) (accepted (presence (presenceOf (keyOf 192 0) (valueOf 4) (step true h55 ∷ step true h10 ∷ [])))) (accepted (present (valueOf 4))) (accepted h79)
+      ∷ look seen29 9 (keyOf 16 0) (accepted (presence (presenceOf (keyOf 16 0) (valueOf 1) (step false h77 ∷ [])))) (accepted (present (valueOf 1))) (accepted h79)
+      ∷ look seen29 8 (keyOf 192 0) (refused 17) (refused 17) (accepted h78)
       ∷ []
 
   pub looks3 : All (LookHolds leafHash innerHash) rows

@@ -1,11 +1,12 @@
 -- The rows of the tables: what a case holds, and when the definitions agree with it. Assumes nothing.
 use Prim.Native.Nat.{ℕ, _+_, _*_, _%_}
 use mathlib.Core.Path.{_≡_}
-use mathlib.Core.List.{List, [], _∷_}
+use mathlib.Core.List.{List, [], _∷_, _++_}
 use mathlib.Core.Option.{some}
 use lib.ListN.{replicate}
-use Rattle.terms.specs.Bits.{Bytes, Place}
-use Rattle.terms.specs.Records.{Ask, Slot, free, used, leafBody, innerBody, child, Store, Proof}
+use Rattle.terms.specs.Bits.{Bytes, Place, pack}
+use Rattle.terms.specs.Fields.{le}
+use Rattle.terms.specs.Records.{Ask, Slot, free, used, spoiled, leafBody, innerBody, child, Store, Proof}
 use Rattle.meaning.specs.Calls.{Answer, refused, accepted, Applied, apply, prune}
 use Rattle.meaning.specs.Reading.{Verdict, readKey, readRoot}
 use Rattle.meaning.specs.Proving.{proof}
@@ -19,6 +20,10 @@ leafSlot p v r k x = used (record { place = p; version = v; retired = r; body = 
 
 abbrev pub innerSlot : Place → ℕ → ℕ → ℕ → Bytes → ℕ → Bytes → Slot
 innerSlot p v r lv lh rv rh = used (record { place = p; version = v; retired = r; body = innerBody (child lv lh) (child rv rh) })
+
+-- A slot off form, with these bit count, bits, version and retired-since fields.
+abbrev pub spoiltSlot : ℕ → Place → ℕ → ℕ → Slot
+spoiltSlot n p v r = spoiled (replicate 6 9 ++ le 2 n ++ pack 32 p ++ le 4 v ++ le 4 r ++ replicate 72 9)
 
 abbrev pub freeSlots : ℕ → List Slot
 freeSlots n = replicate n free

@@ -2,3 +2,4 @@ pub mod Bits
 pub mod Records
 pub mod Form
 pub mod Fields
+pub mod Heads

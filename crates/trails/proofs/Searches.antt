@@ -5,7 +5,6 @@ use native.Mathlib.Omega.{arith}
 use mathlib.Core.Path.{_≡_, refl, ap, ap₂, sym, _∙_, subst}
 use mathlib.Core.Bool.{Bool, true, false, cond, not}
 use mathlib.Core.List.{List, [], _∷_}
-use mathlib.Core.Option.{none}
 use lib.ListN.{length, getD}
 use mathlib.Core.Logic.{⊎-elim}
 use types.Run.{OneOf}
@@ -13,13 +12,15 @@ use denote.Enum.Declared.{tagOf}
 use lib.Dec.{eqb}
 use Rattle.terms.specs.Bits.{Bytes, Side, longer}
 use Rattle.terms.specs.Records.{Step}
+use Rattle.meaning.specs.Sight.{scan}
 use Rattle.meaning.specs.Reading as reading
-use Rattle.meaning.specs.Proving.{step, isGap, raisedBy, descend, Sought, lostWay, nobody, somebody, sought, beyond}
+use Rattle.meaning.specs.Proving.{step, isGap, stuck, raisedBy, descend, Sought, lostWay, nobody, somebody, sought, beyond}
 use Rattle.shown.proofs.Loops.{descendBelow, descend-below}
 use Rattle.place.specs.Place.{placeOf}
 use Rattle.layout.specs.Slots.{keyIn}
 use Rattle.layout.specs.Stores.{slotIn, storeOf, SlotWithin}
-use Rattle.read_step.specs.Walk.{kidIn, leafAt, forkAt}
+use Rattle.read_step.specs.Walk.{troubleSays, kidIn, leafAt, forkAt}
+use Rattle.read_step.specs.declared.Trouble as declared-trouble
 use Rattle.read_step.specs.declared.Seen as declared-seen
 use Rattle.read_step.specs.declared.Seen.the-variants.{Gap, Lost, Leaf, Inner}
 use Rattle.read_step.proofs.Seen as Seen
@@ -69,7 +70,7 @@ module _ {s : Bytes} {b : Side} {t₀ t : declared.Trail} (w : Descent s b t₀ 
       a = at-inner (w .trail) e
 
       gaps : isGap (kidsAt s t i b) ≡ eqb (kidIn i s b .version) 0
-      gaps = gap-test (255 - length (placeOf (t .place))) (storeOf s .slots) (longer b (placeOf (t .place))) (kidIn i s b)
+      gaps = gap-test (255 - length (placeOf (t .place))) (scan (storeOf s)) (longer b (placeOf (t .place))) (kidIn i s b)
 
       turn : raisedBy (stepsBy s t) (descend b (shownBy s t)) ≡ raisedBy (stepsBy s r) (descend b (shownBy s r))
       turn =
@@ -87,12 +88,12 @@ module _ {s : Bytes} {b : Side} {t₀ t : declared.Trail} (w : Descent s b t₀ 
       says : somebody (presenceAt s (pathOf t i)) ≡ descentSays s t₀ b
       says = sym (w .same ∙ ap (λ x. sought (raisedBy (stepsBy s t) (descend b (shownAt s (placeOf (t .place)) x)))) e)
 
-  pub descent-lost : {r : declared-sought.Sought} (x : declared-seen.Seen) → t .seen ≡ x → descend b (shownAt s (placeOf (t .place)) x) ≡ none → r ≡ soughtOf t way.Lost 0 →
-      Finds s (descentSays s t₀ b) r
+  pub descent-lost : {r : declared-sought.Sought} (x : declared-seen.Seen) (u : declared-trouble.Trouble) → t .seen ≡ x →
+      descend b (shownAt s (placeOf (t .place)) x) ≡ stuck (troubleSays u) → r ≡ soughtOf t (way.Lost u) 0 → Finds s (descentSays s t₀ b) r
   unfolding descentSays shownBy
-  descent-lost {r} x e n q = subst (Finds s (descentSays s t₀ b)) (sym q) (record { says = says; within = w .trail .proper .short })
+  descent-lost {r} x u e n q = subst (Finds s (descentSays s t₀ b)) (sym q) (record { says = says; within = w .trail .proper .short })
     where
-      says : lostWay ≡ descentSays s t₀ b
+      says : lostWay (troubleSays u) ≡ descentSays s t₀ b
       says = sym (w .same ∙ ap (λ y. sought (raisedBy (stepsBy s t) (descend b (shownAt s (placeOf (t .place)) y)))) e ∙ ap (λ o. sought (raisedBy (stepsBy s t) o)) n)
 
 -- a search from a fork: nobody where there is none, else into its child
@@ -138,7 +139,7 @@ fork-within s w b h e = (h .trail, subst (ForkIn (w .trail .place .count)) (sym 
 
 not-leaf : (s k : Bytes) (t : declared.Trail) (b : Side) (x : declared-seen.Seen) (y : Sought) → OneOf (0 ∷ 1 ∷ 3 ∷ []) (tagOf Seen.the-type x) → endSays s k t b x y ≡ y
 not-leaf s k t b Gap y o = refl
-not-leaf s k t b Lost y o = refl
+not-leaf s k t b (Lost u) y o = refl
 not-leaf s k t b (Leaf i) y o = absurd (⊎-elim (λ e. omega arith) (λ m. ⊎-elim (λ e. omega arith) (λ e. omega arith) m) o)
 not-leaf s k t b (Inner i) y o = refl
 

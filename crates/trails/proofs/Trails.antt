@@ -5,16 +5,15 @@ use native.Mathlib.Numerals.{add-one}
 use mathlib.Core.Path.{_≡_, refl, ap, ap₂, sym, _∙_, subst}
 use mathlib.Core.Bool.{Bool, true, false, cond}
 use mathlib.Core.List.{List, [], _∷_}
-use mathlib.Core.Option.{Option, none, some}
 use lib.ListN.{length, getD, set, length-set, List·getD-append}
 use lib.Seq.{getD-set-same, getD-set-other, getD-append-seam}
 use lib.Dec.{eqb}
 use borrow.Author.Count.{below-more}
 use Rattle.terms.specs.Bits.{Bytes, Side, left, Place, longer, begins}
-use Rattle.terms.specs.Records.{Child, Body, leafBody, innerBody, Record, Slot}
+use Rattle.terms.specs.Records.{Child, Body, leafBody, innerBody}
 use Rattle.terms.proofs.Places.{length-longer}
-use Rattle.meaning.specs.Store.{find}
-use Rattle.meaning.specs.Reading.{Seen, lost, gap, leafSeen, seenBody, seenChild, seenAt, seen}
+use Rattle.meaning.specs.Sight.{Sight, matches, nothing, spoilt, Looking, scan}
+use Rattle.meaning.specs.Reading.{lostRecord, strayLeaf, Seen, lost, gap, leafSeen, seenBody, seenChild, seenAt, seen}
 use Rattle.meaning.specs.Proving.{isGap}
 use Rattle.place.specs.declared.Place as declared-place
 use Rattle.place.specs.Place.{placeOf, Stands, Grown}
@@ -32,22 +31,23 @@ use Rattle.trails.specs.declared.Trail as declared
 -- what is seen, by the case of the answer
 pub sees-shown : (s : Bytes) (p : Place) (x : Seen) (r : declared-seen.Seen) → Sees s p x r → shownAt s p r ≡ x
 sees-shown s p x Gap e = sym e
-sees-shown s p x Lost e = sym e
+sees-shown s p x (Lost t) e = sym e
 sees-shown s p x (Leaf i) e = sym (e .1)
 sees-shown s p x (Inner i) e = sym (e .2)
 
 sees-in : (s : Bytes) (p : Place) (x : Seen) (r : declared-seen.Seen) → Sees s p x r → SeenIn s p r
 sees-in s p x Gap e = tt
-sees-in s p x Lost e = tt
+sees-in s p x (Lost t) e = tt
 sees-in s p x (Leaf i) e = e .0
 sees-in s p x (Inner i) e = (e .0, e .1)
 
 -- only a child that is not there is a gap
-no-gap : (p : Place) (o : Option Record) (kid : Side → Child → Seen) → isGap (seenChild p o kid) ≡ false
-no-gap p none kid = refl
-no-gap p (some r) kid = go (r .body)
+no-gap : (p : Place) (o : Sight) (kid : Side → Child → Seen) → isGap (seenChild p o kid) ≡ false
+no-gap p nothing kid = refl
+no-gap p (spoilt i) kid = refl
+no-gap p (matches r) kid = go (r .body)
   where
-    either : (b : Bool) (k x : Bytes) → isGap (cond b (leafSeen k x) lost) ≡ false
+    either : (b : Bool) (k x : Bytes) → isGap (cond b (leafSeen k x) (lost strayLeaf)) ≡ false
     either true k x = refl
     either false k x = refl
 
@@ -55,15 +55,15 @@ no-gap p (some r) kid = go (r .body)
     go (leafBody k x) = either (begins p k) k x
     go (innerBody l m) = refl
 
-pub gap-test : (n : ℕ) (s : List Slot) (p : Place) (c : Child) → isGap (seenAt n s p c) ≡ eqb (c .version) 0
+pub gap-test : (n : ℕ) (s : Looking) (p : Place) (c : Child) → isGap (seenAt n s p c) ≡ eqb (c .version) 0
 gap-test n s p c = by n
   where
-    go : (b : Bool) (kid : Side → Child → Seen) → isGap (cond b gap (seenChild p (find (c .version) p s) kid)) ≡ b
+    go : (b : Bool) (kid : Side → Child → Seen) → isGap (cond b gap (seenChild p (s .node (c .version) p) kid)) ≡ b
     go true kid = refl
-    go false kid = no-gap p (find (c .version) p s) kid
+    go false kid = no-gap p (s .node (c .version) p) kid
 
     by : (n : ℕ) → isGap (seenAt n s p c) ≡ eqb (c .version) 0
-    by zero = go (eqb (c .version) 0) (λ b d. lost)
+    by zero = go (eqb (c .version) 0) (λ b d. lost lostRecord)
     by (suc m) = go (eqb (c .version) 0) (λ b d. seenAt m s (longer b p) d)
 
 -- steps agree where slots and sides do
@@ -77,15 +77,15 @@ pub set-below : (a : List ℕ) (n i j : ℕ) → j < n → getD (set a n i) j 0 
 set-below a n i j h = getD-set-other a n j i 0 (λ e. omega arith)
 
 -- what is seen at a child, from its parent
-pub kid-seen : (s : Bytes) (b : Side) (p : Place) (c : Child) → seenBelow s (longer b p) c ≡ seenAt (255 - length p) (storeOf s .slots) (longer b p) c
+pub kid-seen : (s : Bytes) (b : Side) (p : Place) (c : Child) → seenBelow s (longer b p) c ≡ seenAt (255 - length p) (scan (storeOf s)) (longer b p) c
 unfolding seenBelow
 kid-seen s b p c =
     let n : 256 - length (longer b p) ≡ 255 - length p = omega (arith, length-longer b p) in
-    ap (λ (m : ℕ). seenAt m (storeOf s .slots) (longer b p) c) n
+    ap (λ (m : ℕ). seenAt m (scan (storeOf s)) (longer b p) c) n
 
 -- the trail at the root
 pub started : (s : Bytes) (v : ℕ) (x : declared-seen.Seen) (a : List ℕ) (p : declared-place.Place) → sizeRight (length s) ≡ true → length a ≡ 256 → Stands [] 0 p →
-    Sees s [] (seen (storeOf s) v) x → Started s v (record { seen = x; slots = a; place = p })
+    Sees s [] (seen (scan (storeOf s)) v) x → Started s v (record { seen = x; slots = a; place = p })
 unfolding shownBy
 started s v x a p size long w e = record {
   trail = record {
@@ -93,10 +93,10 @@ started s v x a p size long w e = record {
     proper = w .proper;
     long = long;
     above = λ j h. absurd (omega (arith, w .count));
-    seen = rw (w .place) (sees-in s [] (seen (storeOf s) v) x e);
+    seen = rw (w .place) (sees-in s [] (seen (scan (storeOf s)) v) x e);
   };
   count = w .count;
-  shown = ap (λ q. shownAt s q x) (w .place) ∙ sees-shown s [] (seen (storeOf s) v) x e;
+  shown = ap (λ q. shownAt s q x) (w .place) ∙ sees-shown s [] (seen (scan (storeOf s)) v) x e;
 }
 
 -- one node further
@@ -145,12 +145,12 @@ module _ {s : Bytes} {t : declared.Trail} {i : ℕ} {b : Side} {r : declared.Tra
       (steps-agree s (r .slots) (t .slots) (longer b p) p n slot-kept (λ j h. List·getD-append p (b ∷ []) left j (omega (arith, m))))
 
   -- what is seen at its end
-  pub shown-further : shownBy s r ≡ seenAt (255 - length (placeOf (t .place))) (storeOf s .slots) (longer b (placeOf (t .place))) (kidIn i s b)
+  pub shown-further : shownBy s r ≡ seenAt (255 - length (placeOf (t .place))) (scan (storeOf s)) (longer b (placeOf (t .place))) (kidIn i s b)
   shown-further = f .shown ∙ ap (λ q. seenBelow s q (kidIn i s b)) (f .place .place) ∙ kid-seen s b (placeOf (t .place)) (kidIn i s b)
 
 -- what is seen on each side of the inner node in slot i, at the end of a trail
 abbrev pub kidsAt : Bytes → declared.Trail → ℕ → Side → Seen
-kidsAt s t i b = seenAt (255 - length (placeOf (t .place))) (storeOf s .slots) (longer b (placeOf (t .place))) (kidIn i s b)
+kidsAt s t i b = seenAt (255 - length (placeOf (t .place))) (scan (storeOf s)) (longer b (placeOf (t .place))) (kidIn i s b)
 
 -- a trail that ends at an inner node goes on there
 pub at-inner : {s : Bytes} {t : declared.Trail} {i : ℕ} → TrailIn s t → t .seen ≡ Inner i → AtInner s t i

@@ -14,6 +14,7 @@ use borrow.Author.Tests.{eq-eqb, ne-eqb}
 use lib.Dec.{eqb}
 use Rattle.terms.specs.Bits.{Bytes, Side, left, Place, longer, bit}
 use Rattle.terms.specs.Records.{Step}
+use Rattle.meaning.specs.Sight.{scan}
 use Rattle.meaning.specs.Reading.{fork, seenAt, seen, Pass, walk}
 use Rattle.meaning.specs.Proving.{stepUp, raisedBy, descend, Sought, nobody, sought, turnsAway, fromTrail}
 use Rattle.place.specs.declared.Place as declared-place
@@ -62,7 +63,7 @@ walking-start s v k t p w proper = record {
 -- from the inner node in slot i into its child on side b, with these steps above it
 abbrev sidewaysFrom : Bytes → Place → ℕ → List Step → Side → Sought
 sidewaysFrom s p i steps b =
-    sought (raisedBy (stepAt s i b ∷ steps) (descend (not b) (seenAt (255 - length p) (storeOf s .slots) (longer b p) (kidIn i s b))))
+    sought (raisedBy (stepAt s i b ∷ steps) (descend (not b) (seenAt (255 - length p) (scan (storeOf s)) (longer b p) (kidIn i s b))))
 
 sideways-is : (s : Bytes) (slots : List ℕ) (b : Side) (p : declared-place.Place) (i : ℕ) (steps : List Step) → getD slots (p .count) 0 ≡ i →
     stepsOf s slots (placeOf p) (p .count) ≡ steps → sideways s slots b p ≡ sidewaysFrom s (placeOf p) i steps b
@@ -120,7 +121,7 @@ module _ {s : Bytes} {t : declared.Trail} {i : ℕ} {turn : Side} {r : declared.
   found-next b f h passes k e u q =
       let p = placeOf (t .place) in
       let d : turnsAway b (pass turn) ≡ Bool·beq turn (not b) && not (eqb (kidIn i s b .version) 0) =
-      ap (λ x. Bool·beq turn (not b) && not x) (gap-test (255 - length p) (storeOf s .slots) (longer b p) (kidIn i s b))
+      ap (λ x. Bool·beq turn (not b) && not x) (gap-test (255 - length p) (scan (storeOf s)) (longer b p) (kidIn i s b))
       in
       let x = sought (raisedBy (stepAt s i b ∷ map stepUp passes) (descend (not b) (pass turn .kids b))) in
       ap (λ c. cond c x (fromTrail b passes)) d
@@ -164,7 +165,7 @@ walking-next {s} {v} {k} {t} {l} {r} {turn} i u m n w e b em en g = record {
     count : suc (t .place .count) ≡ u .place .count
     count = sym (g .place .count ∙ add-one (t .place .count))
 
-    walked-on : walk k 0 [] (seen (storeOf s) v) ≡ walk k (u .place .count) (pass a g turn ∷ w .passes) (shownBy s u)
+    walked-on : walk k 0 [] (seen (scan (storeOf s)) v) ≡ walk k (u .place .count) (pass a g turn ∷ w .passes) (shownBy s u)
     walked-on =
         w .walked
         ∙ ap (λ x. walk k (t .place .count) (w .passes) (shownAt s (placeOf (t .place)) x)) e

@@ -41,7 +41,7 @@ pub record WalkedIn (s : Bytes) (w : declared-walked.Walked) : Type 0 where
 -- The leaf at the end, if its key is on side b; else what is found from the trail.
 abbrev pub endSays : Bytes → Bytes → declared.Trail → Side → declared-seen.Seen → Sought → Sought
 endSays s k t b Gap x = x
-endSays s k t b Lost x = x
+endSays s k t b (Lost u) x = x
 endSays s k t b (Leaf i) x = cond (beyond b (keyIn (slotIn i s)) k) (somebody (presenceAt s (pathOf t i))) x
 endSays s k t b (Inner i) x = x
 

@@ -7,6 +7,7 @@ use lib.ListN.{length, getD, set}
 use lib.Dec.{eqb}
 use Rattle.terms.specs.Bits.{Bytes, Side, Place, longer}
 use Rattle.terms.specs.Records.{Step}
+use Rattle.meaning.specs.Sight.{scan}
 use Rattle.meaning.specs.Reading.{Seen, lost, gap, seenAt, seen, Pass, walk}
 use Rattle.meaning.specs.Proving.{stepUp, raisedBy, descend, Sought, nobody, sought, fromTrail}
 use Rattle.layout.specs.Sizes.{roomOf}
@@ -14,7 +15,7 @@ use Rattle.layout.specs.Headers.{sizeRight}
 use Rattle.layout.specs.Stores.{storeOf}
 use Rattle.place.specs.Place.{placeOf, Proper, Grown}
 use Rattle.place.specs.declared.Place as declared-place
-use Rattle.read_step.specs.Walk.{kidIn, seenBelow, leafAt, forkAt}
+use Rattle.read_step.specs.Walk.{troubleSays, kidIn, seenBelow, leafAt, forkAt}
 use Rattle.read_step.specs.declared.Seen as declared-seen
 use Rattle.read_step.specs.declared.Seen.the-variants.{Gap, Lost, Leaf, Inner}
 use Rattle.paths.specs.Paths.{stepAt, stepsOf}
@@ -25,14 +26,14 @@ use Rattle.trails.specs.declared.Walked as declared-walked
 -- What each case of an answer says is seen at a place.
 abbrev pub shownAt : Bytes → Place → declared-seen.Seen → Seen
 shownAt s p Gap = gap
-shownAt s p Lost = lost
+shownAt s p (Lost t) = lost (troubleSays t)
 shownAt s p (Leaf i) = leafAt i s
 shownAt s p (Inner i) = forkAt i s p
 
 -- A slot that is seen is one of the store's, and an inner node's place is shorter than a key.
 abbrev pub SeenIn : Bytes → Place → declared-seen.Seen → Type 0
 SeenIn s p Gap = Unit {0}
-SeenIn s p Lost = Unit {0}
+SeenIn s p (Lost t) = Unit {0}
 SeenIn s p (Leaf i) = i < roomOf (length s)
 SeenIn s p (Inner i) = (i < roomOf (length s)) × (length p < 256)
 
@@ -64,7 +65,7 @@ pub record AtInner (s : Bytes) (t : declared.Trail) (i : ℕ) : Type 0 where
 pub record Started (s : Bytes) (v : ℕ) (r : declared.Trail) : Type 0 where
   pub trail : TrailIn s r
   pub count : r .place .count ≡ 0
-  pub shown : shownBy s r ≡ seen (storeOf s) v
+  pub shown : shownBy s r ≡ seen (scan (storeOf s)) v
 
 -- The trail r is t, one inner node further, that in slot i, to side b.
 pub record Further (s : Bytes) (t : declared.Trail) (i : ℕ) (b : Side) (r : declared.Trail) : Type 0 where
@@ -83,7 +84,7 @@ unfoldable pub sideways : Bytes → List ℕ → Side → declared-place.Place �
 sideways s slots b p =
     sought
     (raisedBy (stepAt s (getD slots (p .count) 0) b ∷ stepsOf s slots (placeOf p) (p .count))
-    (descend (not b) (seenAt (255 - length (placeOf p)) (storeOf s .slots) (longer b (placeOf p)) (kidIn (getD slots (p .count) 0) s b))))
+    (descend (not b) (seenAt (255 - length (placeOf p)) (scan (storeOf s)) (longer b (placeOf p)) (kidIn (getD slots (p .count) 0) s b))))
 
 unfoldable pub forkSays : Bytes → List ℕ → Side → declared-fork.Fork → Sought
 forkSays s slots b f = cond (f .there) (sideways s slots b (f .place)) nobody
@@ -104,7 +105,7 @@ pub record Walking (s : Bytes) (v : ℕ) (k : Bytes) (t : declared.Trail) (l r :
   pub trail : TrailIn s t
   pub fork : (b : Side) → ForkIn (t .place .count) (forkOn b l r)
   pub passes : List Pass
-  pub walked : walk k 0 [] (seen (storeOf s) v) ≡ walk k (t .place .count) passes (shownBy s t)
+  pub walked : walk k 0 [] (seen (scan (storeOf s)) v) ≡ walk k (t .place .count) passes (shownBy s t)
   pub steps : map stepUp passes ≡ stepsBy s t
   pub found : (b : Side) → fromTrail b passes ≡ forkSays s (t .slots) b (forkOn b l r)
 

@@ -7,6 +7,7 @@ use place::before;
 use place::child_place;
 use place::key_bit;
 use read_step::Seen;
+use read_step::Trouble;
 use read_step::child;
 use read_step::child_version;
 use read_step::root;
@@ -86,7 +87,7 @@ fn deepest(store: &[u8], fork: Fork, place: Place, i: usize, turn: bool, side: b
     Fork { there: true, place }
 }
 
-// Walks by the key's bits from the root of a version to a leaf or a missing child, or until a record is lost.
+// Walks by the key's bits from the root of a version to a leaf or a missing child, or until it is stopped.
 pub fn walk(store: &[u8], version: u32, key: &[u8]) -> Walked
     requires { ⌜ (sizeRight (length (now store)) ≡ true) × (length (now key) ≡ 32) ⌝ }
     ensures { λ r. ⌜ Walks (now (store .entry)) version (now (key .entry)) r ⌝ }
@@ -154,8 +155,8 @@ fn descend(store: &[u8], trail: Trail, side: bool) -> Sought
                 here = further(store, here, i, turn);
             }
             Seen::Leaf(i) => return answer(here, Way::Somebody, i),
-            Seen::Gap => return answer(here, Way::Lost, 0),
-            Seen::Lost => return answer(here, Way::Lost, 0),
+            Seen::Gap => return answer(here, Way::Lost(Trouble::Lost), 0),
+            Seen::Lost(trouble) => return answer(here, Way::Lost(trouble), 0),
         }
     }
 }

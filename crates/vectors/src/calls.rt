@@ -16,7 +16,7 @@ use script::words::number;
 use script::words::part;
 use script::words::rest;
 
-fn slots(store: &[u8]) -> usize {
+pub fn slots(store: &[u8]) -> usize {
     if store.len() < 24 {
         return 0;
     }
@@ -29,18 +29,40 @@ fn refused(no: u32, end: &[u8]) {
     say::text(end);
 }
 
+// Whether these bytes still hash to what they did.
+pub fn say_kept(before: Hash, bytes: &[u8]) {
+    say::choice(
+        same_hash(before, digest(bytes)),
+        b", nothing written\n",
+        b", BUT SOMETHING WRITTEN\n",
+    );
+}
+
 // Whether a call that may write to these bytes was accepted; if not, what it gave. `before` is what they hashed to before it.
 pub fn accepted(no: u32, before: Hash, bytes: &[u8]) -> bool {
     if no == 0 {
         return true;
     }
     refused(no, b"");
-    say::choice(
-        same_hash(before, digest(bytes)),
-        b", nothing written\n",
-        b", BUT SOMETHING WRITTEN\n",
-    );
+    say_kept(before, bytes);
     false
+}
+
+// The slot that a read named, where its high half has one: one less than that.
+fn say_named(high: u64) {
+    if high == 0 {
+        return;
+    }
+    say::text(b", slot ");
+    say::count((high - 1) as usize);
+}
+
+// What a read refused with: the number in the low half, a slot in the high one.
+pub fn refused_read(no: u64, end: &[u8]) {
+    say::text(b"refused with ");
+    say::count((no % 4294967296) as usize);
+    say_named(no / 4294967296);
+    say::text(end);
 }
 
 pub fn format(store: &mut [u8]) -> bool {
@@ -137,7 +159,7 @@ fn say_made(store: &[u8], answer: &[u8; 40], root: Hash) {
 }
 
 // The number in an answer of four bytes.
-fn number_in(answer: &[u8; 4]) -> usize {
+pub fn number_in(answer: &[u8; 4]) -> usize {
     get_u32(answer, 0) as usize
 }
 
@@ -173,9 +195,9 @@ pub fn root(l: &[u8], store: &[u8]) -> bool {
     true
 }
 
-fn say_root(no: u32, root: &[u8; 32]) {
+pub fn say_root(no: u64, root: &[u8; 32]) {
     if no != 0 {
-        refused(no, b"\n");
+        refused_read(no, b"\n");
         return;
     }
     say::hex(hash_at(root, 0));
@@ -183,7 +205,7 @@ fn say_root(no: u32, root: &[u8; 32]) {
 }
 
 // Word n of those after the name.
-fn word(l: &[u8], n: usize) -> &[u8] {
+pub fn word(l: &[u8], n: usize) -> &[u8] {
     part(part(l, 1, b':'), n, b' ')
 }
 
@@ -200,11 +222,7 @@ fn asks(call: &[u8], l: &[u8]) -> bool {
     true
 }
 
-fn say_found(no: u32, found: &[u8; 33]) {
-    if no != 0 {
-        refused(no, b"\n");
-        return;
-    }
+fn say_found(found: &[u8; 33]) {
     if found[0] == 0 {
         say::text(b"absent\n");
         return;
@@ -212,6 +230,14 @@ fn say_found(no: u32, found: &[u8; 33]) {
     say::text(b"present, value ");
     say::hex(hash_at(found, 1));
     say::text(b"\n");
+}
+
+fn say_got(no: u64, found: &[u8; 33]) {
+    if no != 0 {
+        refused_read(no, b"\n");
+        return;
+    }
+    say_found(found);
 }
 
 // get NAME: VERSION KEY
@@ -224,7 +250,7 @@ pub fn get(l: &[u8], store: &[u8]) -> bool {
     put_hash(&mut k, key(word(l, 2)));
     let mut found = [0u8; 33];
     let no = grants::grants_get(store, (number(word(l, 1)) % NONE) as u32, &k, &mut found);
-    say_found(no, &found);
+    say_got(no, &found);
     true
 }
 
@@ -263,7 +289,9 @@ fn prove_all(store: &[u8], version: u32, key: &[u8; 32], room: &mut [u8]) {
     let before = digest(room);
     let mut length = [0u8; 4];
     let no = grants::grants_prove(store, version, key, room, &mut length);
-    if !accepted(no, before, room) {
+    if no != 0 {
+        refused_read(no, b"");
+        say_kept(before, room);
         return;
     }
     let n = number_in(&length);
@@ -275,7 +303,7 @@ fn prove_all(store: &[u8], version: u32, key: &[u8; 32], room: &mut [u8]) {
 }
 
 // A proof's length, the count of its steps or, of an absence proof, its flags, and what it shows against the root of its version.
-fn verify(store: &[u8], version: u32, key: &[u8; 32], proof: &[u8]) {
+pub fn verify(store: &[u8], version: u32, key: &[u8; 32], proof: &[u8]) {
     say::text(b"length ");
     say::count(proof.len());
     if 8 <= proof.len() {
@@ -288,14 +316,18 @@ fn verify(store: &[u8], version: u32, key: &[u8; 32], proof: &[u8]) {
     if no == 0 {
         verify_under(&root, key, proof);
     } else {
-        refused(no, b"\n");
+        refused_read(no, b"\n");
     }
 }
 
 fn verify_under(root: &[u8; 32], key: &[u8; 32], proof: &[u8]) {
     let mut found = [0u8; 33];
     let no = grants::grants_verify(root, key, proof, &mut found);
-    say_found(no, &found);
+    if no != 0 {
+        refused(no, b"\n");
+        return;
+    }
+    say_found(&found);
 }
 
 // How deep the records lie.

@@ -3,6 +3,7 @@
 // new call: a function of `calls`, a line of `call` below, and a line of the script's head that says its form.
 mod calls;
 mod compared;
+mod harmed;
 
 use place::same;
 use script::say;
@@ -134,6 +135,17 @@ fn call(l: &[u8], c: &[u8], store: &mut [u8]) -> bool {
     }
     if same(c, b"levels") {
         return calls::levels(store);
+    }
+    harm(l, c, store)
+}
+
+// Lines that no call makes: what a damaged disk would do to the store.
+fn harm(l: &[u8], c: &[u8], store: &mut [u8]) -> bool {
+    if same(c, b"byte") {
+        return harmed::byte(l, store);
+    }
+    if same(c, b"lose") {
+        return harmed::lose(l, store);
     }
     false
 }

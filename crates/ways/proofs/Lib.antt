@@ -1,3 +1,4 @@
+pub mod Spoilt
 pub mod Walking
 pub mod Descending
 pub mod Theorems

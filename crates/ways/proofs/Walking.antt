@@ -5,7 +5,7 @@ use native.Mathlib.Omega.{arith}
 use mathlib.Core.Path.{_≡_, refl, ap, sym, _∙_}
 use mathlib.Core.Bool.{Bool, true, false, cond}
 use mathlib.Core.List.{List, _∷_, map}
-use mathlib.Core.Option.{Option, none, some}
+use mathlib.Core.Option.{some}
 use lib.ListN.{length}
 use lib.Dec.{eqb}
 use borrow.Author.Tests.{eq-eqb, ne-eqb, eqb-true, eqb-false}
@@ -16,9 +16,14 @@ use Rattle.terms.proofs.Places.{length-longer}
 use Rattle.meaning.specs.Store.{find, childOn}
 use Rattle.meaning.specs.Sound.{At, Found}
 use Rattle.meaning.specs.Reading.{gap, leafSeen, fork, seenAt, seen, Pass, End, broken, atLeaf, atGap, walk}
+use Rattle.meaning.specs.Sight.{Sight, nothing, spoilt, nodeSight, scan}
+use Rattle.meaning.specs.Reading.{lostRecord, spoiltRecord, strayLeaf}
 use Rattle.meaning.specs.Reading as reading
 use Rattle.meaning.proofs.Finding.{found-at}
-use Rattle.ways.specs.Ways.{Present, Rule, byKey, Inner, inner, Stop, lost, leaf, missing, Way, no-child, not-found, misplaced, at-leaf, onward}
+use Rattle.meaning.proofs.Sights.{node-sighted}
+use Rattle.ways.specs.Ways as ways
+use Rattle.ways.proofs.Spoilt.{Kind, first, second, third, node-kind, second-is, third-is}
+use Rattle.ways.specs.Ways.{Present, Agrees, SpoiltIn, NoneSpoilt, NoMatch, Rule, byKey, Inner, inner, Stop, lost, leaf, missing, Way, no-child, not-found, misplaced, at-leaf, onward}
 
 -- records are in form, as those of every store read from bytes are
 abbrev pub Formed : Store → Type 0
@@ -43,42 +48,56 @@ module _ (st : Store) (formed : Formed st) where
   -- what stands at a child
   pub data View (p : Place) (c : Child) : Type 0 where
     gone : c .version ≡ 0 → View p c
-    none-found : Present c → find (c .version) p (st .slots) ≡ none → View p c
+    none-found : Present c → NoMatch st (c .version) p → NoneSpoilt st (Agrees (c .version) p) → View p c
+    spoilt-found : (i : ℕ) → Present c → NoMatch st (c .version) p → SpoiltIn st (Agrees (c .version) p) i → View p c
     leaf-found : (k x : Bytes) → Present c → Found st (c .version) p (leafBody k x) → View p c
     inner-found : (l r : Child) → Present c → Found st (c .version) p (innerBody l r) → View p c
 
   pub view : (p : Place) (c : Child) → View p c
   unfolding Found
-  view p c = go (eqb (c .version) 0) refl (find (c .version) p (st .slots)) refl
+  view p c = go (eqb (c .version) 0) refl (node-kind st (c .version) p)
     where
       found : Present c → (r : Record) (b : Body) → r .body ≡ b → find (c .version) p (st .slots) ≡ some r → View p c
       found h r (leafBody k x) f e = leaf-found k x h (r, e, f)
       found h r (innerBody a b) f e = inner-found a b h (r, e, f)
 
-      go : (b : Bool) → eqb (c .version) 0 ≡ b → (o : Option Record) → find (c .version) p (st .slots) ≡ o → View p c
-      go true h o e = gone (eqb-true (c .version) 0 h)
-      go false h none e = none-found (eqb-false (c .version) 0 h) e
-      go false h (some r) e = found (eqb-false (c .version) 0 h) r (r .body) refl e
+      go : (b : Bool) → eqb (c .version) 0 ≡ b → {x : Sight} → Kind st (find (c .version) p (st .slots)) (Agrees (c .version) p) x → View p c
+      go true h k = gone (eqb-true (c .version) 0 h)
+      go false h (first r e) = found (eqb-false (c .version) 0 h) r (r .body) refl e
+      go false h (second e w) = none-found (eqb-false (c .version) 0 h) e w
+      go false h (third i e w) = spoilt-found i (eqb-false (c .version) 0 h) e w
 
   -- what is seen there
-  pub seen-gap : (n : ℕ) (p : Place) (c : Child) → c .version ≡ 0 → seenAt n (st .slots) p c ≡ gap
+  pub seen-gap : (n : ℕ) (p : Place) (c : Child) → c .version ≡ 0 → seenAt n (scan st) p c ≡ gap
   seen-gap zero p c e = rw (eq-eqb (c .version) 0 e)
   seen-gap (suc n) p c e = rw (eq-eqb (c .version) 0 e)
 
-  pub seen-lost : (n : ℕ) (p : Place) (c : Child) → Present c → find (c .version) p (st .slots) ≡ none → seenAt n (st .slots) p c ≡ reading.lost
-  seen-lost zero p c h e = rw (ne-eqb (c .version) 0 h, e)
-  seen-lost (suc n) p c h e = rw (ne-eqb (c .version) 0 h, e)
+  pub seen-lost : (n : ℕ) (p : Place) (c : Child) → Present c → NoMatch st (c .version) p → NoneSpoilt st (Agrees (c .version) p) →
+      seenAt n (scan st) p c ≡ reading.lost lostRecord
+  seen-lost n p c h e w = go n (second-is st (find (c .version) p (st .slots)) (Agrees (c .version) p) (node-kind st (c .version) p) e w)
+    where
+      go : (n : ℕ) → nodeSight st (c .version) p ≡ nothing → seenAt n (scan st) p c ≡ reading.lost lostRecord
+      go zero f = rw (ne-eqb (c .version) 0 h, f)
+      go (suc n) f = rw (ne-eqb (c .version) 0 h, f)
+
+  pub seen-spoilt : (n : ℕ) (p : Place) (c : Child) (i : ℕ) → Present c → NoMatch st (c .version) p → SpoiltIn st (Agrees (c .version) p) i →
+      seenAt n (scan st) p c ≡ reading.lost (spoiltRecord i)
+  seen-spoilt n p c i h e w = go n (third-is st (find (c .version) p (st .slots)) (Agrees (c .version) p) (node-kind st (c .version) p) i e w)
+    where
+      go : (n : ℕ) → nodeSight st (c .version) p ≡ spoilt i → seenAt n (scan st) p c ≡ reading.lost (spoiltRecord i)
+      go zero f = rw (ne-eqb (c .version) 0 h, f)
+      go (suc n) f = rw (ne-eqb (c .version) 0 h, f)
 
   pub seen-leaf : (n : ℕ) (p : Place) (c : Child) (k x : Bytes) → Present c → Found st (c .version) p (leafBody k x) →
-      seenAt n (st .slots) p c ≡ cond (begins p k) (leafSeen k x) reading.lost
+      seenAt n (scan st) p c ≡ cond (begins p k) (leafSeen k x) (reading.lost strayLeaf)
   unfolding Found
-  seen-leaf zero p c k x h f = rw (ne-eqb (c .version) 0 h, f .1, f .2)
-  seen-leaf (suc n) p c k x h f = rw (ne-eqb (c .version) 0 h, f .1, f .2)
+  seen-leaf zero p c k x h f = rw (ne-eqb (c .version) 0 h, node-sighted st (c .version) p (f .0) (f .1), f .2)
+  seen-leaf (suc n) p c k x h f = rw (ne-eqb (c .version) 0 h, node-sighted st (c .version) p (f .0) (f .1), f .2)
 
   pub seen-fork : (n : ℕ) (p : Place) (c l r : Child) → Present c → Found st (c .version) p (innerBody l r) →
-      seenAt (suc n) (st .slots) p c ≡ fork (λ b. childOn b l r .hash) (λ b. seenAt n (st .slots) (longer b p) (childOn b l r))
+      seenAt (suc n) (scan st) p c ≡ fork (λ b. childOn b l r .hash) (λ b. seenAt n (scan st) (longer b p) (childOn b l r))
   unfolding Found
-  seen-fork n p c l r h f = rw (ne-eqb (c .version) 0 h, f .1, f .2)
+  seen-fork n p c l r h f = rw (ne-eqb (c .version) 0 h, node-sighted st (c .version) p (f .0) (f .1), f .2)
 
   -- every way ends
   abbrev pub Ends : Rule → List Inner → Place → Child → Type 0
@@ -87,12 +106,13 @@ module _ (st : Store) (formed : Formed st) where
   at-found-leaf : (rule : Rule) (before : List Inner) (p : Place) (c : Child) (k x : Bytes) → Present c → Found st (c .version) p (leafBody k x) →
       (b : Bool) → begins p k ≡ b → Ends rule before p c
   at-found-leaf rule before p c k x h f true e = (before, leaf k x, at-leaf k x h f e)
-  at-found-leaf rule before p c k x h f false e = (before, lost, misplaced k x h f e)
+  at-found-leaf rule before p c k x h f false e = (before, lost strayLeaf, misplaced k x h f e)
 
   ends-by : (rule : Rule) (before : List Inner) (p : Place) (c : Child) → View p c →
       ((l r : Child) → Present c → Found st (c .version) p (innerBody l r) → Ends rule before p c) → Ends rule before p c
   ends-by rule before p c (gone e) go = (before, missing, no-child e)
-  ends-by rule before p c (none-found h e) go = (before, lost, not-found h e)
+  ends-by rule before p c (none-found h e w) go = (before, lost lostRecord, not-found h e w)
+  ends-by rule before p c (spoilt-found i h e w) go = (before, lost (spoiltRecord i), ways.spoilt i h e w)
   ends-by rule before p c (leaf-found k x h f) go = at-found-leaf rule before p c k x h f (begins p k) refl
   ends-by rule before p c (inner-found l r h f) go = go l r h f
 
@@ -111,19 +131,20 @@ module _ (st : Store) (formed : Formed st) where
   passOf k i = record {
     turn = bit (length (i .place)) k;
     hashes = λ b. childOn b (i .left) (i .right) .hash;
-    kids = λ b. seenAt (255 - length (i .place)) (st .slots) (longer b (i .place)) (childOn b (i .left) (i .right));
+    kids = λ b. seenAt (255 - length (i .place)) (scan st) (longer b (i .place)) (childOn b (i .left) (i .right));
   }
 
   abbrev pub endOf : Bytes → List Inner → Stop → End
-  endOf k passed lost = broken
+  endOf k passed (lost t) = broken t
   endOf k passed (leaf l x) = atLeaf l x (map (passOf k) passed)
   endOf k passed missing = atGap (map (passOf k) passed)
 
   -- the walk ends as the way says
   pub walk-is : (k : Bytes) (before : List Inner) (p : Place) (c : Child) (passed : List Inner) (end : Stop) → Way st (byKey k) before p c passed end →
-      (n i : ℕ) → i ≡ length p → length p + n ≡ 256 → walk k i (map (passOf k) before) (seenAt n (st .slots) p c) ≡ endOf k passed end
+      (n i : ℕ) → i ≡ length p → length p + n ≡ 256 → walk k i (map (passOf k) before) (seenAt n (scan st) p c) ≡ endOf k passed end
   walk-is k before p c passed end (no-child e) n i f s = rw (seen-gap n p c e)
-  walk-is k before p c passed end (not-found h e) n i f s = rw (seen-lost n p c h e)
+  walk-is k before p c passed end (not-found h e w) n i f s = rw (seen-lost n p c h e w)
+  walk-is k before p c passed end (ways.spoilt j h e w) n i f s = rw (seen-spoilt n p c j h e w)
   walk-is k before p c passed end (misplaced l x h f e) n i g s = rw (seen-leaf n p c l x h f, e)
   walk-is k before p c passed end (at-leaf l x h f e) n i g s = rw (seen-leaf n p c l x h f, e)
   walk-is k before p c passed end (onward l r h f w) zero i g s = absurd (omega (arith, inner-short (c .version) p l r f))
@@ -135,7 +156,7 @@ module _ (st : Store) (formed : Formed st) where
       (record {
         turn = b;
         hashes = λ t. childOn t l r .hash;
-        kids = λ t. seenAt j (st .slots) (longer t p) (childOn t l r);
-      } ∷ map (passOf k) before) (seenAt n (st .slots) (longer b p) (childOn b l r))) m
+        kids = λ t. seenAt j (scan st) (longer t p) (childOn t l r);
+      } ∷ map (passOf k) before) (seenAt n (scan st) (longer b p) (childOn b l r))) m
       ∙ walk-is k (inner p l r ∷ before) (longer b p) (childOn b l r) passed end w n (suc (length p)) (sym (length-longer b p))
       (omega (arith, length-longer b p)))

@@ -7,6 +7,7 @@ mod base;
 mod both;
 #[allow(dead_code)] // some are the bench's alone
 mod cases;
+mod finding;
 #[path = "../../passes/src/hostile.rs"]
 #[allow(dead_code)] // those of roots are the passes' alone
 mod hostile;
@@ -162,8 +163,8 @@ fn edges(tally: &mut Tally) {
     }
 }
 
-/// Proving in an empty version, with room for any proof and with none: 14 between 8 and 3, also where the root's record is lost.
-fn empty(tally: &mut Tally, s: &[u8], damaged: &[u8], latest: u32, key: &[u8; 32]) {
+/// Proving in an empty version, with room for any proof and with none: 14 between 8 and 3 or 17, also where the root's record is lost.
+fn empty(tally: &mut Tally, s: &[u8], latest: u32, key: &[u8; 32]) {
     let mut rootless = s.to_vec();
     for at in (24..s.len()).step_by(120) {
         let version = u32::from_le_bytes(s[at + 40..at + 44].try_into().unwrap());
@@ -171,17 +172,22 @@ fn empty(tally: &mut Tally, s: &[u8], damaged: &[u8], latest: u32, key: &[u8; 32
             rootless[at..at + 120].fill(0);
         }
     }
-    // Nothing but the header is in form; the versions up to latest are kept.
+    // Nothing but the header is in form, and no slot has the empty place; the versions up to latest are kept.
+    let mut damaged = rootless.clone();
+    for at in (24..s.len()).step_by(120) {
+        damaged[at + 4] = 9;
+        damaged[at + 7] |= 2;
+    }
     for (what, store, version, wanted) in [
         ("14 with the root lost", &rootless[..], latest, 14),
-        ("14 before 3", damaged, latest, 14),
-        ("8 before 14", damaged, latest + 1, 8),
+        ("14 before 3", &damaged[..], latest, 14),
+        ("8 before 14", &damaged[..], latest + 1, 8),
     ] {
         for room in [0, 17_080] {
             let (mut x, mut y) = (vec![7; room], vec![7; room]);
             let answers = (ours::prove(store, version, key, &mut x), second::prove(store, version, key, &mut y));
             tally.equal(what, 0, answers.0, answers.1);
-            tally.equal(what, 0, answers.0, Err(wanted));
+            tally.equal(what, 0, answers.0, Err(second::alone(wanted)));
             assert!(x == vec![7; room] && y == x, "{what}: a refusal wrote");
         }
         if wanted == 14 {
@@ -213,7 +219,7 @@ fn pairs(tally: &mut Tally) {
     let out = u32::from_le_bytes(s[16..20].try_into().unwrap()) + 1;
     let mut case = |what: &str, store: &[u8], version: u32, key: &[u8], wanted: u32| {
         tally.same(what, 0, ours::get(store, version, key), second::get(store, version, key));
-        assert_eq!(second::get(store, version, key), Err(wanted), "{what}");
+        assert_eq!(second::get(store, version, key), Err(second::alone(wanted)), "{what}");
         if key.len() == 32 {
             tally.same(what, 0, ours::root(store, version), second::root(store, version));
         }
@@ -222,7 +228,7 @@ fn pairs(tally: &mut Tally) {
     case("1 before 2", &bad_header[..s.len() - 1], 1, &key, 1);
     case("2 before 8", &bad_header, out, &key, 2);
     case("8 before 3", &damaged, out, &key, 8);
-    empty(tally, &s, &damaged, out - 1, &key);
+    empty(tally, &s, out - 1, &key);
     tally.same("2 before 3", 0, ours::check(&bad_header), second::check(&bad_header));
     for (what, store, version, wanted) in [
         ("1 before 2", &bad_header[..s.len() - 1], 1, 1),
@@ -282,11 +288,13 @@ fn all(rounds: u64, first: u64, tally: &mut Tally) {
     edges(tally);
     hard(first, tally);
     applying::named(first, tally);
+    finding::named(tally);
     for n in 0..rounds {
         let seed = first.wrapping_add(n).wrapping_mul(0x9E37_79B9_7F4A_7C15);
         round(seed, tally);
         if n % 10 == 0 {
             applying::history(seed, tally);
+            finding::round(seed, tally);
         }
         if n % 4_000 == 0 && !ours::record::running() {
             applying::large(seed, tally);

@@ -3,7 +3,7 @@
 
 use record::{array, number, read, recorded, written};
 use second::bytes::{b32_at, u32_at};
-use second::{Bytes32, Refusal};
+use second::{Bytes32, Refusal, Stopped};
 
 #[path = "record.rs"]
 #[allow(dead_code)] // the benchmarks, which have this file too, write no calls down
@@ -14,8 +14,8 @@ extern "C" {
     fn grants_check(store: *const u8, store_len: usize) -> u32;
     fn grants_apply(store: *mut u8, store_len: usize, number: u32, batch: *const u8, batch_len: usize, answer: *mut [u8; 40]) -> u32;
     fn grants_prune(store: *mut u8, store_len: usize, version: u32, freed: *mut [u8; 4]) -> u32;
-    fn grants_root(store: *const u8, store_len: usize, version: u32, root: *mut [u8; 32]) -> u32;
-    fn grants_get(store: *const u8, store_len: usize, version: u32, key: *const u8, key_len: usize, found: *mut [u8; 33]) -> u32;
+    fn grants_root(store: *const u8, store_len: usize, version: u32, root: *mut [u8; 32]) -> u64;
+    fn grants_get(store: *const u8, store_len: usize, version: u32, key: *const u8, key_len: usize, found: *mut [u8; 33]) -> u64;
     fn grants_prove(
         store: *const u8,
         store_len: usize,
@@ -25,7 +25,7 @@ extern "C" {
         room: *mut u8,
         room_len: usize,
         length: *mut [u8; 4],
-    ) -> u32;
+    ) -> u64;
     fn grants_changes(
         store: *const u8,
         store_len: usize,
@@ -59,6 +59,11 @@ struct Lent<const N: usize> {
 
 /// What a call gives that answers through an array of N bytes.
 fn answered<const N: usize>(call: impl FnOnce(*mut [u8; N]) -> u32) -> Result<[u8; N], Refusal> {
+    read_so(|a| call(a) as u64).map_err(|stopped| stopped.number)
+}
+
+/// The same of a read: all 64 bits of what it returns, the number in the low half, in the high half a slot + 1 or nothing.
+fn read_so<const N: usize>(call: impl FnOnce(*mut [u8; N]) -> u64) -> Result<[u8; N], Stopped> {
     let mut lent = Lent { before: [MARK; 16], answer: [MARK; N], after: [MARK; 16] };
     let whole: *mut Lent<N> = &mut lent;
     // A pointer that may reach the edges too, so that the compiler does not take them for unchanged.
@@ -68,7 +73,7 @@ fn answered<const N: usize>(call: impl FnOnce(*mut [u8; N]) -> u32) -> Result<[u
         return Ok(lent.answer);
     }
     assert!(lent.answer == [MARK; N], "refused with {number}, and the answer was written");
-    Err(number)
+    Err(Stopped { number: number as u32, slot: (number >> 32).checked_sub(1).map(|slot| slot as usize) })
 }
 
 fn verdict(found: [u8; 33]) -> Option<Bytes32> {
@@ -117,16 +122,16 @@ pub fn prune(store: &mut [u8], version: u32) -> Result<u32, Refusal> {
     .map(u32::from_le_bytes)
 }
 
-pub fn root(store: &[u8], version: u32) -> Result<Bytes32, Refusal> {
-    answered(|root| {
+pub fn root(store: &[u8], version: u32) -> Result<Bytes32, Stopped> {
+    read_so(|root| {
         recorded("root", &[read(store), number(version), array(root)], || unsafe {
             grants_root(store.as_ptr(), store.len(), version, root)
         })
     })
 }
 
-pub fn get(store: &[u8], version: u32, key: &[u8]) -> Result<Option<Bytes32>, Refusal> {
-    answered(|found| {
+pub fn get(store: &[u8], version: u32, key: &[u8]) -> Result<Option<Bytes32>, Stopped> {
+    read_so(|found| {
         recorded("get", &[read(store), number(version), read(key), array(found)], || unsafe {
             grants_get(store.as_ptr(), store.len(), version, key.as_ptr(), key.len(), found)
         })
@@ -135,9 +140,9 @@ pub fn get(store: &[u8], version: u32, key: &[u8]) -> Result<Option<Bytes32>, Re
 }
 
 /// The length of the proof, at the front of the room.
-pub fn prove(store: &[u8], version: u32, key: &[u8], room: &mut [u8]) -> Result<u32, Refusal> {
+pub fn prove(store: &[u8], version: u32, key: &[u8], room: &mut [u8]) -> Result<u32, Stopped> {
     let (to, most) = (room.as_mut_ptr(), room.len());
-    answered(|length| {
+    read_so(|length| {
         recorded("prove", &[read(store), number(version), read(key), written(room), array(length)], || unsafe {
             grants_prove(store.as_ptr(), store.len(), version, key.as_ptr(), key.len(), to, most, length)
         })

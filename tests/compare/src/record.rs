@@ -2,7 +2,7 @@
 //!
 //! A call is its name (a length of one byte first), how many arguments it has (one byte), each argument, and the number that it returned. An
 //! argument is a letter and: `n` a number; `r` a slice that is read, `w` one that is written, `a` an array that is written: its length, its bytes
-//! before the call, and those after it unless it is read only. Numbers have four bytes, little-endian.
+//! before the call, and those after it unless it is read only. Numbers have four bytes, what was returned eight, little-endian.
 
 use std::fs::File;
 use std::io::{BufWriter, Write};
@@ -60,7 +60,7 @@ pub fn end() {
 }
 
 /// The call's answer, written down where that was asked for; of the applies, which are most of all calls and the longest, each fourth.
-pub fn recorded(name: &str, arguments: &[Argument], call: impl FnOnce() -> u32) -> u32 {
+pub fn recorded<T: Copy + Into<u64>>(name: &str, arguments: &[Argument], call: impl FnOnce() -> T) -> T {
     let Some(to) = TO.get() else { return call() };
     if name == "apply" && APPLIES.fetch_add(1, Ordering::Relaxed) % 4 != 0 {
         return call();
@@ -78,7 +78,7 @@ pub fn recorded(name: &str, arguments: &[Argument], call: impl FnOnce() -> u32) 
             line.extend(a.bytes());
         }
     }
-    line.extend(answer.to_le_bytes());
+    line.extend(answer.into().to_le_bytes());
     to.lock().unwrap().write_all(&line).expect("room for the calls");
     answer
 }

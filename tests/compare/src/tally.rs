@@ -1,6 +1,7 @@
 //! What passed, what failed, and how often each call gave each answer.
 
 use second::bytes::{HEADER, SLOT};
+use second::Stopped;
 use std::collections::BTreeMap;
 
 #[derive(Default)]
@@ -22,15 +23,35 @@ impl Word for Result<(), u32> {
     }
 }
 
-impl Word for Result<[u8; 32], u32> {
+/// A refusal of a read: whether a slot stands beside the number, not which.
+fn stopped(s: Stopped) -> String {
+    if s.slot.is_some() {
+        return format!("{} with a slot", s.number);
+    }
+    s.number.to_string()
+}
+
+impl Word for Result<[u8; 32], Stopped> {
     fn word(&self) -> String {
-        self.map_or_else(|n| n.to_string(), |h| if h == [0; 32] { "zeros" } else { "hash" }.into())
+        self.map_or_else(stopped, |h| if h == [0; 32] { "zeros" } else { "hash" }.into())
     }
 }
 
 impl Word for Result<Option<[u8; 32]>, u32> {
     fn word(&self) -> String {
         self.map_or_else(|n| n.to_string(), |v| if v.is_some() { "present" } else { "absent" }.into())
+    }
+}
+
+impl Word for Result<Option<[u8; 32]>, Stopped> {
+    fn word(&self) -> String {
+        self.map_or_else(stopped, |v| if v.is_some() { "present" } else { "absent" }.into())
+    }
+}
+
+impl Word for Result<u32, Stopped> {
+    fn word(&self) -> String {
+        self.map_or_else(|n| n.number.to_string(), |n| if n == 0 { "0" } else { "some" }.into())
     }
 }
 
@@ -44,9 +65,9 @@ impl Word for Result<u32, u32> {
 pub struct Proof;
 
 impl Proof {
-    pub fn word(answer: Result<u32, u32>, room: &[u8]) -> String {
+    pub fn word(answer: Result<u32, Stopped>, room: &[u8]) -> String {
         match answer {
-            Err(n) => n.to_string(),
+            Err(s) => stopped(s),
             Ok(_) if room[4] == 16 => "presence".into(),
             Ok(_) => format!("absence {}", room[6]),
         }

@@ -75,7 +75,16 @@ pub struct Record {
 pub enum Slot {
     Free,
     Used(Record),
-    Spoiled,
+    /// Used, but not in form: the fields by which 02, 2026-07, tells what it was, as they stand.
+    Spoiled(Fields),
+}
+
+#[derive(Clone, Copy, PartialEq, Eq, Debug)]
+pub struct Fields {
+    pub count: u16,
+    pub bits: Bytes32,
+    pub version: u32,
+    pub retired: u32,
 }
 
 fn zero(s: &[u8]) -> bool {
@@ -118,7 +127,8 @@ pub fn slot(s: &[u8]) -> Slot {
     if zero(s) {
         Slot::Free
     } else {
-        record(s).map_or(Slot::Spoiled, Slot::Used)
+        let fields = Fields { count: u16_at(s, 6), bits: b32_at(s, 8), version: u32_at(s, 40), retired: u32_at(s, 44) };
+        record(s).map_or(Slot::Spoiled(fields), Slot::Used)
     }
 }
 

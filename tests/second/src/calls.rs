@@ -3,7 +3,7 @@
 use crate::bytes::{self, bit, Body, Place, Slot, SLOT};
 use crate::sound::sound;
 use crate::tree::{grants_of, make, placing, record_hash, version_tree, Grants, Index};
-use crate::{proof, Bytes32, Refusal, ZEROS};
+use crate::{proof, Bytes32, Refusal, Stopped, ZEROS};
 use std::collections::HashMap;
 
 pub fn format(s: &mut [u8]) -> Result<(), Refusal> {
@@ -88,14 +88,14 @@ pub fn prune(s: &mut [u8], n: u32) -> Result<u32, Refusal> {
     Ok(freed)
 }
 
-pub fn root(s: &[u8], version: u32) -> Result<Bytes32, Refusal> {
+pub fn root(s: &[u8], version: u32) -> Result<Bytes32, Stopped> {
     let store = bytes::store(s)?;
     proof::kept(&store, version)?;
-    Ok(Index::of(&store).root(&store, version).map_or(ZEROS, |(_, r)| record_hash(r)))
+    Ok(proof::judged_root(&store, &Index::of(&store), version)?.map_or(ZEROS, record_hash))
 }
 
 /// The value, or None for absent.
-pub fn get(s: &[u8], version: u32, key: &[u8]) -> Result<Option<Bytes32>, Refusal> {
+pub fn get(s: &[u8], version: u32, key: &[u8]) -> Result<Option<Bytes32>, Stopped> {
     let key: Bytes32 = key.try_into().map_err(|_| 12u32)?;
     let store = bytes::store(s)?;
     proof::kept(&store, version)?;

@@ -22,3 +22,34 @@ pub const ZEROS: Bytes32 = [0; 32];
 
 /// A number of refusal, as in 01's table.
 pub type Refusal = u32;
+
+/// What a read is refused with: the number, and beside 3 the spoiled slot, where the cause is one (02, 2026-07).
+#[derive(Clone, Copy, PartialEq, Eq)]
+pub struct Stopped {
+    pub number: Refusal,
+    pub slot: Option<usize>,
+}
+
+/// With no slot beside it.
+pub const fn alone(number: Refusal) -> Stopped {
+    Stopped { number, slot: None }
+}
+
+pub const fn spoiled(slot: usize) -> Stopped {
+    Stopped { number: 3, slot: Some(slot) }
+}
+
+impl From<Refusal> for Stopped {
+    fn from(number: Refusal) -> Stopped {
+        alone(number)
+    }
+}
+
+impl std::fmt::Debug for Stopped {
+    fn fmt(&self, f: &mut std::fmt::Formatter<'_>) -> std::fmt::Result {
+        match self.slot {
+            None => write!(f, "{}", self.number),
+            Some(slot) => write!(f, "{} with slot {slot}", self.number),
+        }
+    }
+}

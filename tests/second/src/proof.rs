@@ -1,8 +1,8 @@
-//! 01, 'Reading and proving': the walk, the neighbours, the proof; 02, 2026-03.
+//! 01, 'Reading and proving': the walk, the neighbours, the proof; 02, 2026-03 and 2026-07.
 
 use crate::bytes::{self, bit, Body, Child, Place, Record, Store};
-use crate::tree::Index;
-use crate::{Bytes32, Refusal};
+use crate::tree::{Index, Sight};
+use crate::{alone, spoiled, Bytes32, Refusal, Stopped};
 
 pub struct Step {
     pub side: bool,
@@ -38,22 +38,35 @@ pub struct Walk {
     pub end: Option<(Bytes32, Bytes32)>,
 }
 
-fn judged<'a>(store: &'a Store, index: &Index, c: &Child, place: Place) -> Result<&'a Record, Refusal> {
-    let (_, r) = index.find(store, c.version, place).ok_or(3u32)?;
-    leaf_begins(r)?;
-    Ok(r)
-}
-
-fn leaf_begins(r: &Record) -> Result<(), Refusal> {
-    match &r.body {
-        Body::Leaf { key, .. } if !r.place.begins(key) => Err(3),
-        _ => Ok(()),
+/// A present child: 17 where no slot matches, 3 with the slot where one agrees.
+fn judged<'a>(store: &'a Store, index: &Index, c: &Child, place: Place) -> Result<&'a Record, Stopped> {
+    match index.see(store, c.version, place) {
+        Sight::Matches(_, r) => leaf_begins(r),
+        Sight::Agrees(i) => Err(spoiled(i)),
+        Sight::Nothing => Err(alone(17)),
     }
 }
 
-pub fn walk(store: &Store, index: &Index, version: u32, key: &Bytes32) -> Result<Walk, Refusal> {
+/// 3 for a leaf whose key doesn't begin with its place; no slot is named, as the record is in form.
+fn leaf_begins(r: &Record) -> Result<&Record, Stopped> {
+    match &r.body {
+        Body::Leaf { key, .. } if !r.place.begins(key) => Err(alone(3)),
+        _ => Ok(r),
+    }
+}
+
+/// The root of a version: none in an empty one, 3 with the slot where one agrees.
+pub fn judged_root<'a>(store: &'a Store, index: &Index, version: u32) -> Result<Option<&'a Record>, Stopped> {
+    match index.see_root(store, version) {
+        Sight::Matches(_, r) => Ok(Some(r)),
+        Sight::Agrees(i) => Err(spoiled(i)),
+        Sight::Nothing => Ok(None),
+    }
+}
+
+pub fn walk(store: &Store, index: &Index, version: u32, key: &Bytes32) -> Result<Walk, Stopped> {
     let mut trail = vec![];
-    let Some((_, mut r)) = index.root(store, version) else {
+    let Some(mut r) = judged_root(store, index, version)? else {
         return Ok(Walk { trail, end: None });
     };
     leaf_begins(r)?;
@@ -78,7 +91,7 @@ fn steps(trail: &[Pass]) -> Vec<Step> {
 }
 
 /// The neighbour on a side: false the left one.
-fn neighbour(store: &Store, index: &Index, walk: &Walk, key: &Bytes32, side: bool) -> Result<Option<Presence>, Refusal> {
+fn neighbour(store: &Store, index: &Index, walk: &Walk, key: &Bytes32, side: bool) -> Result<Option<Presence>, Stopped> {
     if let Some((k, v)) = walk.end {
         if (!side && k < *key) || (side && *key < k) {
             return Ok(Some(Presence { key: k, value: v, steps: steps(&walk.trail) }));
@@ -127,13 +140,13 @@ pub fn absence_bytes(key: &Bytes32, left: Option<&Presence>, right: Option<&Pres
 }
 
 /// The proof for a key in a version. By 2026-03 there is none in an empty version, one whose root is not found: 14, tested after 8.
-pub fn proof(s: &[u8], version: u32, key: &[u8]) -> Result<Vec<u8>, Refusal> {
+pub fn proof(s: &[u8], version: u32, key: &[u8]) -> Result<Vec<u8>, Stopped> {
     let key: Bytes32 = key.try_into().map_err(|_| 12u32)?;
     let store = bytes::store(s)?;
     kept(&store, version)?;
     let index = Index::of(&store);
-    if index.root(&store, version).is_none() {
-        return Err(14);
+    if matches!(index.see_root(&store, version), Sight::Nothing) {
+        return Err(alone(14));
     }
     let walk = walk(&store, &index, version, &key)?;
     if let Some((k, v)) = walk.end {
@@ -147,10 +160,10 @@ pub fn proof(s: &[u8], version: u32, key: &[u8]) -> Result<Vec<u8>, Refusal> {
 }
 
 /// The proof fills the front of the room; its length.
-pub fn prove(s: &[u8], version: u32, key: &[u8], room: &mut [u8]) -> Result<u32, Refusal> {
+pub fn prove(s: &[u8], version: u32, key: &[u8], room: &mut [u8]) -> Result<u32, Stopped> {
     let p = proof(s, version, key)?;
     if p.len() > room.len() {
-        return Err(9);
+        return Err(alone(9));
     }
     room[..p.len()].copy_from_slice(&p);
     Ok(p.len() as u32)

@@ -21,7 +21,7 @@ pub fn sound(store: &Store) -> bool {
     for (i, s) in store.slots.iter().enumerate() {
         match s {
             Slot::Free => {}
-            Slot::Spoiled => return false,
+            Slot::Spoiled(_) => return false,
             Slot::Used(r) => {
                 let ended = r.retired == 0 || (r.retired > r.version && r.retired > store.oldest && r.retired <= store.latest);
                 if !nodes.insert((r.version, r.place)) || r.version > store.latest || !ended {

@@ -1,8 +1,8 @@
 //! 01, 'The tree of a set of grants', and finding a node in a store.
 
-use crate::bytes::{bit, Body, Child, Place, Record, Slot, Store, NO_CHILD};
+use crate::bytes::{bit, Body, Child, Fields, Place, Record, Slot, Store, NO_CHILD};
 use crate::sha256::{inner_hash, leaf_hash};
-use crate::Bytes32;
+use crate::{Bytes32, ZEROS};
 use std::collections::{BTreeMap, HashMap};
 
 pub type Grants = BTreeMap<Bytes32, Bytes32>;
@@ -11,6 +11,18 @@ pub type Grants = BTreeMap<Bytes32, Bytes32>;
 pub struct Index {
     nodes: HashMap<(u32, Place), usize>,
     roots: Vec<usize>,
+    /// The used slots that are not in form, ascending.
+    spoiled: Vec<(usize, Fields)>,
+}
+
+/// What finding a node tells apart (02, 2026-07), with the lowest such slot.
+pub enum Sight<'a> {
+    /// A slot in form matches.
+    Matches(usize, &'a Record),
+    /// No slot in form matches, but a used slot's version, bit count and bits fields agree.
+    Agrees(usize),
+    /// No slot matches.
+    Nothing,
 }
 
 /// 01's lifetime: from its version until the version before retired-since, to latest where that is 0.
@@ -22,15 +34,20 @@ impl Index {
     pub fn of(store: &Store) -> Index {
         let mut nodes = HashMap::new();
         let mut roots = vec![];
+        let mut spoiled = vec![];
         for (i, s) in store.slots.iter().enumerate() {
-            if let Slot::Used(r) = s {
-                nodes.entry((r.version, r.place)).or_insert(i);
-                if r.place == Place::EMPTY {
-                    roots.push(i);
+            match s {
+                Slot::Free => {}
+                Slot::Used(r) => {
+                    nodes.entry((r.version, r.place)).or_insert(i);
+                    if r.place == Place::EMPTY {
+                        roots.push(i);
+                    }
                 }
+                Slot::Spoiled(fields) => spoiled.push((i, *fields)),
             }
         }
-        Index { nodes, roots }
+        Index { nodes, roots, spoiled }
     }
 
     /// The root of a version: the root record, if any, whose lifetime covers it; of several the lowest slot's.
@@ -47,6 +64,29 @@ impl Index {
             Slot::Used(r) => Some((i, r)),
             _ => None,
         }
+    }
+
+    fn sight<'a>(&self, matches: Option<(usize, &'a Record)>, agrees: impl Fn(&Fields) -> bool) -> Sight<'a> {
+        match (matches, self.spoiled.iter().find(|(_, f)| agrees(f))) {
+            (Some((i, r)), _) => Sight::Matches(i, r),
+            (None, Some((i, _))) => Sight::Agrees(*i),
+            (None, None) => Sight::Nothing,
+        }
+    }
+
+    /// A node by its version and place.
+    pub fn see<'a>(&self, store: &'a Store, version: u32, place: Place) -> Sight<'a> {
+        let agrees = |f: &Fields| f.version == version && f.count as usize == place.count && f.bits == place.bits;
+        self.sight(self.find(store, version, place), agrees)
+    }
+
+    /// The root of a version, which matches or agrees by empty place and a lifetime that covers it (02, 2026-13).
+    pub fn see_root<'a>(&self, store: &'a Store, version: u32) -> Sight<'a> {
+        let agrees = |f: &Fields| {
+            let covers = f.version <= version && (f.retired == 0 || version < f.retired);
+            f.count == 0 && f.bits == ZEROS && covers
+        };
+        self.sight(self.root(store, version), agrees)
     }
 }
 

@@ -34,7 +34,7 @@ returns-2 c = let a = c .before .before .before .before .before in nobody-put (a
 
 returns-3 : tie.Need-returns-3
 unfolding neighbourAt roomFor
-returns-3 c = let a = c .before .before .before .before .before in nobody-put (a .args .store .now) (a .args .part .now) (a .args .n .path) Lost (c .enum-told3 .given .1) refl refl (a .pre .1)
+returns-3 c = let a = c .before .before .before .before .before in nobody-put (a .args .store .now) (a .args .part .now) (a .args .n .path) (Lost _) (c .enum-told3 .given .1) refl refl (a .pre .1)
 
 pub put-neighbour-spec : {M : Type 1} → statement M
 put-neighbour-spec =

@@ -41,13 +41,21 @@ returns-3 c =
     let a = o .before .before .before .before .before .args in
     kept-proved (a .store .now) (a .version) (a .key .now) (a .room .now) (o .before .if1 .left) (o .«open» .ensures) (p .before .enum-told .given .1) (p .plan-of .ensures) (c .before .before .give .ensures)
 
+cast-t9 : tie.Need-cast-t9
+cast-t9 c = search needs
+
+cast-t10 : tie.Need-cast-t10
+cast-t10 c = search needs
+
 pub prove-spec : {M : Type 1} → statement M
 prove-spec =
     tie.close
     (tie.spec
+    cast-t9
     returns
     open-requires
     enum-known-opened
+    cast-t10
     returns-2
     enum-told
     plan-of-requires

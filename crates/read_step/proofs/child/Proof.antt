@@ -3,11 +3,11 @@ use native.Mathlib.Omega.{arith}
 use mathlib.Core.Path.{ap, sym, _∙_}
 use Rattle.terms.specs.Bits.{Byte}
 use Rattle.terms.proofs.Lists.{all-of}
-use Rattle.meaning.specs.Store.{find}
+use Rattle.meaning.specs.Sight.{nodeSight}
 use Rattle.place.specs.Place.{placeOf}
 use Rattle.layout.specs.Stores.{storeOf}
 use Rattle.read_step.specs.Walk.{kidIn}
-use Rattle.read_step.proofs.Seeing.{node-placed, holds-found, child-none, child-nothing, child-sees}
+use Rattle.read_step.proofs.Seeing.{node-placed, holds-found, child-none, child-nothing, child-spoilt, spoilt-small, child-sees}
 use borrow.Author.Needs.{needs}
 use Rattle.read_step.proofs.child.Statement.{statement}
 use Rattle.read_step.proofs.child.Tie as tie
@@ -21,46 +21,68 @@ returns c =
     let s = a .store .now in
     child-none s (placeOf (a .place)) (kidIn (a .i) s (a .right)) (sym (c .before .child-version .ensures) ∙ c .if1 .taken)
 
-find-requires : tie.Need-find-requires
-find-requires c κs = search needs
+look-requires : tie.Need-look-requires
+look-requires c κs = search needs
 
-enum-known-found : tie.Need-enum-known-found
-enum-known-found c = search needs
+enum-known-sight : tie.Need-enum-known-sight
+enum-known-sight c = search needs
+
+seen-in-requires : tie.Need-seen-in-requires
+seen-in-requires c κs =
+    let version = c .before .before .before .before .before in
+    let start = version .before .before in
+    let s = start .args .store .now in
+    let b = all-of Byte s 0 (λ i _. omega (arith, version .before .shared-slice-known .given i)) in
+    holds-found s (start .pre .size) b (start .args .place) (start .pre .proper)
+    (node-placed s (version .child-version .result) (start .args .place)) (c .before .before .before .look .ensures) (c .before .sight .given .1)
 
 enum-told : tie.Need-enum-told
 enum-told c = search needs
 
+enum-known-sight-2 : tie.Need-enum-known-sight-2
+enum-known-sight-2 c = search needs
+
+cast-slot : tie.Need-cast-slot
+cast-slot c =
+    let start = c .before .before .before .before .before .before .before in
+    let s = start .args .store .now in
+    omega (
+      arith,
+      spoilt-small s (nodeSight (storeOf s) (c .before .before .before .before .before .child-version .result) (placeOf (start .args .place)))
+          (c .before .before .before .look .ensures) (c .before .sight2 .given .1) (start .pre .size),
+    )
+
 returns-2 : tie.Need-returns-2
 returns-2 c =
-    let d = c .before .before .before in
-    let w = d .before .child-version in
-    let a = d .before .before .before .args in
-    let s = a .store .now in
-    child-nothing s (find (w .result) (placeOf (a .place)) (storeOf s .slots)) (c .before .before .find .ensures) (c .enum-told .given .1) (placeOf (a .place)) (kidIn (a .i) s (a .right))
-    (ap (λ v. find v (placeOf (a .place)) (storeOf s .slots)) (sym (w .ensures))) (omega (arith, w .ensures, d .if1 .left))
-
-seen-in-requires : tie.Need-seen-in-requires
-seen-in-requires c κs =
-    let d = c .before .before .before .before in
-    let a = d .before .before .before .args in
-    let h = d .before .before .before .pre in
-    let s = a .store .now in
-    let b = all-of Byte s 0 (λ i _. omega (arith, d .before .before .shared-slice-known .given i)) in
-    holds-found s (h .size) b (a .place) (h .proper) (node-placed s (d .before .child-version .result) (a .place))
-    (c .before .before .before .find .ensures) (c .before .found .given .1)
+    let version = c .before .before .before .before .before .before in
+    let start = version .before .before in
+    let s = start .args .store .now in
+    let b = all-of Byte s 0 (λ i _. omega (arith, version .before .shared-slice-known .given i)) in
+    let p = placeOf (start .args .place) in
+    child-sees s (start .pre .size) b (start .args .place) (start .pre .proper)
+    (node-placed s (version .child-version .result) (start .args .place)) (c .before .before .before .before .look .ensures) (c .before .before .sight .given .1)
+    (kidIn (start .args .i) s (start .args .right)) (ap (λ v. nodeSight (storeOf s) v p) (sym (version .child-version .ensures)))
+    (omega (arith, version .child-version .ensures, c .before .before .before .before .before .if1 .left)) (c .seen-in .result) (c .seen-in .ensures)
 
 returns-3 : tie.Need-returns-3
 returns-3 c =
-    let d = c .before .before .before .before .before in
-    let w = d .before .child-version in
-    let a = d .before .before .before .args in
-    let h = d .before .before .before .pre in
-    let s = a .store .now in
-    let b = all-of Byte s 0 (λ i _. omega (arith, d .before .before .shared-slice-known .given i)) in
-    child-sees s (h .size) b (a .place) (h .proper) (node-placed s (w .result) (a .place)) (c .before .before .before .before .find .ensures)
-    (c .before .before .found .given .1) (kidIn (a .i) s (a .right))
-    (ap (λ v. find v (placeOf (a .place)) (storeOf s .slots)) (sym (w .ensures))) (omega (arith, w .ensures, d .if1 .left))
-    (c .seen-in .result) (c .seen-in .ensures)
+    let version = c .before .before .before .before in
+    let start = version .before .before in
+    let s = start .args .store .now in
+    let p = placeOf (start .args .place) in
+    child-nothing s (nodeSight (storeOf s) (version .child-version .result) p) (c .before .before .look .ensures) (c .enum-told .given .1) p
+    (kidIn (start .args .i) s (start .args .right)) (ap (λ v. nodeSight (storeOf s) v p) (sym (version .child-version .ensures)))
+    (omega (arith, version .child-version .ensures, c .before .before .before .if1 .left))
+
+returns-4 : tie.Need-returns-4
+returns-4 c =
+    let version = c .before .before .before .before .before in
+    let start = version .before .before in
+    let s = start .args .store .now in
+    let p = placeOf (start .args .place) in
+    child-spoilt s (nodeSight (storeOf s) (version .child-version .result) p) (c .before .before .before .look .ensures) (c .before .sight2 .given .1) p
+    (kidIn (start .args .i) s (start .args .right)) (ap (λ v. nodeSight (storeOf s) v p) (sym (version .child-version .ensures)))
+    (omega (arith, version .child-version .ensures, c .before .before .before .before .if1 .left))
 
 pub child-spec : {M : Type 1} → statement M
 child-spec =
@@ -68,9 +90,12 @@ child-spec =
     (tie.spec
     child-version-requires
     returns
-    find-requires
-    enum-known-found
-    enum-told
-    returns-2
+    look-requires
+    enum-known-sight
     seen-in-requires
-    returns-3)
+    enum-told
+    enum-known-sight-2
+    cast-slot
+    returns-2
+    returns-3
+    returns-4)

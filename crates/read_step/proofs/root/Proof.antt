@@ -1,11 +1,11 @@
--- `read_step::root` meets its contract: the root of the version is sought, and none is an empty version. Assumes nothing.
+-- `read_step::root` meets its contract: the root of the version is sought; none is an empty version, and a spoilt one trouble. Assumes nothing.
 use native.Mathlib.Omega.{arith}
 use mathlib.Core.Path.{refl}
 use Rattle.terms.specs.Bits.{Byte}
 use Rattle.terms.proofs.Lists.{all-of}
-use Rattle.meaning.specs.Store.{rootOf}
+use Rattle.meaning.specs.Sight.{rootSight}
 use Rattle.layout.specs.Stores.{storeOf}
-use Rattle.read_step.proofs.Seeing.{root-placed, holds-found, root-nothing, root-sees}
+use Rattle.read_step.proofs.Seeing.{root-placed, holds-found, root-nothing, root-spoilt, spoilt-small, root-sees}
 use borrow.Author.Needs.{needs}
 use Rattle.read_step.proofs.root.Statement.{statement}
 use Rattle.read_step.proofs.root.Tie as tie
@@ -13,49 +13,72 @@ use Rattle.read_step.proofs.root.Tie as tie
 top-requires : tie.Need-top-requires
 top-requires c κs = search needs
 
-find-root-requires : tie.Need-find-root-requires
-find-root-requires c κs = search needs
+look-root-requires : tie.Need-look-root-requires
+look-root-requires c κs = search needs
 
-enum-known-found : tie.Need-enum-known-found
-enum-known-found c = search needs
+enum-known-sight : tie.Need-enum-known-sight
+enum-known-sight c = search needs
+
+seen-in-requires : tie.Need-seen-in-requires
+seen-in-requires c κs =
+    let top = c .before .before .before .before in
+    let start = top .before .before in
+    let s = start .args .store .now in
+    let b = all-of Byte s 0 (λ i _. omega (arith, top .before .shared-slice-known .given i)) in
+    holds-found s (start .pre) b (top .top .result) (top .top .ensures .proper)
+    (root-placed s (start .args .version) (top .top .result) (top .top .ensures .place)) (c .before .before .before .look-root .ensures) (c .before .sight .given .1)
 
 enum-told : tie.Need-enum-told
 enum-told c = search needs
 
+enum-known-sight-2 : tie.Need-enum-known-sight-2
+enum-known-sight-2 c = search needs
+
+cast-slot : tie.Need-cast-slot
+cast-slot c =
+    let start = c .before .before .before .before .before .before in
+    let s = start .args .store .now in
+    omega (
+      arith,
+      spoilt-small s (rootSight (storeOf s) (start .args .version)) (c .before .before .before .look-root .ensures) (c .before .sight2 .given .1)
+          (start .pre),
+    )
+
 returns : tie.Need-returns
 returns c =
-    let a = c .before .before .before .before .before .args in
-    root-nothing (a .store .now) (rootOf (storeOf (a .store .now)) (a .version)) (c .before .before .find-root .ensures) (c .enum-told .given .1) (a .version) refl
-
-seen-in-requires : tie.Need-seen-in-requires
-seen-in-requires c κs =
-    let d = c .before .before .before .before in
-    let a = d .before .before .args in
-    let s = a .store .now in
-    let b = all-of Byte s 0 (λ i _. omega (arith, d .before .shared-slice-known .given i)) in
-    let top = d .top .ensures in
-    holds-found s (d .before .before .pre) b (d .top .result) (top .proper) (root-placed s (a .version) (d .top .result) (top .place))
-    (c .before .before .before .find-root .ensures) (c .before .found .given .1)
+    let top = c .before .before .before .before .before in
+    let start = top .before .before in
+    let s = start .args .store .now in
+    let b = all-of Byte s 0 (λ i _. omega (arith, top .before .shared-slice-known .given i)) in
+    root-sees s (start .pre) b (top .top .result) (top .top .ensures .proper)
+    (root-placed s (start .args .version) (top .top .result) (top .top .ensures .place)) (c .before .before .before .before .look-root .ensures) (c .before .before .sight .given .1)
+    (start .args .version) refl (top .top .ensures .place) (c .seen-in .result) (c .seen-in .ensures)
 
 returns-2 : tie.Need-returns-2
 returns-2 c =
-    let d = c .before .before .before .before .before in
-    let a = d .before .before .args in
-    let s = a .store .now in
-    let b = all-of Byte s 0 (λ i _. omega (arith, d .before .shared-slice-known .given i)) in
-    let top = d .top .ensures in
-    root-sees s (d .before .before .pre) b (d .top .result) (top .proper) (root-placed s (a .version) (d .top .result) (top .place))
-    (c .before .before .before .before .find-root .ensures) (c .before .before .found .given .1) (a .version) refl (top .place)
-    (c .seen-in .result) (c .seen-in .ensures)
+    let start = c .before .before .before .before .before in
+    let s = start .args .store .now in
+    let v = start .args .version in
+    root-nothing s (rootSight (storeOf s) v) (c .before .before .look-root .ensures) (c .enum-told .given .1) v refl
+
+returns-3 : tie.Need-returns-3
+returns-3 c =
+    let start = c .before .before .before .before .before .before in
+    let s = start .args .store .now in
+    let v = start .args .version in
+    root-spoilt s (rootSight (storeOf s) v) (c .before .before .before .look-root .ensures) (c .before .sight2 .given .1) v refl
 
 pub root-spec : {M : Type 1} → statement M
 root-spec =
     tie.close
     (tie.spec
     top-requires
-    find-root-requires
-    enum-known-found
-    enum-told
-    returns
+    look-root-requires
+    enum-known-sight
     seen-in-requires
-    returns-2)
+    enum-told
+    enum-known-sight-2
+    cast-slot
+    returns
+    returns-2
+    returns-3)

@@ -35,13 +35,21 @@ returns-3 c =
     key-read (a .store .now) (a .version) (o .«open» .ensures) (a .key .now) (o .before .if1 .left) (c .walk-read .result)
     (c .before .enum-told .given .1) (c .walk-read .ensures)
 
+cast-t8 : tie.Need-cast-t8
+cast-t8 c = search needs
+
+cast-t9 : tie.Need-cast-t9
+cast-t9 c = search needs
+
 pub get-spec : {M : Type 1} → statement M
 get-spec =
     tie.close
     (tie.spec
+    cast-t8
     returns
     open-requires
     enum-known-opened
+    cast-t9
     returns-2
     enum-told
     walk-read-requires

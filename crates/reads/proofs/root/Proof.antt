@@ -1,5 +1,5 @@
 -- `reads::root` meets its contract: what is tested first is refused first. Assumes nothing.
-use Rattle.reads.proofs.Answers.{size-kept, root-refused, root-hashed}
+use Rattle.reads.proofs.Answers.{size-kept, root-refused, root-is-read}
 use borrow.Author.Needs.{needs}
 use Rattle.reads.proofs.root.Statement.{statement}
 use Rattle.reads.proofs.root.Tie as tie
@@ -9,6 +9,9 @@ open-requires c κs = search needs
 
 enum-known-opened : tie.Need-enum-known-opened
 enum-known-opened c = search needs
+
+cast-t5 : tie.Need-cast-t5
+cast-t5 c = search needs
 
 returns : tie.Need-returns
 returns c =
@@ -29,10 +32,16 @@ returns-2 : tie.Need-returns-2
 returns-2 c =
     let o = c .before .before .before in
     let a = o .before .before .args in
-    let h = c .root-hash in
-    root-hashed (a .store .now) (a .version) (o .«open» .ensures) (h .result) (c .before .enum-told .given .1) (h .ensures)
+    root-is-read (a .store .now) (a .version) (o .«open» .ensures) (c .root-hash .result) (c .before .enum-told .given .1) (c .root-hash .ensures)
 
 pub root-spec : {M : Type 1} → statement M
 root-spec =
     tie.close
-    (tie.spec open-requires enum-known-opened returns enum-told root-hash-requires returns-2)
+    (tie.spec
+    open-requires
+    enum-known-opened
+    cast-t5
+    returns
+    enum-told
+    root-hash-requires
+    returns-2)

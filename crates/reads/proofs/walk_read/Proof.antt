@@ -38,50 +38,53 @@ enum-told c = search needs
 returns : tie.Need-returns Inv-loop μ-loop
 returns c = ends-at-gap (c .before .before .loop .inv) (c .enum-told .given .1)
 
-enum-told-2 : tie.Need-enum-told-2 Inv-loop μ-loop
-enum-told-2 c = search needs
-
-returns-2 : tie.Need-returns-2 Inv-loop μ-loop
-returns-2 c = ends-lost (c .before .before .loop .inv) (c .enum-told2 .given .1)
-
 enum-known-seen : tie.Need-enum-known-seen Inv-loop μ-loop
 enum-known-seen c = search needs
 
-leaf-read-requires : tie.Need-leaf-read-requires Inv-loop μ-loop
-leaf-read-requires c κs = let w = c .before .before .before .loop .inv in (w .size, leaf-inside w (c .before .seen .given .1))
+refusal-requires : tie.Need-refusal-requires Inv-loop μ-loop
+refusal-requires c κs = search needs
 
-returns-3 : tie.Need-returns-3 Inv-loop μ-loop
-returns-3 c = c .leaf-read .ensures ∙ ends-at-leaf (c .before .before .before .before .loop .inv) _ (c .before .before .seen .given .1)
+returns-2 : tie.Need-returns-2 Inv-loop μ-loop
+returns-2 c = ends-lost (c .before .before .before .before .loop .inv) _ (c .before .before .seen .given .1) (c .refusal .ensures)
 
 enum-known-seen-2 : tie.Need-enum-known-seen-2 Inv-loop μ-loop
 enum-known-seen-2 c = search needs
 
+leaf-read-requires : tie.Need-leaf-read-requires Inv-loop μ-loop
+leaf-read-requires c κs = let w = c .before .before .before .loop .inv in (w .size, leaf-inside w (c .before .seen2 .given .1))
+
+returns-3 : tie.Need-returns-3 Inv-loop μ-loop
+returns-3 c = c .leaf-read .ensures ∙ ends-at-leaf (c .before .before .before .before .loop .inv) _ (c .before .before .seen2 .given .1)
+
+enum-known-seen-3 : tie.Need-enum-known-seen-3 Inv-loop μ-loop
+enum-known-seen-3 c = search needs
+
 key-bit-requires : tie.Need-key-bit-requires Inv-loop μ-loop
 key-bit-requires c κs =
     let w = c .before .before .before .loop .inv in
-    let h = inner-short w (c .before .seen2 .given .1) in
+    let h = inner-short w (c .before .seen3 .given .1) in
     omega (arith, w .whole)
 
 child-place-requires : tie.Need-child-place-requires Inv-loop μ-loop
 child-place-requires c κs =
     let w = c .before .before .before .before .loop .inv in
-    (w .proper, inner-short w (c .before .before .seen2 .given .1))
+    (w .proper, inner-short w (c .before .before .seen3 .given .1))
 
 child-requires : tie.Need-child-requires Inv-loop μ-loop
 child-requires c κs =
     let d = c .before .before .before in
-    inner-slotted (d .before .before .loop .inv) (d .seen2 .given .1) (c .child-place .ensures .proper)
+    inner-slotted (d .before .before .loop .inv) (d .seen3 .given .1) (c .child-place .ensures .proper)
 
 loop-less : tie.Need-loop-less Inv-loop μ-loop
 loop-less c =
     let d = c .before .before .before .before in
-    let h = inner-short (d .before .before .loop .inv) (d .seen2 .given .1) in
+    let h = inner-short (d .before .before .loop .inv) (d .seen3 .given .1) in
     omega (arith, c .before .child-place .ensures .count)
 
 loop-again : tie.Need-loop-again Inv-loop μ-loop
 loop-again c =
     let d = c .before .before .before .before in
-    goes-on (d .before .before .loop .inv) (d .seen2 .given .1) (c .before .before .key-bit .ensures) (c .before .child-place .ensures)
+    goes-on (d .before .before .loop .inv) (d .seen3 .given .1) (c .before .before .key-bit .ensures) (c .before .child-place .ensures)
     (c .child .ensures)
 
 pub walk-read-spec : {M : Type 1} → statement M
@@ -95,12 +98,13 @@ walk-read-spec =
     loop-holds
     enum-told
     returns
-    enum-told-2
-    returns-2
     enum-known-seen
+    refusal-requires
+    returns-2
+    enum-known-seen-2
     leaf-read-requires
     returns-3
-    enum-known-seen-2
+    enum-known-seen-3
     key-bit-requires
     child-place-requires
     child-requires

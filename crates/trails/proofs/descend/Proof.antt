@@ -6,6 +6,7 @@ use mathlib.Core.Path.{refl}
 use Rattle.read_step.specs.declared.Seen.the-variants.{Gap, Lost}
 use Rattle.trails.proofs.Trails.{at-inner}
 use Rattle.trails.proofs.Searches.{Descent, descent-start, descent-next, descent-leaf, descent-lost}
+use Rattle.read_step.specs.declared.Trouble.the-variants as trouble
 use Rattle.trails.proofs.descend.Statement.{statement}
 use Rattle.trails.proofs.descend.Tie as tie
 
@@ -49,16 +50,16 @@ answer-requires-2 : tie.Need-answer-requires-2 Inv-loop μ-loop
 answer-requires-2 c κs = search needs
 
 returns-2 : tie.Need-returns-2 Inv-loop μ-loop
-returns-2 c = descent-lost (c .before .before .before .loop .inv) Gap (c .before .enum-told .given .1) refl (c .answer2 .ensures)
+returns-2 c = descent-lost (c .before .before .before .loop .inv) Gap trouble.Lost (c .before .enum-told .given .1) refl (c .answer2 .ensures)
 
-enum-told-2 : tie.Need-enum-told-2 Inv-loop μ-loop
-enum-told-2 c = search needs
+enum-known-seen-3 : tie.Need-enum-known-seen-3 Inv-loop μ-loop
+enum-known-seen-3 c = search needs
 
 answer-requires-3 : tie.Need-answer-requires-3 Inv-loop μ-loop
 answer-requires-3 c κs = search needs
 
 returns-3 : tie.Need-returns-3 Inv-loop μ-loop
-returns-3 c = descent-lost (c .before .before .before .loop .inv) Lost (c .before .enum-told2 .given .1) refl (c .answer3 .ensures)
+returns-3 c = descent-lost (c .before .before .before .before .loop .inv) (Lost _) _ (c .before .before .seen3 .given .1) refl (c .answer3 .ensures)
 
 pub descend-spec : {M : Type 1} → statement M
 descend-spec =
@@ -78,6 +79,6 @@ descend-spec =
     enum-told
     answer-requires-2
     returns-2
-    enum-told-2
+    enum-known-seen-3
     answer-requires-3
     returns-3)

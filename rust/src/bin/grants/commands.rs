@@ -8,6 +8,7 @@ use crate::fail::Fail;
 use crate::files::{self, Locked, PROOF_LIMIT};
 use crate::held;
 use crate::json::Json;
+use crate::missing::{self, refused_read};
 use crate::out::Out;
 use crate::plain::{counted, shown};
 use crate::statement::known_root;
@@ -90,7 +91,10 @@ pub fn check(args: &Args, out: &mut Out) -> Result<u8, Fail> {
     let path = args.path(0);
     let store = read_store(path)?;
     let refused = refused(&store, path);
-    store.check().map_err(&refused)?;
+    store.check().map_err(|error| match error {
+        Error::Unsound => missing::unsound(&store, path),
+        error => refused(error),
+    })?;
     let header = store.header().map_err(&refused)?;
     out.answer(
         0,
@@ -143,7 +147,10 @@ pub fn get(args: &Args, out: &mut Out) -> Result<u8, Fail> {
     let key = key(args, 1, Some(path))?;
     let store = read_store(path)?;
     let version = version(args, 2, &store, path)?;
-    let value = store.get(version, &key).map_err(refused(&store, path))?;
+    let value =
+        store
+            .get(version, &key)
+            .map_err(refused_read(&store, path, version, Some(&key)))?;
     let value = value.map(|v| v.to_string());
     out.answer(
         if value.is_some() { 0 } else { ABSENT },
@@ -161,7 +168,7 @@ pub fn prove(args: &Args, out: &mut Out) -> Result<u8, Fail> {
     let key = key(args, 1, Some(path))?;
     let store = read_store(path)?;
     let version = version(args, 2, &store, path)?;
-    let refused = refused(&store, path);
+    let refused = refused_read(&store, path, version, Some(&key));
     let proof = store.prove(version, &key).map_err(&refused)?;
     let bytes = proof.as_bytes();
     let root = store.root(version).map_err(&refused)?;

@@ -1,7 +1,7 @@
 //! Why a command did not do what was asked, and the exit status that says so.
 
 use crate::plain::shown;
-use grants::Error;
+use grants::{Error, Missing};
 use std::fmt;
 use std::io;
 use std::path::Path;
@@ -16,6 +16,8 @@ pub enum Fail {
     Book(String),
     /// The library refused, or would have: 10 and the number. The sentence says what to do.
     Refused(Error, String),
+    /// The same, and the records that are missing.
+    Damaged(Error, String, Vec<Missing>),
 }
 
 impl Fail {
@@ -24,13 +26,18 @@ impl Fail {
             Fail::Usage(_) => 2,
             Fail::File(_) => 3,
             Fail::Book(_) => 4,
-            Fail::Refused(error, _) => 10 + error.number() as u8,
+            Fail::Refused(error, _) | Fail::Damaged(error, ..) => 10 + error.number() as u8,
         }
+    }
+
+    /// Whether what is missing is listed: of a check, not of a read, whose sentence names it.
+    pub fn lists(&self) -> bool {
+        matches!(self, Fail::Damaged(Error::Unsound, ..))
     }
 
     pub fn number(&self) -> Option<u32> {
         match self {
-            Fail::Refused(error, _) => Some(error.number()),
+            Fail::Refused(error, _) | Fail::Damaged(error, ..) => Some(error.number()),
             _ => None,
         }
     }
@@ -42,7 +49,7 @@ impl fmt::Display for Fail {
             Fail::Usage(sentence) | Fail::File(sentence) | Fail::Book(sentence) => {
                 f.write_str(sentence)
             }
-            Fail::Refused(error, advice) => {
+            Fail::Refused(error, advice) | Fail::Damaged(error, advice, _) => {
                 write!(f, "refused with {}: {error}. {advice}", error.number())
             }
         }

@@ -15,6 +15,7 @@ mod help;
 mod json;
 mod lines;
 mod listing;
+mod missing;
 mod names;
 mod out;
 mod plain;
@@ -45,14 +46,31 @@ fn main() -> ExitCode {
     let sentence = plain::escaped(&fail.to_string());
     // There is nowhere left to say that this could not be written.
     let _ = writeln!(std::io::stderr(), "grants: {sentence}");
+    let missing = match &fail {
+        Fail::Damaged(_, _, missing) => missing.as_slice(),
+        _ => &[],
+    };
     if json {
-        let object = Json::Object(vec![
+        let mut fields = vec![
             ("refused", fail.number().into()),
             ("status", u32::from(status).into()),
             ("message", sentence.into()),
-        ]);
+        ];
+        if let Fail::Damaged(..) = fail {
+            fields.push((
+                "missing",
+                Json::List(missing.iter().map(missing::object).collect()),
+            ));
+        }
         // The sentence is on standard error already.
-        let _ = out.answer(status, object, "");
+        let _ = out.answer(status, Json::Object(fields), "");
+    } else if fail.lists() {
+        let mut answer = out.decided(status);
+        // Where the list can't be written, the sentence and the status stand.
+        let _ = missing
+            .iter()
+            .try_for_each(|one| answer.line(missing::line(one)));
+        let _ = answer.end();
     }
     ExitCode::from(status)
 }

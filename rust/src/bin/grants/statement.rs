@@ -1,12 +1,13 @@
 //! The root of a version, alone or as the statement that is signed (docs/SIGNING.md), and that statement read again.
 
 use crate::args::{number, Args};
-use crate::asked::{hex, read_store, refused, version};
+use crate::asked::{hex, read_store, version};
 use crate::book::{self, Book, Said};
 use crate::commands::{both_to_output, object};
 use crate::dates;
 use crate::fail::Fail;
 use crate::files::{self, PROOF_LIMIT};
+use crate::missing::refused_read;
 use crate::out::Out;
 use crate::plain::shown;
 use grants::Root;
@@ -16,7 +17,9 @@ pub fn root(args: &Args, out: &mut Out) -> Result<u8, Fail> {
     let path = args.path(0);
     let store = read_store(path)?;
     let version = version(args, 1, &store, path)?;
-    let root = store.root(version).map_err(refused(&store, path))?;
+    let root = store
+        .root(version)
+        .map_err(refused_read(&store, path, version, None))?;
     if let Some(to) = args.value("--out").map(Path::new) {
         return put(args, stated(args, path, version, root)?, to, out);
     }

@@ -92,7 +92,8 @@ at what it changes. The file has 24 + 120 CAPACITY bytes. A file that is already
         what: "is the store sound?",
         help: "\
 Sound: every kept version is a whole tree with every stored hash true, and every record stands in exactly the versions
-of its lifetime. STORE may be -.",
+of its lifetime. Of a store that isn't, every record that a kept version wants and that can't be found is listed, with its
+version and place, and its slot where it is spoilt, not lost: for support, not as a promise. STORE may be -.",
         words: (1, 1),
         choices: &[JSON],
         run: commands::check,

@@ -1,6 +1,7 @@
 //! The library's calls beside the second program, in one run: short runs of the two in turn, the best of each. Then where apply's time goes,
 //! that it does not grow with the versions, and the stack that each call takes. With the argument `stack` that last part alone, with
-//! `changes` the comparisons alone, with `gaps` the publishings under numbers with gaps, with `beside-check` apply and prune beside check.
+//! `changes` the comparisons alone, with `gaps` the publishings under numbers with gaps, with `beside-check` apply and prune beside check, with
+//! `missing` the reads that miss a record.
 
 #[path = "../cases.rs"]
 #[allow(dead_code)]
@@ -156,7 +157,7 @@ fn applies(random: &mut Random) {
         let latest = second::bytes::store(&s).unwrap().latest;
         compare_on(&format!("prune-{capacity}"), turns, &s, |s| ours::prune(s, latest), |s| second::prune(s, latest));
         let some: Vec<_> = keys.iter().take(25).copied().chain((0..25).map(|_| random.hash())).collect();
-        let prove = |call: &dyn Fn(&[u8], u32, &[u8], &mut [u8]) -> Result<u32, u32>, s: &[u8]| {
+        let prove = |call: &dyn Fn(&[u8], u32, &[u8], &mut [u8]) -> Result<u32, second::Stopped>, s: &[u8]| {
             let mut room = [0; 17_080];
             some.iter().map(|k| call(s, latest, k, &mut room).unwrap()).sum::<u32>()
         };
@@ -164,8 +165,8 @@ fn applies(random: &mut Random) {
         // 2026-03: version 0 is empty. It is kept where the header says so; the records have no say in it.
         let mut empty = s.clone();
         empty[12..16].fill(0);
-        let refused = |call: &dyn Fn(&[u8], u32, &[u8], &mut [u8]) -> Result<u32, u32>, s: &[u8]| {
-            some.iter().filter(|k| call(s, 0, &k[..], &mut []) == Err(14)).count()
+        let refused = |call: &dyn Fn(&[u8], u32, &[u8], &mut [u8]) -> Result<u32, second::Stopped>, s: &[u8]| {
+            some.iter().filter(|k| call(s, 0, &k[..], &mut []) == Err(second::alone(14))).count()
         };
         compare_on(&format!("prove-50-keys-in-an-empty-version-{capacity}"), turns, &empty, |s| refused(&ours::prove, s), |s| refused(&second::prove, s));
     }
@@ -285,6 +286,34 @@ fn gaps() {
     }
 }
 
+/// 2026-07: reads of a full store that find what they want, and reads for which a record is lost or spoilt, the key's leaf the last slot.
+fn missing(random: &mut Random) {
+    for capacity in [1_024, 16_384] {
+        let turns = if capacity > 2_000 { 3 } else { 20 };
+        let (s, keys) = filled(random, capacity, capacity / 64, capacity, 0);
+        let latest = second::bytes::store(&s).unwrap().latest;
+        let leaf = |k: &[u8; 32]| {
+            let here = |c: &[u8]| c[4] == 2 && c[48..80] == k[..] && second::bytes::u32_at(c, 44) == 0;
+            s[24..].chunks_exact(120).position(here)
+        };
+        let some: Vec<([u8; 32], usize)> = keys.iter().filter_map(|k| Some((*k, leaf(k)?))).take(20).collect();
+        let (mut lost, mut spoilt) = (s.clone(), s.clone());
+        for (_, i) in &some {
+            lost[24 + 120 * i..144 + 120 * i].fill(0);
+            spoilt[24 + 120 * i + 4] = 9;
+        }
+        for (name, s, wanted) in [("none", &s, None), ("lost", &lost, Some(17)), ("spoilt", &spoilt, Some(3))] {
+            let told = |answer: Result<Option<[u8; 32]>, second::Stopped>| assert_eq!(black_box(answer).err().map(|e| e.number), wanted);
+            compare(
+                &format!("missing-{name}-get-{}-keys-{capacity}", some.len()),
+                turns,
+                || some.iter().for_each(|(k, _)| told(ours::get(s, latest, k))),
+                || some.iter().for_each(|(k, _)| told(second::get(s, latest, k))),
+            );
+        }
+    }
+}
+
 /// A presence proof with its root and key.
 fn path(random: &mut Random, steps: usize) -> ([u8; 32], [u8; 32], Vec<u8>) {
     let (key, value) = (random.hash(), random.hash());
@@ -341,6 +370,9 @@ fn main() {
     if std::env::args().nth(1).as_deref() == Some("beside-check") {
         return beside_check(&mut Random(11));
     }
+    if std::env::args().nth(1).as_deref() == Some("missing") {
+        return missing(&mut Random(29));
+    }
     let mut random = Random(11);
     let proofs: Vec<_> = (0..1000).map(|_| path(&mut random, 20)).collect();
     compare(
@@ -375,5 +407,6 @@ fn main() {
     comparisons(&mut Random(23));
     versions();
     gaps();
+    missing(&mut Random(29));
     stacks();
 }

@@ -1,0 +1,145 @@
+-- The slot beside 3 in 02's words, over any bytes: a slot in form whose fields agree matches, so where none matches the lowest spoilt slot that
+-- agrees is the lowest used one. Assumes nothing.
+use Prim.Native.Nat.{ℕ, _<_, _≤_}
+use native.Mathlib.Omega.{arith}
+use mathlib.Core.Path.{_≡_, refl, ap, sym, _∙_, subst}
+use mathlib.Core.Logic.{_↔_, _⊎_, inl, inr}
+use mathlib.Core.Bool.{Bool, true, false, cond, _&&_, not, true≢false}
+use mathlib.Core.List.{[], _∷_}
+use mathlib.Core.Option.{Option, none, some, Option·some-ne-none}
+use lib.ListN.{length, getD, replicate}
+use lib.Dec.{eqb, leb}
+use borrow.Author.Tests.{eqb-true, le-leb, lt-leb}
+use Rattle.terms.specs.Bits.{Bytes, Byte, All, Place}
+use Rattle.terms.specs.Fields.{allZero, zeroBytes}
+use Rattle.terms.specs.Heads.{countIn, versionIn, sinceIn}
+use Rattle.terms.specs.Records.{Record, free, used, spoiled}
+use Rattle.terms.proofs.Tests.{and-left, and-right, is-false}
+use Rattle.meaning.specs.Store.{isNode, isRoot, rootOf, find}
+use Rattle.meaning.proofs.Finding.{Lowest, miss, hit, lowest-is, hits}
+use Rattle.ways.specs.Ways.{Agrees, AgreesRoot, SpoiltIn, NoMatch, NoRoot}
+use Rattle.layout.specs.Sizes.{slotSize, roomOf}
+use Rattle.layout.specs.Headers.{sizeRight}
+use Rattle.layout.specs.Slots.{slotOf, isLeaf, isInner, leafIn, innerIn, recordIn}
+use Rattle.layout.specs.Stores.{slotIn, storeOf, slotNo, Has}
+use Rattle.store.proofs.Slots.{slot-long, slot-bytes, slot-within, slot-is, slots-many}
+use Rattle.lookup.specs.Lookup.{isUsed, covers, rootHere}
+use Rattle.lookup.proofs.Matching.{is-node}
+use Rattle.lookup.proofs.Rooting.{at-top}
+use Rattle.demands.specs.Words.{Used, LowestUsed}
+
+-- 120 zero bytes
+zeros-of : (x : Bytes) → allZero x ≡ true → x ≡ replicate (length x) 0
+zeros-of [] e = refl
+zeros-of (b ∷ x) e =
+    let z = eqb-true b 0 (and-left (eqb b 0) (allZero x) e) in
+    ap (_∷ x) z ∙ ap (0 ∷_) (zeros-of x (and-right (eqb b 0) (allZero x) e))
+
+not-zero : (x : Bytes) → length x ≡ slotSize → (x ≡ zeroBytes slotSize → ⊥) → allZero x ≡ false
+unfolding zeroBytes
+not-zero x l n = is-false (allZero x) (λ e. n (zeros-of x e ∙ ap (λ m. replicate m 0) l))
+
+zero-not : (x : Bytes) → allZero x ≡ false → x ≡ zeroBytes slotSize → ⊥
+unfolding zeroBytes
+zero-not x e z = true≢false (sym (ap allZero z) ∙ e)
+
+-- bytes that are spoilt
+spoilt-says : (x y : Bytes) → slotOf x ≡ spoiled y → (x ≡ y) × (allZero x ≡ false)
+unfolding slotOf
+spoilt-says x y = go (allZero x) (isLeaf x) (isInner x)
+  where
+    go : (a b c : Bool) → cond a free (cond b (used (recordIn x (leafIn x))) (cond c (used (recordIn x (innerIn x))) (spoiled x))) ≡ spoiled y →
+        (x ≡ y) × (a ≡ false)
+    go true b c e = let z : _≡_ {A = ℕ} 0 1 = cc in absurd (omega arith)
+    go false true c e = let z : _≡_ {A = ℕ} 0 1 = cc in absurd (omega arith)
+    go false false true e = let z : _≡_ {A = ℕ} 0 1 = cc in absurd (omega arith)
+    go false false false e = let z : x ≡ y = cc in (z, refl)
+
+says-spoilt : (x : Bytes) → allZero x ≡ false → ((r : Record) → slotOf x ≡ used r → ⊥) → slotOf x ≡ spoiled x
+unfolding slotOf
+says-spoilt x = go (allZero x) (isLeaf x) (isInner x)
+  where
+    go : (a b c : Bool) → a ≡ false →
+        ((r : Record) → cond a free (cond b (used (recordIn x (leafIn x))) (cond c (used (recordIn x (innerIn x))) (spoiled x))) ≡ used r → ⊥) →
+        cond a free (cond b (used (recordIn x (leafIn x))) (cond c (used (recordIn x (innerIn x))) (spoiled x))) ≡ spoiled x
+    go true b c e f = absurd (true≢false e)
+    go false true c e f = absurd (f _ refl)
+    go false false true e f = absurd (f _ refl)
+    go false false false e f = refl
+
+-- where no slot in form whose fields agree stands, the lowest spoilt slot that agrees is the lowest used one
+module _ (s : Bytes) (size : sizeRight (length s) ≡ true) (agree : Bytes → Type 0)
+    (none-matches : (j : ℕ) (r : Record) → Has s j → slotOf (slotIn j s) ≡ used r → agree (slotIn j s) → ⊥) where
+  has : (j : ℕ) → j < roomOf (length s) → Has s j
+  has j h = record { size = size; inside = h }
+
+  spoilt-at : (j : ℕ) → (h : j < roomOf (length s)) → Used s j → agree (slotIn j s) → getD (storeOf s .slots) j free ≡ spoiled (slotIn j s)
+  spoilt-at j h u a =
+      let x = slotIn j s in
+      slot-is (has j h) ∙ says-spoilt x (not-zero x (slot-long j s (slot-within (has j h))) u) (λ r e. none-matches j r (has j h) e a)
+
+  pub named-in-words : (i : ℕ) → SpoiltIn (storeOf s) agree i ↔ LowestUsed s agree i
+  named-in-words i = (there, back)
+    where
+      there : SpoiltIn (storeOf s) agree i → LowestUsed s agree i
+      there w =
+          let inside : i < roomOf (length s) = rw (slots-many s) at (w .inside) in
+          let says = spoilt-says (slotIn i s) (w .bytes) (sym (slot-is (has i inside)) ∙ w .here) in
+          record {
+            inside = inside;
+            used = zero-not (slotIn i s) (says .1);
+            agrees = subst agree (sym (says .0)) (w .agrees);
+            lowest = λ j h u a. let k : j < roomOf (length s) = omega arith in w .lowest j (slotIn j s) h (spoilt-at j k u a) a;
+          }
+
+      back : LowestUsed s agree i → SpoiltIn (storeOf s) agree i
+      back w = record {
+        bytes = slotIn i s;
+        inside = rw (slots-many s) (w .inside);
+        here = spoilt-at i (w .inside) (w .used) (w .agrees);
+        agrees = w .agrees;
+        lowest = λ j y h e a.
+            let k : j < roomOf (length s) = omega (arith, w .inside) in
+            let says = spoilt-says (slotIn j s) y (sym (slot-is (has j k)) ∙ e) in
+            w .lowest j h (zero-not (slotIn j s) (says .1)) (subst agree (sym (says .0)) a);
+      }
+
+-- a lifetime by its fields
+covered : {v : ℕ} (from since : ℕ) → from ≤ v → (since ≡ 0) ⊎ (v < since) → covers from since v ≡ true
+unfolding covers
+covered {v} from since h (inl z) = rw (le-leb from v h, z)
+covered {v} from since h (inr l) = rw (le-leb from v h, lt-leb since v l) (off (leb 1 since))
+  where
+    off : (d : Bool) → not (d && false) ≡ true
+    off true = refl
+    off false = refl
+
+module _ (s : Bytes) (size : sizeRight (length s) ≡ true) (bytes : All Byte s) (v : ℕ) where
+  -- A node: the slot named is the lowest used one whose version, bit count and bits fields agree.
+  pub spoilt-node-in-words : (p : Place) → length p ≤ 256 → NoMatch (storeOf s) v p → (i : ℕ) →
+      SpoiltIn (storeOf s) (Agrees v p) i ↔ LowestUsed s (Agrees v p) i
+  unfolding countIn
+  spoilt-node-in-words p short none-found = named-in-words s size (Agrees v p) (λ j r h e a. no-node j r h e (hits (storeOf s .slots) v p) none-found
+      (is-node (slotIn j s) (slot-long j s (slot-within h)) (slot-bytes j s bytes) v p short (a .version) (a .count) (a .bits) r e))
+    where
+      no-node : (j : ℕ) (r : Record) → Has s j → slotOf (slotIn j s) ≡ used r → {o : Option Record} → Lowest (storeOf s .slots) (isNode v p) o → o ≡ none →
+          isNode v p r ≡ true → ⊥
+      no-node j r h e (miss f) z t = true≢false (sym t ∙ f j r (rw (slots-many s) (h .inside)) (slot-is h ∙ e))
+      no-node j r h e (hit i q l g n) z t = Option·some-ne-none q z
+
+  -- A root: the lowest used one that agrees by empty place and a lifetime that covers the version.
+  pub spoilt-root-in-words : NoRoot (storeOf s) v → (i : ℕ) → SpoiltIn (storeOf s) (AgreesRoot v) i ↔ LowestUsed s (AgreesRoot v) i
+  unfolding rootOf
+  spoilt-root-in-words none-found = named-in-words s size (AgreesRoot v) (λ j r h e a. no-root j r h e (lowest-is (isRoot v) (storeOf s .slots)) none-found (is-root j r h e a))
+    where
+      lives : (x : Bytes) → AgreesRoot v x → covers (versionIn x) (sinceIn x) v ≡ true
+      lives x a = covered (versionIn x) (sinceIn x) (a .version) (a .since)
+
+      is-root : (j : ℕ) (r : Record) → Has s j → slotOf (slotIn j s) ≡ used r → AgreesRoot v (slotIn j s) → isRoot v r ≡ true
+      is-root j r h e a =
+          ap (rootHere v) (sym (slot-is h ∙ e)) ∙ sym (at-top h bytes v (a .count) (lives (slotIn j s) a)) ∙ ap isUsed e
+
+      no-root : (j : ℕ) (r : Record) → Has s j → slotOf (slotIn j s) ≡ used r → {o : Option Record} → Lowest (storeOf s .slots) (isRoot v) o → o ≡ none →
+          isRoot v r ≡ true → ⊥
+      no-root j r h e (miss f) z t = true≢false (sym t ∙ f j r (rw (slots-many s) (h .inside)) (slot-is h ∙ e))
+      no-root j r h e (hit i q l g n) z t = Option·some-ne-none q z

@@ -1,0 +1,20 @@
+-- Document 02, 2026-07, over the bytes of a store: 'no slot in form matches, but a used slot's version, bit count and bits fields agree' and
+-- 'name the lowest such slot'. Assumes nothing.
+use Prim.Native.Nat.{ℕ, _<_}
+use mathlib.Core.Path.{_≡_}
+use lib.ListN.{length}
+use Rattle.terms.specs.Bits.{Bytes}
+use Rattle.terms.specs.Fields.{zeroBytes}
+use Rattle.layout.specs.Sizes.{slotSize, roomOf}
+use Rattle.layout.specs.Stores.{slotIn}
+
+-- A used slot: not all zero.
+abbrev pub Used : Bytes → ℕ → Type 0
+Used s i = slotIn i s ≡ zeroBytes slotSize → ⊥
+
+-- Slot i is the lowest used slot whose bytes agree.
+pub record LowestUsed (s : Bytes) (agree : Bytes → Type 0) (i : ℕ) : Type 0 where
+  pub inside : i < roomOf (length s)
+  pub used : Used s i
+  pub agrees : agree (slotIn i s)
+  pub lowest : (j : ℕ) → j < i → Used s j → agree (slotIn j s) → ⊥

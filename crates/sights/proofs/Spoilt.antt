@@ -1,0 +1,165 @@
+-- Whether a slot is spoilt and agrees, from its bytes; and the search for the lowest such slot. Assumes nothing.
+use Prim.Native.Nat.{ℕ, suc, _+_, _<_, _≤_}
+use native.Mathlib.Omega.{arith}
+use mathlib.Core.Path.{_≡_, refl, ap, ap₂, sym, _∙_, subst}
+use mathlib.Core.Bool.{Bool, true, false, cond, _&&_, not, false≢true, true≢false}
+use mathlib.Core.List.{List, [], _∷_, _++_}
+use mathlib.Core.Option.{Option, none, some}
+use lib.ListN.{length, getD, take, drop, length-take, length-append}
+use borrow.Author.Tests.{eq-eqb, ne-eqb}
+use Rattle.terms.specs.Bits.{Bytes, Place, pack, sameBytes}
+use Rattle.terms.specs.Fields.{allZero, allOf}
+use Rattle.terms.specs.Records.{Record, Slot, free, used, spoiled}
+use Rattle.terms.proofs.Tests.{and-true}
+use Rattle.meaning.specs.Sight.{Sight, matches, nothing, spoilt, agrees, livesBy, agreesRoot, lowestSpoilt, sighted}
+use Rattle.place.specs.declared.Place as declared-place
+use Rattle.place.specs.Place.{placeOf, Proper}
+use Rattle.place.proofs.Places.{proper-count}
+use Rattle.layout.specs.Sizes.{roomOf}
+use Rattle.layout.specs.Headers.{sizeRight}
+use Rattle.layout.specs.Slots.{slotOf, isLeaf, isInner, leafIn, innerIn, recordIn, countIn, bitsIn, versionIn, sinceIn}
+use Rattle.layout.specs.Stores.{slotIn, slotNo, storeOf, Has}
+use Rattle.store.proofs.Slots.{slot-is}
+use Rattle.store.proofs.Scans.{Scan, scan-start, scan-inside, scan-here, scan-next, scan-end}
+use Rattle.lookup.specs.Lookup.{isUsed, covers, Located}
+use Rattle.lookup.specs.declared.Found as declared-found
+use Rattle.lookup.specs.declared.Found.the-variants.{At, Nothing}
+use Rattle.sights.specs.Sights.{spoiltBy, isSpoilt, SpoiltIn, Sighted}
+use Rattle.sights.specs.declared.Sight.the-variants as sight
+
+-- a record in form is not spoilt, and neither is a free slot; what else there is, is
+pub used-whole : (y : Slot) → isUsed y ≡ true → false ≡ isSpoilt y
+used-whole free e = refl
+used-whole (used r) e = refl
+used-whole (spoiled x) e = absurd (false≢true e)
+
+-- what bytes are, by whether they are free, a leaf, an inner record
+abbrev slot : Bytes → Bool → Bool → Bool → Slot
+slot x a b c = cond a free (cond b (used (recordIn x (leafIn x))) (cond c (used (recordIn x (innerIn x))) (spoiled x)))
+
+pub unused-spoilt : (x : Bytes) → isUsed (slotOf x) ≡ false → not (allZero x) ≡ isSpoilt (slotOf x)
+unfolding slotOf
+unused-spoilt x = go (allZero x) (isLeaf x) (isInner x)
+  where
+    go : (a b c : Bool) → isUsed (slot x a b c) ≡ false → not a ≡ isSpoilt (slot x a b c)
+    go true b c e = refl
+    go false true c e = absurd (true≢false e)
+    go false false true e = absurd (true≢false e)
+    go false false false e = refl
+
+-- whether a slot is spoilt and passes a test, by the test of its bytes
+module _ (test : Bytes → Bool) (x : Bytes) where
+  tested : (c : Bool) → test x ≡ c → (c && isSpoilt (slotOf x)) ≡ spoiltBy test (slotOf x)
+  unfolding slotOf
+  tested c e = go (allZero x) (isLeaf x) (isInner x)
+    where
+      off : (d : Bool) → (d && false) ≡ false
+      off true = refl
+      off false = refl
+
+      go : (a b d : Bool) → (c && isSpoilt (slot x a b d)) ≡ spoiltBy test (slot x a b d)
+      go true b d = off c
+      go false true d = off c
+      go false false true = off c
+      go false false false = and-true c ∙ sym e
+
+module _ {s : Bytes} {i : ℕ} (has : Has s i) (test : Bytes → Bool) where
+  pub apart : test (slotIn i s) ≡ false → false ≡ spoiltBy test (slotNo i s)
+  apart e = tested test (slotIn i s) false e ∙ ap (spoiltBy test) (sym (slot-is has))
+
+  pub agreed : test (slotIn i s) ≡ true → isSpoilt (slotOf (slotIn i s)) ≡ spoiltBy test (slotNo i s)
+  agreed e = tested test (slotIn i s) true e ∙ ap (spoiltBy test) (sym (slot-is has))
+
+-- a node agrees by version, bit count and bits
+module _ (v : ℕ) (p : declared-place.Place) (proper : Proper p) (x : Bytes) where
+  packed-bits : p .bits ≡ pack 32 (placeOf p)
+  unfolding placeOf
+  packed-bits = proper .trimmed
+
+  pub other-version : (versionIn x ≡ v → ⊥) → agrees v (placeOf p) x ≡ false
+  unfolding agrees allOf
+  other-version f = rw (ne-eqb (versionIn x) v f)
+
+  pub other-count : versionIn x ≡ v → (countIn x ≡ p .count → ⊥) → agrees v (placeOf p) x ≡ false
+  unfolding agrees allOf
+  other-count e f = rw (eq-eqb (versionIn x) v e, ne-eqb (countIn x) (length (placeOf p)) (λ h. f (h ∙ proper-count p proper)))
+
+  pub by-bits : {b : Bool} → versionIn x ≡ v → countIn x ≡ p .count → b ≡ sameBytes (bitsIn x) (p .bits) → agrees v (placeOf p) x ≡ b
+  unfolding agrees allOf
+  by-bits e f g =
+      rw (eq-eqb (versionIn x) v e, eq-eqb (countIn x) (length (placeOf p)) (f ∙ sym (proper-count p proper)))
+      (and-true _ ∙ ap (sameBytes (bitsIn x)) (sym packed-bits) ∙ sym g)
+
+-- a root by empty place and its lifetime
+module _ (v : ℕ) (x : Bytes) where
+  pub below-root : (countIn x ≡ 0 → ⊥) → agreesRoot v x ≡ false
+  unfolding agreesRoot allOf
+  below-root f = rw (ne-eqb (countIn x) 0 f)
+
+  lives : covers (versionIn x) (sinceIn x) v ≡ livesBy v x
+  unfolding covers livesBy
+  lives = refl
+
+  pub elsewhen : countIn x ≡ 0 → covers (versionIn x) (sinceIn x) v ≡ false → agreesRoot v x ≡ false
+  unfolding agreesRoot allOf
+  elsewhen e f = rw (eq-eqb (countIn x) 0 e, sym lives ∙ f) (off (allZero (bitsIn x)))
+    where
+      off : (d : Bool) → (d && false) ≡ false
+      off true = refl
+      off false = refl
+
+  pub by-zeros : {b : Bool} → countIn x ≡ 0 → covers (versionIn x) (sinceIn x) v ≡ true → b ≡ allZero (bitsIn x) → agreesRoot v x ≡ b
+  unfolding agreesRoot allOf
+  by-zeros e f g = rw (eq-eqb (countIn x) 0 e, sym lives ∙ f) (and-true _ ∙ sym g)
+
+-- what is found is found among the slots to come
+abbrev pub Ahead : (Bytes → Bool) → Bytes → List Slot → List Slot → Type 0
+Ahead test s xs ys = lowestSpoilt test 0 (storeOf s .slots) ≡ lowestSpoilt test (length xs) ys
+
+past : (test : Bytes → Bool) (n : ℕ) (y : Slot) (ys : List Slot) → spoiltBy test y ≡ false → lowestSpoilt test n (y ∷ ys) ≡ lowestSpoilt test (suc n) ys
+past test n free ys e = refl
+past test n (used r) ys e = refl
+past test n (spoiled x) ys e = rw e
+
+here : (test : Bytes → Bool) (n : ℕ) (y : Slot) (ys : List Slot) → spoiltBy test y ≡ true → lowestSpoilt test n (y ∷ ys) ≡ some n
+here test n free ys e = absurd (false≢true e)
+here test n (used r) ys e = absurd (false≢true e)
+here test n (spoiled x) ys e = rw e
+
+pub spoilt-start : (test : Bytes → Bool) (s : Bytes) {n : ℕ} → sizeRight (length s) ≡ true → n ≡ roomOf (length s) → Scan s (Ahead test s) n 0
+spoilt-start test s e m = scan-start s (Ahead test s) e m refl
+
+module _ (test : Bytes → Bool) {s : Bytes} {n i : ℕ} (w : Scan s (Ahead test s) n i) where
+  pub spoilt-next : i < n → spoiltBy test (slotNo i s) ≡ false → Scan s (Ahead test s) n (i + 1)
+  spoilt-next h e =
+      let xs = take i (storeOf s .slots) in
+      let ys = drop (i + 1) (storeOf s .slots) in
+      let more : suc (length xs) ≡ length (xs ++ slotNo i s ∷ []) = simp length-append (omega arith) in
+      scan-next w h (Ahead test s) (scan-here w h ∙ past test (length xs) (slotNo i s) ys e ∙ ap (λ m. lowestSpoilt test m ys) more)
+
+  pub spoilt-found : i < n → spoiltBy test (slotNo i s) ≡ true → SpoiltIn test (storeOf s .slots) (At i)
+  spoilt-found h e =
+      let xs = take i (storeOf s .slots) in
+      let k = scan-inside w h in
+      let long : length xs ≡ i = simp length-take (omega arith) in
+      (k, scan-here w h ∙ here test (length xs) (slotNo i s) (drop (i + 1) (storeOf s .slots)) e ∙ ap some long)
+
+  pub spoilt-nowhere : n ≤ i → SpoiltIn test (storeOf s .slots) Nothing
+  spoilt-nowhere h = scan-end w h
+
+-- what is sighted, by the two searches
+module _ (s : List Slot) (o : Option Record) (test : Bytes → Bool) {r : declared-found.Found} (located : Located s o r) where
+  pub matched : {i : ℕ} → r ≡ At i → Sighted s (sighted o (lowestSpoilt test 0 s)) (sight.Matches i)
+  matched e =
+      let w = subst (Located s o) e located in
+      (w .0, (w .1 .0, w .1 .1, ap (λ q. sighted q (lowestSpoilt test 0 s)) (w .1 .2)))
+
+  module _ (no : r ≡ Nothing) where
+    none-matches : o ≡ none
+    none-matches = subst (Located s o) no located
+
+    pub spoilt-sighted : {t : declared-found.Found} {i : ℕ} → SpoiltIn test s t → t ≡ At i → Sighted s (sighted o (lowestSpoilt test 0 s)) (sight.Spoilt i)
+    spoilt-sighted found e = let w = subst (SpoiltIn test s) e found in (w .0, ap₂ sighted none-matches (w .1))
+
+    pub nothing-sighted : {t : declared-found.Found} → SpoiltIn test s t → t ≡ Nothing → Sighted s (sighted o (lowestSpoilt test 0 s)) sight.Nothing
+    nothing-sighted found e = ap₂ sighted none-matches (subst (SpoiltIn test s) e found)

@@ -1,0 +1,58 @@
+-- `sights::find_spoilt_root` meets its contract: no slot passed is spoilt and agrees. Assumes nothing.
+use Prim.Native.Nat.{_-_}
+use native.Mathlib.Omega.{arith}
+use mathlib.Core.Path.{sym, _∙_}
+use Rattle.meaning.specs.Sight.{agreesRoot}
+use Rattle.store.proofs.Scans.{Scan, scan-slot}
+use Rattle.sights.proofs.Spoilt.{Ahead, spoilt-start, spoilt-next, spoilt-found, spoilt-nowhere}
+use Rattle.sights.proofs.find_spoilt_root.Statement.{statement}
+use Rattle.sights.proofs.find_spoilt_root.Tie as tie
+
+abbrev Inv-loop : tie.InvT-loop
+Inv-loop store version n j₀ j = Scan store (Ahead (agreesRoot version) store) n j
+
+abbrev μ-loop : tie.MeasureT-loop
+μ-loop store version n j₀ j = n - j
+
+slot-count-requires : tie.Need-slot-count-requires Inv-loop μ-loop
+slot-count-requires c κs = c .before .pre
+
+loop-holds : tie.Need-loop-holds Inv-loop μ-loop
+loop-holds c = let a = c .before .before in spoilt-start (agreesRoot (a .args .version)) (a .args .store .now) (a .pre) (c .slot-count .ensures)
+
+root-spoilt-requires : tie.Need-root-spoilt-requires Inv-loop μ-loop
+root-spoilt-requires c κs = scan-slot (c .before .loop .inv) (c .loop-test .taken)
+
+returns : tie.Need-returns Inv-loop μ-loop
+returns c =
+    let a = c .before .before .before .before .before .before in
+    spoilt-found (agreesRoot (a .args .version)) (c .before .before .before .loop .inv) (c .before .before .loop-test .taken) (sym (c .before .root-spoilt .ensures) ∙ c .if1 .taken)
+
+add-j : tie.Need-add-j Inv-loop μ-loop
+add-j c = omega (arith, c .before .before .before .loop .inv .small)
+
+loop-less : tie.Need-loop-less Inv-loop μ-loop
+loop-less c = omega arith
+
+loop-again : tie.Need-loop-again Inv-loop μ-loop
+loop-again c =
+    let a = c .before .before .before .before .before .before in
+    spoilt-next (agreesRoot (a .args .version)) (c .before .before .before .loop .inv) (c .before .before .loop-test .taken) (sym (c .before .root-spoilt .ensures) ∙ c .if1 .left)
+
+returns-2 : tie.Need-returns-2 Inv-loop μ-loop
+returns-2 c = let a = c .before .before .before .before in spoilt-nowhere (agreesRoot (a .args .version)) (c .before .loop .inv) (c .loop-test .left)
+
+pub find-spoilt-root-spec : {M : Type 1} → statement M
+find-spoilt-root-spec =
+    tie.close
+    (tie.spec
+    Inv-loop
+    μ-loop
+    slot-count-requires
+    loop-holds
+    root-spoilt-requires
+    returns
+    add-j
+    loop-less
+    loop-again
+    returns-2)

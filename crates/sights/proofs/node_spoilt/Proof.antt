@@ -1,0 +1,95 @@
+-- `sights::node_spoilt` meets its contract: each field that differs leaves the slot out, and else its form decides. Assumes nothing.
+use mathlib.Core.Path.{ap, sym, _∙_}
+use Rattle.terms.specs.Bits.{sameBytes}
+use Rattle.layout.specs.Slots.{slotOf, bitsIn}
+use Rattle.store.proofs.Slots.{slot-within}
+use Rattle.place.specs.Place.{placeOf}
+use Rattle.meaning.specs.Sight.{agrees}
+use Rattle.sights.specs.Sights.{isSpoilt}
+use Rattle.sights.proofs.Spoilt.{apart, agreed, other-version, other-count, by-bits}
+use borrow.Author.Tests.{not-true, not-false}
+use borrow.Author.Needs.{needs}
+use Rattle.sights.proofs.node_spoilt.Statement.{statement}
+use Rattle.sights.proofs.node_spoilt.Tie as tie
+
+version-at-requires : tie.Need-version-at-requires
+version-at-requires c κs = slot-within (c .before .pre .0)
+
+returns : tie.Need-returns
+returns c =
+    let start = c .before .before .before in
+    apart (start .pre .0) (agrees (start .args .version) (placeOf (start .args .place)))
+    (other-version (start .args .version) (start .args .place) (start .pre .1) _ (λ e. c .if1 .taken (c .before .version-at .ensures ∙ e)))
+
+count-at-requires : tie.Need-count-at-requires
+count-at-requires c κs = slot-within (c .before .before .before .before .pre .0)
+
+cast-if2 : tie.Need-cast-if2
+cast-if2 c = search needs
+
+returns-2 : tie.Need-returns-2
+returns-2 c =
+    let version = c .before .before .before in
+    let start = version .before .before .before in
+    apart (start .pre .0) (agrees (start .args .version) (placeOf (start .args .place)))
+    (other-count (start .args .version) (start .args .place) (start .pre .1) _ (sym (version .before .version-at .ensures) ∙ version .if1 .left)
+    (λ e. c .if2 .taken (c .before .count-at .ensures ∙ e)))
+
+slot-of-requires : tie.Need-slot-of-requires
+slot-of-requires c κs = slot-within (c .before .before .before .before .before .before .pre .0)
+
+bits-of-requires : tie.Need-bits-of-requires
+bits-of-requires c κs = search needs
+
+slice-aggregate-same : tie.Need-slice-aggregate-same
+slice-aggregate-same c = search needs
+
+same-requires : tie.Need-same-requires
+same-requires c κs = search needs
+
+returns-3 : tie.Need-returns-3
+returns-3 c =
+    let slot = c .before .before .before .before in
+    let count = slot .before in
+    let version = count .before .before .before in
+    let start = version .before .before .before in
+    apart (start .pre .0) (agrees (start .args .version) (placeOf (start .args .place)))
+    (by-bits (start .args .version) (start .args .place) (start .pre .1) _ (sym (version .before .version-at .ensures) ∙ version .if1 .left)
+    (sym (count .before .count-at .ensures) ∙ count .if2 .left)
+    (c .before .same .ensures ∙ ap (λ y. sameBytes y (start .args .place .bits)) (c .before .before .before .bits-of .ensures .0 ∙ ap bitsIn (slot .slot-of .ensures .0)))
+    ∙ not-true _ (c .if3 .taken))
+
+is-spoilt-requires : tie.Need-is-spoilt-requires
+is-spoilt-requires c κs = search needs
+
+returns-4 : tie.Need-returns-4
+returns-4 c =
+    let bits = c .before in
+    let slot = bits .before .before .before .before in
+    let count = slot .before in
+    let version = count .before .before .before in
+    let start = version .before .before .before in
+    c .is-spoilt .ensures
+    ∙ ap (λ y. isSpoilt (slotOf y)) (slot .slot-of .ensures .0)
+    ∙ agreed (start .pre .0) (agrees (start .args .version) (placeOf (start .args .place)))
+    (by-bits (start .args .version) (start .args .place) (start .pre .1) _ (sym (version .before .version-at .ensures) ∙ version .if1 .left)
+    (sym (count .before .count-at .ensures) ∙ count .if2 .left)
+    (bits .before .same .ensures ∙ ap (λ y. sameBytes y (start .args .place .bits)) (bits .before .before .before .bits-of .ensures .0 ∙ ap bitsIn (slot .slot-of .ensures .0)))
+    ∙ not-false _ (bits .if3 .left))
+
+pub node-spoilt-spec : {M : Type 1} → statement M
+node-spoilt-spec =
+    tie.close
+    (tie.spec
+    version-at-requires
+    returns
+    count-at-requires
+    cast-if2
+    returns-2
+    slot-of-requires
+    bits-of-requires
+    slice-aggregate-same
+    same-requires
+    returns-3
+    is-spoilt-requires
+    returns-4)

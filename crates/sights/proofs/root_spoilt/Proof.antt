@@ -1,0 +1,98 @@
+-- `sights::root_spoilt` meets its contract: a bit count, a lifetime or a bit that differs leaves the slot out, and else its form decides. Assumes
+-- nothing.
+use mathlib.Core.Path.{ap, ap₂, sym, _∙_}
+use Rattle.terms.specs.Fields.{allZero}
+use Rattle.layout.specs.Slots.{slotOf, bitsIn}
+use Rattle.store.proofs.Slots.{slot-within}
+use Rattle.meaning.specs.Sight.{agreesRoot}
+use Rattle.lookup.specs.Lookup.{covers}
+use Rattle.sights.specs.Sights.{isSpoilt}
+use Rattle.sights.proofs.Spoilt.{apart, agreed, below-root, elsewhen, by-zeros}
+use borrow.Author.Tests.{not-true, not-false}
+use borrow.Author.Needs.{needs}
+use Rattle.sights.proofs.root_spoilt.Statement.{statement}
+use Rattle.sights.proofs.root_spoilt.Tie as tie
+
+count-at-requires : tie.Need-count-at-requires
+count-at-requires c κs = slot-within (c .before .pre)
+
+returns : tie.Need-returns
+returns c =
+    let start = c .before .before .before in
+    apart (start .pre) (agreesRoot (start .args .version)) (below-root (start .args .version) _ (λ e. c .if1 .taken (c .before .count-at .ensures ∙ e)))
+
+version-at-requires : tie.Need-version-at-requires
+version-at-requires c κs = slot-within (c .before .before .before .pre)
+
+retired-at-requires : tie.Need-retired-at-requires
+retired-at-requires c κs = slot-within (c .before .before .before .before .pre)
+
+covers-requires : tie.Need-covers-requires
+covers-requires c κs = search needs
+
+returns-2 : tie.Need-returns-2
+returns-2 c =
+    let count = c .before .before .before .before in
+    let start = count .before .before .before in
+    apart (start .pre) (agreesRoot (start .args .version))
+    (elsewhen (start .args .version) _ (sym (count .before .count-at .ensures) ∙ count .if1 .left)
+    (sym (c .before .covers .ensures ∙ ap₂ (λ a b. covers a b (start .args .version)) (c .before .before .before .version-at .ensures) (c .before .before .retired-at .ensures))
+    ∙ not-true _ (c .if2 .taken)))
+
+slot-of-requires : tie.Need-slot-of-requires
+slot-of-requires c κs = slot-within (c .before .before .before .before .before .before .before .pre)
+
+bits-of-requires : tie.Need-bits-of-requires
+bits-of-requires c κs = search needs
+
+all-zero-requires : tie.Need-all-zero-requires
+all-zero-requires c κs = search needs
+
+returns-3 : tie.Need-returns-3
+returns-3 c =
+    let slot = c .before .before .before in
+    let life = slot .before in
+    let count = life .before .before .before .before in
+    let start = count .before .before .before in
+    apart (start .pre) (agreesRoot (start .args .version))
+    (by-zeros (start .args .version) _ (sym (count .before .count-at .ensures) ∙ count .if1 .left)
+    (sym (life .before .covers .ensures ∙ ap₂ (λ a b. covers a b (start .args .version)) (life .before .before .before .version-at .ensures) (life .before .before .retired-at .ensures))
+    ∙ not-false _ (life .if2 .left))
+    (c .before .all-zero .ensures ∙ ap allZero (c .before .before .bits-of .ensures .0 ∙ ap bitsIn (slot .slot-of .ensures .0)))
+    ∙ not-true _ (c .if3 .taken))
+
+is-spoilt-requires : tie.Need-is-spoilt-requires
+is-spoilt-requires c κs = search needs
+
+returns-4 : tie.Need-returns-4
+returns-4 c =
+    let bits = c .before in
+    let slot = bits .before .before .before in
+    let life = slot .before in
+    let count = life .before .before .before .before in
+    let start = count .before .before .before in
+    c .is-spoilt .ensures
+    ∙ ap (λ y. isSpoilt (slotOf y)) (slot .slot-of .ensures .0)
+    ∙ agreed (start .pre) (agreesRoot (start .args .version))
+    (by-zeros (start .args .version) _ (sym (count .before .count-at .ensures) ∙ count .if1 .left)
+    (sym (life .before .covers .ensures ∙ ap₂ (λ a b. covers a b (start .args .version)) (life .before .before .before .version-at .ensures) (life .before .before .retired-at .ensures))
+    ∙ not-false _ (life .if2 .left))
+    (bits .before .all-zero .ensures ∙ ap allZero (bits .before .before .bits-of .ensures .0 ∙ ap bitsIn (slot .slot-of .ensures .0)))
+    ∙ not-false _ (bits .if3 .left))
+
+pub root-spoilt-spec : {M : Type 1} → statement M
+root-spoilt-spec =
+    tie.close
+    (tie.spec
+    count-at-requires
+    returns
+    version-at-requires
+    retired-at-requires
+    covers-requires
+    returns-2
+    slot-of-requires
+    bits-of-requires
+    all-zero-requires
+    returns-3
+    is-spoilt-requires
+    returns-4)

@@ -1,0 +1,87 @@
+//! Which records a damaged store misses, in words for support and in JSON. The refusal is the library's; the places are read from the slots, for display.
+
+use crate::asked::{refused, Bytes};
+use crate::fail::Fail;
+use crate::json::Json;
+use crate::plain::{counted, shown};
+use grants::{Error, Key, Missing};
+use std::path::Path;
+
+/// What is done about a damaged store.
+const ADVICE: &str = "take another copy, and keep this one for a rescue";
+
+/// 'the record of version 4 at place 0110', 'the root of version 9'.
+fn named(missing: &Missing) -> String {
+    match missing.version {
+        Some(version) => format!("the record of version {version} at place {}", missing.place),
+        None => format!("the root of version {}", missing.wanted_in),
+    }
+}
+
+/// 'spoilt, in slot 12' or 'lost'.
+fn harm(missing: &Missing) -> String {
+    match missing.slot {
+        Some(slot) => format!("spoilt, in slot {slot}"),
+        None => "lost, in no slot".to_string(),
+    }
+}
+
+pub fn line(missing: &Missing) -> String {
+    let wanted = match missing.version {
+        Some(_) => format!("; version {} wants it", missing.wanted_in),
+        None => String::new(),
+    };
+    format!("{} is {}{wanted}", named(missing), harm(missing))
+}
+
+pub fn object(missing: &Missing) -> Json {
+    Json::Object(vec![
+        ("place", missing.place.to_string().into()),
+        ("version", missing.version.into()),
+        ("slot", missing.slot.into()),
+        ("wanted_in", missing.wanted_in.into()),
+    ])
+}
+
+/// What to do about a refused read of a version, and of a key where one was asked for.
+pub fn refused_read<'a>(
+    store: &'a Bytes,
+    path: &'a Path,
+    version: u32,
+    key: Option<&'a [u8]>,
+) -> impl Fn(Error) -> Fail + 'a {
+    move |error| {
+        if !matches!(error, Error::Lost | Error::Spoilt { .. }) {
+            return refused(store, path)(error);
+        }
+        // Of the root alone: any key's way begins there.
+        let key: Option<[u8; 32]> = key.map_or(Some([0; 32]), |key| key.try_into().ok());
+        let missing = key.and_then(|key| store.missing_for(version, Key::from(key)));
+        let Some(missing) = missing.filter(|missing| missing.slot == error.slot()) else {
+            return refused(store, path)(error);
+        };
+        let name = shown(path);
+        let advice = format!("Version {version} of {name} wants {}, which is {}: {ADVICE}. `grants check` lists all that is missing.", named(&missing), harm(&missing));
+        Fail::Damaged(error, advice, vec![missing])
+    }
+}
+
+/// Check of an unsound store: all that is missing.
+pub fn unsound(store: &Bytes, path: &Path) -> Fail {
+    let missing = store.missing().unwrap_or_default();
+    let name = shown(path);
+    let what = match missing.len() {
+        0 => "No record is missing, but a hash, a key or a lifetime is wrong".to_string(),
+        n => format!("{} missing, listed on standard output", are(n)),
+    };
+    Fail::Damaged(
+        Error::Unsound,
+        format!("{name} is damaged: {ADVICE}. {what}. Nothing was changed."),
+        missing,
+    )
+}
+
+fn are(n: usize) -> String {
+    let verb = if n == 1 { "is" } else { "are" };
+    format!("{} {verb}", counted(n, "record"))
+}

@@ -1,0 +1,329 @@
+//! Which records a damaged store misses, to tell a person. What a store is worth is the library's word: check, and the refusals of the reads. Here the
+//! slots are looked at once more for their places and versions, which a refusal doesn't carry; nothing is promised of it.
+
+use crate::records::{self, Body, Child, Header, Place, Record};
+use crate::{Key, Store};
+use std::collections::{BTreeMap, BTreeSet, HashMap, HashSet};
+
+/// A record that a kept version wants and that no slot in form is.
+#[derive(Clone, Copy, Debug, PartialEq, Eq)]
+pub struct Missing {
+    pub place: Place,
+    /// The record's version, as the record above it has it. None for a root: of it only is known that it lives in `wanted_in`.
+    pub version: Option<u32>,
+    /// Where it is spoilt, the lowest used slot, not in form, whose fields agree; none where it is lost.
+    pub slot: Option<u32>,
+    /// The newest kept version that wants it.
+    pub wanted_in: u32,
+}
+
+/// What finding a node tells apart.
+enum Sight {
+    Matches(usize),
+    Spoilt(u32),
+    Nothing,
+}
+
+struct Slots {
+    records: Vec<Option<Record>>,
+    /// The lowest slot in form of a version and place.
+    nodes: HashMap<(u32, Place), usize>,
+    roots: Vec<usize>,
+    /// The used slots that are not in form, their fields as they stand.
+    spoilt: Vec<(u32, Record)>,
+}
+
+fn zero(bytes: &[u8]) -> bool {
+    bytes.iter().all(|b| *b == 0)
+}
+
+fn in_form(slot: &[u8], record: &Record) -> bool {
+    let most = match (records::u32_at(slot, 0), &slot[4..6]) {
+        (112, [2, 0]) => 256,
+        (120, [3, 0]) => 255,
+        _ => return false,
+    };
+    let body = match record.body {
+        Body::Leaf { .. } => zero(&slot[112..]),
+        Body::Inner { left, right } => {
+            let child = |child: Option<Child>, hash: &[u8]| child.is_some() || zero(hash);
+            child(left, &slot[52..84])
+                && child(right, &slot[88..120])
+                && (left.is_some() || right.is_some())
+        }
+    };
+    let place = record.place;
+    body && record.version != 0
+        && place.count() <= most
+        && (place.count()..256).all(|i| !place.bit(i))
+}
+
+impl Slots {
+    fn of(store: &[u8]) -> Slots {
+        let mut slots = Slots {
+            records: vec![],
+            nodes: HashMap::new(),
+            roots: vec![],
+            spoilt: vec![],
+        };
+        for (i, slot) in store[24..].chunks_exact(120).enumerate() {
+            let record = records::fields(slot);
+            let good = in_form(slot, &record);
+            slots.records.push(good.then_some(record));
+            if good {
+                slots
+                    .nodes
+                    .entry((record.version, record.place))
+                    .or_insert(i);
+                if record.place == Place::EMPTY {
+                    slots.roots.push(i);
+                }
+            } else if !zero(slot) {
+                slots.spoilt.push((i as u32, record));
+            }
+        }
+        slots
+    }
+
+    fn record(&self, i: usize) -> Record {
+        self.records[i].expect("in form")
+    }
+
+    fn sight(&self, found: Option<usize>, agrees: impl Fn(&Record) -> bool) -> Sight {
+        let spoilt = || self.spoilt.iter().find(|(_, record)| agrees(record));
+        match found {
+            Some(i) => Sight::Matches(i),
+            None => spoilt().map_or(Sight::Nothing, |(slot, _)| Sight::Spoilt(*slot)),
+        }
+    }
+
+    fn node(&self, version: u32, place: Place) -> Sight {
+        let found = self.nodes.get(&(version, place)).copied();
+        self.sight(found, |record| {
+            record.version == version && record.place == place
+        })
+    }
+
+    fn root(&self, version: u32) -> Sight {
+        let mut roots = self.roots.iter().copied();
+        let found = roots.find(|i| self.record(*i).stands_in(version));
+        self.sight(found, |record| {
+            record.place == Place::EMPTY && record.stands_in(version)
+        })
+    }
+
+    /// The child on a side of an inner record: its version and place.
+    fn child(record: &Record, right: bool) -> Option<(u32, Place)> {
+        let child = match record.body {
+            Body::Leaf { .. } => None,
+            Body::Inner { left, right: other } => {
+                if right {
+                    other
+                } else {
+                    left
+                }
+            }
+        };
+        child.and_then(|child| Some((child.version, record.place.longer(right)?)))
+    }
+
+    /// A child that stands in its slot, or how it is missing.
+    fn step(&self, (version, place): (u32, Place), wanted_in: u32) -> Result<Record, Missing> {
+        let missing = |slot| Missing {
+            place,
+            version: Some(version),
+            slot,
+            wanted_in,
+        };
+        match self.node(version, place) {
+            Sight::Matches(i) => Ok(self.record(i)),
+            Sight::Spoilt(slot) => Err(missing(Some(slot))),
+            Sight::Nothing => Err(missing(None)),
+        }
+    }
+
+    /// All that is missing below a record, each once, in the order of places.
+    fn below(
+        &self,
+        top: usize,
+        wanted_in: u32,
+        seen: &mut HashSet<(u32, Place)>,
+        missing: &mut Vec<Missing>,
+    ) {
+        let from = missing.len();
+        let mut todo = vec![self.record(top)];
+        while let Some(record) = todo.pop() {
+            for right in [false, true] {
+                let Some(child) = Slots::child(&record, right) else {
+                    continue;
+                };
+                if seen.insert(child) {
+                    match self.step(child, wanted_in) {
+                        Ok(below) => todo.push(below),
+                        Err(one) => missing.push(one),
+                    }
+                }
+            }
+        }
+        missing[from..].sort_by_key(|one| one.place);
+    }
+
+    /// The kept versions at which a record's life begins or ends, oldest first: those from one up to the next have the same root and the same records.
+    fn turns(&self, header: Header) -> BTreeMap<u32, i64> {
+        let mut turns = BTreeMap::from([(header.oldest, 0)]);
+        let spoilt = self.spoilt.iter().map(|(_, record)| (record, 0));
+        for (record, one) in self
+            .records
+            .iter()
+            .flatten()
+            .map(|record| (record, 1))
+            .chain(spoilt)
+        {
+            let until = record.retired_since.unwrap_or(u32::MAX);
+            if record.version <= header.latest && header.oldest < until && record.version < until {
+                *turns.entry(record.version.max(header.oldest)).or_default() += one;
+                if until <= header.latest {
+                    *turns.entry(until).or_default() -= one;
+                }
+            }
+        }
+        turns
+    }
+}
+
+pub(crate) fn missing(store: &[u8], header: Header) -> Vec<Missing> {
+    let slots = Slots::of(store);
+    let mut spans = vec![];
+    let mut living = 0;
+    for (first, more) in slots.turns(header) {
+        living += more;
+        spans.push((first, living));
+    }
+    let mut missing = vec![];
+    let mut seen = HashSet::new();
+    let mut roots = BTreeSet::new();
+    let mut last = header.latest;
+    // Whether the span after this one has lost its root too: it is said once.
+    let mut lost = false;
+    for (first, living) in spans.into_iter().rev() {
+        let root = slots.root(first);
+        let was_lost = std::mem::replace(&mut lost, false);
+        let mut say = |slot| {
+            missing.push(Missing {
+                place: Place::EMPTY,
+                version: None,
+                slot,
+                wanted_in: last,
+            })
+        };
+        match root {
+            Sight::Matches(i) if roots.insert(i) => slots.below(i, last, &mut seen, &mut missing),
+            Sight::Matches(_) => {}
+            Sight::Spoilt(slot) if roots.insert(slot as usize) => say(Some(slot)),
+            Sight::Spoilt(_) => {}
+            Sight::Nothing => {
+                // An empty version has no root; one in which records live has lost it.
+                lost = living > 0;
+                if lost && !was_lost {
+                    say(None);
+                }
+            }
+        }
+        last = first.wrapping_sub(1);
+    }
+    missing
+}
+
+/// The first that proving a key meets: on the way to it, to its left neighbour, to its right one.
+pub(crate) fn missing_for(store: &[u8], version: u32, key: Key) -> Option<Missing> {
+    let slots = Slots::of(store);
+    let mut record = match slots.root(version) {
+        Sight::Matches(i) => slots.record(i),
+        Sight::Spoilt(slot) => {
+            return Some(Missing {
+                place: Place::EMPTY,
+                version: None,
+                slot: Some(slot),
+                wanted_in: version,
+            })
+        }
+        Sight::Nothing => return None,
+    };
+    let mut passed = vec![];
+    loop {
+        let side = key
+            .as_bytes()
+            .get(record.place.count() / 8)
+            .is_some_and(|b| b >> (7 - record.place.count() % 8) & 1 == 1);
+        passed.push((record, side));
+        let Some(child) = Slots::child(&record, side) else {
+            break;
+        };
+        match slots.step(child, version) {
+            Ok(below) => record = below,
+            Err(missing) => return Some(missing),
+        }
+    }
+    let end = record.grant().map(|(found, _)| found);
+    if end == Some(key) {
+        return None;
+    }
+    for right in [false, true] {
+        // The leaf where the way ended may be this neighbour.
+        if end.is_some_and(|end| if right { end > key } else { end < key }) {
+            continue;
+        }
+        let turn = passed.iter().rev().filter(|(_, side)| *side != right);
+        let Some(mut child) = turn
+            .filter_map(|(record, _)| Slots::child(record, right))
+            .next()
+        else {
+            continue;
+        };
+        loop {
+            let below = match slots.step(child, version) {
+                Ok(below) => below,
+                Err(missing) => return Some(missing),
+            };
+            match Slots::child(&below, !right).or(Slots::child(&below, right)) {
+                Some(next) => child = next,
+                None => break,
+            }
+        }
+    }
+    None
+}
+
+impl<B: AsRef<[u8]>> Store<B> {
+    /// Every record that a kept version wants and that no slot in form is, the newest version's first: for support, when [`Store::check`] gives 3. A
+    /// version without a root is told where records live in it. Nothing is promised: a store may miss none and not be sound all the same. Refused: 1, 2.
+    ///
+    /// ```
+    /// use grants::{Batch, Error, Store};
+    ///
+    /// let mut store = Store::with_capacity(4)?;
+    /// let mut batch = Batch::new();
+    /// batch.insert([0x00; 32], [7; 32]).unwrap().insert([0x80; 32], [8; 32]).unwrap();
+    /// store.apply(3, &batch)?;
+    /// assert_eq!(store.missing()?, []);
+    /// let mut bytes = store.into_bytes();
+    /// bytes[24] = 0;  // slot 0, the first leaf: its length
+    /// let missing = Store::over(bytes).missing()?;
+    /// assert_eq!(missing.len(), 1);
+    /// assert_eq!(missing[0].place.to_string(), "0");
+    /// assert_eq!((missing[0].version, missing[0].slot, missing[0].wanted_in), (Some(3), Some(0), 3));
+    /// # Ok::<(), Error>(())
+    /// ```
+    pub fn missing(&self) -> Result<Vec<Missing>, crate::Error> {
+        let header = self.header()?;
+        Ok(missing(self.as_bytes(), header))
+    }
+
+    /// The first record that is missing on the way to a key in a kept version, then to its neighbours: which one a read was refused for with 17, or with 3
+    /// and a slot. None where none is missing.
+    pub fn missing_for(&self, version: u32, key: impl Into<Key>) -> Option<Missing> {
+        let header = self.header().ok()?;
+        let kept = header.oldest <= version && version <= header.latest;
+        kept.then(|| missing_for(self.as_bytes(), version, key.into()))?
+    }
+}
