@@ -18,10 +18,10 @@
  *   5  the batch's keys aren't strictly ascending
  *   7  fewer free slots than new records
  *   8  the version isn't in oldest to latest
- *   9  the proof or the list is longer than the room
+ *   9  the proof, the proofs together or the list are longer than the room
  *  10  the proof isn't one whole record in form, no byte over
  *  11  the proof is in form, but doesn't hold
- *  12  a key or root handed in isn't 32 bytes
+ *  12  a key or root handed in isn't 32 bytes, or a list of keys isn't 0 to 256 whole keys
  *  13  a comparison has more visits than the limit
  *  14  the version is empty, so there is no proof
  *  17  a record is lost: a child that is wanted stands in no slot (reads)
@@ -83,6 +83,14 @@ uint64_t grants_get(const uint8_t *store, size_t store_len, uint32_t version, co
    neighbour, then to its right one. Refused: 12, 1, 2, 8, 14, 3 or 17, 9. */
 uint64_t grants_prove(const uint8_t *store, size_t store_len, uint32_t version, const uint8_t *key, size_t key_len, uint8_t *room,
                       size_t room_len, uint8_t length[4]);
+
+/* Writes the proofs for a list of keys in a version one after the other to the front of room, in the order asked, a key asked for twice twice: exactly
+   the bytes that grants_prove gives for each; the rest of room stays. keys: 32 bytes each, 0 to 256 of them. length: of all proofs together, 4 bytes, at
+   most 4,372,480; each proof begins with its own length, 4 bytes, so they can be cut apart. Where grants_prove would refuse one of the keys for a reason
+   other than room, the first such refusal in the order asked is the answer. Without keys it is accepted with length 0, in an empty version too.
+   It returns 64 bits as grants_prove does: the first refusal's slot beside its number. Refused: 12, 1, 2, 8, then of the first key refused 14, 3 or 17; then 9. */
+uint64_t grants_palette(const uint8_t *store, size_t store_len, uint32_t version, const uint8_t *keys, size_t keys_len, uint8_t *room,
+                        size_t room_len, uint8_t length[4]);
 
 /* What changed from one kept version to another: every key added, removed or given another value, in key order, each once. The list goes to the
    front of room as records of 72 bytes; the rest of room stays. Either version may be the later one; swapped, they list what undoes it.

@@ -57,6 +57,9 @@ export class Store {
   get(version: number, key: Bytes): Found;
   /** The proof that a key is in a version, or that it isn't, in at most so many bytes. Refused: 12, 1, 2, 8, 14, 3 or 17, 9. */
   prove(version: number, key: Bytes, most?: number): Uint8Array;
+  /** The proofs for up to 256 keys, in the order asked, in at most so many bytes together. Refused: 12, 1, 2, 8, then of the first key refused 14, 3 or 17;
+   * then 9. */
+  palette(version: number, keys: readonly Bytes[], most?: number): Uint8Array[];
   /** What changed from one kept version to another, in the order of keys, with at most so many visits (32,769 are always enough) and bytes of
    * the library's list (all that it can take). Refused: 1, 2, 3, 8, 13, 9. */
   changes(first: number, second: number, limit?: number, most?: number): Changed[];

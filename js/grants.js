@@ -223,6 +223,19 @@ export class Store {
     return proof.slice(0, u32(length, 0));
   }
 
+  // The proofs for up to 256 keys, in the order asked, each as prove would give it. 12, 1, 2, 8, then of the first key refused 14, 3 or 17; then 9.
+  palette(version, keys, most = LONGEST_PROOF * Math.min(keys.length, 256)) {
+    if (!Number.isInteger(most) || most < 0) throw new RangeError('room is a whole number of bytes');
+    const each = Array.from(keys, bytesOf);
+    if (each.some((key) => key.length !== 32)) throw new Refused(12);
+    const list = new Uint8Array(32 * each.length);
+    each.forEach((key, i) => list.set(key, 32 * i));
+    const [all, length] = this.#machine.call('palette', 'store', versionOf(version), list, room(Math.min(most, LONGEST_PROOF * 256)), answer(4));
+    const proofs = [];
+    for (let at = 0; at < u32(length, 0); at += proofs.at(-1).length) proofs.push(all.slice(at, at + u32(all, at)));
+    return proofs;
+  }
+
   // What changed from one version to another, in the order of keys: `before` is null where a key was added, `after` where it was removed.
   changes(first, second, limit = MOST_VISITS, most = Infinity) {
     if (most !== Infinity && (!Number.isInteger(most) || most < 0)) throw new RangeError('room is a whole number of bytes');

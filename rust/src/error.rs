@@ -30,13 +30,13 @@ pub enum Error {
     NoRoom,
     /// 8: the version isn't in oldest to latest.
     VersionNotKept,
-    /// 9: the proof or the list is longer than the room.
+    /// 9: the proof, the proofs together or the list are longer than the room.
     ProofTooLong,
     /// 10: the proof isn't one whole record in form, no byte over.
     ProofForm,
     /// 11: the proof is in form, but doesn't hold.
     ProofFails,
-    /// 12: a key or root handed in isn't 32 bytes.
+    /// 12: a key or root handed in isn't 32 bytes, or a list of keys isn't 0 to 256 whole keys.
     NotThirtyTwoBytes,
     /// 13: a comparison has more visits than the limit.
     TooManyVisits,
@@ -84,7 +84,7 @@ const TABLE: [(u32, Error, &str); 15] = [
     (
         9,
         Error::ProofTooLong,
-        "the proof or the list is longer than the room",
+        "the proof, the proofs together or the list are longer than the room",
     ),
     (
         10,
@@ -99,7 +99,7 @@ const TABLE: [(u32, Error, &str); 15] = [
     (
         12,
         Error::NotThirtyTwoBytes,
-        "a key or root handed in isn't 32 bytes",
+        "a key or root handed in isn't 32 bytes, or a list of keys isn't 0 to 256 whole keys",
     ),
     (
         13,

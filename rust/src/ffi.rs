@@ -38,6 +38,16 @@ extern "C" {
         room_len: usize,
         length: *mut [u8; 4],
     ) -> u64;
+    fn grants_palette(
+        store: *const u8,
+        store_len: usize,
+        version: u32,
+        keys: *const u8,
+        keys_len: usize,
+        room: *mut u8,
+        room_len: usize,
+        length: *mut [u8; 4],
+    ) -> u64;
     fn grants_changes(
         store: *const u8,
         store_len: usize,
@@ -140,6 +150,23 @@ pub fn prove(store: &[u8], version: u32, key: &[u8], room: &mut [u8]) -> Result<
             version,
             key.as_ptr(),
             key.len(),
+            room.as_mut_ptr(),
+            room.len(),
+            &mut length,
+        )
+    })?;
+    Ok(length)
+}
+
+pub fn palette(store: &[u8], version: u32, keys: &[u8], room: &mut [u8]) -> Result<[u8; 4], Error> {
+    let mut length = [0; 4];
+    read(unsafe {
+        grants_palette(
+            store.as_ptr(),
+            store.len(),
+            version,
+            keys.as_ptr(),
+            keys.len(),
             room.as_mut_ptr(),
             room.len(),
             &mut length,

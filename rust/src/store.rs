@@ -1,6 +1,7 @@
 use crate::changes::{Changes, LIST_BYTES};
+use crate::palette::{Palette, PALETTE_KEYS};
 use crate::records::{self, Record};
-use crate::{ffi, proof, Batch, Error, Proof, Root, Value, PROOF_BYTES};
+use crate::{ffi, proof, Batch, Error, Key, Proof, Root, Value, PROOF_BYTES};
 
 /// The most slots that a store may have.
 pub const MOST_SLOTS: u32 = 16_384;
@@ -12,6 +13,10 @@ pub const MOST_SLOTS: u32 = 16_384;
 /// ```
 pub const fn store_bytes(capacity: u32) -> usize {
     24 + 120 * capacity as usize
+}
+
+fn list(keys: &[Key]) -> Vec<u8> {
+    keys.iter().flat_map(|key| *key.as_bytes()).collect()
 }
 
 /// A store over bytes, borrowed or owned: `&[u8]`, `&mut [u8]`, `Vec<u8>`, an array, a mapped file.
@@ -162,6 +167,35 @@ impl<B: AsRef<[u8]>> Store<B> {
         room: &mut [u8],
     ) -> Result<usize, Error> {
         let length = ffi::prove(self.as_bytes(), version, key.as_ref(), room)?;
+        Ok(u32::from_le_bytes(length) as usize)
+    }
+
+    /// The proofs for several keys of a version, in the order asked, a key asked for twice twice. Where the proof for one of them is refused, the first
+    /// such refusal in the order asked is the answer. Without keys it is empty, and accepted in an empty version too. Refused: 12 (more than
+    /// [`PALETTE_KEYS`]), 1, 2, 8, then of the first key refused 14, 3.
+    ///
+    /// ```
+    /// use grants::{Error, Key, Store, PALETTE_KEYS};
+    ///
+    /// let store = Store::with_capacity(1)?;
+    /// assert_eq!(store.palette(0, &[])?.as_bytes(), []);
+    /// assert_eq!(store.palette(0, &[Key::from([1; 32])]), Err(Error::EmptyVersion));
+    /// let many = [Key::from([1; 32]); PALETTE_KEYS + 1];
+    /// assert_eq!(store.palette(0, &many), Err(Error::NotThirtyTwoBytes));
+    /// # Ok::<(), Error>(())
+    /// ```
+    pub fn palette(&self, version: u32, keys: &[Key]) -> Result<Palette, Error> {
+        let mut room = vec![0; PROOF_BYTES * keys.len().min(PALETTE_KEYS)];
+        let length = self.palette_into(version, &list(keys), &mut room)?;
+        room.truncate(length);
+        room.shrink_to_fit();
+        Ok(Palette::from_bytes(room))
+    }
+
+    /// The same of keys of 32 bytes one after the other, written to the front of `room`; the answer is the length of all together, and the rest of
+    /// `room` stays. Refused: 12, 1, 2, 8, then of the first key refused 14, 3; then 9.
+    pub fn palette_into(&self, version: u32, keys: &[u8], room: &mut [u8]) -> Result<usize, Error> {
+        let length = ffi::palette(self.as_bytes(), version, keys, room)?;
         Ok(u32::from_le_bytes(length) as usize)
     }
 

@@ -198,6 +198,31 @@ def proofs_are_made_and_checked():
 
 
 @test
+def palettes():
+    s = desk()
+    root = answered(0, "root", s).strip()
+    # The proofs of several keys are those of each, in the order asked, repeats too.
+    asked = [C, B, A, C]
+    each = [bytes.fromhex(answered(0, "prove", s, key)) for key in asked]
+    assert answered(0, "prove", s, *asked, "--version", 2, "--out", "proofs") == "proofs: 4 proofs, %d bytes in version 2\n" % len(b"".join(each))
+    assert read("proofs") == b"".join(each)
+    told = json.loads(answered(0, "prove", s, *asked, "--version", 2, "--json"))
+    assert [row["length"] for row in told["proofs"]] == [len(proof) for proof in each]
+    # 0 only if all are present, 1 if all are accepted and some absent, else the first refusal with its key.
+    lines = ["%s present %s" % (C, value(5)), "%s absent" % B, "%s present %s" % (A, value(1)), "%s present %s" % (C, value(5))]
+    assert answered(1, "verify", root, *asked, "proofs") == "\n".join(lines) + "\n"
+    answered(0, "prove", s, A, D, "--version", 2, "--out", "two")
+    answered(0, "verify", root, A, D, "two")
+    refused(21, "The proof for key 2, %s" % C, "verify", root, A, C, "two")
+    refused(20, "more than 2 proofs", "verify", root, C, B, "proofs")
+    refused(20, "The proof for key 3", "verify", root, A, D, A, "two")
+    refused(2, "several keys want --version", "prove", s, A, B, C)
+    refused(22, "257 keys were asked for", "prove", s, *[A] * 257, "--version", 2)
+    refused(22, "Key 2 has 31 bytes", "prove", s, A, B[2:], "--version", 2)
+    refused(18, "keeps versions", "prove", s, A, B, "--version", 9)
+
+
+@test
 def empty_versions():
     """2026-03: a version without a grant has no proof; its root of zeros is what an editor goes by."""
     sentence = "refused with 14: the version is empty, so there is no proof. The version's root is 32 zero bytes: signed, it is itself the proof"

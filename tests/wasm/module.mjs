@@ -42,6 +42,8 @@ async function publishing(tally, grants) {
   tally.equal('its root', toHex(store.root(1)), toHex(first.root));
   tally.equal('get', store.get(1, lyrics), { present: true, value: read });
   tally.equal('get, absent', store.get(2, lyrics), { present: false });
+  tally.equal('palette', store.palette(1, [lyrics, chords, lyrics]).map(toHex), [lyrics, chords, lyrics].map((key) => toHex(store.prove(1, key))));
+  tally.equal('no keys', store.palette(1, []), []);
   tally.equal('changes', store.changes(1, 2), [{ key: lyrics, before: read, after: null }]);
   tally.equal('changes, undone', store.changes(2, 1), [{ key: lyrics, before: null, after: read }]);
   tally.equal('no changes', store.changes(2, 2), []);

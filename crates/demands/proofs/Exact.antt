@@ -27,21 +27,24 @@ use Rattle.promises.specs.Calls.{Does, wrong-header, not-sound, refuses, accept
 use Rattle.read_step.specs.Headed.{byHeader}
 use Rattle.reads.specs.Reads.{rootAnswer, keyAnswer}
 use Rattle.proving.specs.Proving.{proveAnswer}
+use Rattle.palettes.specs.Palette.{wholeKeys, keysIn, palette}
+use Rattle.palette.specs.Palettes.{paletteAnswer}
 use Rattle.changed.specs.Compare.{compare}
 use Rattle.verify.specs.Verify.{judged, verified}
 use Rattle.ways.specs.Ways.{its-root}
 use Rattle.refusals.specs.Exactly.{Table, Exactly, NoneOf, low, Names}
-use Rattle.refusals.specs.Rows.{NotSound, Not32, StopsRoot, StopsGet, StopsProve, TooLong}
+use Rattle.refusals.specs.Rows.{NotKeys, StopsPalette, TooLongTogether, NotSound, Not32, StopsRoot, StopsGet, StopsProve, TooLong}
 use Rattle.refusals.specs.Orders.{headerRows, batchRows, versionRows, comparisonRows, holdingRows}
 use Rattle.refusals.proofs.Exactly.{First, past, within, exactly}
 use Rattle.refusals.proofs.Headers.{length-wrong, length-right, after-header, header-row, records-formed}
 use Rattle.refusals.proofs.Batches.{batch-first}
 use Rattle.refusals.proofs.Stopped.{Stopped, stopped-past, stopped-within, stopped-first, stopped-found, stopped-names}
 use Rattle.refusals.proofs.Walks.{prune-first, root-stopped, get-stopped, prove-stopped}
+use Rattle.refusals.proofs.Palettes.{palette-stopped, keys-whole, keys-torn}
 use Rattle.refusals.proofs.Changes.{changes-first}
 use Rattle.refusals.proofs.Proofs.{off-form, form-first}
-use Rattle.demands.specs.Tables.{formatRows, checkRows, applyRows, pruneRows, rootRows, rootTests, getRows, getTests, proveRows, proveTests, changesRows, verifyRows, sha256Rows}
-use Rattle.grants.specs.Contracts.{Formats, Checks, Applies, Prunes, ReadsRoot, ReadsKey, Proves, Changes, Verifies, Hashes}
+use Rattle.demands.specs.Tables.{formatRows, checkRows, applyRows, pruneRows, rootRows, rootTests, getRows, getTests, proveRows, proveTests, paletteTests, paletteRows, changesRows, verifyRows, sha256Rows}
+use Rattle.grants.specs.Contracts.{Formats, Checks, Applies, Prunes, ReadsRoot, ReadsKey, Proves, Palettes, Changes, Verifies, Hashes}
 
 -- Format: 1.
 pub format-exactly : {s t : Bytes} {r : ℕ} → Formats s r t → Exactly (formatRows s) r
@@ -154,6 +157,30 @@ module _ {s : Bytes} {v : ℕ} {k room f : Bytes} {r : ℕ} {t g : Bytes} (h : A
 
   pub prove-names-slot : Names (λ i. NoneOf (proveTests s v k) × StopsProve s v k (spoiltRecord i)) r
   prove-names-slot = stopped-names refl refl prove-answers
+
+-- A list of keys: 12; then the rest.
+list-stopped : {A : Type 0} {early later : Table} {stops : Trouble → Type 0} (list : Bytes) (a : Answer A) → Stopped early later stops (numberOf a) →
+    Stopped ((12, NotKeys list) ∷ early) later stops (numberOf (cond (wholeKeys list) a (refused 12)))
+list-stopped {early = early} {later = later} {stops = stops} list a w = go (wholeKeys list) refl
+  where
+    go : (b : Bool) → wholeKeys list ≡ b → Stopped ((12, NotKeys list) ∷ early) later stops (numberOf (cond b a (refused 12)))
+    go true e = stopped-past ((12, NotKeys list) ∷ []) early (keys-whole list e, tt) w
+    go false e = stopped-within ((12, NotKeys list) ∷ []) early (inl (keys-torn list e, refl)) (λ z. absurd (omega arith))
+
+-- A palette: 12, 1, 2, 8, 14, 17 or 3, 9, and the slot beside 3.
+module _ {s : Bytes} {v : ℕ} {list room f : Bytes} {r : ℕ} {t g : Bytes} (h : All Byte s) (w : Palettes s v list room f r t g) where
+  palette-answers : Stopped (paletteTests s v list) ((9, TooLongTogether s v (keysIn list) room) ∷ []) (StopsPalette s v (keysIn list)) r
+  unfolding paletteAnswer
+  palette-answers =
+      subst (Stopped (paletteTests s v list) ((9, TooLongTogether s v (keysIn list) room) ∷ []) (StopsPalette s v (keysIn list))) (sym (w .answer))
+      (list-stopped list (byHeader (headerOf s) (palette (storeOf s) v (keysIn list) (length room)))
+      (read-stopped s (palette (storeOf s) v (keysIn list) (length room)) (λ c o l e. palette-stopped s (records-formed s h e) v (keysIn list) room)))
+
+  pub palette-exactly : Exactly (paletteRows s v list room) (low r)
+  palette-exactly = exactly (paletteRows s v list room) (low r) refl (stopped-first refl refl palette-answers)
+
+  pub palette-names-slot : Names (λ i. NoneOf (paletteTests s v list) × StopsPalette s v (keysIn list) (spoiltRecord i)) r
+  palette-names-slot = stopped-names refl refl palette-answers
 
 -- A comparison: 1, 2, 3, 8, 13, 9.
 pub changes-exactly : (first second limit : ℕ) {s room f t g : Bytes} {r : ℕ} → Changes first second limit s room f r t g →

@@ -34,7 +34,7 @@ use Rattle.format.specs.Format.{formatAnswer, formatBytes}
 use Rattle.promises.specs.Calls.{SoundBytes, wrong-header, not-sound, refuses, accepts, Exports, exports-refusal, exports-answer}
 use Rattle.grants.specs.Contracts.{Formats, ReadsRoot, ReadsKey, Proves, Verifies}
 use Rattle.meaning.specs.Answers.{foundBytes}
-use Rattle.demands.specs.Calls.{Called, formats, applies, prunes, checks, reads-root, reads-key, proves, compares, verifies, hashes, Calls, none-yet, then-called, Life}
+use Rattle.demands.specs.Calls.{Called, formats, applies, prunes, checks, reads-root, reads-key, proves, palettes, compares, verifies, hashes, Calls, none-yet, then-called, Life}
 use Rattle.demands.specs.Claims.{grantsOfVersion, AfterHistory}
 use Rattle.demands.proofs.Hashes.{leaf-hash-whole, inner-hash-whole}
 use Rattle.demands.proofs.Stored.{stored-is, stored-sound}
@@ -114,6 +114,7 @@ called-keeps es (checks w) k = k
 called-keeps es (reads-root w) k = k
 called-keeps es (reads-key w) k = k
 called-keeps es (proves w) k = k
+called-keeps es (palettes w) k = k
 called-keeps es (compares w) k = k
 called-keeps es (verifies w) k = k
 called-keeps es (hashes w) k = k

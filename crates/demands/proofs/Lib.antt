@@ -15,3 +15,4 @@ pub mod Histories
 pub mod Gaps
 pub mod Desk
 pub mod Changed
+pub mod Palettes

@@ -8,7 +8,7 @@ use Rattle.meaning.specs.Answers.{numberOf}
 use Rattle.promises.proofs.Calls.{one-outcome, one-export}
 use Rattle.changes.specs.Changes.{roomAfter}
 use Rattle.changes_c.specs.Export.{countBytes}
-use Rattle.grants.specs.Contracts.{Formats, Checks, Applies, Prunes, ReadsRoot, ReadsKey, Proves, Changes, Verifies, Hashes}
+use Rattle.grants.specs.Contracts.{Formats, Checks, Applies, Prunes, ReadsRoot, ReadsKey, Proves, Palettes, Changes, Verifies, Hashes}
 
 module _ {s : Bytes} {a b : ℕ} where
   pub one-format : {t u : Bytes} → Formats s a t → Formats s b u → (a ≡ b) × (t ≡ u)
@@ -32,6 +32,9 @@ module _ {s : Bytes} {a b : ℕ} where
 
   pub one-prove : {v : ℕ} {k room f t u g h : Bytes} → Proves s v k room f a t g → Proves s v k room f b u h → (a ≡ b) × (t ≡ u) × (g ≡ h)
   one-prove x y = (x .answer ∙ sym (y .answer), x .proof ∙ sym (y .proof), x .told ∙ sym (y .told))
+
+  pub one-palette : {v : ℕ} {list room f t u g h : Bytes} → Palettes s v list room f a t g → Palettes s v list room f b u h → (a ≡ b) × (t ≡ u) × (g ≡ h)
+  one-palette x y = (x .answer ∙ sym (y .answer), x .proofs ∙ sym (y .proofs), x .told ∙ sym (y .told))
 
   pub one-changes : {first second limit : ℕ} {room f t u g h : Bytes} → Changes first second limit s room f a t g →
       Changes first second limit s room f b u h → (a ≡ b) × (t ≡ u) × (g ≡ h)

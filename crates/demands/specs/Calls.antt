@@ -10,7 +10,7 @@ use Rattle.meaning.specs.History.{Call, formatting, applying, pruning, looking}
 use Rattle.histories.specs.Claims.{NoGap}
 use Rattle.layout.specs.Stores.{storeOf}
 use Rattle.batch.specs.Batch.{batchOf}
-use Rattle.grants.specs.Contracts.{Formats, Checks, Applies, Prunes, ReadsRoot, ReadsKey, Proves, Changes, Verifies, Hashes}
+use Rattle.grants.specs.Contracts.{Formats, Checks, Applies, Prunes, ReadsRoot, ReadsKey, Proves, Palettes, Changes, Verifies, Hashes}
 
 -- A public call with any arguments, lent the bytes s whole and as the store, leaves the bytes t. A history notes of it what was asked and
 -- whether it was accepted, that is, answered with 0.
@@ -26,6 +26,7 @@ pub data Called (s : Bytes) : Call × Bool → Bytes → Type 0 where
   reads-root : {v r : ℕ} {f g : Bytes} → ReadsRoot s v f r g → Called s (looking, false) s
   reads-key : {v r : ℕ} {k f g : Bytes} → ReadsKey s v k f r g → Called s (looking, false) s
   proves : {v r : ℕ} {k room f t g : Bytes} → Proves s v k room f r t g → Called s (looking, false) s
+  palettes : {v r : ℕ} {list room f t g : Bytes} → Palettes s v list room f r t g → Called s (looking, false) s
   compares : {first second limit r : ℕ} {room f t g : Bytes} → Changes first second limit s room f r t g → Called s (looking, false) s
   -- and these are lent none
   verifies : {r : ℕ} {root k x f g : Bytes} → Verifies root k x f r g → Called s (looking, false) s

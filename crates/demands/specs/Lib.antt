@@ -2,4 +2,5 @@ pub mod Calls
 pub mod Tables
 pub mod Words
 pub mod Claims
+pub mod Palettes
 pub mod Desk

@@ -4,9 +4,10 @@
 use Prim.Native.Nat.{ℕ}
 use mathlib.Core.List.{[], _∷_, _++_}
 use Rattle.terms.specs.Bits.{Bytes}
+use Rattle.palettes.specs.Palette.{keysIn}
 use Rattle.refusals.specs.Exactly.{Table}
-use Rattle.refusals.specs.Rows.{WrongLength, NotSound, Not32}
-use Rattle.refusals.specs.Orders.{headerRows, batchRows, versionRows, lookupRows, keyRows, provingRows, proofRows, comparisonRows, holdingRows}
+use Rattle.refusals.specs.Rows.{WrongLength, NotSound, Not32, NotKeys}
+use Rattle.refusals.specs.Orders.{headerRows, batchRows, versionRows, lookupRows, keyRows, provingRows, proofRows, askingRows, togetherRows, comparisonRows, holdingRows}
 
 -- 1, 2; then 3 by full soundness.
 abbrev pub soundRows : Bytes → Table
@@ -48,6 +49,13 @@ proveTests s v k = (12, Not32 (k ∷ [])) ∷ headerRows s ++ provingRows s v
 
 abbrev pub proveRows : Bytes → ℕ → Bytes → Bytes → Table
 proveRows s v k room = (12, Not32 (k ∷ [])) ∷ headerRows s ++ proofRows s v k room
+
+-- A palette (document 02, 2026-04): 12, for the list alone; then 1, 2; then 8, 14, 17 or 3 of the first key refused, 9.
+abbrev pub paletteTests : Bytes → ℕ → Bytes → Table
+paletteTests s v list = (12, NotKeys list) ∷ headerRows s ++ askingRows s v (keysIn list)
+
+abbrev pub paletteRows : Bytes → ℕ → Bytes → Bytes → Table
+paletteRows s v list room = (12, NotKeys list) ∷ headerRows s ++ togetherRows s v (keysIn list) room
 
 -- Document 02, 2026-01: 'Order: 1, 2, 3 by full soundness, 8, 13, 9.'
 abbrev pub changesRows : Bytes → ℕ → ℕ → ℕ → Bytes → Table

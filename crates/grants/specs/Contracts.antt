@@ -10,6 +10,7 @@ use Rattle.applying_c.specs.Export as apply
 use Rattle.pruning_c.specs.Export as prune
 use Rattle.reads_c.specs.Export as read
 use Rattle.proving_c.specs.Export as prove
+use Rattle.palette_c.specs.Export as palette
 use Rattle.changes_c.specs.Export as compare
 use Rattle.verify.specs.Verify as verify
 
@@ -42,6 +43,10 @@ ReadsKey s v k f r g = read.ReadsKey s v k f r g
 -- Proving the key k in version v of the bytes s answers r; the room is left as t, the array f for the proof's length as g.
 abbrev pub Proves : Bytes → ℕ → Bytes → Bytes → Bytes → ℕ → Bytes → Bytes → Type 0
 Proves s v k room f r t g = prove.Proves s v k room f r t g
+
+-- Proving each key of a list in version v of the bytes s answers r; the room is left as t, the array f for the length of all together as g.
+abbrev pub Palettes : Bytes → ℕ → Bytes → Bytes → Bytes → ℕ → Bytes → Bytes → Type 0
+Palettes s v list room f r t g = palette.Palettes s v list room f r t g
 
 -- Comparing version first of the bytes s with version second, within a limit of visits, answers r; the room is left as t, the array f for the
 -- number of records as g.

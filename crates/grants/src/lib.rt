@@ -1,6 +1,6 @@
 // The public calls, for C, Rust and others to link. Each answers 0 where it is accepted, else document 01's number of refusal; a refused
 // call writes nothing, its answer included. A slice is passed as a pointer and a length, an array as a pointer alone.
-ghost use Rattle.grants.specs.Contracts.{Formats, Checks, Applies, Prunes, ReadsRoot, ReadsKey, Proves, Changes, Verifies, Hashes};
+ghost use Rattle.grants.specs.Contracts.{Formats, Checks, Applies, Prunes, ReadsRoot, ReadsKey, Proves, Palettes, Changes, Verifies, Hashes};
 
 // Makes a fresh store of any bytes of the right length.
 #[no_mangle]
@@ -67,6 +67,20 @@ pub extern "C" fn grants_prove(
     ensures { λ r. ⌜ Proves (now (store .entry)) version (now (key .entry)) (now (room .entry)) (now (length .entry)) r (now (room .exit)) (now (length .exit)) ⌝ }
 {
     proving_c::grants_prove(store, version, key, room, length)
+}
+
+// Writes the proofs for a list of keys in a version one after the other to the front of the room; length: of all together, little-endian.
+#[no_mangle]
+pub extern "C" fn grants_palette(
+    store: &[u8],
+    version: u32,
+    keys: &[u8],
+    room: &mut [u8],
+    length: &mut [u8; 4],
+) -> u64
+    ensures { λ r. ⌜ Palettes (now (store .entry)) version (now (keys .entry)) (now (room .entry)) (now (length .entry)) r (now (room .exit)) (now (length .exit)) ⌝ }
+{
+    palette_c::grants_palette(store, version, keys, room, length)
 }
 
 // Writes what changed from the first version to the second to the front of the room, as records of 72 bytes; records: how many, little-endian.

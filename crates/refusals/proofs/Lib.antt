@@ -4,5 +4,6 @@ pub mod Stopped
 pub mod Headers
 pub mod Batches
 pub mod Walks
+pub mod Palettes
 pub mod Proofs
 pub mod Changes

@@ -1,10 +1,10 @@
 -- Document 01, 'Numbers of refusal', 14 of 2026-03, 17 of 2026-07 and 18 of 2026-13: rows in the order in which they are tested, as far as the calls
 -- share them or the definitions of `meaning` test them. Assumes nothing.
 use Prim.Native.Nat.{ℕ}
-use mathlib.Core.List.{[], _∷_}
+use mathlib.Core.List.{List, [], _∷_}
 use Rattle.terms.specs.Bits.{Bytes}
 use Rattle.refusals.specs.Exactly.{Table}
-use Rattle.refusals.specs.Rows.{WrongLength, WrongHeader, StopsRoot, StopsGet, StopsProve, Lost, Unsound, BatchOffForm, NotAscending, NotAbove, TooFewFree, NotKept, TooLong, ProofOffForm, DoesNotHold, EmptyVersion, NotBothKept, TooManyVisits, ListTooLong}
+use Rattle.refusals.specs.Rows.{WrongLength, WrongHeader, StopsRoot, StopsGet, StopsProve, Lost, Unsound, BatchOffForm, NotAscending, NotAbove, TooFewFree, NotKept, TooLong, ProofOffForm, DoesNotHold, EmptyVersion, NotBothKept, TooManyVisits, ListTooLong, AskedOfEmpty, StopsPalette, TooLongTogether}
 
 -- 1, 2.
 abbrev pub headerRows : Bytes → Table
@@ -35,6 +35,14 @@ provingRows s v = (8, NotKept s v) ∷ (14, EmptyVersion s v) ∷ []
 abbrev pub proofRows : Bytes → ℕ → Bytes → Bytes → Table
 proofRows s v k room =
     (8, NotKept s v) ∷ (14, EmptyVersion s v) ∷ (17, Lost (StopsProve s v k)) ∷ (3, Unsound (StopsProve s v k)) ∷ (9, TooLong s v k room) ∷ []
+
+-- A palette's own (document 02, 2026-04): 8, 14, then 17 or 3 of the first key refused, 9.
+abbrev pub askingRows : Bytes → ℕ → List Bytes → Table
+askingRows s v keys = (8, NotKept s v) ∷ (14, AskedOfEmpty s v keys) ∷ []
+
+abbrev pub togetherRows : Bytes → ℕ → List Bytes → Bytes → Table
+togetherRows s v keys room =
+    (8, NotKept s v) ∷ (14, AskedOfEmpty s v keys) ∷ (17, Lost (StopsPalette s v keys)) ∷ (3, Unsound (StopsPalette s v keys)) ∷ (9, TooLongTogether s v keys room) ∷ []
 
 -- A comparison's own (document 02, 2026-01): 8, 13, 9.
 abbrev pub comparisonRows : Bytes → ℕ → ℕ → ℕ → Bytes → Table

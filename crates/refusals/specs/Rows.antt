@@ -15,6 +15,8 @@ use Rattle.meaning.specs.Sound.{Kept, Sound}
 use Rattle.meaning.specs.Calls.{accepted, ascending}
 use Rattle.meaning.specs.Reading.{Trouble, lostRecord, spoiltRecord, strayLeaf, Verdict}
 use Rattle.meaning.specs.Proving.{proof, proofLength}
+use Rattle.palettes.specs.Palette.{keySize, mostKeys, lengthTogether}
+use Rattle.palettes.specs.Claims.{ProofOfEach, FirstAsked}
 use Rattle.changed.specs.Changes.{items, itemSize}
 use Rattle.changed.specs.Compare.{changesOf, visitsOf}
 use Rattle.checker.specs.Holding.{Holds}
@@ -132,3 +134,19 @@ ListTooLong s first second room = length room < itemSize * length (items (change
 -- 14: proving in an empty version (2026-03), one that no slot matches a root for, and no spoilt one agrees.
 abbrev pub EmptyVersion : Bytes → ℕ → Type 0
 EmptyVersion s v = ways.EmptyVersion (storeOf s) v
+
+-- 12 of a palette (document 02, 2026-04): the list isn't 0 to 256 whole keys.
+abbrev pub NotKeys : Bytes → Type 0
+NotKeys list = (keys : List Bytes) → All (λ k. length k ≡ keySize) keys → length keys ≤ mostKeys → list ≡ flat keys → ⊥
+
+-- 14 of a palette: a key is asked for, in an empty version.
+abbrev pub AskedOfEmpty : Bytes → ℕ → List Bytes → Type 0
+AskedOfEmpty s v keys = EmptyVersion s v × (keys ≡ [] → ⊥)
+
+-- What stops a palette: what stops the proof for a key, where each key before it, in the order asked, has its proof.
+abbrev pub StopsPalette : Bytes → ℕ → List Bytes → Trouble → Type 0
+StopsPalette s v keys t = FirstAsked (proof (storeOf s) v) (λ k. StopsProve s v k t) keys
+
+-- 9 of a palette: all together don't fit.
+abbrev pub TooLongTogether : Bytes → ℕ → List Bytes → Bytes → Type 0
+TooLongTogether s v keys room = (ps : List Proof) × ProofOfEach (proof (storeOf s) v) keys ps × (length room < lengthTogether ps)

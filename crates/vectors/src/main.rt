@@ -4,6 +4,7 @@
 mod calls;
 mod compared;
 mod harmed;
+mod several;
 
 use place::same;
 use script::say;
@@ -129,6 +130,9 @@ fn call(l: &[u8], c: &[u8], store: &mut [u8]) -> bool {
     }
     if same(c, b"prove") {
         return calls::prove(l, store);
+    }
+    if same(c, b"palette") {
+        return several::palette(l, store);
     }
     if same(c, b"changes") {
         return compared::changes(l, store);

@@ -180,6 +180,11 @@ impl History {
                 for (a, b) in [(v, w), (w, v), (v, latest), (v, v)] {
                     let _ = both::changes(tally, &mut self.random, "in a history", seed, &self.s, a, b);
                 }
+                // any keys in any order, some twice, in a version of before and in the latest
+                for version in [v, latest] {
+                    let list: Vec<u8> = (0..self.random.below(12)).flat_map(|_| self.keys[self.random.below(self.keys.len())]).collect();
+                    let _ = both::palette(tally, &mut self.random, "in a history", seed, &self.s, version, &list);
+                }
             }
             7 => {
                 let b = self.no_change();

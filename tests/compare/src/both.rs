@@ -3,7 +3,7 @@
 use crate::cases::{self, Random};
 use crate::ours;
 use crate::tally::{Proof, Tally};
-use second::Bytes32;
+use second::{Bytes32, Stopped};
 
 const EDGE: usize = 64;
 const MARK: u8 = 0xC3;
@@ -75,6 +75,38 @@ pub fn reads(tally: &mut Tally, random: &mut Random, seed: u64, s: &[u8], versio
     let (root, proof) = (root.ok()?, proof.ok()?);
     tally.same("verify", seed, ours::verify(&root, key, &proof), second::verify(&root, key, &proof));
     Some((root, proof))
+}
+
+/// A palette of keys, with a room near what is needed. Its bytes are those of single calls joined, and cut apart each is checked.
+pub fn palette(tally: &mut Tally, random: &mut Random, case: &str, seed: u64, s: &[u8], version: u32, keys: &[u8]) -> Result<u32, Stopped> {
+    let all = second::palette::proofs(s, version, keys).map_or(random.below(200), |proofs| proofs.concat().len());
+    let length = match random.below(5) {
+        0 => all.saturating_sub(1),
+        1 => all,
+        2 => random.below(all + 1),
+        _ => all + random.below(40),
+    };
+    let room: Vec<u8> = (0..length).map(|_| random.byte()).collect();
+    palette_with(tally, case, seed, s, version, keys, &room)
+}
+
+pub fn palette_with(tally: &mut Tally, case: &str, seed: u64, s: &[u8], version: u32, keys: &[u8], room: &[u8]) -> Result<u32, Stopped> {
+    let (x, a) = lent(room, |room| ours::palette(s, version, keys, room));
+    let mut b = room.to_vec();
+    let y = second::palette(s, version, keys, &mut b);
+    tally.wrote("palette", case, seed, (x, &a), (y, &b));
+    if let (Ok(all), Ok(root)) = (x, second::root(s, version)) {
+        let mut rest = &a[..all as usize];
+        for key in keys.chunks(32) {
+            let (proof, more) = rest.split_at(u32::from_le_bytes(rest[..4].try_into().unwrap()) as usize);
+            rest = more;
+            let mut single = vec![0; proof.len()];
+            tally.equal("a proof of a palette", seed, (ours::prove(s, version, key, &mut single), &single[..]), (Ok(proof.len() as u32), proof));
+            tally.same("verify", seed, ours::verify(&root, key, proof), second::verify(&root, key, proof));
+        }
+        tally.equal("nothing after the last proof", seed, rest.len(), 0);
+    }
+    y
 }
 
 /// A comparison of two versions, with a limit and a room near what is needed.

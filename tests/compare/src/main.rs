@@ -53,6 +53,28 @@ fn key(random: &mut Random, keys: &[[u8; 32]]) -> Vec<u8> {
     k
 }
 
+/// A list of keys: some of the store's, some beside them, some twice; now and then none, a torn list, or one key too many.
+fn list(random: &mut Random, keys: &[[u8; 32]]) -> Vec<u8> {
+    let n = match random.below(12) {
+        0 => 0,
+        1 => [256, 257][random.below(2)],
+        _ => 1 + random.below(9),
+    };
+    let mut list = vec![];
+    for _ in 0..n {
+        let mut k = key(random, keys);
+        k.resize(32, 0);
+        list.extend(k);
+    }
+    if random.one_in(12) {
+        list.truncate(list.len().saturating_sub(1 + random.below(31)));
+    }
+    if n > 1 && random.one_in(3) {
+        list.extend_from_within(..32);
+    }
+    list
+}
+
 fn round(seed: u64, tally: &mut Tally) {
     let mut random = Random(seed);
     let (mut s, keys) = cases::store(&mut random);
@@ -73,6 +95,11 @@ fn round(seed: u64, tally: &mut Tally) {
         if let Some((root, p)) = both::reads(tally, &mut random, seed, &s, v, &k) {
             proofs.push((root, k, p));
         }
+    }
+    for _ in 0..3 {
+        let v = version(&mut random, &s);
+        let list = list(&mut random, &keys);
+        let _ = both::palette(tally, &mut random, "of a made store", seed, &s, v, &list);
     }
     for _ in 0..3 {
         let (v, w) = (version(&mut random, &s), version(&mut random, &s));
@@ -197,6 +224,67 @@ fn empty(tally: &mut Tally, s: &[u8], latest: u32, key: &[u8; 32]) {
     }
 }
 
+/// Palettes that deserve two refusals at once, or are at an edge: the first in the order asked is given, and room is looked at last.
+fn palettes(tally: &mut Tally, s: &[u8], bad_header: &[u8], out: u32, keys: &[[u8; 32]]) {
+    let bad_size = &bad_header[..s.len() - 1];
+    let latest = out - 1;
+    // No root: the header alone is in form, and no slot has the empty place.
+    let mut rootless = s.to_vec();
+    for at in (24..s.len()).step_by(120) {
+        rootless[at + 4] = 9;
+        rootless[at + 7] |= 2;
+    }
+    // Two keys with leaves below the root: of the first the leaf is lost, of the second spoilt.
+    let leaf = |key: &[u8; 32]| {
+        (0..(s.len() - 24) / 120).find(|i| {
+            let slot = &s[24 + 120 * i..][..120];
+            slot[4] == 2 && slot[6..8] != [0, 0] && slot[48..80] == key[..] && slot[44..48] == [0; 4]
+        })
+    };
+    let two: Vec<(&[u8; 32], usize)> = keys.iter().filter_map(|k| Some((k, leaf(k)?))).take(2).collect();
+    let [(lost, gone), (spoilt, kept)] = two[..] else { panic!("two grants") };
+    let mut harmed = s.to_vec();
+    harmed[24 + 120 * gone..][..120].fill(0);
+    harmed[24 + 120 * kept + 4] = 9;
+    let beside = second::spoiled(kept);
+    let all = second::palette::proofs(s, latest, &keys.concat()).expect("a sound store").concat();
+    let many = [keys[0]; 257].concat();
+    let list = keys.concat();
+    let (torn, some) = (&list[..list.len() - 1], &list[..]);
+    let (first, second) = ([*lost, *spoilt].concat(), [*spoilt, *lost, *spoilt].concat());
+    let room = vec![5; all.len()];
+    let no = second::alone;
+    for (what, store, version, keys, room, wanted) in [
+        ("palette: 12 before 1, torn", bad_size, 1, torn, &room[..], Err(no(12))),
+        ("palette: 12 before 1, 257 keys", bad_size, 1, &many[..], &room[..], Err(no(12))),
+        ("palette: 12 before 2", bad_header, out, torn, &room[..], Err(no(12))),
+        ("palette: 1 before 2", bad_size, 1, some, &room[..], Err(no(1))),
+        ("palette: 2 before 8", bad_header, out, some, &room[..], Err(no(2))),
+        ("palette: 8 before 14", &rootless[..], out, some, &room[..], Err(no(8))),
+        ("palette: 14 before 9", &rootless[..], latest, some, &room[..0], Err(no(14))),
+        ("palette: 17 first in the order asked, before 9", &harmed[..], latest, &first[..], &room[..0], Err(no(17))),
+        ("palette: 3 first in the order asked, before 9", &harmed[..], latest, &second[..], &room[..0], Err(beside)),
+        ("palette: no keys, 1", bad_size, 1, &[], &room[..], Err(no(1))),
+        ("palette: no keys, 2", bad_header, 1, &[], &room[..], Err(no(2))),
+        ("palette: no keys, 8", s, out, &[], &room[..], Err(no(8))),
+        ("palette: no keys, accepted", s, latest, &[], &room[..], Ok(0)),
+        ("palette: no keys, no room", s, latest, &[], &room[..0], Ok(0)),
+        ("palette: no keys, an empty version", &rootless[..], latest, &[], &room[..], Ok(0)),
+        ("palette: a byte short", s, latest, some, &room[1..], Err(no(9))),
+        ("palette: room just enough", s, latest, some, &room[..], Ok(all.len() as u32)),
+    ] {
+        let answer = both::palette_with(tally, what, 0, store, version, keys, room);
+        tally.equal(what, 0, answer, wanted);
+    }
+    let repeats = [keys[0], keys[1], keys[0]].concat();
+    let each = second::palette::proofs(s, latest, &repeats).unwrap();
+    assert!(each[0] == each[2]);
+    let answer = both::palette_with(tally, "palette: a key twice", 0, s, latest, &repeats, &vec![5; each.concat().len() + 3]);
+    tally.equal("palette: a key twice", 0, answer, Ok(each.concat().len() as u32));
+    let most = both::palette_with(tally, "palette: 256 keys", 0, s, latest, &many[..256 * 32], &vec![5; 256 * each[0].len() + 9]);
+    tally.equal("palette: 256 keys", 0, most, Ok(256 * each[0].len() as u32));
+}
+
 /// Two refusals deserved at once: the first in 01's order is given.
 fn pairs(tally: &mut Tally) {
     let mut random = Random(3);
@@ -229,6 +317,7 @@ fn pairs(tally: &mut Tally) {
     case("2 before 8", &bad_header, out, &key, 2);
     case("8 before 3", &damaged, out, &key, 8);
     empty(tally, &s, out - 1, &key);
+    palettes(tally, &s, &bad_header, out, &keys);
     tally.same("2 before 3", 0, ours::check(&bad_header), second::check(&bad_header));
     for (what, store, version, wanted) in [
         ("1 before 2", &bad_header[..s.len() - 1], 1, 1),

@@ -26,6 +26,16 @@ extern "C" {
         room_len: usize,
         length: *mut [u8; 4],
     ) -> u64;
+    fn grants_palette(
+        store: *const u8,
+        store_len: usize,
+        version: u32,
+        keys: *const u8,
+        keys_len: usize,
+        room: *mut u8,
+        room_len: usize,
+        length: *mut [u8; 4],
+    ) -> u64;
     fn grants_changes(
         store: *const u8,
         store_len: usize,
@@ -145,6 +155,17 @@ pub fn prove(store: &[u8], version: u32, key: &[u8], room: &mut [u8]) -> Result<
     read_so(|length| {
         recorded("prove", &[read(store), number(version), read(key), written(room), array(length)], || unsafe {
             grants_prove(store.as_ptr(), store.len(), version, key.as_ptr(), key.len(), to, most, length)
+        })
+    })
+    .map(u32::from_le_bytes)
+}
+
+/// The length of all proofs together, at the front of the room.
+pub fn palette(store: &[u8], version: u32, keys: &[u8], room: &mut [u8]) -> Result<u32, Stopped> {
+    let (to, most) = (room.as_mut_ptr(), room.len());
+    read_so(|length| {
+        recorded("palette", &[read(store), number(version), read(keys), written(room), array(length)], || unsafe {
+            grants_palette(store.as_ptr(), store.len(), version, keys.as_ptr(), keys.len(), to, most, length)
         })
     })
     .map(u32::from_le_bytes)

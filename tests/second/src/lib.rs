@@ -5,6 +5,7 @@ pub mod bytes;
 pub mod calls;
 pub mod changes;
 pub mod check;
+pub mod palette;
 pub mod proof;
 #[path = "../../common/plain_sha256.rs"]
 pub mod sha256;
@@ -14,6 +15,7 @@ pub mod tree;
 pub use calls::{apply, format, get, prune, root};
 pub use changes::changes;
 pub use check::verify;
+pub use palette::palette;
 pub use proof::prove;
 pub use sound::check;
 

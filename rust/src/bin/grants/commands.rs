@@ -10,6 +10,7 @@ use crate::held;
 use crate::json::Json;
 use crate::missing::{self, refused_read};
 use crate::out::Out;
+use crate::palette;
 use crate::plain::{counted, shown};
 use crate::statement::known_root;
 use grants::{from_hex, to_hex, Error, Store};
@@ -164,6 +165,15 @@ pub fn get(args: &Args, out: &mut Out) -> Result<u8, Fail> {
 }
 
 pub fn prove(args: &Args, out: &mut Out) -> Result<u8, Fail> {
+    if args.has("--version") {
+        return palette::prove(args, out);
+    }
+    if args.word(3).is_some() {
+        return Err(Fail::Usage(
+            "several keys want --version VERSION, so that no key is taken for a version"
+                .to_string(),
+        ));
+    }
     let path = args.path(0);
     let key = key(args, 1, Some(path))?;
     let store = read_store(path)?;
@@ -212,7 +222,7 @@ pub fn prove(args: &Args, out: &mut Out) -> Result<u8, Fail> {
 }
 
 /// A proof's bytes, or their hex digits. Byte 4 of a proof in form is 16 or 17, which is no digit.
-fn proof_bytes(bytes: Vec<u8>) -> Result<Vec<u8>, Fail> {
+pub fn proof_bytes(bytes: Vec<u8>) -> Result<Vec<u8>, Fail> {
     let hex_or_space = |b: &u8| b.is_ascii_hexdigit() || b.is_ascii_whitespace();
     if !bytes.iter().all(hex_or_space) {
         return Ok(bytes);
@@ -222,22 +232,28 @@ fn proof_bytes(bytes: Vec<u8>) -> Result<Vec<u8>, Fail> {
     from_hex(&digits).map_err(|e| Fail::Refused(Error::ProofForm, format!("It has {e}.")))
 }
 
+/// What to do about a proof that is refused.
+pub fn proof_advice(error: Error, path: &Path) -> String {
+    match error {
+        Error::ProofForm => format!("{} is no proof, or not a whole one: get it again.", shown(path)),
+        Error::ProofFails => {
+            "It shows nothing of this key under this root: are both the ones it was made for? If so, whoever sent it is not to be trusted."
+                .to_string()
+        }
+        _ => LENGTH_ADVICE.to_string(),
+    }
+}
+
 pub fn verify(args: &Args, out: &mut Out) -> Result<u8, Fail> {
+    if args.word(3).is_some() {
+        return palette::verify(args, out);
+    }
     let root = known_root(args)?;
     let key = key(args, 1, None)?;
     let path = args.path(2);
     let proof = proof_bytes(files::read(path, PROOF_LIMIT)?)?;
-    let value = grants::verify(&root, &key, &proof).map_err(|e| {
-        let advice = match e {
-            Error::ProofForm => format!("{} is no proof, or not a whole one: get it again.", shown(path)),
-            Error::ProofFails => {
-                "It shows nothing of this key under this root: are both the ones it was made for? If so, whoever sent it is not to be trusted."
-                    .to_string()
-            }
-            _ => LENGTH_ADVICE.to_string(),
-        };
-        Fail::Refused(e, advice)
-    })?;
+    let value =
+        grants::verify(&root, &key, &proof).map_err(|e| Fail::Refused(e, proof_advice(e, path)))?;
     let value = value.map(|v| v.to_string());
     let line = match &value {
         Some(value) => format!("present {value}"),

@@ -18,6 +18,7 @@ mod listing;
 mod missing;
 mod names;
 mod out;
+mod palette;
 mod plain;
 mod publish;
 mod show;

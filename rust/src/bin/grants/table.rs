@@ -199,15 +199,18 @@ version and dates, to be signed (docs/SIGNING.md); `grants verify` takes that fi
     },
     Command {
         name: "prove",
-        usage: "STORE KEY [VERSION]",
-        what: "the proof that a key is in a version, or that it isn't",
+        usage: "STORE KEY [VERSION] | STORE KEY.. --version VERSION",
+        what: "the proof that a key is in a version, or that it isn't; of several keys, one after the other",
         help: "\
 Prints the proof in hex, or writes its bytes to a file with --out. Without VERSION, the latest. STORE may be -. In a version
-without a grant there is no proof (refused with 14): its root, 32 zero bytes, itself shows that nothing is granted.",
-        words: (2, 3),
+without a grant there is no proof (refused with 14): its root, 32 zero bytes, itself shows that nothing is granted.
+With --version, up to 256 keys: their proofs in the order asked, in one call; where one is refused, the first refusal is
+the answer.",
+        words: (2, usize::MAX),
         choices: &[
             JSON,
             AT,
+            valued("--version", "VERSION", "the version; every word after STORE is then a key"),
             valued("--out", "FILE", "write the proof's bytes to FILE (- for standard output)"),
             FORCE,
             BOOK,
@@ -216,13 +219,15 @@ without a grant there is no proof (refused with 14): its root, 32 zero bytes, it
     },
     Command {
         name: "verify",
-        usage: "ROOT KEY PROOF",
-        what: "what a proof shows of a key against a root",
+        usage: "ROOT KEY.. PROOF",
+        what: "what a proof shows of a key against a root, or the proofs of several keys",
         help: "\
-Prints 'present' and the value, or 'absent' with exit status 1. ROOT is 64 hex digits, or a file that `grants root --out`
+Prints 'present' and the value, or 'absent' with exit status 1. Of several keys, in the order in which their proofs were
+asked for, a line each: exit status 0 only if all are present, 1 if all proofs are accepted and some key is absent, else 10
+and the number of the first refusal, which names its key. ROOT is 64 hex digits, or a file that `grants root --out`
 wrote and whose signature you have checked; one that is past its date is refused. PROOF is a file with the proof's bytes, or
 with their hex digits; it may be -. No store is needed.",
-        words: (3, 3),
+        words: (3, usize::MAX),
         choices: &[
             JSON,
             valued(

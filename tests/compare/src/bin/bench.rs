@@ -236,6 +236,25 @@ fn comparisons(random: &mut Random) {
     }
 }
 
+/// 256 proofs from a full store of 16,384 slots, half of their keys never inserted: in one call, in 256 single calls, and by the second program.
+fn palettes(random: &mut Random) {
+    let (s, keys) = filled(random, 16_384, 256, 16_384, 0);
+    let latest = second::bytes::store(&s).unwrap().latest;
+    let list: Vec<u8> = (0..256).flat_map(|i| if i % 2 == 0 { keys[random.below(keys.len())] } else { random.hash() }).collect();
+    let s = &s;
+    let length = second::palette::proofs(s, latest, &list).unwrap().concat().len();
+    let room = vec![0; length];
+    let name = format!("palette-256-keys-16384-slots-{length}-bytes");
+    let took = compare_on(&name, 3, &room, |room| ours::palette(s, latest, &list, room), |room| second::palette(s, latest, &list, room));
+    let single = (0..3)
+        .map(|_| {
+            let mut room = vec![0; 17_080];
+            milliseconds(&mut || list.chunks(32).for_each(|key| assert!(ours::prove(s, latest, key, &mut room).is_ok())))
+        })
+        .fold(f64::MAX, f64::min);
+    println!("where palette-256 one call {took:.3}ms, 256 single calls {single:.3}ms, ratio {:.2}", took / single);
+}
+
 /// The same content with few versions kept and with some 4,000,000,000.
 fn versions() {
     for capacity in [1_024, 16_384] {
@@ -346,6 +365,7 @@ fn stacks() {
     print("prune", stack::most(move || assert!(ours::prune(&mut t.clone(), latest).is_ok())));
     print("format", stack::most(move || assert!(ours::format(&mut s.clone()).is_ok())));
     print("prove", stack::of_prove());
+    print("palette", stack::of_palette());
     print("changes", stack::of_changes());
     let applies = stack::of_apply();
     applies.iter().for_each(|(name, used)| print(&format!("apply-{name}"), *used));
@@ -360,6 +380,9 @@ fn stacks() {
 fn main() {
     if std::env::args().nth(1).as_deref() == Some("stack") {
         return stacks();
+    }
+    if std::env::args().nth(1).as_deref() == Some("palette") {
+        return palettes(&mut Random(31));
     }
     if std::env::args().nth(1).as_deref() == Some("changes") {
         return comparisons(&mut Random(23));
@@ -405,6 +428,7 @@ fn main() {
     beside_check(&mut random);
     applies(&mut random);
     comparisons(&mut Random(23));
+    palettes(&mut Random(31));
     versions();
     gaps();
     missing(&mut Random(29));

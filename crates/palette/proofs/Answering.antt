@@ -1,0 +1,132 @@
+-- What the call answers, by what it tests first, what was measured and how much room there is. Assumes nothing.
+use Prim.Native.Nat.{ℕ, _-_, _<_, _≤_}
+use native.Mathlib.Omega.{arith}
+use native.Mathlib.Nat.{zero-add}
+use mathlib.Core.Path.{_≡_, refl, ap, sym, _∙_, subst}
+use mathlib.Core.Bool.{Bool, true, false, cond}
+use mathlib.Core.List.{List, _++_}
+use lib.ListN.{length, take, drop}
+use lib.Dec.{ltb}
+use borrow.Author.Tests.{lt-ltb, le-ltb}
+use Rattle.terms.specs.Bits.{Bytes}
+use Rattle.terms.specs.Records.{Proof}
+use Rattle.meaning.specs.Calls.{Answer, refused, accepted, isKept}
+use Rattle.meaning.specs.Proving.{proof}
+use Rattle.meaning.proofs.Empty.{proof-by-searches}
+use Rattle.fields.specs.Written.{written}
+use Rattle.fields.proofs.Written.{part-written}
+use Rattle.layout.specs.Headers.{sizeRight, headerOf}
+use Rattle.layout.specs.Stores.{storeOf}
+use Rattle.read_step.specs.Walk.{opened, openedSays}
+use Rattle.read_step.specs.Headed.{byHeader}
+use Rattle.read_step.specs.declared.Opened as declared-opened
+use Rattle.read_step.specs.declared.Opened.the-variants as first
+use Rattle.read_step.proofs.Opening as opening
+use Rattle.paths.proofs.Records.{part-room}
+use Rattle.palettes.specs.Palette.{wholeKeys, keysIn, inTurn, lengthTogether, fittedTogether, palette}
+use Rattle.palettes.proofs.Turns.{in-turn-same}
+use Rattle.proving.specs.Parts.{provedSays}
+use Rattle.proving.specs.declared.Proved as declared
+use Rattle.proving.specs.declared.Proved.the-variants.{Refused, Length}
+use Rattle.palette.specs.Palettes.{paletteAnswer, proofsBytes, togetherLength, roomAfter}
+use Rattle.palette.specs.Parts.{plannedFor, plannedIn, togetherBytes, Gives}
+
+pub gives-refusal : {a : Answer (List Proof)} (n : ℕ) (room : Bytes) → a ≡ refused n → Gives a room room (Refused n)
+unfolding provedSays
+gives-refusal n room e = record { answer = sym (ap togetherLength e); bytes = sym (ap (λ a. roomAfter a room) e) }
+
+gives-as : {a b : Answer (List Proof)} {room after : Bytes} {r : declared.Proved} → a ≡ b → Gives a room after r → Gives b room after r
+gives-as {room = room} e g = record { answer = g .answer ∙ ap togetherLength e; bytes = g .bytes ∙ ap (λ a. roomAfter a room) e }
+
+-- what is left of the room whose front was lent and came back as y
+abbrev front : ℕ → Bytes → Bytes → Bytes
+front len room y = take 0 room ++ (y ++ drop (len - 0) (drop 0 room))
+
+front-filled : (len : ℕ) (room f : Bytes) → length f ≡ len → front len room f ≡ f ++ drop (length f) room
+unfolding written
+front-filled len room f l = part-written 0 len f room (zero-add (length f) ∙ l) ∙ ap (λ (n : ℕ). take 0 room ++ (f ++ drop n room)) (zero-add (length f))
+
+-- the proofs of an answer of which the length of all together is known
+measured-proofs : (a : Answer (List Proof)) (len : ℕ) → togetherLength a ≡ accepted len → (ps : List Proof) × (a ≡ accepted ps) × (lengthTogether ps ≡ len)
+measured-proofs (refused n) len e = let z : _≡_ {A = ℕ} 0 1 = cc in absurd (omega arith)
+measured-proofs (accepted ps) len e = let z : lengthTogether ps ≡ len = cc in (ps, refl, z)
+
+measured-refusal : (a : Answer (List Proof)) (n : ℕ) → refused n ≡ togetherLength a → a ≡ refused n
+measured-refusal (refused m) n e = let z : m ≡ n = cc in ap refused z
+measured-refusal (accepted ps) n e = let z : _≡_ {A = ℕ} 0 1 = cc in absurd (omega arith)
+
+module _ (a : Answer (List Proof)) (len : ℕ) (room : Bytes) (e : togetherLength a ≡ accepted len) where
+  -- 9
+  pub no-room : length room < len → Gives (fittedTogether (length room) a) room room (Refused 9)
+  no-room h =
+      let m = measured-proofs a len e in
+      gives-refusal 9 room (ap (fittedTogether (length room)) (m .1) ∙ rw (lt-ltb (length room) (lengthTogether (m .0)) (omega (arith, m .2))))
+
+  pub front-long : len ≤ length room → togetherLength a ≡ accepted (length (take (len - 0) (drop 0 room)))
+  front-long h = e ∙ ap accepted (sym (part-room 0 len len room (omega arith) h))
+
+  pub with-room : (y : Bytes) → len ≤ length room → length y ≡ length (take (len - 0) (drop 0 room)) → y ≡ togetherBytes a →
+      Gives (fittedTogether (length room) a) room (front len room y) (Length len)
+  unfolding provedSays
+  with-room y h l f =
+      let m = measured-proofs a len e in
+      let fits : fittedTogether (length room) a ≡ accepted (m .0) =
+      ap (fittedTogether (length room)) (m .1) ∙ rw (le-ltb (length room) (lengthTogether (m .0)) (omega (arith, m .2)))
+      in
+      let its : y ≡ proofsBytes (m .0) = f ∙ ap togetherBytes (m .1) in
+      let n : length (proofsBytes (m .0)) ≡ len = ap length (sym its) ∙ l ∙ part-room 0 len len room (omega arith) h in
+      record {
+        answer = ap accepted (sym (m .2)) ∙ sym (ap togetherLength fits);
+        bytes = ap (front len room) its ∙ front-filled len room (proofsBytes (m .0)) n ∙ sym (ap (λ b. roomAfter b room) fits);
+      }
+
+-- 12
+pub torn-list : {b : Bool} (s : Bytes) (v : ℕ) (ks room : Bytes) → b ≡ wholeKeys ks → b ≡ false → Gives (paletteAnswer s v ks (length room)) room room (Refused 12)
+unfolding paletteAnswer
+torn-list s v ks room e f =
+    gives-refusal 12 room (ap (λ b. cond b (byHeader (headerOf s) (palette (storeOf s) v (keysIn ks) (length room))) (refused 12)) (sym e ∙ f))
+
+-- in a kept version the single calls give what is planned
+kept-planned : (s : Bytes) (v : ℕ) (ks : Bytes) (room : ℕ) (b : Bool) → isKept (storeOf s) v ≡ b →
+    cond b (fittedTogether room (inTurn (proof (storeOf s) v) (keysIn ks))) (refused 8) ≡ cond b (fittedTogether room (plannedIn s v ks)) (refused 8)
+unfolding plannedIn
+kept-planned s v ks room true e =
+    ap (fittedTogether room)
+    (in-turn-same (proof (storeOf s) v) (plannedFor s v) (λ k. proof-by-searches (storeOf s) v k ∙ ap (λ b. cond b (plannedFor s v k) (refused 8)) e) (keysIn ks))
+kept-planned s v ks room false e = refl
+
+module _ {b : Bool} (s : Bytes) (v : ℕ) (ks room : Bytes) (e : b ≡ wholeKeys ks) (t : b ≡ true) where
+  opened-first : paletteAnswer s v ks (length room)
+      ≡ byHeader (headerOf s) (cond (isKept (storeOf s) v) (fittedTogether (length room) (plannedIn s v ks)) (refused 8))
+  unfolding paletteAnswer palette
+  opened-first =
+      ap (λ c. cond c (byHeader (headerOf s) (palette (storeOf s) v (keysIn ks) (length room))) (refused 12)) (sym e ∙ t)
+      ∙ ap (byHeader (headerOf s)) (kept-planned s v ks (length room) (isKept (storeOf s) v) refl)
+
+  -- 1, 2, 8
+  pub first-refused : {o : declared-opened.Opened} (n : ℕ) → openedSays o ≡ opened s v → o ≡ first.Refused n → Gives (paletteAnswer s v ks (length room)) room room (Refused n)
+  first-refused n says f =
+      gives-refusal n room
+      (opened-first ∙ sym (opening.refused-first (fittedTogether (length room) (plannedIn s v ks)) s v (sym (ap openedSays f) ∙ says)))
+
+  module _ {o : declared-opened.Opened} (says : openedSays o ≡ opened s v) (f : o ≡ first.Kept) where
+    in-kept : paletteAnswer s v ks (length room) ≡ fittedTogether (length room) (plannedIn s v ks)
+    in-kept = opened-first ∙ opening.rest-decides (fittedTogether (length room) (plannedIn s v ks)) s v (sym (ap openedSays f) ∙ says)
+
+    pub single-refused : {m : declared.Proved} (n : ℕ) → provedSays m ≡ togetherLength (plannedIn s v ks) → m ≡ Refused n →
+        Gives (paletteAnswer s v ks (length room)) room room (Refused n)
+    unfolding provedSays
+    single-refused n g h =
+        gives-refusal n room
+        (in-kept ∙ ap (fittedTogether (length room)) (measured-refusal (plannedIn s v ks) n (sym (ap provedSays h) ∙ g)))
+
+    pub all-given : {after : Bytes} {r : declared.Proved} → Gives (fittedTogether (length room) (plannedIn s v ks)) room after r →
+        Gives (paletteAnswer s v ks (length room)) room after r
+    all-given g = gives-as (sym in-kept) g
+
+pub measured-length : {a : Answer ℕ} {m : declared.Proved} (n : ℕ) → provedSays m ≡ a → m ≡ Length n → a ≡ accepted n
+unfolding provedSays
+measured-length n g h = sym g ∙ ap provedSays h
+
+pub kept-size : {o : declared-opened.Opened} (s : Bytes) (v : ℕ) → openedSays o ≡ opened s v → o ≡ first.Kept → sizeRight (length s) ≡ true
+kept-size s v says e = opening.kept-size s v (sym (ap openedSays e) ∙ says)

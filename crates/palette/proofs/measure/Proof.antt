@@ -1,0 +1,92 @@
+-- `palette::measure` meets its contract: a key a turn, until one is refused or all are measured. Assumes nothing.
+use Prim.Native.Nat.{_-_}
+use native.Mathlib.Omega.{arith}
+use mathlib.Core.Path.{sym, _∙_}
+use lib.ListN.{length}
+use borrow.Author.Needs.{needs}
+use Rattle.proving.specs.Parts.{provedSays}
+use Rattle.proving_write.proofs.Lengths.{not-refused, refusal-planned}
+use Rattle.palette.specs.Parts.{plannedFor, plannedIn}
+use Rattle.palette.proofs.Passing.{keyAt, Measuring, measuring-starts, its-turn, measuring-refused, measuring-next, measuring-done}
+use Rattle.palette.proofs.measure.Statement.{statement}
+use Rattle.palette.proofs.measure.Tie as tie
+
+abbrev Inv-loop : tie.InvT-loop
+Inv-loop store version keys total₀ at₀ total at = Measuring (plannedFor store version) keys total at
+
+abbrev μ-loop : tie.MeasureT-loop
+μ-loop store version keys total₀ at₀ total at = length keys - at
+
+loop-holds : tie.Need-loop-holds Inv-loop μ-loop
+loop-holds c = let start = c .before .before in measuring-starts _ (start .args .keys .now) (start .pre .1)
+
+add-end : tie.Need-add-end Inv-loop μ-loop
+add-end c = let w = c .before .loop .inv .left in omega (arith, w .here, w .short, c .loop-test .taken)
+
+sub-plan-of : tie.Need-sub-plan-of Inv-loop μ-loop
+sub-plan-of c = omega arith
+
+part-plan-of-start : tie.Need-part-plan-of-start Inv-loop μ-loop
+part-plan-of-start c = omega arith
+
+part-plan-of-end : tie.Need-part-plan-of-end Inv-loop μ-loop
+part-plan-of-end c = omega (arith, c .before .loop .inv .left .here, c .loop-test .taken)
+
+plan-of-requires : tie.Need-plan-of-requires Inv-loop μ-loop
+plan-of-requires c κs = (c .before .before .before .before .before .pre .0, its-turn (c .before .before .loop .inv) (c .before .loop-test .taken) .whole)
+
+enum-known-shape : tie.Need-enum-known-shape Inv-loop μ-loop
+enum-known-shape c = search needs
+
+returns : tie.Need-returns Inv-loop μ-loop
+unfolding provedSays plannedIn
+returns c =
+    let planned = c .before .before .before .plan-of in
+    let turn = c .before .before .before .before .before in
+    measuring-refused (turn .before .loop .inv) (turn .loop-test .taken) (sym (planned .ensures .says) ∙ refusal-planned _ _ (planned .result) (c .before .shape .given .1))
+
+add-total : tie.Need-add-total Inv-loop μ-loop
+add-total c =
+    let planned = c .before .before .plan-of in
+    let turn = c .before .before .before .before in
+    let a = turn .before .before .before .before .args in
+    let p = not-refused (a .store .now) (keyAt (a .keys .now) (turn .before .loop .at)) (planned .result) (planned .ensures .within) (c .before .match .keys2) in
+    let w = turn .before .loop .inv in
+    omega (arith, p .few, w .few, w .left .here, w .left .short, turn .loop-test .taken)
+
+loop-less : tie.Need-loop-less Inv-loop μ-loop
+loop-less c = omega (arith, c .before .before .before .before .loop-test .taken)
+
+loop-again : tie.Need-loop-again Inv-loop μ-loop
+loop-again c =
+    let planned = c .before .before .plan-of in
+    let turn = c .before .before .before .before in
+    let p = not-refused _ _ (planned .result) (planned .ensures .within) (c .before .match .keys2) in
+    measuring-next (turn .before .loop .inv) (turn .loop-test .taken) (p .proof) (sym (planned .ensures .says) ∙ p .says) (p .long) (p .few)
+
+cast-t15 : tie.Need-cast-t15 Inv-loop μ-loop
+cast-t15 c = let w = c .before .loop .inv in omega (arith, w .few, w .left .here, w .left .short)
+
+returns-2 : tie.Need-returns-2 Inv-loop μ-loop
+unfolding provedSays plannedIn
+returns-2 c = measuring-done (c .before .loop .inv) (c .loop-test .left)
+
+pub measure-spec : {M : Type 1} → statement M
+measure-spec =
+    tie.close
+    (tie.spec
+    Inv-loop
+    μ-loop
+    loop-holds
+    add-end
+    sub-plan-of
+    part-plan-of-start
+    part-plan-of-end
+    plan-of-requires
+    enum-known-shape
+    returns
+    add-total
+    loop-less
+    loop-again
+    cast-t15
+    returns-2)

@@ -1,0 +1,2 @@
+pub mod Palettes
+pub mod Parts

@@ -1,0 +1,34 @@
+-- Document 02, request 2026-04, over bytes, for every store, sound or damaged. Order: 12, for the list alone; then 1, 2; then 8, as the single
+-- calls, 9. Assumes nothing.
+use Prim.Native.Nat.{ℕ}
+use mathlib.Core.Bool.{cond}
+use mathlib.Core.List.{List, [], _∷_, _++_}
+use lib.ListN.{length, drop}
+use Rattle.terms.specs.Bits.{Bytes}
+use Rattle.terms.specs.Records.{Proof}
+use Rattle.meaning.specs.Calls.{Answer, refused, accepted}
+use Rattle.palettes.specs.Palette.{wholeKeys, keysIn, lengthTogether, palette}
+use Rattle.proofrecords.specs.ProofBytes.{proofBytes}
+use Rattle.layout.specs.Headers.{headerOf}
+use Rattle.layout.specs.Stores.{storeOf}
+use Rattle.read_step.specs.Headed.{byHeader}
+
+-- The proofs for a list of keys in version v of the store s, into this much room: 12 where the list isn't 0 to 256 whole keys, then 1, 2, 8, what the
+-- single calls are refused with, 9.
+unfoldable pub paletteAnswer : Bytes → ℕ → Bytes → ℕ → Answer (List Proof)
+paletteAnswer s v list room = cond (wholeKeys list) (byHeader (headerOf s) (palette (storeOf s) v (keysIn list) room)) (refused 12)
+
+-- The proofs one after the other.
+abbrev pub proofsBytes : List Proof → Bytes
+proofsBytes [] = []
+proofsBytes (p ∷ ps) = proofBytes p ++ proofsBytes ps
+
+-- The answer is the length of all together.
+abbrev pub togetherLength : Answer (List Proof) → Answer ℕ
+togetherLength (refused n) = refused n
+togetherLength (accepted ps) = accepted (lengthTogether ps)
+
+-- Accepted proofs fill the front of the buffer, the rest stays; a refusal writes nothing.
+abbrev pub roomAfter : Answer (List Proof) → Bytes → Bytes
+roomAfter (refused n) room = room
+roomAfter (accepted ps) room = proofsBytes ps ++ drop (length (proofsBytes ps)) room

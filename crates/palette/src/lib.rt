@@ -1,0 +1,102 @@
+// Several proofs in one call over lent bytes, document 02, request 2026-04: a first pass over the keys measures, a second one writes.
+use numbers::NOT_32_BYTES;
+use numbers::wide::NO_ROOM;
+use proving::Proved;
+use proving_plan::Shape;
+use proving_plan::plan_of;
+use proving_write::write;
+use read_step::Opened;
+use read_step::open;
+ghost use mathlib.Core.Path.{_≡_};
+ghost use mathlib.Core.Bool.{true};
+ghost use lib.ListN.{length};
+ghost use Rattle.layout.specs.Headers.{sizeRight};
+ghost use Rattle.meaning.specs.Calls.{accepted};
+ghost use Rattle.palettes.specs.Palette.{wholeKeys, fittedTogether};
+ghost use Rattle.proving.specs.Parts.{provedSays};
+ghost use Rattle.palette.specs.Palettes.{togetherLength, paletteAnswer};
+ghost use Rattle.palette.specs.Parts.{plannedIn, togetherBytes, Gives};
+
+// A key is 32 bytes; a list has at most 256.
+const KEY_SIZE: usize = 32;
+
+const MOST_KEYS: usize = 256;
+
+// Whether a list is 0 to 256 whole keys.
+fn whole_keys(keys: &[u8]) -> bool
+    ensures { λ r. ⌜ r ≡ wholeKeys (now (keys .entry)) ⌝ }
+{
+    if keys.len() % KEY_SIZE != 0 {
+        return false;
+    }
+    keys.len() / KEY_SIZE <= MOST_KEYS
+}
+
+// How long all proofs are together, or the first refusal in the order asked.
+fn measure(store: &[u8], version: u32, keys: &[u8]) -> Proved
+    requires { ⌜ (sizeRight (length (now store)) ≡ true) × (wholeKeys (now keys) ≡ true) ⌝ }
+    ensures { λ r. ⌜ provedSays r ≡ togetherLength (plannedIn (now (store .entry)) version (now (keys .entry))) ⌝ }
+{
+    let mut total = 0;
+    let mut at = 0;
+    while at < keys.len() {
+        let end = at + KEY_SIZE;
+        let plan = plan_of(store, version, &keys[at..end]);
+        let shape = plan.shape;
+        if let Shape::Refused(n) = shape {
+            return Proved::Refused(n);
+        }
+        total += plan.length;
+        at = end;
+    }
+    Proved::Length(total as u32)
+}
+
+// Writes the proofs one after the other into a part that is as long as all together.
+fn fill(part: &mut [u8], store: &[u8], version: u32, keys: &[u8])
+    requires { ⌜ (sizeRight (length (now store)) ≡ true) × (wholeKeys (now keys) ≡ true) × (togetherLength (plannedIn (now store) version (now keys)) ≡ accepted (length (now part))) ⌝ }
+    ensures { λ _. ⌜ now (part .exit) ≡ togetherBytes (plannedIn (now (store .entry)) version (now (keys .entry))) ⌝ }
+{
+    let mut start = 0;
+    let mut at = 0;
+    while at < keys.len() {
+        let end = at + KEY_SIZE;
+        let key = &keys[at..end];
+        let plan = plan_of(store, version, key);
+        let next = start + plan.length;
+        write(&mut part[start..next], store, key, plan);
+        start = next;
+        at = end;
+    }
+}
+
+// Gives the proofs, len bytes together, if there is room.
+fn give(store: &[u8], version: u32, keys: &[u8], len: u32, room: &mut [u8]) -> Proved
+    requires { ⌜ (sizeRight (length (now store)) ≡ true) × (wholeKeys (now keys) ≡ true) × (togetherLength (plannedIn (now store) version (now keys)) ≡ accepted len) ⌝ }
+    ensures { λ r. ⌜ Gives (fittedTogether (length (now (room .entry))) (plannedIn (now (store .entry)) version (now (keys .entry)))) (now (room .entry)) (now (room .exit)) r ⌝ }
+{
+    let end = len as usize;
+    if room.len() < end {
+        return Proved::Refused(NO_ROOM);
+    }
+    fill(&mut room[0..end], store, version, keys);
+    Proved::Length(len)
+}
+
+// Proves each key of a list present or absent in a version: the proofs fill the front of the room and the rest stays; refused, nothing is written.
+pub fn palette(store: &[u8], version: u32, keys: &[u8], room: &mut [u8]) -> Proved
+    ensures { λ r. ⌜ Gives (paletteAnswer (now (store .entry)) version (now (keys .entry)) (length (now (room .entry)))) (now (room .entry)) (now (room .exit)) r ⌝ }
+{
+    if !whole_keys(keys) {
+        return Proved::Refused(NOT_32_BYTES as u64);
+    }
+    let opened = open(store, version);
+    if let Opened::Refused(n) = opened {
+        return Proved::Refused(n as u64);
+    }
+    let measured = measure(store, version, keys);
+    match measured {
+        Proved::Refused(n) => Proved::Refused(n),
+        Proved::Length(len) => give(store, version, keys, len, room),
+    }
+}

@@ -1,0 +1,27 @@
+-- A palette for a caller in another language: what the call answers for any bytes, and every byte of the room and of its array. Assumes nothing.
+use Prim.Native.Nat.{ℕ}
+use mathlib.Core.Path.{_≡_}
+use mathlib.Core.List.{List}
+use lib.ListN.{length}
+use Rattle.terms.specs.Bits.{Bytes}
+use Rattle.terms.specs.Fields.{le}
+use Rattle.terms.specs.Records.{Proof}
+use Rattle.meaning.specs.Calls.{Answer, refused, accepted}
+use Rattle.meaning.specs.Answers.{numberOf}
+use Rattle.palettes.specs.Palette.{lengthTogether}
+use Rattle.palette.specs.Palettes.{paletteAnswer, roomAfter}
+
+-- The proofs for a list of keys in version v of the store s, into a room.
+abbrev pub palettedInto : Bytes → ℕ → Bytes → Bytes → Answer (List Proof)
+palettedInto s v list room = paletteAnswer s v list (length room)
+
+-- The length of all together, 4 bytes little-endian; a refused call writes nothing.
+abbrev pub lengthBytes : Answer (List Proof) → Bytes → Bytes
+lengthBytes (refused n) old = old
+lengthBytes (accepted ps) old = le 4 (lengthTogether ps)
+
+-- Proving each key of a list in version v of the bytes s answers r; the room is left as t, the array f for the length of all together as g.
+pub record Palettes (s : Bytes) (v : ℕ) (list room f : Bytes) (r : ℕ) (t g : Bytes) : Type 0 where
+  pub answer : r ≡ numberOf (palettedInto s v list room)
+  pub proofs : t ≡ roomAfter (palettedInto s v list room) room
+  pub told : g ≡ lengthBytes (palettedInto s v list room) f

@@ -1,0 +1,31 @@
+-- Document 02, request 2026-04, in words: which single calls the answer is made of. Assumes nothing.
+use Prim.Native.Nat.{ℕ}
+use mathlib.Core.Path.{_≡_}
+use mathlib.Core.List.{List, [], _∷_, _++_}
+use Rattle.terms.specs.Bits.{Bytes, All}
+use Rattle.terms.specs.Records.{Proof}
+use Rattle.meaning.specs.Calls.{Answer, refused, accepted}
+
+-- Each key has its proof, in the order asked; a key asked for twice has it twice.
+abbrev pub ProofOfEach : (Bytes → Answer Proof) → List Bytes → List Proof → Type 0
+ProofOfEach single [] [] = Unit {0}
+ProofOfEach single [] (p ∷ ps) = ⊥
+ProofOfEach single (k ∷ keys) [] = ⊥
+ProofOfEach single (k ∷ keys) (p ∷ ps) = (single k ≡ accepted p) × ProofOfEach single keys ps
+
+-- A single call that is given its proof.
+abbrev pub Proved : (Bytes → Answer Proof) → Bytes → Type 0
+Proved single k = (p : Proof) × (single k ≡ accepted p)
+
+-- A key of the list of which P holds, where each before it, in the order asked, is given its proof.
+pub record FirstAsked (single : Bytes → Answer Proof) (P : Bytes → Type 0) (keys : List Bytes) : Type 0 where
+  pub earlier : List Bytes
+  pub key : Bytes
+  pub later : List Bytes
+  pub order : keys ≡ earlier ++ (key ∷ later)
+  pub proved : All (Proved single) earlier
+  pub holds : P key
+
+-- The first single call refused, in the order asked, is refused with n.
+abbrev pub FirstRefused : (Bytes → Answer Proof) → List Bytes → ℕ → Type 0
+FirstRefused single keys n = FirstAsked single (λ k. single k ≡ refused n) keys

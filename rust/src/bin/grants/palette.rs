@@ -1,0 +1,148 @@
+//! The proofs of several keys, made and checked at once.
+
+use crate::args::{number, Args};
+use crate::asked::{key, read_store, refused, LENGTH_ADVICE};
+use crate::commands::{both_to_output, object, proof_advice, proof_bytes, ABSENT};
+use crate::fail::Fail;
+use crate::files;
+use crate::json::Json;
+use crate::out::Out;
+use crate::plain::{counted, shown};
+use crate::statement::known_root;
+use grants::{to_hex, Error, Key, Palette, Value, PALETTE_KEYS, PROOF_BYTES};
+use std::path::Path;
+
+/// The most bytes of a file of proofs: hex digits, with some room for what stands between them.
+const PALETTE_LIMIT: u64 = 4 * (PALETTE_KEYS * PROOF_BYTES) as u64;
+
+/// The keys of the words from one to another. A list is whole keys, so each must be one.
+fn keys(args: &Args, from: usize, to: usize, store: Option<&Path>) -> Result<Vec<Key>, Fail> {
+    let each = (from..to).map(|i| {
+        let bytes: Result<[u8; 32], Vec<u8>> = key(args, i, store)?.try_into();
+        bytes.map(Key::from).map_err(|bytes| {
+            let has = counted(bytes.len(), "byte");
+            let advice = format!("Key {} has {has}. {LENGTH_ADVICE}", i + 1 - from);
+            Fail::Refused(Error::NotThirtyTwoBytes, advice)
+        })
+    });
+    each.collect()
+}
+
+fn words(args: &Args) -> usize {
+    args.rest(0).count()
+}
+
+pub fn prove(args: &Args, out: &mut Out) -> Result<u8, Fail> {
+    let path = args.path(0);
+    if args.has("--at") {
+        return Err(Fail::Usage(
+            "--version and --at both say which version: name one of them".to_string(),
+        ));
+    }
+    let version = number("VERSION", args.value("--version").unwrap_or_default())?;
+    let keys = keys(args, 1, words(args), Some(path))?;
+    let store = read_store(path)?;
+    let refused = refused(&store, path);
+    let palette = store.palette(version, &keys).map_err(|error| match error {
+        Error::NotThirtyTwoBytes => Fail::Refused(
+            error,
+            format!(
+                "{} were asked for: a call takes 256 at most.",
+                counted(keys.len(), "key")
+            ),
+        ),
+        error => refused(error),
+    })?;
+    let bytes = palette.as_bytes();
+    let root = store.root(version).map_err(&refused)?;
+    let to = args.value("--out").map(Path::new);
+    match to {
+        Some(to) if to.as_os_str() == "-" => {
+            if out.json {
+                return Err(both_to_output());
+            }
+            let mut answer = out.decided(0);
+            answer.raw(bytes)?;
+            return answer.end();
+        }
+        Some(to) => files::write(args, to, bytes, &[path])?,
+        None => {}
+    }
+    let line = match to {
+        Some(to) => format!(
+            "{}: {}, {} in version {version}",
+            shown(to),
+            counted(keys.len(), "proof"),
+            counted(bytes.len(), "byte")
+        ),
+        None => to_hex(bytes),
+    };
+    let each = keys.iter().zip(palette.proofs()).map(|(key, proof)| {
+        let fields = vec![
+            ("key", key.to_string().into()),
+            ("length", proof.len().into()),
+        ];
+        object(fields)
+    });
+    let fields = object(vec![
+        ("version", version.into()),
+        ("root", root.to_string().into()),
+        ("proofs", Json::List(each.collect())),
+        ("length", bytes.len().into()),
+        ("bytes", to.is_none().then(|| to_hex(bytes)).into()),
+    ]);
+    out.answer(0, fields, line)
+}
+
+pub fn verify(args: &Args, out: &mut Out) -> Result<u8, Fail> {
+    let root = known_root(args)?;
+    let last = words(args) - 1;
+    let keys = keys(args, 1, last, None)?;
+    let path = args.path(last);
+    let palette = Palette::from_bytes(proof_bytes(files::read(path, PALETTE_LIMIT)?)?);
+    let shows = palette.verify(&root, &keys).map_err(|refused| {
+        let advice = proof_advice(refused.error, path);
+        match keys.get(refused.position) {
+            Some(key) => Fail::Refused(
+                refused.error,
+                format!(
+                    "The proof for key {}, {key}. {advice}",
+                    refused.position + 1
+                ),
+            ),
+            None => Fail::Refused(
+                refused.error,
+                format!(
+                    "{} has more than {}.",
+                    shown(path),
+                    counted(keys.len(), "proof")
+                ),
+            ),
+        }
+    })?;
+    let status = if shows.iter().all(Option::is_some) {
+        0
+    } else {
+        ABSENT
+    };
+    let said = |value: &Option<Value>| {
+        value.map_or("absent".to_string(), |value| format!("present {value}"))
+    };
+    let lines: Vec<String> = keys
+        .iter()
+        .zip(&shows)
+        .map(|(key, value)| format!("{key} {}", said(value)))
+        .collect();
+    let each = keys.iter().zip(&shows).map(|(key, value)| {
+        object(vec![
+            ("key", key.to_string().into()),
+            ("present", value.is_some().into()),
+            ("value", value.map(|value| value.to_string()).into()),
+        ])
+    });
+    let fields = object(vec![
+        ("root", to_hex(&root).into()),
+        ("keys", Json::List(each.collect())),
+    ]);
+    out.answer(status, fields, lines.join("\n"))
+}
