@@ -8,7 +8,7 @@ demo:
 # edits before it starts the next: batches of four leave fewer cores idle than batches of two.
 test:
 	@RT_JOBS=$${RT_JOBS:-4} tests/gate 'rt ci' tests/format tests/rooms tests/belief tests/sealed tests/sha256/run tests/second/run tests/passes/run \
-		tests/compare/run tests/rust/run tests/tool/run tests/examples/run tests/wasm/run
+		tests/compare/run tests/looks/run tests/rust/run tests/tool/run tests/examples/run tests/wasm/run
 
 # The static library, proved where `make test` has made the proofs, else the same sources compiled without them; the last line says which.
 lib:

@@ -13,7 +13,7 @@
  *
  *   1  the store's length isn't 24 + 120n, n in 1 to 16,384
  *   2  a header field isn't right, its capacity isn't n, or oldest is above latest
- *   3  the store isn't sound (check, apply, prune, changes), or the walk says so (reads)
+ *   3  the store isn't sound (check, apply, prune, changes), or the walk says so (reads); rescue: no version can be rescued
  *   4  the batch isn't whole records in form, or has over 1,024
  *   5  the batch's keys aren't strictly ascending
  *   7  fewer free slots than new records
@@ -101,6 +101,19 @@ uint64_t grants_palette(const uint8_t *store, size_t store_len, uint32_t version
    node and they don't have the same record; 32,769 is always enough. records: how many the list has, 4 bytes. Refused: 1, 2, 3, 8, 13, 9. */
 uint32_t grants_changes(const uint8_t *store, size_t store_len, uint32_t first, uint32_t second, uint32_t limit, uint8_t *room,
                         size_t room_len, uint8_t records[4]);
+
+/* Rescues what is good of a damaged store: makes in target, a buffer of equal length, a sound store of the longest run of versions, none before
+   oldest, that ends at latest and whose trees are whole in the source. The source may have any contents; its header isn't looked at, so oldest (0
+   where all that is good is wanted) and latest are the caller's. The root of a version is the newest root record not above it, and a version has none where that one was
+   retired by then: it isn't taken as empty, and ends the run. Records keep their slots, retired-since is set afresh from the run's trees, and of records that share version and place the lowest slot
+   is used. The target's former bytes don't matter; a refused call leaves them.
+   WARNING: compare the root of latest in the target with the root that was signed for it. A root record whose retired-since was damaged to 0 or
+   upwards, where the newer root record is lost, covers later versions too: withdrawn grants then seem in force there. The store can't know; the caller's latest and
+   the signed root are the only guard.
+   answer: the run's first version (4 bytes), records kept as they were (4), kept with another retired-since (4), used slots left out (4): those of
+   the two buffers compared. Refused: 1 (either length is wrong, or they differ), 2 (oldest above latest), 3 (no version). */
+uint32_t grants_rescue(const uint8_t *source, size_t source_len, uint32_t oldest, uint32_t latest, uint8_t *target, size_t target_len,
+                       uint8_t answer[16]);
 
 /* What a proof shows of a key against a root: all that an editor needs. The root must come from who signs it; the proof may come from anybody.
    found: 1 and the value for 'present', 0 and 32 zero bytes for 'absent'. Any number but 0 means that the proof shows nothing.

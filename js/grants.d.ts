@@ -72,6 +72,18 @@ export interface Changed {
   after: Uint8Array | null;
 }
 
+/** What a rescue gave back: versions `first` to latest. The numbers are those of the two buffers compared. */
+export interface Rescued {
+  store: Store;
+  first: number;
+  /** Records kept as they were. */
+  same: number;
+  /** Records kept with another retired-since. */
+  other: number;
+  /** Used slots left out. */
+  out: number;
+}
+
 /** The calls that need no store, and stores. */
 export class Grants {
   private constructor();
@@ -86,6 +98,10 @@ export class Grants {
   format(capacity: number): Promise<Store>;
   /** A store of any bytes, copied. */
   open(bytes: Bytes): Promise<Store>;
+  /** The good versions of a damaged store: the longest run, none before oldest, that ends at latest; the bytes' header isn't looked at. Compare
+   * `store.root(latest)` with the signed root: a root record whose retired-since was damaged makes withdrawn grants seem in force in later
+   * versions, and nothing else shows it. Refused: 1, 2 (oldest above latest), 3 (no version). */
+  rescue(damaged: Bytes, oldest: number, latest: number): Promise<Rescued>;
 }
 
 /** The library from its WebAssembly: bytes, a compiled module, a URL, or a path in Node; without one, grants.wasm beside this file. */

@@ -284,12 +284,26 @@ export class Grants {
     return store;
   }
 
+  // A sound store of the longest run of versions, none before oldest, that ends at latest and whose trees are whole in a damaged store's bytes.
+  // Compare the root of latest with the signed one (README.md).
+  async rescue(damaged, oldest, latest) {
+    const bytes = bytesOf(damaged);
+    const machine = await this.#opened(bytes);
+    const [target, wrote] = machine.call('rescue', 'store', versionOf(oldest), versionOf(latest), room(bytes.length), answer(16));
+    machine.keep(target);
+    return { store: new Store(machine), first: u32(wrote, 0), same: u32(wrote, 4), other: u32(wrote, 8), out: u32(wrote, 12) };
+  }
+
   // A store of any bytes, copied; `check` says whether it is sound.
   async open(bytes) {
+    return new Store(await this.#opened(bytesOf(bytes)));
+  }
+
+  async #opened(bytes) {
     if (!this.#machine.has('apply')) throw new Error('this WebAssembly only checks proofs: load grants.wasm');
     const machine = new Machine(await WebAssembly.instantiate(this.module));
-    machine.keep(bytesOf(bytes));
-    return new Store(machine);
+    machine.keep(bytes);
+    return machine;
   }
 }
 

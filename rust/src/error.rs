@@ -17,7 +17,8 @@ pub enum Error {
     Size,
     /// 2: a header field isn't right, its capacity isn't n, or oldest is above latest.
     Header,
-    /// 3: the store isn't sound (check, apply, prune, changes), or a read met a leaf whose key doesn't begin with its place.
+    /// 3: the store isn't sound (check, apply, prune, changes), or a read met a leaf whose key doesn't begin with its place; rescue: no version
+    /// can be rescued.
     Unsound,
     /// 3 with a slot (reads): a record is spoilt. The slot, the lowest such, is used and not in form, but its fields say that it was the record
     /// wanted.
@@ -63,7 +64,7 @@ const TABLE: [(u32, Error, &str); 15] = [
     (
         3,
         Error::Unsound,
-        "the store isn't sound (check, apply, prune, changes), or the walk says so (reads)",
+        "the store isn't sound (check, apply, prune, changes), or the walk says so (reads); rescue: no version can be rescued",
     ),
     (
         4,

@@ -58,6 +58,15 @@ extern "C" {
         room_len: usize,
         records: *mut [u8; 4],
     ) -> u32;
+    fn grants_rescue(
+        source: *const u8,
+        source_len: usize,
+        oldest: u32,
+        latest: u32,
+        target: *mut u8,
+        target_len: usize,
+        answer: *mut [u8; 16],
+    ) -> u32;
     fn grants_verify(
         root: *const u8,
         root_len: usize,
@@ -196,6 +205,27 @@ pub fn changes(
         )
     })?;
     Ok(records)
+}
+
+pub fn rescue(
+    source: &[u8],
+    oldest: u32,
+    latest: u32,
+    target: &mut [u8],
+) -> Result<[u8; 16], Error> {
+    let mut answer = [0; 16];
+    accepted(unsafe {
+        grants_rescue(
+            source.as_ptr(),
+            source.len(),
+            oldest,
+            latest,
+            target.as_mut_ptr(),
+            target.len(),
+            &mut answer,
+        )
+    })?;
+    Ok(answer)
 }
 
 pub fn verify(root: &[u8], key: &[u8], proof: &[u8]) -> Result<[u8; 33], Error> {

@@ -44,6 +44,7 @@ mod hex;
 mod palette;
 mod proof;
 mod records;
+mod rescue;
 mod store;
 mod words;
 
@@ -55,6 +56,7 @@ pub use hex::{from_hex, to_hex, HexError};
 pub use palette::{Palette, RefusedAt, PALETTE_KEYS};
 pub use proof::{verify, Proof, PROOF_BYTES};
 pub use records::{Body, Child, Place, Record};
+pub use rescue::{Rescued, Slot};
 pub use store::{store_bytes, Applied, Header, Store, MOST_SLOTS};
 pub use words::{Key, Root, Value};
 

@@ -9,7 +9,7 @@ pub(crate) fn u32_at(bytes: &[u8], at: usize) -> u32 {
     u32::from_le_bytes([bytes[at], bytes[at + 1], bytes[at + 2], bytes[at + 3]])
 }
 
-fn u16_at(bytes: &[u8], at: usize) -> u16 {
+pub(crate) fn u16_at(bytes: &[u8], at: usize) -> u16 {
     u16::from_le_bytes([bytes[at], bytes[at + 1]])
 }
 
@@ -121,7 +121,7 @@ pub(crate) fn slots(store: &[u8]) -> Vec<Option<Record>> {
     store[24..].chunks_exact(120).map(slot).collect()
 }
 
-fn slot(slot: &[u8]) -> Option<Record> {
+pub(crate) fn slot(slot: &[u8]) -> Option<Record> {
     (u16_at(slot, 4) != 0).then(|| fields(slot))
 }
 

@@ -131,6 +131,23 @@ async function refusing(tally, grants, { store, lyrics }) {
   for (const [number, sentence] of Object.entries(REFUSALS)) tally.holds(`the header's sentence of ${number}`, new RegExp(`^ \\* +${number}  `, 'm').test(header) && header.includes(sentence));
 }
 
+// The header and a slot lost: the versions after that slot's record come back, and nothing is left of the source.
+async function rescuing(tally, grants) {
+  const store = await grants.format(20);
+  const key = grants.name('chords sonata');
+  for (const name of ['read', 'write', 'print']) store.applyNext([{ key, value: grants.name(name) }]);
+  const signed = toHex(store.root(3));
+  const damaged = store.bytes().fill(255, 0, 24 + 8);
+  const { store: rescued, ...numbers } = await grants.rescue(damaged, 0, 3);
+  tally.equal('a rescue', numbers, { first: 2, same: 2, other: 0, out: 1 });
+  tally.equal('the rescued root', toHex(rescued.root(3)), signed);
+  tally.equal('a rescued store', [refused(() => rescued.check()), rescued.oldest, rescued.latest, rescued.capacity], ['accepted', 2, 3, 20]);
+  const again = await grants.rescue(toHex(rescued.bytes()), 2, 3);
+  tally.equal('a rescue again', [toHex(again.store.bytes()), again.same, again.other, again.out], [toHex(rescued.bytes()), 2, 0, 0]);
+  const why = (...given) => grants.rescue(...given).then(() => 'accepted', (e) => e.number ?? e.constructor.name);
+  tally.equal('no rescue', [await why(damaged.slice(1), 0, 3), await why(damaged, 4, 3), await why(damaged, 0, 1), await why(damaged, -1, 3), await why(null, 0, 3)], [1, 2, 3, 'RangeError', 'TypeError']);
+}
+
 // What was lent to a call is wiped when it ends, and memory stays as large as the largest call made it.
 async function memory(tally, grants, { lyrics, then, first }) {
   let seen;
@@ -162,6 +179,7 @@ export async function module(tally, grants) {
   await loading(tally);
   const made = await publishing(tally, grants);
   await refusing(tally, grants, made);
+  await rescuing(tally, grants);
   await memory(tally, grants, made);
   tally.equal('hex', toHex(fromHex('00ffAb')), '00ffab');
   tally.equal('a batch as it is', batch(new Uint8Array([1, 2])), new Uint8Array([1, 2]));

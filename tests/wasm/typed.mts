@@ -21,5 +21,8 @@ export async function published(): Promise<number> {
   store.prove('1', grants.name('x'));
   // @ts-expect-error an absent key has no value
   store.get(version, grants.name('x')).value;
-  return newRecords;
+  const { store: rescued, first } = await grants.rescue(store.bytes(), 0, version);
+  // @ts-expect-error a rescue ends at a version
+  await grants.rescue(store.bytes(), 0);
+  return newRecords + first + rescued.latest;
 }

@@ -42,9 +42,10 @@ use Rattle.refusals.proofs.Stopped.{Stopped, stopped-past, stopped-within, stop
 use Rattle.refusals.proofs.Walks.{prune-first, root-stopped, get-stopped, prove-stopped}
 use Rattle.refusals.proofs.Palettes.{palette-stopped, keys-whole, keys-torn}
 use Rattle.refusals.proofs.Changes.{changes-first}
+use Rattle.refusals.proofs.Rescues.{rescue-first}
 use Rattle.refusals.proofs.Proofs.{off-form, form-first}
-use Rattle.demands.specs.Tables.{formatRows, checkRows, applyRows, pruneRows, rootRows, rootTests, getRows, getTests, proveRows, proveTests, paletteTests, paletteRows, changesRows, verifyRows, sha256Rows}
-use Rattle.grants.specs.Contracts.{Formats, Checks, Applies, Prunes, ReadsRoot, ReadsKey, Proves, Palettes, Changes, Verifies, Hashes}
+use Rattle.demands.specs.Tables.{formatRows, checkRows, applyRows, pruneRows, rootRows, rootTests, getRows, getTests, proveRows, proveTests, paletteTests, paletteRows, changesRows, verifyRows, sha256Rows, rescuingRows}
+use Rattle.grants.specs.Contracts.{Formats, Checks, Applies, Prunes, ReadsRoot, ReadsKey, Proves, Palettes, Changes, Verifies, Hashes, Rescues}
 
 -- Format: 1.
 pub format-exactly : {s t : Bytes} {r : ℕ} → Formats s r t → Exactly (formatRows s) r
@@ -190,6 +191,11 @@ changes-exactly first second limit {s} {room} {r = r} w =
     (subst (First (changesRows s first second limit room)) (sym (w .number))
     (does-first (compare first second limit (length room)) s (comparisonRows s first second limit room) (w .answer)
     (changes-first s first second limit room) (w .does)))
+
+-- A rescue: 1, 2, 3.
+pub rescue-exactly : (oldest latest : ℕ) {s old f t g : Bytes} {r : ℕ} → Rescues oldest latest s old f r t g →
+    Exactly (rescuingRows s old oldest latest) r
+rescue-exactly oldest latest {s} {old} {r = r} w = exactly (rescuingRows s old oldest latest) r refl (rescue-first s old oldest latest w)
 
 -- The proof check: 12, 10, 11.
 pub verify-exactly : {root k x f : Bytes} {r : ℕ} {g : Bytes} → All Byte x → Verifies root k x f r g → Exactly (verifyRows root k x) r

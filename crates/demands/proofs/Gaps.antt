@@ -23,7 +23,7 @@ use Rattle.layout.proofs.Stores.{length-slots}
 use Rattle.batch.specs.Batch.{batchOf}
 use Rattle.format.specs.Format.{formatBytes}
 use Rattle.promises.specs.Calls.{wrong-header, not-sound, refuses, accepts, Exports, exports-refusal, exports-answer}
-use Rattle.demands.specs.Calls.{Called, formats, applies, prunes, checks, reads-root, reads-key, proves, palettes, compares, verifies, hashes, Calls, none-yet, then-called, WithoutGaps, Life}
+use Rattle.demands.specs.Calls.{Called, formats, applies, prunes, checks, reads-root, reads-key, proves, palettes, compares, verifies, hashes, Calls, none-yet, then-called, WithoutGaps, Life, rescues-from, rescues-into}
 use Rattle.grants.specs.Contracts.{Formats}
 use Rattle.demands.proofs.Hashes.{leaf-hash-whole, inner-hash-whole}
 use Rattle.demands.proofs.Stored.{stored-is}
@@ -73,6 +73,8 @@ module _ {s : Bytes} {es : List Entry} (k : Keeping s es) where
   called-after (proves w) gap = refl
   called-after (palettes w) gap = refl
   called-after (compares w) gap = refl
+  called-after (rescues-from w) gap = refl
+  called-after (rescues-into n h w) gap = absurd gap
   called-after (verifies w) gap = refl
   called-after (hashes w) gap = refl
 
@@ -86,6 +88,8 @@ form-of (reads-key w) = tt
 form-of (proves w) = tt
 form-of (palettes w) = tt
 form-of (compares w) = tt
+form-of (rescues-from w) = tt
+form-of (rescues-into n h w) = tt
 form-of (verifies w) = tt
 form-of (hashes w) = tt
 

@@ -1,6 +1,6 @@
 -- Demand 3 over the bytes: each public call keeps that the bytes are those of a sound store which holds what the history has given it, because
 -- what its contract leaves are the bytes of the store that the definition leaves. Assumes nothing.
-use Prim.Native.Nat.{ℕ, _≤_}
+use Prim.Native.Nat.{ℕ, _-_, _≤_}
 use native.Mathlib.Omega.{arith}
 use mathlib.Core.Path.{_≡_, refl, ap, sym, _∙_, subst}
 use mathlib.Core.Bool.{Bool, true, false, cond}
@@ -11,7 +11,7 @@ use lib.ListN.{length, take}
 use lib.Dec.{eqb}
 use borrow.Author.Tests.{eq-eqb, ne-eqb}
 use Rattle.terms.specs.Bits.{Bytes, Byte, All, Whole32}
-use Rattle.terms.specs.Fields.{num}
+use Rattle.terms.specs.Fields.{num, field}
 use Rattle.terms.specs.Records.{Grant, Ask, Store, zeros}
 use Rattle.terms.specs.Form.{top32}
 use Rattle.meaning.specs.Tree.{grantsAt, treeOf, hash}
@@ -32,9 +32,17 @@ use Rattle.batch.specs.Batch.{batchOf}
 use Rattle.batch.proofs.Batches.{batch-of-back}
 use Rattle.format.specs.Format.{formatAnswer, formatBytes}
 use Rattle.promises.specs.Calls.{SoundBytes, wrong-header, not-sound, refuses, accepts, Exports, exports-refusal, exports-answer}
-use Rattle.grants.specs.Contracts.{Formats, ReadsRoot, ReadsKey, Proves, Verifies}
+use Rattle.rescues.specs.Rescues as rescue
+use Rattle.rescues.specs.Rescues.{slotsIn, Report, reportBytes}
+use Rattle.rescues.specs.Claims.{runLedger}
+use Rattle.rescues.proofs.Outcomes as rescued
+use Rattle.rescues.proofs.Outcomes.{refused-leaves, accepted-report}
+use Rattle.rescues.proofs.Worth.{worth}
+use Rattle.rescues.proofs.Ledger.{rescued-keeps}
+use Rattle.rescues.proofs.Report.{first-told}
+use Rattle.grants.specs.Contracts.{Formats, ReadsRoot, ReadsKey, Proves, Rescues, Verifies}
 use Rattle.meaning.specs.Answers.{foundBytes}
-use Rattle.demands.specs.Calls.{Called, formats, applies, prunes, checks, reads-root, reads-key, proves, palettes, compares, verifies, hashes, Calls, none-yet, then-called, Life}
+use Rattle.demands.specs.Calls.{Called, formats, applies, prunes, checks, reads-root, reads-key, proves, palettes, compares, verifies, hashes, Calls, none-yet, then-called, Life, rescues-from, rescues-into, Begins, by-format, by-rescue, takenOver}
 use Rattle.demands.specs.Claims.{grantsOfVersion, AfterHistory}
 use Rattle.demands.proofs.Hashes.{leaf-hash-whole, inner-hash-whole}
 use Rattle.demands.proofs.Stored.{stored-is, stored-sound}
@@ -91,6 +99,22 @@ asks-form number batch small h = go (batchOf batch) refl
     go none e = tt
     go (some asks) e = (small, batch-of-back batch asks h e .2)
 
+-- a rescue that was accepted: the target holds what it took over, whatever it held before
+rescue-taken : {oldest latest : ℕ} {source before t : Bytes} (r : Report) → latest ≤ top32 → All Byte source →
+    rescue.Rescues oldest latest source before (accepted r) t → Keeping t (takenOver source latest (reportBytes r))
+rescue-taken {latest = latest} {source} {t = t} r n h w =
+    let x = worth h n w in
+    let first : field 0 4 (reportBytes r) ≡ r .first = first-told r refl (omega (arith, x .high)) in
+    record {
+      bytes = x .bytes;
+      keeps = subst (λ f. Keeps leafHash innerHash (storeOf t) (runLedger (slotsIn source) f (latest - f))) (sym first) (rescued-keeps h n w);
+    }
+
+rescue-into : {oldest latest : ℕ} {source s f : Bytes} {r : ℕ} {t g : Bytes} (es : List Entry) → latest ≤ top32 → All Byte source →
+    Rescues oldest latest source s f r t g → Keeping s es → Keeping t (cond (eqb r 0) (takenOver source latest g) es)
+rescue-into es n h (rescue.exports-refusal {n = m} w) k = rw (ne-eqb m 0 (rescued.never-0 w)) (subst (λ x. Keeping x es) (sym (refused-leaves w)) k)
+rescue-into es n h (rescue.exports-report {r = r} w) k = rescue-taken r n h w
+
 -- each public call
 pub called-keeps : {s t : Bytes} {e : Call × Bool} (es : List Entry) → Called s e t → Keeping s es →
     Keeping t (cond (e .1) (noted (e .0) es) es)
@@ -116,6 +140,8 @@ called-keeps es (reads-key w) k = k
 called-keeps es (proves w) k = k
 called-keeps es (palettes w) k = k
 called-keeps es (compares w) k = k
+called-keeps es (rescues-from w) k = k
+called-keeps es (rescues-into n h w) k = rescue-into es n h w k
 called-keeps es (verifies w) k = k
 called-keeps es (hashes w) k = k
 
@@ -173,10 +199,15 @@ formatted-keeps {before} w =
     right true e = refl
     right false e = absurd (omega arith)
 
+begun : {t : Bytes} {start : List Entry} → Begins t start → Keeping t start
+begun (by-format w) = formatted-keeps w .1
+begun (by-rescue {latest = latest} {source = source} {t = t} n h w) =
+    let (r, x, e) = accepted-report w refl in subst (λ y. Keeping t (takenOver source latest y)) (sym e) (rescue-taken r n h x)
+
 -- Demand 3. After any sequence of public calls a store that only they wrote is sound and holds what its history gives it.
-pub store-after-history : {history : List (Call × Bool)} {t : Bytes} → Life history t → AfterHistory history t
-store-after-history {t = t} life =
-    let k = calls-keep (entry 0 [] ∷ []) (life .calls) (formatted-keeps (life .formatted) .1) in
+pub store-after-history : {start : List Entry} {history : List (Call × Bool)} {t : Bytes} → Life start history t → AfterHistory start history t
+store-after-history {start} {t = t} life =
+    let k = calls-keep start (life .calls) (begun (life .begins)) in
     let h = keeps-holds leafHash innerHash (storeOf t) _ (k .keeps) in
     record {
       sound = sound-bytes k;

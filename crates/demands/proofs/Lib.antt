@@ -16,3 +16,4 @@ pub mod Gaps
 pub mod Desk
 pub mod Changed
 pub mod Palettes
+pub mod Rescued

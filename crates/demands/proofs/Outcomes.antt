@@ -8,7 +8,8 @@ use Rattle.meaning.specs.Answers.{numberOf}
 use Rattle.promises.proofs.Calls.{one-outcome, one-export}
 use Rattle.changes.specs.Changes.{roomAfter}
 use Rattle.changes_c.specs.Export.{countBytes}
-use Rattle.grants.specs.Contracts.{Formats, Checks, Applies, Prunes, ReadsRoot, ReadsKey, Proves, Palettes, Changes, Verifies, Hashes}
+use Rattle.rescues.proofs.Outcomes as rescue
+use Rattle.grants.specs.Contracts.{Formats, Checks, Applies, Prunes, ReadsRoot, ReadsKey, Proves, Palettes, Changes, Verifies, Hashes, Rescues}
 
 module _ {s : Bytes} {a b : ℕ} where
   pub one-format : {t u : Bytes} → Formats s a t → Formats s b u → (a ≡ b) × (t ≡ u)
@@ -44,6 +45,10 @@ module _ {s : Bytes} {a b : ℕ} where
         x .list ∙ ap (λ z. roomAfter z room) o ∙ sym (y .list),
         x .told ∙ ap (λ z. countBytes z f) o ∙ sym (y .told),
       )
+
+  pub one-rescue : {oldest latest : ℕ} {old f t u g h : Bytes} → Rescues oldest latest s old f a t g → Rescues oldest latest s old f b u h →
+      (a ≡ b) × (t ≡ u) × (g ≡ h)
+  one-rescue x y = rescue.one-export x y
 
 module _ {a b : ℕ} where
   pub one-verify : {root k x f g h : Bytes} → Verifies root k x f a g → Verifies root k x f b h → (a ≡ b) × (g ≡ h)

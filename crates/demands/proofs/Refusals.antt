@@ -36,7 +36,8 @@ use Rattle.proving_c.specs.Export.{provedInto, lengthBytes}
 use Rattle.changes.specs.Changes as compared
 use Rattle.changes_c.specs.Export.{countBytes}
 use Rattle.verify.specs.Verify.{verified}
-use Rattle.grants.specs.Contracts.{Formats, Applies, Prunes, ReadsRoot, ReadsKey, Proves, Changes, Verifies}
+use Rattle.rescues.proofs.Outcomes.{refused-export-leaves}
+use Rattle.grants.specs.Contracts.{Formats, Applies, Prunes, ReadsRoot, ReadsKey, Proves, Changes, Rescues, Verifies}
 
 -- One of the numbers in a list.
 abbrev pub OneOf : List ℕ → ℕ → Type 0
@@ -220,6 +221,11 @@ module _ {first second limit : ℕ} {s room f : Bytes} {r : ℕ} {t g : Bytes} (
   refused-changes-writes-nothing h =
       let e = refused-of (w .answer) (λ z. h (w .number ∙ z)) in
       (w .list ∙ ap (λ a. compared.roomAfter a room) (e .1), w .told ∙ ap (λ a. countBytes a f) (e .1))
+
+-- A rescue.
+pub refused-rescue-writes-nothing : {oldest latest : ℕ} {s old f t g : Bytes} {r : ℕ} → Rescues oldest latest s old f r t g → (r ≡ 0 → ⊥) →
+    (t ≡ old) × (g ≡ f)
+refused-rescue-writes-nothing w h = refused-export-leaves w h
 
 -- The proof check.
 module _ {root k x f : Bytes} {r : ℕ} {g : Bytes} (w : Verifies root k x f r g) where

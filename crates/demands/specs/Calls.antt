@@ -1,16 +1,23 @@
 -- Demand 3: any sequence of public calls on one store, refused ones included. Each call is its contract, and the bytes it leaves are those that
 -- the next one is lent. Assumes nothing.
-use Prim.Native.Nat.{ℕ, _≤_}
+use Prim.Native.Nat.{ℕ, _-_, _≤_}
 use mathlib.Core.Bool.{Bool, false}
 use mathlib.Core.List.{List, [], _∷_}
 use lib.Dec.{eqb}
 use Rattle.terms.specs.Bits.{Bytes, Byte, All}
+use Rattle.terms.specs.Fields.{field}
 use Rattle.terms.specs.Form.{top32}
-use Rattle.meaning.specs.History.{Call, formatting, applying, pruning, looking}
+use Rattle.meaning.specs.History.{Call, formatting, applying, pruning, taking, looking, Entry, entry}
 use Rattle.histories.specs.Claims.{NoGap}
 use Rattle.layout.specs.Stores.{storeOf}
 use Rattle.batch.specs.Batch.{batchOf}
-use Rattle.grants.specs.Contracts.{Formats, Checks, Applies, Prunes, ReadsRoot, ReadsKey, Proves, Palettes, Changes, Verifies, Hashes}
+use Rattle.rescues.specs.Rescues.{slotsIn}
+use Rattle.rescues.specs.Claims.{runLedger}
+use Rattle.grants.specs.Contracts.{Formats, Checks, Applies, Prunes, ReadsRoot, ReadsKey, Proves, Palettes, Changes, Rescues, Verifies, Hashes}
+
+-- What a rescued store takes over: the grants of its versions, from the first that was reported to latest, by the source's trees.
+abbrev pub takenOver : Bytes → ℕ → Bytes → List Entry
+takenOver source latest g = runLedger (slotsIn source) (field 0 4 g) (latest - field 0 4 g)
 
 -- A public call with any arguments, lent the bytes s whole and as the store, leaves the bytes t. A history notes of it what was asked and
 -- whether it was accepted, that is, answered with 0.
@@ -28,6 +35,10 @@ pub data Called (s : Bytes) : Call × Bool → Bytes → Type 0 where
   proves : {v r : ℕ} {k room f t g : Bytes} → Proves s v k room f r t g → Called s (looking, false) s
   palettes : {v r : ℕ} {list room f t g : Bytes} → Palettes s v list room f r t g → Called s (looking, false) s
   compares : {first second limit r : ℕ} {room f t g : Bytes} → Changes first second limit s room f r t g → Called s (looking, false) s
+  -- the source of a rescue is looked at; its target begins anew, with what the source's trees of the run hold (2026-08)
+  rescues-from : {oldest latest r : ℕ} {old f t g : Bytes} → Rescues oldest latest s old f r t g → Called s (looking, false) s
+  rescues-into : {oldest latest r : ℕ} {source f t g : Bytes} → latest ≤ top32 → All Byte source → Rescues oldest latest source s f r t g →
+      Called s (taking (takenOver source latest g), eqb r 0) t
   -- and these are lent none
   verifies : {r : ℕ} {root k x f g : Bytes} → Verifies root k x f r g → Called s (looking, false) s
   hashes : {r : ℕ} {x g : Bytes} → Hashes x r g → Called s (looking, false) s
@@ -42,9 +53,15 @@ abbrev pub WithoutGaps : {s t : Bytes} {history : List (Call × Bool)} → Calls
 WithoutGaps none-yet = Unit {0}
 WithoutGaps {s} (then-called {e = e} c calls) = NoGap (e .0) (storeOf s) × WithoutGaps calls
 
--- A store that only public calls wrote: format accepted some bytes, and these calls came after.
-pub record Life (history : List (Call × Bool)) (t : Bytes) : Type 0 where
-  pub before : Bytes
-  pub fresh : Bytes
-  pub formatted : Formats before 0 fresh
-  pub calls : Calls fresh history t
+-- How a store begins, and the grants by version that it begins with: format accepted some bytes, and there is the empty version 0; or a rescue
+-- into some bytes was accepted, and its history counts from the run's first version (2026-08).
+pub data Begins : Bytes → List Entry → Type 0 where
+  by-format : {before t : Bytes} → Formats before 0 t → Begins t (entry 0 [] ∷ [])
+  by-rescue : {oldest latest : ℕ} {source before f t g : Bytes} → latest ≤ top32 → All Byte source → Rescues oldest latest source before f 0 t g →
+      Begins t (takenOver source latest g)
+
+-- A store that only public calls wrote: it began with these grants by version, and these calls came after.
+pub record Life (start : List Entry) (history : List (Call × Bool)) (t : Bytes) : Type 0 where
+  pub first : Bytes
+  pub begins : Begins first start
+  pub calls : Calls first history t

@@ -17,7 +17,7 @@ use Rattle.meaning.specs.Reading.{Verdict, present, absent, answerOf}
 use Rattle.checker.specs.Holding as checker
 use Rattle.refusals.specs.Rows.{ProofIs}
 use Rattle.meaning.specs.Proving.{proof, proofLength}
-use Rattle.meaning.specs.History.{Call, Entry, entry, ledger, grantsOf, Holds}
+use Rattle.meaning.specs.History.{Call, Entry, ledger, grantsOf, Holds}
 use Rattle.histories.specs.Claims.{AfterApply, AfterPrune}
 use Rattle.changed.specs.Changes.{Change, undone, items, listBytes}
 use Rattle.changed.specs.Compare.{changesOf, visitsOf}
@@ -29,6 +29,9 @@ use Rattle.layout.specs.Sizes.{slotSize}
 use Rattle.layout.specs.Stores.{slotIn, storeOf, storeBytes}
 use Rattle.batch.specs.Batch.{batchOf}
 use Rattle.promises.specs.Calls.{SoundBytes}
+use Rattle.rescued.specs.Rescue.{sourceTree}
+use Rattle.rescues.specs.Rescues.{slotsIn, Report, reportBytes}
+use Rattle.rescues.specs.Claims.{Worth, AsItWas}
 use Rattle.applying_c.specs.Export.{told}
 use Rattle.meaning.specs.Answers.{foundBytes}
 use Rattle.grants.specs.Contracts.{ReadsRoot, ReadsKey, Proves, Verifies}
@@ -47,34 +50,30 @@ latestOf s = storeOf s .latest
 abbrev pub grantsWith : List Ask → Bytes → List Grant
 grantsWith asks s = withBatch asks (grantsOfVersion s (latestOf s))
 
--- The grants by version that a history gives to a fresh store.
-abbrev pub ledgerOf : List (Call × Bool) → List Entry
-ledgerOf history = ledger history (entry 0 [] ∷ [])
-
--- Demand 3: the bytes t of a store after its history.
-pub record AfterHistory (history : List (Call × Bool)) (t : Bytes) : Type 0 where
+-- Demand 3: the bytes t of a store after its history, from the grants by version that it began with.
+pub record AfterHistory (start : List Entry) (history : List (Call × Bool)) (t : Bytes) : Type 0 where
   -- the store is sound, and the bytes are its bytes
   pub sound : SoundBytes t
   pub bytes : t ≡ storeBytes (storeOf t)
   -- it holds exactly the grants that the history gives it
-  pub holds : Holds leafHash innerHash (storeOf t) (ledgerOf history)
+  pub holds : Holds leafHash innerHash (storeOf t) (ledger history start)
   -- each record stands in exactly the kept versions of its lifetime
   pub lifetimes : (v : ℕ) → Kept (storeOf t) v → (i : ℕ) (r : Record) → At (storeOf t) i r →
       NodeOf (r .version) (r .place) (treeOfVersion t v) [] ↔ Lives v r
   -- the reads of a kept version answer for the grants that the history gives it
-  pub reads-root : {v : ℕ} {gs : List Grant} {f g : Bytes} {r : ℕ} → Kept (storeOf t) v → grantsOf v (ledgerOf history) ≡ some gs →
+  pub reads-root : {v : ℕ} {gs : List Grant} {f g : Bytes} {r : ℕ} → Kept (storeOf t) v → grantsOf v (ledger history start) ≡ some gs →
       ReadsRoot t v f r g → (r ≡ 0) × (g ≡ hash leafHash innerHash (treeOf gs))
-  pub reads-key : {v : ℕ} {gs : List Grant} {k f g : Bytes} {r : ℕ} → Kept (storeOf t) v → grantsOf v (ledgerOf history) ≡ some gs →
+  pub reads-key : {v : ℕ} {gs : List Grant} {k f g : Bytes} {r : ℕ} → Kept (storeOf t) v → grantsOf v (ledger history start) ≡ some gs →
       Whole32 k → ReadsKey t v k f r g → (r ≡ 0) × (g ≡ foundBytes (answerOf k gs))
   -- and what an editor sees of a version with a grant: of any key a proof is given, where there is room, and with the root read the proof check
   -- answers for those grants
   pub shows : {v : ℕ} {gs : List Grant} {k room f u g f₁ root f₂ found : Bytes} {r r₁ r₂ : ℕ} → Kept (storeOf t) v →
-      grantsOf v (ledgerOf history) ≡ some gs → (gs ≡ [] → ⊥) → Whole32 k → 17080 ≤ length room → Proves t v k room f r u g → ReadsRoot t v f₁ r₁ root →
+      grantsOf v (ledger history start) ≡ some gs → (gs ≡ [] → ⊥) → Whole32 k → 17080 ≤ length room → Proves t v k room f r u g → ReadsRoot t v f₁ r₁ root →
       Verifies root k (take (num g) u) f₂ r₂ found → (r ≡ 0) × (r₁ ≡ 0) × (r₂ ≡ 0) × (found ≡ foundBytes (answerOf k gs))
   -- of a version without one there is no proof, exactly: 14, and the root is 32 zero bytes
-  pub shows-nothing : {v : ℕ} {gs : List Grant} {k room f u g : Bytes} {r : ℕ} → Kept (storeOf t) v → grantsOf v (ledgerOf history) ≡ some gs →
+  pub shows-nothing : {v : ℕ} {gs : List Grant} {k room f u g : Bytes} {r : ℕ} → Kept (storeOf t) v → grantsOf v (ledger history start) ≡ some gs →
       Whole32 k → Proves t v k room f r u g → (r ≡ 14) ↔ (gs ≡ [])
-  pub zero-root : {v : ℕ} {f g : Bytes} {r : ℕ} → Kept (storeOf t) v → grantsOf v (ledgerOf history) ≡ some [] → ReadsRoot t v f r g →
+  pub zero-root : {v : ℕ} {f g : Bytes} {r : ℕ} → Kept (storeOf t) v → grantsOf v (ledger history start) ≡ some [] → ReadsRoot t v f r g →
       (r ≡ 0) × (g ≡ zeros)
   -- no path is longer than 256 steps
   pub paths : (v : ℕ) → Kept (storeOf t) v → (w : ℕ) (p : Place) → NodeOf w p (treeOfVersion t v) [] → length p ≤ 256
@@ -178,3 +177,24 @@ pub record ListsChanges (first second limit : ℕ) (s room t g : Bytes) : Type 0
   pub within : visitsOf (storeOf s) first second ≤ limit
   pub symmetric : visitsOf (storeOf s) first second ≡ visitsOf (storeOf s) second first
   pub few : visitsOf (storeOf s) first second ≤ 32769
+
+-- Document 02, 2026-08: a rescue of the source s that was accepted. The target t is worth what 02 says, the array g has the report, and the reads
+-- of each version kept answer for the source's tree of that version.
+pub record Rescued (oldest latest : ℕ) (s t g : Bytes) : Type 0 where
+  pub report : Report
+  pub worth : Worth oldest latest s t report
+  pub sound : SoundBytes t
+  pub told : g ≡ reportBytes report
+  pub reads-root : {v : ℕ} {f h : Bytes} {r : ℕ} → report .first ≤ v → v ≤ latest → ReadsRoot t v f r h →
+      (r ≡ 0) × (h ≡ hash leafHash innerHash (unversioned (sourceTree (slotsIn s) v)))
+  pub reads-key : {v : ℕ} {k f h : Bytes} {r : ℕ} → report .first ≤ v → v ≤ latest → Whole32 k → ReadsKey t v k f r h →
+      (r ≡ 0) × (h ≡ foundBytes (answerOf k (grantsIn (sourceTree (slotsIn s) v))))
+
+-- A rescue of the source s that gave it back: accepted, the same bytes, from this version on, nothing changed and nothing left out.
+pub record GivenBack (first : ℕ) (s : Bytes) (r : ℕ) (t g : Bytes) : Type 0 where
+  pub accepts : r ≡ 0
+  pub bytes : t ≡ s
+  pub report : Report
+  pub told : g ≡ reportBytes report
+  pub begins : report .first ≡ first
+  pub as-it-was : AsItWas report

@@ -7,7 +7,7 @@ use Rattle.terms.specs.Bits.{Bytes}
 use Rattle.palettes.specs.Palette.{keysIn}
 use Rattle.refusals.specs.Exactly.{Table}
 use Rattle.refusals.specs.Rows.{WrongLength, NotSound, Not32, NotKeys}
-use Rattle.refusals.specs.Orders.{headerRows, batchRows, versionRows, lookupRows, keyRows, provingRows, proofRows, askingRows, togetherRows, comparisonRows, holdingRows}
+use Rattle.refusals.specs.Orders.{headerRows, batchRows, versionRows, lookupRows, keyRows, provingRows, proofRows, askingRows, togetherRows, comparisonRows, holdingRows, rescueRows}
 
 -- 1, 2; then 3 by full soundness.
 abbrev pub soundRows : Bytes → Table
@@ -60,6 +60,10 @@ paletteRows s v list room = (12, NotKeys list) ∷ headerRows s ++ togetherRows 
 -- Document 02, 2026-01: 'Order: 1, 2, 3 by full soundness, 8, 13, 9.'
 abbrev pub changesRows : Bytes → ℕ → ℕ → ℕ → Bytes → Table
 changesRows s first second limit room = soundRows s ++ comparisonRows s first second limit room
+
+-- Document 02, 2026-08: a rescue: 1, 2, 3.
+abbrev pub rescuingRows : Bytes → Bytes → ℕ → ℕ → Table
+rescuingRows s old oldest latest = rescueRows s old oldest latest
 
 -- The proof check: 12; then 10, 11.
 abbrev pub verifyRows : Bytes → Bytes → Bytes → Table

@@ -12,6 +12,7 @@ use Rattle.reads_c.specs.Export as read
 use Rattle.proving_c.specs.Export as prove
 use Rattle.palette_c.specs.Export as palette
 use Rattle.changes_c.specs.Export as compare
+use Rattle.rescues.specs.Rescues as rescue
 use Rattle.verify.specs.Verify as verify
 
 -- Formatting the bytes s answers r and leaves the bytes t.
@@ -52,6 +53,11 @@ Palettes s v list room f r t g = palette.Palettes s v list room f r t g
 -- number of records as g.
 abbrev pub Changes : ℕ → ℕ → ℕ → Bytes → Bytes → Bytes → ℕ → Bytes → Bytes → Type 0
 Changes first second limit s room f r t g = compare.Changes first second limit s room f r t g
+
+-- Rescuing the source s, with oldest and latest given, into a target that holds the bytes old answers r; the target is left as t, the array f
+-- for the report as g.
+abbrev pub Rescues : ℕ → ℕ → Bytes → Bytes → Bytes → ℕ → Bytes → Bytes → Type 0
+Rescues oldest latest s old f r t g = rescue.RescueExports oldest latest s old f r t g
 
 -- Checking the bytes x as a proof of the key k against a root answers r; the array f for what is found is left as g.
 abbrev pub Verifies : Bytes → Bytes → Bytes → Bytes → ℕ → Bytes → Type 0

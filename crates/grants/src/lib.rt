@@ -1,6 +1,6 @@
 // The public calls, for C, Rust and others to link. Each answers 0 where it is accepted, else document 01's number of refusal; a refused
 // call writes nothing, its answer included. A slice is passed as a pointer and a length, an array as a pointer alone.
-ghost use Rattle.grants.specs.Contracts.{Formats, Checks, Applies, Prunes, ReadsRoot, ReadsKey, Proves, Palettes, Changes, Verifies, Hashes};
+ghost use Rattle.grants.specs.Contracts.{Formats, Checks, Applies, Prunes, ReadsRoot, ReadsKey, Proves, Palettes, Changes, Rescues, Verifies, Hashes};
 
 // Makes a fresh store of any bytes of the right length.
 #[no_mangle]
@@ -96,6 +96,21 @@ pub extern "C" fn grants_changes(
     ensures { λ r. ⌜ Changes first second limit (now (store .entry)) (now (room .entry)) (now (records .entry)) r (now (room .exit)) (now (records .exit)) ⌝ }
 {
     changes_c::grants_changes(store, first, second, limit, room, records)
+}
+
+// Makes in the target, from a source of any contents, a sound store of the longest run of versions that ends at latest; answer: the run's first
+// version, records kept as they were, kept with another retired-since, used slots left out, little-endian.
+#[no_mangle]
+pub extern "C" fn grants_rescue(
+    source: &[u8],
+    oldest: u32,
+    latest: u32,
+    target: &mut [u8],
+    answer: &mut [u8; 16],
+) -> u32
+    ensures { λ r. ⌜ Rescues oldest latest (now (source .entry)) (now (target .entry)) (now (answer .entry)) r (now (target .exit)) (now (answer .exit)) ⌝ }
+{
+    rescue_c::grants_rescue(source, oldest, latest, target, answer)
 }
 
 // What a proof shows of a key against a root: 1 and the value, or 0 and 32 zero bytes for 'absent'.

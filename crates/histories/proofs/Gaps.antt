@@ -16,7 +16,7 @@ use Rattle.meaning.specs.Tree.{VTree, vnone, topVersion}
 use Rattle.meaning.specs.Store.{find, rootOf, treeAtVersion}
 use Rattle.meaning.specs.Sound.{Kept, Hashes32, Sound}
 use Rattle.meaning.specs.Calls.{Applied, refuse}
-use Rattle.meaning.specs.History.{Call, formatting, applying, pruning, looking, CallForm, after, run, Entry}
+use Rattle.meaning.specs.History.{Call, formatting, applying, pruning, taking, looking, CallForm, after, run, Entry}
 use Rattle.meaning.proofs.Finding.{isNode-eq, none-not}
 use Rattle.meaning.proofs.Roots.{root-some}
 use Rattle.histories.specs.Claims.{NoGap, NoGaps, AfterApply, AfterPrune}
@@ -64,6 +64,7 @@ module _ (leafHash innerHash : Bytes → Bytes → Bytes) where
         (λ o m room. own-applied number batch st _ own gap (settled-after leafHash innerHash lh ih number batch st s (f .0) (f .1) m room))
     own-call (pruning n) st f gap s own =
         prune-cases (λ o. OwnTops (o .store)) n st (λ h. own) (λ h. own-pruned n st _ own h (cut-after leafHash innerHash n st s h))
+    own-call (taking es) st f gap s own = absurd gap
     own-call looking st f gap s own = own
 
     pub own-calls : (calls : List Call) (st : Store) (es : List Entry) → All CallForm calls → NoGaps leafHash innerHash calls st →

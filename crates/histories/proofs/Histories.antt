@@ -16,7 +16,7 @@ use Rattle.meaning.specs.Tree.{grantsIn}
 use Rattle.meaning.specs.Store.{formatted, treeAtVersion}
 use Rattle.meaning.specs.Sound.{mostSlots, Kept, Hashes32, Sound}
 use Rattle.meaning.specs.Calls.{Applied, refuse}
-use Rattle.meaning.specs.History.{Call, formatting, applying, pruning, looking, CallForm, isAccepted, after, took, run, history, Entry, entry, keptBy, lasting, noted, ledger, grantsOf, heldFrom, held, Holds}
+use Rattle.meaning.specs.History.{Call, formatting, applying, pruning, taking, looking, CallForm, isAccepted, after, took, run, history, Entry, entry, keptBy, lasting, noted, ledger, grantsOf, heldFrom, held, Holds}
 use Rattle.meaning.proofs.Shaped.{shaped-treeOf}
 use Rattle.histories.specs.Claims.{AfterApply, AfterPrune}
 use Rattle.histories.proofs.Whole.{sound-whole, whole-sound}
@@ -195,6 +195,7 @@ module _ (leafHash innerHash : Bytes → Bytes → Bytes) where
     keeps-call (pruning n) st es f k =
         prune-cases (λ o. Keeps (o .store) (cond (isAccepted (o .answer)) (noted (pruning n) es) es)) n st
         (λ h. k) (λ h. keeps-pruned n st _ es k h (cut-after leafHash innerHash n st (k .sound) h))
+    keeps-call (taking new) st es f k = k
     keeps-call looking st es f k = k
 
     pub keeps-calls : (calls : List Call) (st : Store) (es : List Entry) → All CallForm calls → Keeps st es →

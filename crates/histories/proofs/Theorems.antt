@@ -19,7 +19,7 @@ use Rattle.meaning.specs.Calls.{Answer, refused, accepted, refuse, isKept, Appl
 use Rattle.meaning.specs.Sight.{sighted, rootSight, scan}
 use Rattle.meaning.specs.Reading.{Seen, seenAt, seenRoot, seen, walk, readEnd, readKey, rootRead, readRoot}
 use Rattle.meaning.specs.Proving.{proveSeen, emptyVersion, proof}
-use Rattle.meaning.specs.History.{Call, formatting, applying, pruning, looking, CallForm, isAccepted, after, took, run, history, Entry, entry, ledger, grantsOf, held, Holds}
+use Rattle.meaning.specs.History.{Call, formatting, applying, pruning, looking, CallForm, isAccepted, after, took, run, history, Entry, entry, ledger, grantsOf, held, Holds, taking}
 use Rattle.meaning.proofs.Finding.{none-not}
 use Rattle.meaning.proofs.Roots.{root-at, root-none, root-some, top-root}
 use Rattle.meaning.proofs.Runs.{Ascending}
@@ -308,6 +308,7 @@ module _ (leafHash innerHash : Bytes → Bytes → Bytes) where
   not-accepted-changes-nothing (applying number batch) st e =
       let r = not-accepted _ e in refused-apply-writes-nothing number batch st (r .0) (r .1)
   not-accepted-changes-nothing (pruning n) st e = let r = not-accepted _ e in refused-prune-writes-nothing n st (r .0) (r .1)
+  not-accepted-changes-nothing (taking es) st e = refl
   not-accepted-changes-nothing looking st e = refl
 
   -- Each record stands in exactly the kept versions of its lifetime.

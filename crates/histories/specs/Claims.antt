@@ -14,18 +14,19 @@ use Rattle.meaning.specs.Sound.{At, Kept, NodeOf, Sound}
 use Rattle.meaning.specs.Calls.{Applied, ascending}
 use Rattle.meaning.specs.Reading.{answerOf, present, absent, readKey, readRoot}
 use Rattle.meaning.specs.Proving.{proof}
-use Rattle.meaning.specs.History.{Call, formatting, applying, pruning, looking, after}
+use Rattle.meaning.specs.History.{Call, formatting, applying, pruning, taking, looking, after}
 
 -- An ask that is no change: an insert of the value already there, a delete of an absent key.
 abbrev pub NoChange : List Grant → Ask → Type 0
 NoChange gs (insert k x) = answerOf k gs ≡ present x
 NoChange gs (delete k) = answerOf k gs ≡ absent
 
--- A call leaves no gap: a batch is given latest + 1 (or less, and is refused).
+-- A call leaves no gap: a batch is given latest + 1 (or less, and is refused), and the store isn't made of another one, which may have some.
 abbrev pub NoGap : Call → Store → Type 0
 NoGap formatting st = Unit {0}
 NoGap (applying number batch) st = number ≤ suc (st .latest)
 NoGap (pruning n) st = Unit {0}
+NoGap (taking es) st = ⊥
 NoGap looking st = Unit {0}
 
 -- Document 01's rule: the root of a version is the record (version, empty place), if any; the lowest is the one found.

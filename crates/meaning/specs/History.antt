@@ -29,6 +29,8 @@ pub data Call : Type 0 where
   -- the number given, and the batch as decoded; none where it isn't whole records in form
   applying : ℕ → Option (List Ask) → Call
   pruning : ℕ → Call
+  -- the store is made anew from another one, with the grants of these versions (document 02, 2026-08)
+  taking : List Entry → Call
   -- check, the reads, proving, and any call refused for its sizes or its header: nothing is written
   looking : Call
 
@@ -38,6 +40,7 @@ CallForm formatting = Unit {0}
 CallForm (applying number none) = Unit {0}
 CallForm (applying number (some batch)) = (number ≤ top32) × All AskForm batch
 CallForm (pruning n) = Unit {0}
+CallForm (taking es) = Unit {0}
 CallForm looking = Unit {0}
 
 abbrev pub isAccepted : {A : Type 0} → Answer A → Bool
@@ -45,11 +48,12 @@ isAccepted (refused n) = false
 isAccepted (accepted x) = true
 
 module _ (leafHash innerHash : Bytes → Bytes → Bytes) where
-  -- The store after a call.
+  -- The store after a call. What is made of another store isn't told from this one alone: here it is as if it were refused.
   abbrev pub after : Call → Store → Store
   after formatting st = formatted (length (st .slots))
   after (applying number batch) st = apply leafHash innerHash number batch st .store
   after (pruning n) st = prune n st .store
+  after (taking es) st = st
   after looking st = st
 
   -- The call was accepted, so it may have changed what the store holds.
@@ -57,6 +61,7 @@ module _ (leafHash innerHash : Bytes → Bytes → Bytes) where
   took formatting st = true
   took (applying number batch) st = isAccepted (apply leafHash innerHash number batch st .answer)
   took (pruning n) st = isAccepted (prune n st .answer)
+  took (taking es) st = false
   took looking st = false
 
   -- The store after a list of calls.
@@ -79,7 +84,7 @@ lasting (suc n) e es = entry (e .version + suc n) (e .grants) ∷ lasting n e es
 
 -- What an accepted call does to the grants by version, the newest first: formatting starts anew with the empty version 0; a batch makes
 -- the version of its number, and those between it and the newest one (there always is one) hold what that holds; pruning forgets what is
--- older.
+-- older; a store made anew from another one starts with what it took.
 abbrev pub noted : Call → List Entry → List Entry
 noted formatting es = entry 0 [] ∷ []
 noted (applying number none) es = es
@@ -87,6 +92,7 @@ noted (applying number (some batch)) [] = []
 noted (applying number (some batch)) (e ∷ es) =
     entry number (withBatch batch (e .grants)) ∷ lasting (number - suc (e .version)) e es
 noted (pruning n) es = filter (keptBy n) es
+noted (taking new) es = new
 noted looking es = es
 
 -- The grants by version that a history gives, from those before it.

@@ -7,3 +7,4 @@ pub mod Walks
 pub mod Palettes
 pub mod Proofs
 pub mod Changes
+pub mod Rescues

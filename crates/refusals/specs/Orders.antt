@@ -4,7 +4,7 @@ use Prim.Native.Nat.{ℕ}
 use mathlib.Core.List.{List, [], _∷_}
 use Rattle.terms.specs.Bits.{Bytes}
 use Rattle.refusals.specs.Exactly.{Table}
-use Rattle.refusals.specs.Rows.{WrongLength, WrongHeader, StopsRoot, StopsGet, StopsProve, Lost, Unsound, BatchOffForm, NotAscending, NotAbove, TooFewFree, NotKept, TooLong, ProofOffForm, DoesNotHold, EmptyVersion, NotBothKept, TooManyVisits, ListTooLong, AskedOfEmpty, StopsPalette, TooLongTogether}
+use Rattle.refusals.specs.Rows.{WrongLength, WrongHeader, StopsRoot, StopsGet, StopsProve, Lost, Unsound, BatchOffForm, NotAscending, NotAbove, TooFewFree, NotKept, TooLong, ProofOffForm, DoesNotHold, EmptyVersion, NotBothKept, TooManyVisits, ListTooLong, AskedOfEmpty, StopsPalette, TooLongTogether, WrongSizes, OldestAbove, NoVersion}
 
 -- 1, 2.
 abbrev pub headerRows : Bytes → Table
@@ -52,3 +52,7 @@ comparisonRows s first second limit room =
 -- The proof check's own: 10, 11.
 abbrev pub holdingRows : Bytes → Bytes → Bytes → Table
 holdingRows root k x = (10, ProofOffForm x) ∷ (11, DoesNotHold root k x) ∷ []
+
+-- A rescue (document 02, 2026-08): 1, 2, 3.
+abbrev pub rescueRows : Bytes → Bytes → ℕ → ℕ → Table
+rescueRows s old oldest latest = (1, WrongSizes s old) ∷ (2, OldestAbove oldest latest) ∷ (3, NoVersion s oldest latest) ∷ []

@@ -22,6 +22,7 @@ use Rattle.changed.specs.Compare.{changesOf, visitsOf}
 use Rattle.checker.specs.Holding.{Holds}
 use Rattle.ways.specs.Ways as ways
 use Rattle.ways.specs.Ways.{RootStopped, KeyStopped, ProofStopped}
+use Rattle.rescues.specs.Rescues.{NoRun}
 use Rattle.nodehash.specs.Node.{leafHash, innerHash}
 use Rattle.proofrecords.specs.ProofBytes.{proofBytes, ProofForm}
 use Rattle.layout.specs.Sizes.{headerSize, headerKind, mostSlots, kindAt, capacityAt, oldestAt, latestAt, slotSize}
@@ -150,3 +151,15 @@ StopsPalette s v keys t = FirstAsked (proof (storeOf s) v) (λ k. StopsProve s v
 -- 9 of a palette: all together don't fit.
 abbrev pub TooLongTogether : Bytes → ℕ → List Bytes → Bytes → Type 0
 TooLongTogether s v keys room = (ps : List Proof) × ProofOfEach (proof (storeOf s) v) keys ps × (length room < lengthTogether ps)
+
+-- 1 of a rescue (document 02, 2026-08): a size that is wrong or not equal.
+abbrev pub WrongSizes : Bytes → Bytes → Type 0
+WrongSizes s old = (n : ℕ) → 1 ≤ n → n ≤ mostSlots → length s ≡ headerSize + slotSize * n → length old ≡ headerSize + slotSize * n → ⊥
+
+-- 2 of a rescue: oldest above latest.
+abbrev pub OldestAbove : ℕ → ℕ → Type 0
+OldestAbove oldest latest = latest < oldest
+
+-- 3 of a rescue: no version, for no run ends at latest.
+abbrev pub NoVersion : Bytes → ℕ → ℕ → Type 0
+NoVersion s oldest latest = NoRun s oldest latest

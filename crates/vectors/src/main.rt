@@ -3,6 +3,7 @@
 // new call: a function of `calls`, a line of `call` below, and a line of the script's head that says its form.
 mod calls;
 mod compared;
+mod damaged;
 mod harmed;
 mod several;
 
@@ -136,6 +137,9 @@ fn call(l: &[u8], c: &[u8], store: &mut [u8]) -> bool {
     }
     if same(c, b"changes") {
         return compared::changes(l, store);
+    }
+    if same(c, b"rescue") {
+        return damaged::rescue(l, store);
     }
     if same(c, b"levels") {
         return calls::levels(store);

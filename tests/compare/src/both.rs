@@ -145,3 +145,31 @@ pub fn changes_with(
     tally.wrote("changes", case, seed, (x, &a), (y, &b));
     y
 }
+
+/// A rescue into a target of these bytes. Each accepted one is then held to what 02 says of every rescue: the target is sound, its former bytes
+/// don't matter, the numbers add up, and rescued again, with the same bounds or with its own, it gives the same bytes with nothing changed and
+/// nothing left out.
+pub fn rescue(tally: &mut Tally, case: &str, seed: u64, s: &[u8], oldest: u32, latest: u32, target: &[u8]) -> (Rescue, Vec<u8>) {
+    let before = s.to_vec();
+    let (x, a) = lent(target, |target| ours::rescue(s, oldest, latest, target));
+    assert!(s == before, "the source was written");
+    let mut b = target.to_vec();
+    let y = second::rescue(s, oldest, latest, &mut b);
+    assert!(y.is_ok() || b == target, "the second program refused and wrote");
+    tally.wrote("rescue", case, seed, (x, &a), (y, &b));
+    let mut c = target.to_vec();
+    let walked = second::rescue::walked(s, oldest, latest, &mut c).map(|w| w.0);
+    tally.equal("rescue by a walk", seed, (walked, &c), (y, &b));
+    let Ok((first, same, other, out)) = x else { return (y, b) };
+    let used = |s: &[u8]| s[24..].chunks_exact(120).filter(|slot| slot.iter().any(|b| *b != 0)).count() as u32;
+    tally.equal("a rescue's numbers", seed, (same + other + out, same + other), (used(s), used(&a)));
+    tally.equal("a rescued store", seed, ours::check(&a), Ok(()));
+    for (from, o) in [(s, oldest), (&a[..], oldest), (&a[..], first)] {
+        let (again, d) = lent(&vec![0xE7; a.len()], |target| ours::rescue(from, o, latest, target));
+        let wanted = if from == s { x } else { Ok((first, same + other, 0, 0)) };
+        tally.equal("a rescue again", seed, (again, d == a), (wanted, true));
+    }
+    (y, b)
+}
+
+pub type Rescue = Result<(u32, u32, u32, u32), u32>;

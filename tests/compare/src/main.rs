@@ -12,6 +12,7 @@ mod finding;
 #[allow(dead_code)] // those of roots are the passes' alone
 mod hostile;
 mod ours;
+mod rescuing;
 mod stack;
 mod tally;
 
@@ -378,9 +379,11 @@ fn all(rounds: u64, first: u64, tally: &mut Tally) {
     hard(first, tally);
     applying::named(first, tally);
     finding::named(tally);
+    rescuing::named(tally);
     for n in 0..rounds {
         let seed = first.wrapping_add(n).wrapping_mul(0x9E37_79B9_7F4A_7C15);
         round(seed, tally);
+        rescuing::round(seed, tally);
         if n % 10 == 0 {
             applying::history(seed, tally);
             finding::round(seed, tally);

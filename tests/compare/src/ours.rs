@@ -46,6 +46,15 @@ extern "C" {
         room_len: usize,
         records: *mut [u8; 4],
     ) -> u32;
+    fn grants_rescue(
+        source: *const u8,
+        source_len: usize,
+        oldest: u32,
+        latest: u32,
+        target: *mut u8,
+        target_len: usize,
+        answer: *mut [u8; 16],
+    ) -> u32;
     fn grants_verify(
         root: *const u8,
         root_len: usize,
@@ -176,6 +185,18 @@ pub fn changes(store: &[u8], first: u32, second: u32, limit: u32, room: &mut [u8
     let (to, most) = (room.as_mut_ptr(), room.len());
     answered(|records| unsafe { grants_changes(store.as_ptr(), store.len(), first, second, limit, to, most, records) })
         .map(u32::from_le_bytes)
+}
+
+/// The run's first version; records kept as they were, kept with another retired-since, used slots left out. The target is all written, or,
+/// refused, not at all.
+pub fn rescue(source: &[u8], oldest: u32, latest: u32, target: &mut [u8]) -> Result<(u32, u32, u32, u32), Refusal> {
+    let (to, most) = (target.as_mut_ptr(), target.len());
+    let answer = answered(|a| {
+        recorded("rescue", &[read(source), number(oldest), number(latest), written(target), array(a)], || unsafe {
+            grants_rescue(source.as_ptr(), source.len(), oldest, latest, to, most, a)
+        })
+    })?;
+    Ok((u32_at(&answer, 0), u32_at(&answer, 4), u32_at(&answer, 8), u32_at(&answer, 12)))
 }
 
 pub fn verify(root: &[u8], key: &[u8], proof: &[u8]) -> Result<Option<Bytes32>, Refusal> {

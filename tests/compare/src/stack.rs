@@ -98,9 +98,9 @@ pub fn of_check_and_prune() -> [(&'static str, usize); 2] {
     [("check", check), ("prune", most(move || assert!(crate::ours::prune(&mut s.clone(), 1).is_ok())))]
 }
 
-/// A comparison's most: two keys that part at the last bit, both given another value.
+/// Two keys that part at the last bit, both given another value in version 2.
 #[allow(dead_code)]
-pub fn of_changes() -> usize {
+fn deepest_two() -> Vec<u8> {
     let key = |last: u8| {
         let mut k = ZEROS;
         k[31] = last;
@@ -110,7 +110,21 @@ pub fn of_changes() -> usize {
     let mut s = cases::fresh(600, 0, 0);
     second::apply(&mut s, 1, &batch(1)).unwrap();
     second::apply(&mut s, 2, &batch(2)).unwrap();
+    s
+}
+
+/// A comparison's most.
+#[allow(dead_code)]
+pub fn of_changes() -> usize {
+    let s = deepest_two();
     most(move || assert_eq!(crate::ours::changes(&s, 1, 2, u32::MAX, &mut vec![0; 288]), Ok(4)))
+}
+
+/// A rescue's most: the same two versions, so that both trees are walked to the last bit.
+#[allow(dead_code)]
+pub fn of_rescue() -> usize {
+    let s = deepest_two();
+    most(move || assert_eq!(crate::ours::rescue(&s, 0, 2, &mut vec![0; s.len()]).map(|r| r.0), Ok(1)))
 }
 
 /// Apply's for each of those.

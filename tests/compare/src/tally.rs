@@ -81,6 +81,13 @@ impl Word for Result<(u32, [u8; 32], u32), u32> {
     }
 }
 
+/// A rescue's first version and three numbers: whether every used slot was kept.
+impl Word for Result<(u32, u32, u32, u32), u32> {
+    fn word(&self) -> String {
+        self.map_or_else(|n| n.to_string(), |(_, _, _, out)| if out == 0 { "all kept" } else { "some left out" }.into())
+    }
+}
+
 /// The first byte of a store that is not as the second program left it.
 fn difference(ours: &[u8], second: &[u8]) -> Option<String> {
     let differ = ours.iter().zip(second).filter(|(a, b)| a != b).count();

@@ -7,6 +7,7 @@ pub mod changes;
 pub mod check;
 pub mod palette;
 pub mod proof;
+pub mod rescue;
 #[path = "../../common/plain_sha256.rs"]
 pub mod sha256;
 pub mod sound;
@@ -17,6 +18,7 @@ pub use changes::changes;
 pub use check::verify;
 pub use palette::palette;
 pub use proof::prove;
+pub use rescue::rescue;
 pub use sound::check;
 
 pub type Bytes32 = [u8; 32];

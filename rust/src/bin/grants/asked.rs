@@ -31,8 +31,8 @@ pub fn refused(store: &Bytes, path: &Path) -> impl Fn(Error) -> Fail {
     move |error| {
         let advice = match error {
             Error::Size => format!("{name} has {}: is it the right file, and whole?", bytes(length)),
-            Error::Header => format!("{name} is no grant store, or its first 24 bytes are damaged: take another copy."),
-            Error::Unsound | Error::Spoilt { .. } | Error::Lost => format!("{name} is damaged: take another copy; `grants check` lists what is missing. Nothing was changed."),
+            Error::Header => format!("{name} is no grant store, or its first 24 bytes are damaged: take another copy, or see what can be rescued (grants rescue)."),
+            Error::Unsound | Error::Spoilt { .. } | Error::Lost => format!("{name} is damaged: take another copy, or see what can be rescued (grants rescue); `grants check` lists what is missing. Nothing was changed."),
             Error::NotAboveLatest => match header {
                 Some(h) if h.latest < u32::MAX => format!("{name} is at version {}: give a higher number, or none for the next one. {name} is as it was.", h.latest),
                 _ => format!("{name} is at version {}, and no number is above that: format a new store and publish its grants there (grants export, grants import). {name} is as it was.", u32::MAX),

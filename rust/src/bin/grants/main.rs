@@ -21,6 +21,7 @@ mod out;
 mod palette;
 mod plain;
 mod publish;
+mod rescue;
 mod show;
 mod signals;
 mod statement;

@@ -8,7 +8,7 @@ use grants::{Error, Key, Missing};
 use std::path::Path;
 
 /// What is done about a damaged store.
-const ADVICE: &str = "take another copy, and keep this one for a rescue";
+const ADVICE: &str = "take another copy, and keep this one: what is whole in it can be rescued (grants rescue)";
 
 /// 'the record of version 4 at place 0110', 'the root of version 9'.
 fn named(missing: &Missing) -> String {

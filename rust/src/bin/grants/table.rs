@@ -3,7 +3,7 @@
 use crate::args::{Args, Choice};
 use crate::fail::Fail;
 use crate::out::Out;
-use crate::{commands, diff, grow, listing, names, publish, show, statement};
+use crate::{commands, diff, grow, listing, names, publish, rescue, show, statement};
 
 pub struct Command {
     pub name: &'static str,
@@ -168,6 +168,32 @@ smaller, if all of it fits.",
         words: (2, 2),
         choices: &[JSON, WAIT],
         run: grow::grow,
+    },
+    Command {
+        name: "rescue",
+        usage: "DAMAGED [OUT]",
+        what: "the good versions of a damaged store, as a sound store in OUT",
+        help: "\
+Writes to OUT a sound store of the longest run of versions, none before --oldest, that ends at --latest and whose trees are
+whole in DAMAGED. What DAMAGED says of itself in its first 24 bytes isn't looked at, so --latest is yours to say. It says which
+versions came back, which slots were left out and why, and why the run begins no earlier.
+
+Compare the root with the one that was signed, best by --root: OUT is not written where they differ. A root record whose
+retired-since was damaged to 0 or upwards, with the newer root record lost, makes withdrawn grants seem in force in later
+versions, and nothing in the store shows it.
+
+Without --latest nothing is written: it lists the root records that are there, with version and root, and whether each can
+be rescued.
+DAMAGED is only read, and may be -; it must have its whole length.",
+        words: (1, 2),
+        choices: &[
+            JSON,
+            valued("--latest", "N", "the version that the run must end at"),
+            valued("--oldest", "N", "no version before this one; else 0"),
+            valued("--root", "HEX", "the root that was signed for the latest version; where it differs nothing is written"),
+            FORCE,
+        ],
+        run: rescue::rescue,
     },
     Command {
         name: "root",

@@ -1,7 +1,7 @@
 //! The library's calls beside the second program, in one run: short runs of the two in turn, the best of each. Then where apply's time goes,
 //! that it does not grow with the versions, and the stack that each call takes. With the argument `stack` that last part alone, with
 //! `changes` the comparisons alone, with `gaps` the publishings under numbers with gaps, with `beside-check` apply and prune beside check, with
-//! `missing` the reads that miss a record.
+//! `missing` the reads that miss a record, with `rescue` the rescues.
 
 #[path = "../cases.rs"]
 #[allow(dead_code)]
@@ -333,6 +333,78 @@ fn missing(random: &mut Random) {
     }
 }
 
+/// The records of the tree of so many random grants, as one batch would place them, all of version 1.
+fn tree(random: &mut Random, grants: usize) -> Vec<Record> {
+    let mut all: Vec<([u8; 32], [u8; 32])> = (0..grants).map(|_| (random.hash(), random.hash())).collect();
+    all.sort();
+    second::tree::placing(&second::tree::make(&all, 1, &|_, _| None))
+}
+
+fn stored(capacity: usize, latest: u32, records: &[Record]) -> Vec<u8> {
+    let mut s = cases::fresh(capacity, 1, latest);
+    records.iter().enumerate().for_each(|(i, r)| put_slot(&mut s, i, &slot_bytes(r)));
+    s
+}
+
+/// Milliseconds of processor time, so that other work on the machine breaks no bar.
+fn processor(call: &mut dyn FnMut()) -> f64 {
+    let now = || std::fs::read_to_string("/proc/thread-self/schedstat").unwrap().split(' ').next().unwrap().parse::<f64>().unwrap() / 1e6;
+    let start = now();
+    call();
+    now() - start
+}
+
+/// 2026-08: rescues of full stores of 16,384 slots, sound ones, so that all comes back: nothing takes longer. Beside check on the same store, and the
+/// second program's walk. Fails above two seconds.
+fn rescues() {
+    let mut random = Random(41);
+    let capacity = 16_384;
+    let mut cases = vec![];
+    let mut slowest = 0f64;
+    let (mut least, mut most) = (1_000, 16_000);
+    // As many grants as fill the store.
+    while most - least > 8 {
+        let middle = (least + most) / 2;
+        if tree(&mut Random(43), middle).len() <= capacity {
+            least = middle;
+        } else {
+            most = middle;
+        }
+    }
+    cases.push(stored(capacity, 1, &tree(&mut Random(43), least)));
+    cases.push(filled(&mut random, capacity, 75, capacity, 0).0);
+    // Roots over one tree of 8,000 nodes.
+    let mut records = tree(&mut random, 3_300);
+    let root = records.pop().unwrap();
+    for v in 1..=8_000 {
+        records.push(Record { version: v, retired: if v == 8_000 { 0 } else { v + 1 }, ..root });
+    }
+    cases.push(stored(capacity, 8_000, &records));
+    for s in cases {
+        let store = second::bytes::store(&s).unwrap();
+        assert_eq!(ours::check(&s), Ok(()));
+        let oldest = store.oldest.max(1);
+        let name = format!("rescue-16384-{}-used-{}-versions", cases::taken(&s), store.latest + 1 - oldest);
+        let target = vec![0; s.len()];
+        compare_on(
+            &name,
+            3,
+            &target,
+            |t| ours::rescue(&s, oldest, store.latest, t),
+            |t| second::rescue::walked(&s, oldest, store.latest, t).map(|w| w.0),
+        );
+        let best = |call: &mut dyn FnMut()| (0..3).map(|_| processor(call)).fold(f64::MAX, f64::min);
+        let took = best(&mut || assert!(ours::rescue(&s, oldest, store.latest, &mut target.clone()).is_ok()));
+        let check = best(&mut || assert_eq!(ours::check(&s), Ok(())));
+        println!("bar {name} {took:.0}ms bar 2000ms (check {check:.3}ms)");
+        slowest = slowest.max(took);
+    }
+    if slowest > 2_000.0 {
+        println!("bench: a rescue takes more than two seconds");
+        std::process::exit(1);
+    }
+}
+
 /// A presence proof with its root and key.
 fn path(random: &mut Random, steps: usize) -> ([u8; 32], [u8; 32], Vec<u8>) {
     let (key, value) = (random.hash(), random.hash());
@@ -367,6 +439,7 @@ fn stacks() {
     print("prove", stack::of_prove());
     print("palette", stack::of_palette());
     print("changes", stack::of_changes());
+    print("rescue", stack::of_rescue());
     let applies = stack::of_apply();
     applies.iter().for_each(|(name, used)| print(&format!("apply-{name}"), *used));
     let most = applies.iter().map(|(_, used)| *used).max().unwrap();
@@ -395,6 +468,9 @@ fn main() {
     }
     if std::env::args().nth(1).as_deref() == Some("missing") {
         return missing(&mut Random(29));
+    }
+    if std::env::args().nth(1).as_deref() == Some("rescue") {
+        return rescues();
     }
     let mut random = Random(11);
     let proofs: Vec<_> = (0..1000).map(|_| path(&mut random, 20)).collect();
@@ -432,5 +508,6 @@ fn main() {
     versions();
     gaps();
     missing(&mut Random(29));
+    rescues();
     stacks();
 }

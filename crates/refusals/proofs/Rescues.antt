@@ -1,0 +1,38 @@
+-- A rescue's number is that of its first row that holds: its cases are the rows. Assumes nothing.
+use Prim.Native.Nat.{ℕ, _<_}
+use native.Mathlib.Omega.{arith}
+use mathlib.Core.Path.{_≡_, refl, sym, _∙_, subst}
+use mathlib.Core.Logic.{inl, inr}
+use mathlib.Core.Bool.{true}
+use lib.ListN.{length}
+use Rattle.terms.specs.Bits.{Bytes}
+use Rattle.meaning.specs.Calls.{Answer}
+use Rattle.meaning.specs.Answers.{numberOf}
+use Rattle.layout.specs.Sizes.{roomOf}
+use Rattle.layout.specs.Headers.{sizeRight}
+use Rattle.layout.proofs.Headers.{size-says, size-right-of}
+use Rattle.rescues.specs.Rescues.{SameSize, Report, Rescues, wrong-size, out-of-order, no-version, rescues, RescueExports, exports-refusal, exports-report}
+use Rattle.refusals.specs.Rows.{WrongSizes}
+use Rattle.refusals.specs.Orders.{rescueRows}
+use Rattle.refusals.proofs.Exactly.{First}
+
+module _ (s old : Bytes) where
+  sizes-wrong : (SameSize s old → ⊥) → WrongSizes s old
+  sizes-wrong f n a b e g = f (record { source = size-right-of (length s) n e a b; target = size-right-of (length old) n g a b; equal = e ∙ sym g })
+
+  sizes-right : SameSize s old → WrongSizes s old → ⊥
+  sizes-right w f =
+      let k = size-says (length s) (w .source) in
+      f (roomOf (length s)) (k .1) (k .2) (k .0) (sym (w .equal) ∙ k .0)
+
+  rescue-case : (oldest latest : ℕ) (a : Answer Report) {t : Bytes} → Rescues oldest latest s old a t → First (rescueRows s old oldest latest) (numberOf a)
+  rescue-case oldest latest a (wrong-size f) = inl (sizes-wrong f, refl)
+  rescue-case oldest latest a (out-of-order w l) = inr (sizes-right w, inl (l, refl))
+  rescue-case oldest latest a (no-version w l f) = inr (sizes-right w, inr (λ k. absurd (omega arith), inl (f, refl)))
+  rescue-case oldest latest a (rescues {f = f} {m = m} w l g e) =
+      inr (sizes-right w, inr (λ k. absurd (omega arith), inr (λ none. none f m (g .ends) (g .kept) (g .run), refl)))
+
+  pub rescue-first : (oldest latest : ℕ) {f : Bytes} {r : ℕ} {t g : Bytes} → RescueExports oldest latest s old f r t g →
+      First (rescueRows s old oldest latest) r
+  rescue-first oldest latest (exports-refusal w) = rescue-case oldest latest _ w
+  rescue-first oldest latest (exports-report w) = rescue-case oldest latest _ w

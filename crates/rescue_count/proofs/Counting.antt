@@ -1,0 +1,199 @@
+-- Two buffers compared from the last slot to the first: a slot counted, and the slots from it on. Assumes nothing.
+use Prim.Native.Nat.{ℕ, suc, _+_, _-_, _<_, _≤_}
+use native.Mathlib.Omega.{arith}
+use native.Mathlib.Numerals.{add-one}
+use mathlib.Core.Path.{_≡_, refl, ap, ap₂, sym, _∙_, subst}
+use mathlib.Core.Bool.{Bool, true, false, cond, true≢false, false≢true}
+use mathlib.Core.List.{List, [], _∷_}
+use lib.ListN.{length, getD, drop, drop-of-length-le}
+use lib.Seq.{drop-cons}
+use lib.Dec.{eqb}
+use borrow.Author.Tests.{eq-eqb, ne-eqb}
+use Rattle.terms.specs.Bits.{Bytes, Byte, All}
+use Rattle.terms.specs.Fields.{field, allZero}
+use Rattle.terms.specs.Records.{Record, Slot, free, used, spoiled}
+use Rattle.layout.specs.Sizes.{roomOf}
+use Rattle.layout.specs.Headers.{sizeRight}
+use Rattle.layout.specs.Slots.{sinceIn, slotOf, isLeaf, isInner, leafIn, innerIn, recordIn}
+use Rattle.layout.specs.Stores.{slotIn, storeOf, slotNo, Has}
+use Rattle.layout.proofs.Headers.{size-says}
+use Rattle.layout.proofs.Slots.{retired-says}
+use Rattle.store.proofs.Slots.{slots-many, slot-long, slot-bytes, slot-within, slot-is}
+use Rattle.lookup.specs.Lookup.{isUsed}
+use Rattle.lookup.proofs.Matching.{Says, says}
+use Rattle.lookup.proofs.Searching.{used-or}
+use Rattle.rescued.specs.Rescue.{Counts, compared, counts}
+use Rattle.rescue_count.specs.declared.Counts as declared
+use Rattle.rescue_count.specs.Count.{countsSay, Pair, Countable}
+
+-- zero bytes are free, and nothing else is
+zero-free : (x : Bytes) → allZero x ≡ true → slotOf x ≡ free
+unfolding slotOf
+zero-free x e = rw e
+
+not-free : (x : Bytes) → allZero x ≡ false → slotOf x ≡ free → ⊥
+unfolding slotOf
+not-free x e k = go (isLeaf x) (isInner x) (sym (rw e) ∙ k)
+  where
+    go : (a b : Bool) → cond a (used (recordIn x (leafIn x))) (cond b (used (recordIn x (innerIn x))) (spoiled x)) ≡ free → ⊥
+    go true b k = let z : _≡_ {A = ℕ} 0 1 = cc in absurd (omega arith)
+    go false true k = let z : _≡_ {A = ℕ} 0 1 = cc in absurd (omega arith)
+    go false false k = let z : _≡_ {A = ℕ} 0 1 = cc in absurd (omega arith)
+
+abbrev Told : ℕ → ℕ → ℕ → Counts
+Told a b c = record { same = a; other = b; out = c }
+
+-- one slot
+module _ (y z : Slot) (c : declared.Counts) where
+  free-none : y ≡ free → countsSay c ≡ compared y z (countsSay c)
+  free-none e = sym (ap (λ x. compared x z (countsSay c)) e)
+
+  spoiled-out : (y ≡ free → ⊥) → isUsed y ≡ false → Told (c .same) (c .other) (c .out + 1) ≡ compared y z (countsSay c)
+  spoiled-out f u = ap (λ n. Told (c .same) (c .other) n) (add-one (c .out)) ∙ go y refl
+    where
+      go : (x : Slot) → y ≡ x → Told (c .same) (c .other) (suc (c .out)) ≡ compared y z (countsSay c)
+      go free e = absurd (f e)
+      go (used r) e = absurd (true≢false (sym (ap isUsed e) ∙ u))
+      go (spoiled x) e = sym (ap (λ x. compared x z (countsSay c)) e)
+
+  used-out : isUsed y ≡ true → isUsed z ≡ false → Told (c .same) (c .other) (c .out + 1) ≡ compared y z (countsSay c)
+  used-out a b =
+      let r = used-or y a in
+      ap (λ n. Told (c .same) (c .other) n) (add-one (c .out)) ∙ go (r .0) z refl ∙ sym (ap (λ x. compared x z (countsSay c)) (r .1))
+    where
+      go : (r : Record) (x : Slot) → z ≡ x → Told (c .same) (c .other) (suc (c .out)) ≡ compared (used r) z (countsSay c)
+      go r free e = sym (ap (λ x. compared (used r) x (countsSay c)) e)
+      go r (used q) e = absurd (true≢false (sym (ap isUsed e) ∙ b))
+      go r (spoiled x) e = sym (ap (λ x. compared (used r) x (countsSay c)) e)
+
+  both-used : (r q : Record) → y ≡ used r → z ≡ used q → compared y z (countsSay c)
+      ≡ cond (eqb (r .retired) (q .retired)) (Told (suc (c .same)) (c .other) (c .out)) (Told (c .same) (suc (c .other)) (c .out))
+  both-used r q a b = ap₂ (λ x y. compared x y (countsSay c)) a b
+
+-- a slot of both, by its bytes
+module _ {s t : Bytes} {i : ℕ} {c : declared.Counts} (w : Countable s t i c) where
+  abbrev After : Counts
+  After = compared (slotNo i s) (slotNo i t) (countsSay c)
+
+  module _ {x y : Bytes} (is-s : x ≡ slotIn i s) (is-t : y ≡ slotIn i t) where
+    at-s : slotNo i s ≡ slotOf x
+    at-s = slot-is (w .before) ∙ ap slotOf (sym is-s)
+
+    at-t : slotNo i t ≡ slotOf y
+    at-t = slot-is (w .after) ∙ ap slotOf (sym is-t)
+
+    pub counts-free : {a : Bool} → a ≡ allZero x → a ≡ true → countsSay c ≡ After
+    counts-free e k = free-none (slotNo i s) (slotNo i t) c (at-s ∙ zero-free x (sym e ∙ k))
+
+    pub counts-spoiled : {a b : Bool} → a ≡ allZero x → a ≡ false → b ≡ isUsed (slotOf x) → b ≡ false → Told (c .same) (c .other) (c .out + 1) ≡ After
+    counts-spoiled e k f l =
+        spoiled-out (slotNo i s) (slotNo i t) c (λ z. not-free x (sym e ∙ k) (sym at-s ∙ z)) (ap isUsed at-s ∙ sym f ∙ l)
+
+    module _ {b d : Bool} (f : b ≡ isUsed (slotOf x)) (l : b ≡ true) (g : d ≡ isUsed (slotOf y)) where
+      pub counts-out : d ≡ false → Told (c .same) (c .other) (c .out + 1) ≡ After
+      counts-out m = used-out (slotNo i s) (slotNo i t) c (ap isUsed at-s ∙ sym f ∙ l) (ap isUsed at-t ∙ sym g ∙ m)
+
+      module _ (m : d ≡ true) (bytes-s : All Byte s) (bytes-t : All Byte t) {j k : ℕ} (since-s : j ≡ sinceIn (slotIn i s)) (since-t : k ≡ sinceIn (slotIn i t)) where
+        source-record : (r : Record) × (slotOf x ≡ used r)
+        source-record = used-or (slotOf x) (sym f ∙ l)
+
+        target-record : (r : Record) × (slotOf y ≡ used r)
+        target-record = used-or (slotOf y) (sym g ∙ m)
+
+        own : (n : Bytes) (h : Has n i) → All Byte n → (r : Record) → slotOf (slotIn i n) ≡ used r → sinceIn (slotIn i n) ≡ r .retired
+        own n h b r e =
+            let q = says (slotIn i n) (slot-long i n (slot-within h)) (slot-bytes i n b) r e in ap sinceIn (sym (q .bytes)) ∙ retired-says r (q .form)
+
+        source-since : j ≡ source-record .0 .retired
+        source-since = since-s ∙ own s (w .before) bytes-s (source-record .0) (ap slotOf (sym is-s) ∙ source-record .1)
+
+        target-since : k ≡ target-record .0 .retired
+        target-since = since-t ∙ own t (w .after) bytes-t (target-record .0) (ap slotOf (sym is-t) ∙ target-record .1)
+
+        pub counts-same : j ≡ k → Told (c .same + 1) (c .other) (c .out) ≡ After
+        counts-same e =
+            ap (λ n. Told n (c .other) (c .out)) (add-one (c .same))
+            ∙ sym (both-used (slotNo i s) (slotNo i t) c (source-record .0) (target-record .0) (at-s ∙ source-record .1) (at-t ∙ target-record .1)
+            ∙ rw (eq-eqb (source-record .0 .retired) (target-record .0 .retired) (sym source-since ∙ e ∙ target-since)))
+
+        pub counts-other : (j ≡ k → ⊥) → Told (c .same) (c .other + 1) (c .out) ≡ After
+        counts-other e =
+            ap (λ n. Told (c .same) n (c .out)) (add-one (c .other))
+            ∙ sym (both-used (slotNo i s) (slotNo i t) c (source-record .0) (target-record .0) (at-s ∙ source-record .1) (at-t ∙ target-record .1)
+            ∙ rw (ne-eqb (source-record .0 .retired) (target-record .0 .retired) (λ z. e (source-since ∙ z ∙ sym target-since))))
+
+-- a slot is counted once at most
+compared-few : (x y : Slot) (c : Counts) →
+    compared x y c .same + compared x y c .other + compared x y c .out ≤ suc (c .same + c .other + c .out)
+compared-few free y c = omega arith
+compared-few (used r) free c = omega arith
+compared-few (used r) (spoiled z) c = omega arith
+compared-few (used r) (used q) c = go (eqb (r .retired) (q .retired))
+  where
+    go : (b : Bool) →
+        cond b (Told (suc (c .same)) (c .other) (c .out)) (Told (c .same) (suc (c .other)) (c .out)) .same
+        + cond b (Told (suc (c .same)) (c .other) (c .out)) (Told (c .same) (suc (c .other)) (c .out)) .other
+        + cond b (Told (suc (c .same)) (c .other) (c .out)) (Told (c .same) (suc (c .other)) (c .out)) .out
+        ≤ suc (c .same + c .other + c .out)
+    go true = omega arith
+    go false = omega arith
+compared-few (spoiled z) y c = omega arith
+
+-- the slots from i on are counted
+pub record Counted (s t : Bytes) (n : ℕ) (c : declared.Counts) (i : ℕ) : Type 0 where
+  pub pair : Pair s t
+  pub room : n ≡ roomOf (length s)
+  pub small : n ≤ 16384
+  pub within : i ≤ n
+  pub few : c .same + c .other + c .out + i ≤ n
+  pub told : countsSay c ≡ counts (drop i (storeOf s .slots)) (drop i (storeOf t .slots))
+
+module _ {s t : Bytes} where
+  same-room : Pair s t → roomOf (length t) ≡ roomOf (length s)
+  same-room p = ap roomOf (p .equal)
+
+  pub counted-start : {n : ℕ} → Pair s t → n ≡ roomOf (length s) → (c : declared.Counts) → c .same ≡ 0 → c .other ≡ 0 → c .out ≡ 0 → Counted s t n c n
+  counted-start {n} p e c x y z = record {
+    pair = p;
+    room = e;
+    small = omega (arith, size-says (length s) (p .size));
+    within = omega arith;
+    few = omega arith;
+    told =
+        told-zero (c .same) (c .other) (c .out) x y z
+        ∙ sym (ap₂ counts (drop-of-length-le (storeOf s .slots) {i = n} (omega (arith, slots-many s)))
+        (drop-of-length-le (storeOf t .slots) {i = n} (omega (arith, slots-many t, same-room p))));
+  }
+    where
+      told-zero : (a b d : ℕ) → a ≡ 0 → b ≡ 0 → d ≡ 0 → Told a b d ≡ Told 0 0 0
+      told-zero a b d x y z = ap₂ (λ u v. Told u v d) x y ∙ ap (λ v. Told 0 0 v) z
+
+  module _ {n : ℕ} {c : declared.Counts} {i : ℕ} (w : Counted s t n c i) where
+    pub counted-slot : 0 < i → Countable s t (i - 1) c
+    counted-slot h = record {
+      before = record { size = w .pair .size; inside = omega (arith, w .room, w .within) };
+      after = record { size = subst (λ m. sizeRight m ≡ true) (sym (w .pair .equal)) (w .pair .size); inside = omega (arith, w .room, w .within, same-room (w .pair)) };
+      few = omega (arith, w .few, w .small);
+    }
+
+    pub counted-next : 0 < i → (r : declared.Counts) → countsSay r ≡ compared (slotNo (i - 1) s) (slotNo (i - 1) t) (countsSay c) → Counted s t n r (i - 1)
+    counted-next h r e =
+        let l : compared (slotNo (i - 1) s) (slotNo (i - 1) t) (countsSay c) .same + compared (slotNo (i - 1) s) (slotNo (i - 1) t) (countsSay c) .other
+        + compared (slotNo (i - 1) s) (slotNo (i - 1) t) (countsSay c) .out ≤ suc (c .same + c .other + c .out) =
+        compared-few (slotNo (i - 1) s) (slotNo (i - 1) t) (countsSay c) in
+        record {
+          pair = w .pair;
+          room = w .room;
+          small = w .small;
+          within = omega (arith, w .within);
+          few = omega (arith, w .few, l, ap (λ (k : Counts). k .same) e, ap (λ (k : Counts). k .other) e, ap (λ (k : Counts). k .out) e);
+          told = e ∙ ap (compared (slotNo (i - 1) s) (slotNo (i - 1) t)) (w .told ∙ up)
+              ∙ sym (ap₂ counts (drop-cons (storeOf s .slots) (i - 1) free (omega (arith, slots-many s, w .room, w .within)))
+              (drop-cons (storeOf t .slots) (i - 1) free (omega (arith, slots-many t, same-room (w .pair), w .room, w .within))));
+        }
+      where
+        up : counts (drop i (storeOf s .slots)) (drop i (storeOf t .slots)) ≡ counts (drop (suc (i - 1)) (storeOf s .slots)) (drop (suc (i - 1)) (storeOf t .slots))
+        up = let k : i ≡ suc (i - 1) = omega arith in ap (λ m. counts (drop m (storeOf s .slots)) (drop m (storeOf t .slots))) k
+
+    pub counted-end : i ≤ 0 → countsSay c ≡ counts (storeOf s .slots) (storeOf t .slots)
+    counted-end h = w .told ∙ (let k : i ≡ 0 = omega arith in ap (λ m. counts (drop m (storeOf s .slots)) (drop m (storeOf t .slots))) k)

@@ -1,0 +1,46 @@
+// The records that one tree of a source has and the next lacks, entered in the target, document 02, request 2026-08: each in its slot, with the
+// retired-since given.
+use lookup::Found;
+use place::Place;
+use rescue_look::kid;
+use rescue_look::lowest;
+use store::put_retired_at;
+use store::slot_of;
+use store_copy::copy_slot;
+ghost use Rattle.rescue_enter.specs.Enter.{Target, Held, Puts, Entering, Enters};
+
+// Writes the record that was found in the source to its slot of the target, with another retired-since.
+fn put(source: &[u8], found: Found, since: u32, target: &mut [u8])
+    requires { ⌜ Target (now source) (now target) × Held (now source) found ⌝ }
+    ensures { λ _. ⌜ Puts (now (source .entry)) found since (now (target .entry)) (now (target .exit)) ⌝ }
+{
+    let Found::At(i) = found else {
+        return;
+    };
+    copy_slot(target, i, slot_of(source, i));
+    put_retired_at(target, i, since);
+}
+
+// Enters the nodes of the tree of version a at a place that the tree of version b lacks.
+pub fn enter(source: &[u8], target: &mut [u8], since: u32, place: Place, a: u32, b: u32)
+    requires { ⌜ Entering (now source) (now target) place ⌝ }
+    ensures { λ _. ⌜ Enters (now (source .entry)) since place a b (now (target .entry)) (now (target .exit)) ⌝ }
+{
+    if a == b {
+        return;
+    }
+    let here = lowest(source, a, place);
+    let there = lowest(source, b, place);
+    let a_left = kid(source, here, false);
+    let a_right = kid(source, here, true);
+    let b_left = kid(source, there, false);
+    let b_right = kid(source, there, true);
+    put(source, here, since, target);
+    if 256 <= place.count {
+        return;
+    }
+    let left = place.left();
+    enter(source, target, since, left, a_left, b_left);
+    let right = place.right();
+    enter(source, target, since, right, a_right, b_right);
+}

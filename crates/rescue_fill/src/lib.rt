@@ -1,0 +1,58 @@
+// The target filled, document 02, request 2026-08: from latest, whose tree has passed, back by root records; each tree is compared with the next
+// one alone, and what it alone has is entered once it has passed.
+use format::format;
+use kin::later;
+use layout::put_header;
+use place::Place;
+use rescue_enter::enter;
+use rescue_step::Stepped;
+use rescue_step::step;
+use store::slot_count;
+ghost use mathlib.Core.Path.{_≡_};
+ghost use Rattle.rescue_fill.specs.Fill.{bounded, Shaped, Fillable, Filled};
+
+// Writes the bounds of the run; answers its first version.
+fn finish(target: &mut [u8], first: u32, latest: u32) -> u32
+    requires { ⌜ Shaped (now target) ⌝ }
+    ensures answer { λ r. ⌜ r ≡ first ⌝ }
+    ensures bytes { λ _. ⌜ now (target .exit) ≡ bounded first latest (now (target .entry)) ⌝ }
+{
+    let n = slot_count(target) as u32;
+    put_header(target, n, first, latest);
+    first
+}
+
+// Fills the target with the longest run; answers its first version.
+pub fn fill(
+    source: &[u8],
+    oldest: u32,
+    latest: u32,
+    root: u32,
+    lowest: u32,
+    target: &mut [u8],
+) -> u32
+    requires { ⌜ Fillable (now source) oldest latest root lowest (now target) ⌝ }
+    ensures { λ r. ⌜ Filled (now (source .entry)) oldest latest r (now (target .exit)) ⌝ }
+{
+    let top = Place::top();
+    format(target);
+    enter(source, target, 0, top, root, 0);
+    let mut b = root;
+    let mut low = lowest;
+    loop {
+        let first = later(later(oldest, low), b);
+        if first <= oldest {
+            return finish(target, first, latest);
+        }
+        if b < first {
+            return finish(target, first, latest);
+        }
+        let stepped = step(source, first - 1, first, b, low);
+        let Stepped::Yes { root: a, lowest: l } = stepped else {
+            return finish(target, first, latest);
+        };
+        enter(source, target, first, top, a, b);
+        b = a;
+        low = l;
+    }
+}

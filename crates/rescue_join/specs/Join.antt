@@ -1,0 +1,25 @@
+-- Document 02, request 2026-08, over the bytes of a source: whether one tree joins the next from a place on. No public promise reaches this
+-- file. Assumes nothing.
+use Prim.Native.Nat.{ℕ, _-_}
+use mathlib.Core.Path.{_≡_}
+use mathlib.Core.Bool.{Bool, true, false}
+use lib.ListN.{length}
+use Rattle.terms.specs.Bits.{Bytes}
+use Rattle.nodehash.specs.Node.{leafHash, innerHash}
+use Rattle.place.specs.declared.Place as place
+use Rattle.place.specs.Place.{placeOf}
+use Rattle.layout.specs.Stores.{storeOf}
+use Rattle.rescued.specs.Joining.{joinAt, newestChild}
+use Rattle.rescue_join.specs.declared.Joined as declared
+use Rattle.rescue_join.specs.declared.Joined.the-variants.{Broken, Fits}
+
+-- From a place on: the node of version a joins that of version b, and the greatest version of a child newer than its parent.
+unfoldable pub joinsHere : Bytes → ℕ → place.Place → ℕ → ℕ → Bool
+joinsHere s next p a b = joinAt leafHash innerHash (256 - p .count) (storeOf s .slots) next a b (placeOf p)
+
+unfoldable pub lowestHere : Bytes → place.Place → ℕ → ℕ → ℕ
+lowestHere s p a b = newestChild (256 - p .count) (storeOf s .slots) a b (placeOf p)
+
+abbrev pub JoinSays : Bytes → ℕ → place.Place → ℕ → ℕ → declared.Joined → Type 0
+JoinSays s next p a b Broken = joinsHere s next p a b ≡ false
+JoinSays s next p a b (Fits l) = (joinsHere s next p a b ≡ true) × (lowestHere s p a b ≡ l)

@@ -1,0 +1,79 @@
+// Two trees of a source compared, document 02, request 2026-08: whether a version's tree joins the next one's.
+use kin::later;
+use place::Place;
+use rescue_look::kid;
+use rescue_look::lowest;
+use rescue_look::record_right;
+ghost use mathlib.Core.Path.{_≡_};
+ghost use mathlib.Core.Bool.{true, _||_};
+ghost use lib.ListN.{length};
+ghost use lib.Dec.{eqb};
+ghost use Rattle.place.specs.Place.{Proper};
+ghost use Rattle.layout.specs.Headers.{sizeRight};
+ghost use Rattle.rescued.specs.Joining.{newer};
+ghost use Rattle.rescue_join.specs.Join.{JoinSays};
+
+// Whether a version is 0 or the next one.
+fn of_next(b: u32, next: u32) -> bool
+    ensures { λ r. ⌜ r ≡ (eqb b 0 || eqb b next) ⌝ }
+{
+    if b == 0 {
+        return true;
+    }
+    b == next
+}
+
+// The version of a child where it is newer than its parent, else 0.
+fn newer(a: u32, child: u32) -> u32
+    ensures { λ r. ⌜ r ≡ newer a child ⌝ }
+{
+    if a < child {
+        return child;
+    }
+    0
+}
+
+pub enum Joined {
+    Broken,
+    // The greatest version of a child newer than its parent, among the records of the first tree that the second lacks.
+    Fits { lowest: u32 },
+}
+
+// Joins the node of version a at a place, and all below it, to the node of version b in the tree of the version `next`.
+pub fn join(source: &[u8], next: u32, place: Place, a: u32, b: u32) -> Joined
+    requires { ⌜ (sizeRight (length (now source)) ≡ true) × Proper place ⌝ }
+    ensures { λ r. ⌜ JoinSays (now (source .entry)) next place a b r ⌝ }
+{
+    if a == b {
+        return Joined::Fits { lowest: 0 };
+    }
+    if !of_next(b, next) {
+        return Joined::Broken;
+    }
+    let here = lowest(source, a, place);
+    if !record_right(source, a, place, here) {
+        return Joined::Broken;
+    }
+    if 256 <= place.count {
+        return Joined::Fits { lowest: 0 };
+    }
+    let there = lowest(source, b, place);
+    let a_left = kid(source, here, false);
+    let a_right = kid(source, here, true);
+    let b_left = kid(source, there, false);
+    let b_right = kid(source, there, true);
+    let left = place.left();
+    let on_left = join(source, next, left, a_left, b_left);
+    let Joined::Fits { lowest: l } = on_left else {
+        return Joined::Broken;
+    };
+    let right = place.right();
+    let on_right = join(source, next, right, a_right, b_right);
+    let Joined::Fits { lowest: r } = on_right else {
+        return Joined::Broken;
+    };
+    let own = later(newer(a, a_left), newer(a, a_right));
+    Joined::Fits {
+        lowest: later(own, later(l, r)),
+    }
+}

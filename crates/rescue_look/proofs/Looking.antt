@@ -1,0 +1,313 @@
+-- The lowest slot of a node, and what the record there says: a record in form is what its bytes say. Assumes nothing.
+use Prim.Native.Nat.{ℕ, zero, suc, _+_, _<_, _≤_}
+use native.Mathlib.Omega.{arith}
+use mathlib.Core.Path.{_≡_, refl, ap, ap₂, sym, _∙_, subst}
+use mathlib.Core.Bool.{Bool, true, false, cond, not, _&&_, true≢false, false≢true}
+use mathlib.Core.List.{List, [], _∷_}
+use mathlib.Core.Option.{Option, none, some}
+use lib.ListN.{length, getD, take, drop}
+use lib.Seq.{take-all}
+use lib.Dec.{eqb, leb}
+use borrow.Author.Tests.{leb-true, leb-false, eq-eqb, ne-eqb}
+use Rattle.terms.specs.Bits.{Bytes, Byte, All, Side, left, right, Place, longer, begins, sameBytes}
+use Rattle.terms.specs.Fields.{allZero}
+use Rattle.terms.specs.Records.{Child, Body, leafBody, innerBody, Record, Slot, free, used, spoiled}
+use Rattle.terms.specs.Form.{RecordForm, placeLimit}
+use Rattle.terms.proofs.Tests.{is-false}
+use Rattle.meaning.specs.Store.{find, isNode, childOn}
+use Rattle.meaning.specs.Reading.{bodyHash}
+use Rattle.meaning.specs.Local.{childVersion}
+use Rattle.meaning.proofs.Finding.{used-eq, free-used, found-in, Lowest, miss, hit, Hit, hits}
+use Rattle.local.specs.Test.{byRecord, loneLeaf}
+use Rattle.nodehash.specs.Node.{leafHash, innerHash}
+use Rattle.place.specs.declared.Place as place
+use Rattle.place.specs.Place.{placeOf, Proper, Grown}
+use Rattle.place.proofs.Places.{proper-count}
+use Rattle.layout.specs.Sizes.{roomOf}
+use Rattle.layout.specs.Headers.{sizeRight}
+use Rattle.layout.specs.Slots.{countIn, bitsIn, versionIn, isLeaf, isInner, keyIn, valueIn, leafIn, leftIn, rightIn, kidOn, innerIn, recordIn, slotOf, SlotForm}
+use Rattle.layout.specs.Stores.{slotIn, storeOf, slotNo, Has, SlotWithin}
+use Rattle.layout.proofs.Headers.{size-says}
+use Rattle.store.proofs.Slots.{slots-many, slot-within, slot-is, slot-formed}
+use Rattle.lookup.specs.declared.Found as found
+use Rattle.lookup.specs.declared.Found.the-variants.{At, Nothing}
+use Rattle.lookup.specs.Lookup.{isUsed}
+use Rattle.kin.specs.Kin.{countNode}
+use Rattle.kin.proofs.Holding.{other-version, other-count, other-bits, no-record, held}
+use Rattle.read_step.specs.Walk.{bodyIn}
+use Rattle.rescued.specs.Joining.{kidOf, linked, bodyRight, recordRight}
+use Rattle.rescued.specs.Entering.{LowestAt}
+use Rattle.rescue_look.specs.Look.{StandsSay, LowestIn, Sought, Inside, KidSays, linkedAt}
+
+-- a search past a slot that isn't the node
+past : (v : ℕ) (p : Place) (x : Slot) (s : List Slot) → ((q : Record) → x ≡ used q → isNode v p q ≡ false) → find v p (x ∷ s) ≡ find v p s
+past v p free s f = refl
+past v p (used q) s f = rw (f q refl)
+past v p (spoiled y) s f = refl
+
+find-lowest : (s : List Slot) (v : ℕ) (p : Place) (i : ℕ) (r : Record) → getD s i free ≡ used r → isNode v p r ≡ true →
+    ((j : ℕ) (q : Record) → j < i → getD s j free ≡ used q → isNode v p q ≡ false) → find v p s ≡ some r
+find-lowest [] v p i r e t f = free-used r e
+find-lowest (x ∷ s) v p zero r e t f = subst (λ y. find v p (y ∷ s) ≡ some r) (sym e) (rw t)
+find-lowest (x ∷ s) v p (suc i) r e t f =
+    past v p x s (λ q u. f 0 q (omega arith) u) ∙ find-lowest s v p i r e t (λ j q l u. f (suc j) q (omega arith) u)
+
+-- no slot holds the node
+find-none : (s : List Slot) (v : ℕ) (p : Place) → ((j : ℕ) (q : Record) → j < length s → getD s j free ≡ used q → isNode v p q ≡ false) →
+    find v p s ≡ none
+find-none s v p f = go _ (hits s v p)
+  where
+    go : (o : Option Record) → Hit s v p o → o ≡ none
+    go none h = refl
+    go (some r) (hit i r′ l e t) = absurd (true≢false (sym t ∙ f i _ l e))
+
+-- what the count of one slot says
+no-holder : (v : ℕ) (p : Place) (y : Slot) → byRecord 0 (countNode v p) y ≡ 0 → (q : Record) → y ≡ used q → isNode v p q ≡ false
+unfolding countNode
+no-holder v p y e q u = is-false (isNode v p q) (λ t. let z : _≡_ {A = ℕ} 1 0 = sym (one t) ∙ ap (byRecord 0 (countNode v p)) (sym u) ∙ e in absurd (omega arith))
+  where
+    one : isNode v p q ≡ true → _≡_ {A = ℕ} (cond (isNode v p q) 1 0) 1
+    one t = rw t
+
+holder-is : (v : ℕ) (p : Place) (y : Slot) → (byRecord 0 (countNode v p) y ≡ 0 → ⊥) → (q : Record) × (y ≡ used q) × (isNode v p q ≡ true)
+unfolding countNode
+holder-is v p free f = absurd (f refl)
+holder-is v p (used q) f = go (isNode v p q) refl
+  where
+    go : (t : Bool) → isNode v p q ≡ t → (x : Record) × (used q ≡ used x) × (isNode v p x ≡ true)
+    go true e = (q, refl, e)
+    go false e = absurd (f (rw e))
+holder-is v p (spoiled y) f = absurd (f refl)
+
+-- at slot i of n: none before it holds the node
+pub record Passed (s : Bytes) (v : ℕ) (p : Place) (n i : ℕ) : Type 0 where
+  pub size : sizeRight (length s) ≡ true
+  pub room : n ≡ roomOf (length s)
+  pub small : n ≤ 16384
+  pub none-yet : (j : ℕ) (q : Record) → j < i → getD (storeOf s .slots) j free ≡ used q → isNode v p q ≡ false
+
+pub passed-start : (s : Bytes) (v : ℕ) (p : Place) {n : ℕ} → sizeRight (length s) ≡ true → n ≡ roomOf (length s) → Passed s v p n 0
+passed-start s v p e m = record {
+  size = e;
+  room = m;
+  small = omega (arith, size-says (length s) e);
+  none-yet = λ j q l u. absurd (omega arith);
+}
+
+module _ {s : Bytes} {v : ℕ} {p : Place} {n i : ℕ} (w : Passed s v p n i) where
+  pub passed-has : i < n → Has s i
+  passed-has h = record { size = w .size; inside = omega (arith, w .room) }
+
+  passed-by : byRecord 0 (countNode v p) (slotNo i s) ≡ 0 → Passed s v p n (i + 1)
+  passed-by z = record { size = w .size; room = w .room; small = w .small; none-yet = λ j q l u. go j q l u (leb (suc j) i) refl }
+    where
+      go : (j : ℕ) (q : Record) → j < i + 1 → getD (storeOf s .slots) j free ≡ used q → (b : Bool) → leb (suc j) i ≡ b → isNode v p q ≡ false
+      go j q l u true k = let m = leb-true (suc j) i k in w .none-yet j q (omega arith) u
+      go j q l u false k =
+          let m = leb-false (suc j) i k in
+          let same : j ≡ i = omega arith in
+          no-holder v p (slotNo i s) z q (ap (λ x. getD (storeOf s .slots) x free) (sym same) ∙ u)
+
+  pub passed-end : n ≤ i → LowestIn (storeOf s .slots) v p Nothing
+  passed-end h = find-none (storeOf s .slots) v p (λ j q l u. w .none-yet j q (omega (arith, w .room, slots-many s)) u)
+
+-- at a place by value
+module _ {s : Bytes} {v : ℕ} (p : place.Place) {n i : ℕ} (w : Passed s v (placeOf p) n i) where
+  pub passed-version : (bytes : All Byte s) → Proper p → i < n → {c : ℕ} → c ≡ versionIn (slotIn i s) → (c ≡ v → ⊥) → Passed s v (placeOf p) n (i + 1)
+  passed-version bytes proper h e f = passed-by w (sym (other-version (passed-has w h) bytes v p proper (λ k. f (e ∙ k))))
+
+  module _ {c : ℕ} (e : c ≡ versionIn (slotIn i s)) (k : c ≡ v) {t : Bool} (say : StandsSay s i p t) where
+    pub passed-next : t ≡ false → Passed s v (placeOf p) n (i + 1)
+    passed-next f = passed-by w (sym (say v (sym e ∙ k)) ∙ (let z : _≡_ {A = ℕ} (cond t 1 0) 0 = rw f in z))
+
+    pub passed-found : i < n → t ≡ true → LowestIn (storeOf s .slots) v (placeOf p) (At i)
+    passed-found h f =
+        let one : _≡_ {A = ℕ} (cond t 1 0) 1 = rw f in
+        let x = holder-is v (placeOf p) (slotNo i s) (λ z. absurd (omega (arith, one, say v (sym e ∙ k), z))) in (
+          omega (arith, w .room, slots-many s),
+          (x .0, record { at = x .1; found = find-lowest (storeOf s .slots) v (placeOf p) i (x .0) (x .1) (x .2) (w .none-yet); lowest = w .none-yet }),
+        )
+
+-- one slot, where its version is right
+module _ {s : Bytes} {i : ℕ} (h : Has s i) (bytes : All Byte s) (p : place.Place) (proper : Proper p) where
+  pub stands-count : (countIn (slotIn i s) ≡ p .count → ⊥) → StandsSay s i p false
+  stands-count f v e = other-count h bytes v p proper f
+
+  pub stands-bits : {x y : Bytes} → x ≡ slotIn i s → y ≡ bitsIn x → sameBytes y (p .bits) ≡ false → StandsSay s i p false
+  stands-bits a b f v e = other-bits h bytes v p proper a b f
+
+  pub stands-not : {x : Bytes} → x ≡ slotIn i s → isUsed (slotOf x) ≡ false → StandsSay s i p false
+  stands-not a f v e = no-record h bytes v p proper a f
+
+  pub stands : {x y : Bytes} → x ≡ slotIn i s → y ≡ bitsIn x → countIn (slotIn i s) ≡ p .count → sameBytes y (p .bits) ≡ true → isUsed (slotOf x) ≡ true →
+      StandsSay s i p true
+  stands a b c d u v e = held h bytes v p proper a b e c d u
+
+-- the record in a slot
+module _ (s : Bytes) (bytes : All Byte s) (i : ℕ) (has : Has s i) (r : Record) (e : slotNo i s ≡ used r) where
+  says : slotOf (slotIn i s) ≡ used r
+  says = sym (slot-is has) ∙ e
+
+  pub its-form : RecordForm r
+  its-form = subst SlotForm says (slot-formed has bytes)
+
+  pub its-body : r .body ≡ bodyIn (slotIn i s)
+  unfolding slotOf bodyIn recordIn
+  its-body = go (allZero x) (isLeaf x) (isInner x) says
+    where
+      x : Bytes
+      x = slotIn i s
+
+      go : (a b c : Bool) → cond a free (cond b (used (recordIn x (leafIn x))) (cond c (used (recordIn x (innerIn x))) (spoiled x))) ≡ used r →
+          r .body ≡ cond b (leafIn x) (innerIn x)
+      go true b c k = let z : _≡_ {A = ℕ} 0 1 = cc in absurd (omega arith)
+      go false true c k = ap (λ (q : Record). q .body) (sym (used-eq _ r k))
+      go false false true k = ap (λ (q : Record). q .body) (sym (used-eq _ r k))
+      go false false false k = let z : _≡_ {A = ℕ} 0 1 = cc in absurd (omega arith)
+
+  pub leaf-is : isLeaf (slotIn i s) ≡ true → r .body ≡ leafBody (keyIn (slotIn i s)) (valueIn (slotIn i s))
+  leaf-is t = its-body ∙ unfold bodyIn leafIn in rw t
+
+  pub inner-is : isLeaf (slotIn i s) ≡ false → r .body ≡ innerBody (leftIn (slotIn i s)) (rightIn (slotIn i s))
+  inner-is t = its-body ∙ unfold bodyIn innerIn in rw t
+
+-- version 0 is no node
+pub no-version : (s : Bytes) → sizeRight (length s) ≡ true → All Byte s → (v : ℕ) (p : Place) → v ≡ 0 → LowestIn (storeOf s .slots) v p Nothing
+no-version s z b v p e = go _ refl
+  where
+    go : (o : Option Record) → find v p (storeOf s .slots) ≡ o → o ≡ none
+    go none k = refl
+    go (some r) k =
+        let f = found-in (storeOf s .slots) v p r k in
+        let h : Has s (f .0) = record { size = z; inside = omega (arith, f .1 .0, slots-many s) } in
+        absurd (omega (arith, its-form s b (f .0) h r (f .1 .1) .versioned .0, f .2))
+
+-- what was found is in a slot
+pub inside-of : (s : Bytes) (z : sizeRight (length s) ≡ true) (v : ℕ) (p : Place) (f : found.Found) → LowestIn (storeOf s .slots) v p f → Inside s f
+inside-of s z v p (At i) h = record { size = z; inside = omega (arith, h .0, slots-many s) }
+inside-of s z v p Nothing h = tt
+
+-- the child's version
+kid-on : (b : Side) (x : Bytes) → kidOn b x ≡ childOn b (leftIn x) (rightIn x)
+kid-on false x = refl
+kid-on true x = refl
+
+module _ (s : Bytes) {f : found.Found} (b : Side) where
+  pub kid-nothing : f ≡ Nothing → KidSays s f b 0
+  kid-nothing e v p h = sym (ap (kidOf b) (subst (LowestIn (storeOf s .slots) v p) e h))
+
+  module _ (bytes : All Byte s) {i : ℕ} (has : Has s i) (e : f ≡ At i) where
+    module _ (v : ℕ) (p : Place) (h : LowestIn (storeOf s .slots) v p f) where
+      at-i : LowestIn (storeOf s .slots) v p (At i)
+      at-i = subst (LowestIn (storeOf s .slots) v p) e h
+
+      kid-by : (y : Body) → at-i .1 .0 .body ≡ y → kidOf b (find v p (storeOf s .slots)) ≡ childVersion b y
+      kid-by y k = ap (kidOf b) (at-i .1 .1 .found) ∙ ap (childVersion b) k
+
+    pub kid-leaf : {x : Bytes} {t : Bool} → x ≡ slotIn i s → t ≡ isLeaf x → t ≡ true → KidSays s f b 0
+    kid-leaf q d t v p h =
+        sym (kid-by v p h _ (leaf-is s bytes i has (at-i v p h .1 .0) (at-i v p h .1 .1 .at) (ap isLeaf (sym q) ∙ sym d ∙ t)))
+
+    pub kid-inner : {x : Bytes} {t : Bool} {r : ℕ} → x ≡ slotIn i s → t ≡ isLeaf x → t ≡ false → r ≡ kidOn b (slotIn i s) .version → KidSays s f b r
+    kid-inner q d t k v p h =
+        k
+        ∙ ap (λ (c : Child). c .version) (kid-on b (slotIn i s))
+        ∙ sym (kid-by v p h _ (inner-is s bytes i has (at-i v p h .1 .0) (at-i v p h .1 .1 .at) (ap isLeaf (sym q) ∙ sym d ∙ t)))
+
+-- the child on a side, sought at a place
+module _ (s : Bytes) (i : ℕ) (b : Side) (p : Place) {v : ℕ} {f : found.Found} (k : v ≡ kidOn b (slotIn i s) .version)
+    (h : LowestIn (storeOf s .slots) v p f) where
+  pub link-nothing : f ≡ Nothing → eqb v 0 ≡ linkedAt s i b p
+  unfolding linkedAt
+  link-nothing e =
+      let n : find (kidOn b (slotIn i s) .version) p (storeOf s .slots) ≡ none =
+      ap (λ w. find w p (storeOf s .slots)) (sym k) ∙ subst (LowestIn (storeOf s .slots) v p) e h in
+      rw n (ap (λ w. eqb w 0) k)
+
+  module _ (size : sizeRight (length s) ≡ true) (bytes : All Byte s) {j : ℕ} (e : f ≡ At j) where
+    at-j : LowestIn (storeOf s .slots) v p (At j)
+    at-j = subst (LowestIn (storeOf s .slots) v p) e h
+
+    pub has-j : Has s j
+    has-j = record { size = size; inside = omega (arith, at-j .0, slots-many s) }
+
+    linked-found : linkedAt s i b p
+        ≡ (sameBytes (bodyHash leafHash innerHash (bodyIn (slotIn j s))) (kidOn b (slotIn i s) .hash)
+        && not (loneLeaf (kidOn (not b) (slotIn i s)) (bodyIn (slotIn j s))))
+    unfolding linkedAt
+    linked-found =
+        let n : find (kidOn b (slotIn i s) .version) p (storeOf s .slots) ≡ some (at-j .1 .0) =
+        ap (λ w. find w p (storeOf s .slots)) (sym k) ∙ at-j .1 .1 .found in
+        rw n
+        (ap (λ y. sameBytes (bodyHash leafHash innerHash y) (kidOn b (slotIn i s) .hash) && not (loneLeaf (kidOn (not b) (slotIn i s)) y))
+        (its-body s bytes j has-j (at-j .1 .0) (at-j .1 .1 .at)))
+
+    module _ {x y z l r : Bytes} {t : Bool} (slot : x ≡ slotIn j s) (own : l ≡ bodyHash leafHash innerHash (bodyIn x))
+        (from : y ≡ slotIn i s) (part : z ≡ kidOn b y .hash) (long : length z ≡ 32) (stored : r ≡ take 32 (drop 0 z)) (same : t ≡ sameBytes l r) where
+      same-is : sameBytes (bodyHash leafHash innerHash (bodyIn (slotIn j s))) (kidOn b (slotIn i s) .hash) ≡ t
+      same-is = sym (same ∙ ap₂ sameBytes (own ∙ ap (λ w. bodyHash leafHash innerHash (bodyIn w)) slot)
+          (stored ∙ take-all 32 z (omega arith) ∙ part ∙ ap (λ w. kidOn b w .hash) from))
+
+      pub link-off : t ≡ false → false ≡ linkedAt s i b p
+      link-off u = sym (linked-found ∙ rw (same-is, u))
+
+      module _ (right-hash : t ≡ true) {q : Bool} (kind : q ≡ isLeaf x) where
+        pub link-inner : q ≡ false → true ≡ linkedAt s i b p
+        unfolding bodyIn innerIn
+        link-inner u = sym (linked-found ∙ rw (same-is, right-hash, ap isLeaf (sym slot) ∙ sym kind ∙ u))
+
+        pub link-leaf : {o : ℕ} → q ≡ true → o ≡ kidOn (not b) (slotIn i s) .version → not (eqb o 0) ≡ linkedAt s i b p
+        unfolding bodyIn leafIn
+        link-leaf u w = sym (linked-found ∙ rw (same-is, right-hash, ap isLeaf (sym slot) ∙ sym kind ∙ u) (ap (λ n. not (eqb n 0)) (sym w)))
+
+-- a record that was sought
+module _ (s : Bytes) (v : ℕ) (p : place.Place) {f : found.Found} (w : Sought s v p f) where
+  abbrev Right : Bool
+  Right = recordRight leafHash innerHash (storeOf s .slots) v (placeOf p) (find v (placeOf p) (storeOf s .slots))
+
+  pub right-nothing : f ≡ Nothing → eqb v 0 ≡ Right
+  right-nothing e =
+      sym (ap (recordRight leafHash innerHash (storeOf s .slots) v (placeOf p)) (subst (LowestIn (storeOf s .slots) v (placeOf p)) e (w .lowest)))
+
+  module _ (bytes : All Byte s) {i : ℕ} (e : f ≡ At i) where
+    at-slot : LowestIn (storeOf s .slots) v (placeOf p) (At i)
+    at-slot = subst (LowestIn (storeOf s .slots) v (placeOf p)) e (w .lowest)
+
+    pub sought-has : Has s i
+    sought-has = record { size = w .size; inside = omega (arith, at-slot .0, slots-many s) }
+
+    right-by : (y : Body) → at-slot .1 .0 .body ≡ y → Right ≡ bodyRight leafHash innerHash (storeOf s .slots) (placeOf p) y
+    right-by y k =
+        ap (recordRight leafHash innerHash (storeOf s .slots) v (placeOf p)) (at-slot .1 .1 .found)
+        ∙ ap (bodyRight leafHash innerHash (storeOf s .slots) (placeOf p)) k
+
+    module _ {x : Bytes} {t : Bool} (slot : x ≡ slotIn i s) (kind : t ≡ isLeaf x) where
+      pub right-leaf : {z : Bytes} {r : Bool} → t ≡ true → z ≡ keyIn x → r ≡ begins (placeOf p) z → r ≡ Right
+      right-leaf u k g =
+          g
+          ∙ ap (begins (placeOf p)) (k ∙ ap keyIn slot)
+          ∙ sym (right-by _ (leaf-is s bytes i sought-has (at-slot .1 .0) (at-slot .1 .1 .at) (ap isLeaf (sym slot) ∙ sym kind ∙ u)))
+
+      inner-body-is : t ≡ false → at-slot .1 .0 .body ≡ innerBody (leftIn (slotIn i s)) (rightIn (slotIn i s))
+      inner-body-is u = inner-is s bytes i sought-has (at-slot .1 .0) (at-slot .1 .1 .at) (ap isLeaf (sym slot) ∙ sym kind ∙ u)
+
+      pub inner-short : t ≡ false → p .count < 256
+      inner-short u =
+          let form = its-form s bytes i sought-has (at-slot .1 .0) (at-slot .1 .1 .at) in
+          let there = found-in (storeOf s .slots) v (placeOf p) (at-slot .1 .0) (at-slot .1 .1 .found) .3 in
+          let limit : placeLimit (at-slot .1 .0 .body) ≡ 255 = ap placeLimit (inner-body-is u) in
+          omega (arith, form .short, ap length there, proper-count p (w .proper))
+
+      module _ (u : t ≡ false) {l : place.Place} (on-left : Grown left p l) where
+        sides : Right ≡ (linkedAt s i left (placeOf l) && linkedAt s i right (longer right (placeOf p)))
+        unfolding linkedAt
+        sides = right-by _ (inner-body-is u)
+            ∙ ap (λ y. linked leafHash innerHash (find (leftIn (slotIn i s) .version) y (storeOf s .slots)) (leftIn (slotIn i s)) (rightIn (slotIn i s))
+            && linked leafHash innerHash (find (rightIn (slotIn i s) .version) (longer right (placeOf p)) (storeOf s .slots)) (rightIn (slotIn i s)) (leftIn (slotIn i s)))
+            (sym (on-left .place))
+
+        pub left-off : {m : Bool} → m ≡ linkedAt s i left (placeOf l) → m ≡ false → false ≡ Right
+        left-off d n = sym (sides ∙ rw (sym d ∙ n))
+
+        pub right-on : {m o : Bool} {r : place.Place} → m ≡ linkedAt s i left (placeOf l) → m ≡ true → Grown right p r → o ≡ linkedAt s i right (placeOf r) → o ≡ Right
+        right-on d n g k = k ∙ ap (linkedAt s i right) (g .place) ∙ sym (sides ∙ rw (sym d ∙ n))

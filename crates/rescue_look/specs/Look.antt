@@ -1,0 +1,52 @@
+-- Document 02, request 2026-08, over the bytes of a source: what a search for a node found. No public promise reaches this file.
+-- Assumes nothing.
+use Prim.Native.Nat.{ℕ, _<_}
+use mathlib.Core.Path.{_≡_}
+use mathlib.Core.Bool.{Bool, true, not, cond}
+use mathlib.Core.Option.{Option, none}
+use mathlib.Core.List.{List}
+use lib.ListN.{length}
+use Rattle.terms.specs.Bits.{Bytes, Side, Place}
+use Rattle.terms.specs.Records.{Record, Slot}
+use Rattle.meaning.specs.Store.{find}
+use Rattle.local.specs.Test.{byRecord}
+use Rattle.nodehash.specs.Node.{leafHash, innerHash}
+use Rattle.place.specs.declared.Place as place
+use Rattle.place.specs.Place.{placeOf, Proper}
+use Rattle.layout.specs.Headers.{sizeRight}
+use Rattle.layout.specs.Slots.{versionIn, kidOn}
+use Rattle.layout.specs.Stores.{slotIn, storeOf, slotNo, Has}
+use Rattle.lookup.specs.declared.Found as found
+use Rattle.lookup.specs.declared.Found.the-variants.{At, Nothing}
+use Rattle.kin.specs.Kin.{countNode}
+use Rattle.rescued.specs.Joining.{kidOf, linked}
+use Rattle.rescued.specs.Entering.{LowestAt}
+
+-- Where slot i has the version v, it holds the node at a place or it doesn't.
+abbrev pub StandsSay : Bytes → ℕ → place.Place → Bool → Type 0
+StandsSay s i p r = (v : ℕ) → versionIn (slotIn i s) ≡ v → cond r 1 0 ≡ byRecord 0 (countNode v (placeOf p)) (slotNo i s)
+
+-- What a search for a node found: its lowest slot, or nothing.
+abbrev pub LowestIn : List Slot → ℕ → Place → found.Found → Type 0
+LowestIn s v p (At i) = (i < length s) × ((r : Record) × LowestAt s v p i r)
+LowestIn s v p Nothing = find v p s ≡ none
+
+-- A search for a node in a source of the right size.
+pub record Sought (s : Bytes) (v : ℕ) (p : place.Place) (r : found.Found) : Type 0 where
+  pub size : sizeRight (length s) ≡ true
+  pub proper : Proper p
+  pub lowest : LowestIn (storeOf s .slots) v (placeOf p) r
+
+-- What is found is in a slot of the source.
+abbrev pub Inside : Bytes → found.Found → Type 0
+Inside s (At i) = Has s i
+Inside s Nothing = Unit {0}
+
+-- The version of the child on a side of whatever node was sought.
+abbrev pub KidSays : Bytes → found.Found → Side → ℕ → Type 0
+KidSays s f b r = (v : ℕ) (p : Place) → LowestIn (storeOf s .slots) v p f → r ≡ kidOf b (find v p (storeOf s .slots))
+
+-- Whether the child on a side of the inner record in slot i, sought at a place, is linked.
+unfoldable pub linkedAt : Bytes → ℕ → Side → Place → Bool
+linkedAt s i b p =
+    linked leafHash innerHash (find (kidOn b (slotIn i s) .version) p (storeOf s .slots)) (kidOn b (slotIn i s)) (kidOn (not b) (slotIn i s))

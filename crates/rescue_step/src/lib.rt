@@ -1,0 +1,41 @@
+// One step back of a rescue, document 02, request 2026-08: whether a version joins the next one's tree.
+use kin::later;
+use place::Place;
+use rescue_join::Joined;
+use rescue_join::join;
+use rescue_root::root_version;
+ghost use mathlib.Core.Path.{_≡_};
+ghost use mathlib.Core.Bool.{true};
+ghost use lib.ListN.{length};
+ghost use Rattle.layout.specs.Headers.{sizeRight};
+ghost use Rattle.rescue_step.specs.Step.{StepSays};
+
+pub enum Stepped {
+    No,
+    // The version of the root, and the version before which no run begins.
+    Yes { root: u32, lowest: u32 },
+}
+
+// Whether version v joins the tree of the version `next`, whose root is of version b; b is 0 where there is none.
+pub fn step(source: &[u8], v: u32, next: u32, b: u32, low: u32) -> Stepped
+    requires { ⌜ sizeRight (length (now source)) ≡ true ⌝ }
+    ensures { λ r. ⌜ StepSays (now (source .entry)) v next b low r ⌝ }
+{
+    let a = root_version(source, v);
+    if a == 0 {
+        return Stepped::No;
+    }
+    let top = Place::top();
+    let joined = join(source, next, top, a, b);
+    let Joined::Fits { lowest: l } = joined else {
+        return Stepped::No;
+    };
+    let higher = later(low, l);
+    if v < higher {
+        return Stepped::No;
+    }
+    Stepped::Yes {
+        root: a,
+        lowest: higher,
+    }
+}

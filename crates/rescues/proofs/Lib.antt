@@ -1,0 +1,6 @@
+pub mod Readable
+pub mod Outcomes
+pub mod Worth
+pub mod Again
+pub mod Ledger
+pub mod Report

@@ -1,0 +1,57 @@
+-- `store_copy::copy_slot` meets its contract: the part of slot i comes back as the bytes given. Assumes nothing.
+use native.Mathlib.Omega.{arith}
+use mathlib.Core.Path.{sym, _∙_}
+use Rattle.store.proofs.Slots.{part-put, part-long}
+use borrow.Author.Needs.{needs}
+use Rattle.store_copy.proofs.copy_slot.Statement.{statement}
+use Rattle.store_copy.proofs.copy_slot.Tie as tie
+
+mul-start : tie.Need-mul-start
+mul-start c =
+    search needs
+
+add-start : tie.Need-add-start
+add-start c =
+    search needs
+
+add-end : tie.Need-add-end
+add-end c =
+    search needs
+
+sub-copy : tie.Need-sub-copy
+sub-copy c =
+    search needs
+
+part-copy-start : tie.Need-part-copy-start
+part-copy-start c =
+    search needs
+
+part-copy-end : tie.Need-part-copy-end
+part-copy-end c =
+    search needs
+
+copy-requires : tie.Need-copy-requires
+copy-requires c κs =
+    (c .before .before .before) .pre .1 ∙ sym (part-long ((c .before .before .before) .args .i) ((c .before .before .before) .args .store .now) ((c .before .before .before) .pre .0))
+
+same-length : tie.Need-same-length
+same-length c =
+    search needs
+
+returns : tie.Need-returns
+returns c =
+    part-put ((c .before .before .before .before .before .before) .args .i) _ ((c .before .before .before .before .before .before) .args .store .now) ((c .before .before .before .before .before .before) .pre .0) ((c .before .before) .copy .ensures) ((c .before .before) .copy .kept .0)
+
+pub copy-slot-spec : {M : Type 1} → statement M
+copy-slot-spec =
+    tie.close
+    (tie.spec
+    mul-start
+    add-start
+    add-end
+    sub-copy
+    part-copy-start
+    part-copy-end
+    copy-requires
+    same-length
+    returns)

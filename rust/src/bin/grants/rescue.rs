@@ -1,0 +1,449 @@
+//! Rescue from a damaged store. What comes back is the library's word; why a slot was left out, why the run begins no earlier, and which root records
+//! there are, is looked up here, so that a person sees what was lost.
+
+use crate::args::{number, Args};
+use crate::asked::{hex, read_store};
+use crate::commands::object;
+use crate::fail::Fail;
+use crate::files;
+use crate::held;
+use crate::json::Json;
+use crate::out::Out;
+use crate::plain::{counted, shown};
+use grants::{sha256, to_hex, Body, Error, Place, Record, Root, Slot};
+use std::collections::{BTreeMap, HashMap};
+use std::path::Path;
+
+const COMPARE: &str = "Compare it with the root that was signed: nothing else shows that no grant withdrawn since seems in force.";
+
+/// The records in form of a store with any contents, the lowest slot of each version and place.
+struct Found {
+    slots: Vec<Slot>,
+    lowest: HashMap<(u32, Place), usize>,
+    /// Each root record that a version may have, by its version.
+    roots: BTreeMap<u32, (usize, Record)>,
+    /// Whether the tree below a record is whole, and the greatest version in it; or what is wrong first.
+    trees: HashMap<usize, Result<u32, String>>,
+}
+
+impl Found {
+    fn of(slots: Vec<Slot>) -> Found {
+        let mut lowest = HashMap::new();
+        let mut roots = BTreeMap::new();
+        for (i, slot) in slots.iter().enumerate() {
+            if let Slot::Record(record) = slot {
+                lowest.entry((record.version, record.place)).or_insert(i);
+                if record.place == Place::EMPTY {
+                    roots.entry(record.version).or_insert((i, *record));
+                }
+            }
+        }
+        let trees = HashMap::new();
+        Found {
+            slots,
+            lowest,
+            roots,
+            trees,
+        }
+    }
+
+    fn record(&self, i: usize) -> Option<Record> {
+        match self.slots[i] {
+            Slot::Record(record) => Some(record),
+            _ => None,
+        }
+    }
+
+    fn node(&self, version: u32, place: Place) -> Option<(usize, Record)> {
+        let i = *self.lowest.get(&(version, place))?;
+        Some((i, self.record(i)?))
+    }
+
+    /// A version's root: the newest root record not above it, unless that one was retired by then; else why there is none.
+    fn root(&self, version: u32) -> Result<(usize, Record), String> {
+        let newest = self.roots.range(..=version).next_back();
+        let (_, (i, root)) =
+            newest.ok_or(format!("no root record of version {version} or before"))?;
+        match root.retired_since {
+            Some(since) if since <= version => Err(format!(
+                "the newest root record not above version {version}, that of {}, is retired since {since}",
+                root.version
+            )),
+            _ => Ok((*i, *root)),
+        }
+    }
+
+    /// The greatest version in the tree below a record, if it is whole.
+    fn whole(&mut self, i: usize, record: Record) -> Result<u32, String> {
+        if let Some(known) = self.trees.get(&i) {
+            return known.clone();
+        }
+        let answer = self.whole_anew(record);
+        self.trees.insert(i, answer.clone());
+        answer
+    }
+
+    fn whole_anew(&mut self, record: Record) -> Result<u32, String> {
+        let (left, right) = match record.body {
+            Body::Leaf { key, .. } => {
+                let bit = |i: usize| key.as_ref()[i / 8] >> (7 - i % 8) & 1 == 1;
+                let begins = (0..record.place.count()).all(|i| record.place.bit(i) == bit(i));
+                return match begins {
+                    true => Ok(record.version),
+                    false => Err(format!(
+                        "the key of the leaf at {} doesn't begin with its place",
+                        at(record.place)
+                    )),
+                };
+            }
+            Body::Inner { left, right } => (left, right),
+        };
+        let mut greatest = record.version;
+        for (child, side) in [(left, false), (right, true)] {
+            let (Some(child), Some(place)) = (child, record.place.longer(side)) else {
+                continue;
+            };
+            let Some((j, kid)) = self.node(child.version, place) else {
+                return Err(format!(
+                    "the record of version {} at {} is lost",
+                    child.version,
+                    at(place)
+                ));
+            };
+            if hash(&kid) != child.hash {
+                return Err(format!(
+                    "the record of version {} at {} has another hash than the one above it says",
+                    child.version,
+                    at(place)
+                ));
+            }
+            if (left.is_none() || right.is_none()) && kid.grant().is_some() {
+                return Err(format!("the leaf at {} stands alone", at(place)));
+            }
+            greatest = greatest.max(self.whole(j, kid)?);
+        }
+        Ok(greatest)
+    }
+
+    /// Whether a version can be rescued alone, and if not, why.
+    fn stands(&mut self, version: u32) -> Result<(), String> {
+        let (i, root) = self.root(version)?;
+        let greatest = self
+            .whole(i, root)
+            .map_err(|why| format!("in the tree of {}, {why}", root.version))?;
+        match greatest <= version {
+            true => Ok(()),
+            false => Err(format!(
+                "the tree of {} has a record of version {greatest}",
+                root.version
+            )),
+        }
+    }
+
+    /// The nodes of a record's tree, by place.
+    fn nodes(&self, i: usize) -> HashMap<Place, usize> {
+        let mut nodes = HashMap::new();
+        let mut todo = vec![i];
+        while let Some(i) = todo.pop() {
+            let Some(record) = self.record(i) else {
+                continue;
+            };
+            nodes.insert(record.place, i);
+            if let Body::Inner { left, right } = record.body {
+                for (child, side) in [(left, false), (right, true)] {
+                    if let (Some(child), Some(place)) = (child, record.place.longer(side)) {
+                        todo.extend(self.node(child.version, place).map(|(j, _)| j));
+                    }
+                }
+            }
+        }
+        nodes
+    }
+
+    /// Why a run that begins at `first` begins no earlier.
+    fn no_earlier(&mut self, first: u32, oldest: u32) -> String {
+        if first == oldest {
+            return format!("{oldest} is the oldest asked for");
+        }
+        let before = first - 1;
+        if before == 0 {
+            return "version 0 has no record".to_string();
+        }
+        if let Err(why) = self.stands(before) {
+            return format!("version {before} can't be rescued: {why}");
+        }
+        let roots = (self.root(before), self.root(first));
+        if let (Ok((a, _)), Ok((b, _))) = roots {
+            let earlier = self.nodes(a);
+            let lacking = self.nodes(b).into_iter().find(|(place, i)| {
+                earlier.get(place) != Some(i) && self.record(*i).is_some_and(|r| r.version < first)
+            });
+            if let Some(version) = lacking.and_then(|(_, i)| self.record(i)).map(|r| r.version) {
+                return format!(
+                    "the tree of {first} has a record of version {version} that the tree of {before} doesn't have"
+                );
+            }
+        }
+        format!("a record of the run's trees is newer than version {before}")
+    }
+
+    /// Which slots, in the order of `WHYS`, were left out.
+    fn left_out(&self, kept: &[Option<Record>], latest: u32) -> Vec<Vec<usize>> {
+        let mut reached = vec![false; self.slots.len()];
+        for (_, (i, _)) in self.roots.range(..=latest) {
+            let mut todo = vec![*i];
+            while let Some(i) = todo.pop() {
+                if std::mem::replace(&mut reached[i], true) {
+                    continue;
+                }
+                if let Some(Record {
+                    place,
+                    body: Body::Inner { left, right },
+                    ..
+                }) = self.record(i)
+                {
+                    for (child, side) in [(left, false), (right, true)] {
+                        if let (Some(child), Some(place)) = (child, place.longer(side)) {
+                            todo.extend(self.node(child.version, place).map(|(j, _)| j));
+                        }
+                    }
+                }
+            }
+        }
+        let mut out = vec![vec![]; WHYS.len()];
+        for (i, slot) in self.slots.iter().enumerate() {
+            let why = match slot {
+                Slot::Free => continue,
+                Slot::Record(_) if kept[i].is_some() => continue,
+                Slot::OffForm => 0,
+                Slot::Record(r) if self.lowest.get(&(r.version, r.place)) != Some(&i) => 1,
+                Slot::Record(r) if r.version > latest => 2,
+                Slot::Record(_) if reached[i] => 3,
+                Slot::Record(_) => 4,
+            };
+            out[why].push(i);
+        }
+        out
+    }
+}
+
+/// Why a slot is left out.
+const WHYS: [&str; 5] = [
+    "off form",
+    "a second copy",
+    "newer than latest",
+    "only in versions before the run",
+    "of no tree",
+];
+
+fn at(place: Place) -> String {
+    match place.count() {
+        0 => "the empty place".to_string(),
+        _ => format!("place {place}"),
+    }
+}
+
+/// The SHA-256 of a record's message (docs/RULES.md).
+fn hash(record: &Record) -> [u8; 32] {
+    let none = [0; 32];
+    let (first, left, right) = match record.body {
+        Body::Leaf { key, value } => (1, <[u8; 32]>::from(key), <[u8; 32]>::from(value)),
+        Body::Inner { left, right } => (
+            0,
+            left.map_or(none, |c| c.hash),
+            right.map_or(none, |c| c.hash),
+        ),
+    };
+    let mut message = [first; 65];
+    message[1..33].copy_from_slice(&left);
+    message[33..].copy_from_slice(&right);
+    sha256(&message)
+}
+
+/// '3, 7 to 9'.
+fn ranges(numbers: &[usize]) -> String {
+    let mut parts: Vec<(usize, usize)> = vec![];
+    for &n in numbers {
+        match parts.last_mut() {
+            Some((_, last)) if *last + 1 == n => *last = n,
+            _ => parts.push((n, n)),
+        }
+    }
+    let parts = parts.iter().map(|(a, b)| match b - a {
+        0 => a.to_string(),
+        1 => format!("{a}, {b}"),
+        _ => format!("{a} to {b}"),
+    });
+    parts.collect::<Vec<_>>().join(", ")
+}
+
+pub fn rescue(args: &Args, out: &mut Out) -> Result<u8, Fail> {
+    let path = args.path(0);
+    let store = read_store(path)?;
+    let size = |e: Error| {
+        let length = store.as_bytes().len();
+        Fail::Refused(e, format!("{} has {length} bytes: a rescue needs the whole file, with its length. Pad what was cut off with zero bytes.", shown(path)))
+    };
+    let mut found = Found::of(store.slots_found().map_err(size)?);
+    let latest = args.value("--latest").map(|word| number("--latest", word));
+    let Some(latest) = latest.transpose()? else {
+        return listed(args, &mut found, out);
+    };
+    let to = args.word(1).map(Path::new).ok_or_else(|| {
+        Fail::Usage("OUT is missing: the file to write what is rescued to".to_string())
+    })?;
+    if to.as_os_str() == "-" {
+        return Err(Fail::Usage(
+            "a store that is written must be a file, not standard output".to_string(),
+        ));
+    }
+    let oldest = args.value("--oldest").map(|word| number("--oldest", word));
+    let oldest = oldest.transpose()?.unwrap_or(0);
+    let signed = args.said("--root")?.map(|text| root_of(&text));
+    let signed = signed.transpose()?;
+    let (rescued, what) = store.rescue(oldest, latest).map_err(|e| match e {
+        Error::Header => Fail::Refused(e, format!("--oldest {oldest} is above --latest {latest}.")),
+        Error::Unsound => {
+            let why = found.stands(latest).err();
+            let why = why.map_or(String::new(), |why| format!(": {why}"));
+            Fail::Refused(
+                e,
+                format!("A run ends at --latest, and version {latest} can't be rescued{why}. Without --latest the root records that are there are listed."),
+            )
+        }
+        other => size(other),
+    })?;
+    let sure = |e: Error| Fail::Refused(e, "This is a fault of the tool.".to_string());
+    let root = rescued.root(latest).map_err(sure)?;
+    if let Some(signed) = signed.filter(|signed| *signed != root) {
+        return Err(Fail::Book(format!(
+            "the root of version {latest} would be {root}, not {signed}: this is not what was signed, and nothing was written. Take another copy, or another --latest"
+        )));
+    }
+    let header = rescued.header().map_err(sure)?;
+    let kept = rescued.slots().map_err(sure)?;
+    let spans = held::spans(header, &kept, []);
+    let left_out = found.left_out(&kept, latest);
+    let why = found.no_earlier(what.first, oldest);
+    let newest = found.roots.range(..=latest).next_back().map(|(v, _)| *v);
+    files::write(args, to, rescued.as_bytes(), &[path])?;
+    out.changed = true;
+    if out.json {
+        let list = |why: usize| {
+            left_out[why]
+                .iter()
+                .map(move |slot| object(vec![("slot", (*slot).into()), ("why", WHYS[why].into())]))
+        };
+        let publishings = spans.iter().map(|span| {
+            let root = rescued.root(span.first).ok().map(|root| root.to_string());
+            object(vec![
+                ("first", span.first.into()),
+                ("last", span.last.into()),
+                ("root", root.into()),
+            ])
+        });
+        let fields = object(vec![
+            ("first", what.first.into()),
+            ("latest", latest.into()),
+            ("root", root.to_string().into()),
+            ("root_compared", signed.is_some().into()),
+            ("newest_root_record", newest.into()),
+            ("same", what.same.into()),
+            ("other", what.other.into()),
+            ("out", what.out.into()),
+            ("no_earlier", why.into()),
+            ("publishings", Json::List(publishings.collect())),
+            (
+                "left_out",
+                Json::List((0..WHYS.len()).flat_map(list).collect()),
+            ),
+        ]);
+        return out.answer(0, fields, "");
+    }
+    let mut lines = format!(
+        "{}: versions {} to {latest} came back, {}\nno earlier: {why}\nrecords: {} as they were, {} with another retired-since; {} left out",
+        shown(to),
+        what.first,
+        counted(spans.len(), "publishing"),
+        what.same,
+        what.other,
+        counted(what.out as usize, "used slot"),
+    );
+    for (why, slots) in WHYS.iter().zip(&left_out).filter(|(_, s)| !s.is_empty()) {
+        lines += &format!("\n  {why}: slot {}", ranges(slots));
+    }
+    lines += &format!("\nroot of version {latest}: {root}\n");
+    lines += match signed {
+        Some(_) => "It is the root that was given.",
+        None => COMPARE,
+    };
+    if let Some(newest) = newest.filter(|newest| *newest < latest) {
+        lines += &format!(
+            "\nWarning: the newest root record is of version {newest}. Versions {} to {latest} read as that one, and no number up to {latest} can be published any more.",
+            newest + 1
+        );
+    }
+    out.answer(0, Json::Null, lines)
+}
+
+fn root_of(text: &str) -> Result<Root, Fail> {
+    let bytes = hex("root", text)?;
+    let bytes: [u8; 32] = bytes.try_into().map_err(|_| {
+        Fail::Refused(
+            Error::NotThirtyTwoBytes,
+            "Write it as 64 hex digits.".to_string(),
+        )
+    })?;
+    Ok(Root::from(bytes))
+}
+
+/// The root records that are there: which version could be the latest of a rescue.
+fn listed(args: &Args, found: &mut Found, out: &mut Out) -> Result<u8, Fail> {
+    // Who named a file to write did not get it.
+    let status = if args.word(1).is_some() { 2 } else { 0 };
+    let roots = found.roots.clone();
+    let mut rows = vec![];
+    let mut newest = None;
+    for (version, (slot, root)) in roots {
+        let why = found.stands(version).err();
+        if why.is_none() {
+            newest = Some(version);
+        }
+        rows.push((version, slot, root, why));
+    }
+    if out.json {
+        let rows = rows.into_iter().map(|(version, slot, root, why)| {
+            object(vec![
+                ("version", version.into()),
+                ("slot", slot.into()),
+                ("root", to_hex(&hash(&root)).into()),
+                ("retired_since", root.retired_since.into()),
+                ("can_be_rescued", why.is_none().into()),
+                ("why_not", why.into()),
+            ])
+        });
+        return out.answer(
+            status,
+            object(vec![("roots", Json::List(rows.collect()))]),
+            "",
+        );
+    }
+    let mut lines = counted(rows.len(), "root record");
+    for (version, _, root, why) in &rows {
+        let word = why.as_ref().map_or("can be rescued".to_string(), |why| {
+            format!("can't be rescued: {why}")
+        });
+        lines += &format!("\n{version}  {}  {word}", to_hex(&hash(root)));
+    }
+    if let Some(newest) = newest {
+        lines += &format!(
+            "\nTo rescue: grants rescue {} OUT --latest {newest} --root HEX, with the root that was signed for that version",
+            shown(args.path(0))
+        );
+    }
+    if status != 0 {
+        lines +=
+            "\nNothing was written: --latest is missing, the version that the rescue must end at";
+    }
+    out.answer(status, Json::Null, lines)
+}
