@@ -13,7 +13,8 @@ use Rattle.hash.specs.Hash.{hashBytes}
 use Rattle.place.specs.declared.Place as place
 use Rattle.place.specs.Place.{placeOf, Proper}
 use Rattle.layout.specs.Stores.{storeOf}
-use Rattle.batch.specs.Batch.{count, asks, askAt, inserts}
+use Rattle.batch.specs.Batch.{count, asks}
+use Rattle.batch.specs.Records.{askAt, inserts}
 use Rattle.batch.specs.Runs.{Run}
 use Rattle.steps.specs.Step as step
 use Rattle.apply_place.specs.Placing.{Stored}

@@ -1,12 +1,11 @@
 -- The lowest free slot: the slots passed are not free, so a record that is placed goes to the first that is. Assumes nothing.
-use Prim.Native.Nat.{ℕ, zero, suc, _+_, _*_, _<_, _≤_}
+use Prim.Native.Nat.{ℕ, zero, suc, _+_, _<_, _≤_}
 use native.Mathlib.Omega.{arith}
 use mathlib.Core.Path.{_≡_, refl, ap, sym, _∙_, subst}
-use mathlib.Core.Bool.{Bool, true, false, cond}
+use mathlib.Core.Bool.{true, false, true≢false}
 use mathlib.Core.List.{List, [], _∷_, _++_, append-nil}
 use lib.ListN.{length, getD, set, take, drop, length-take, length-drop, drop-of-length-le}
 use lib.Seq.{take-at, drop-at, take-all}
-use borrow.Author.Count.{below-more}
 use Rattle.terms.specs.Bits.{Bytes, Place, All}
 use Rattle.terms.specs.Fields.{allZero, slice}
 use Rattle.terms.specs.Records.{leafBody, innerBody, Record, Slot, free, used, spoiled}
@@ -16,10 +15,12 @@ use Rattle.meaning.proofs.Finding.{free-used}
 use Rattle.hash.specs.declared.Hash.{Hash}
 use Rattle.hash.specs.Hash.{hashBytes}
 use Rattle.hash.proofs.Laws.{hash-whole}
-use Rattle.layout.specs.Sizes.{mostSlots, roomOf}
-use Rattle.layout.specs.Slots.{isLeaf, isInner, recordOf, recordIn, leafIn, innerIn, slotOf}
-use Rattle.layout.specs.Stores.{slotIn, storeOf, Has, withSlot}
-use Rattle.layout.proofs.Stores.{slot-at}
+use Rattle.layout.specs.Sizes.{roomOf}
+use Rattle.layout.specs.Slots.{recordOf, slotOf}
+use Rattle.layout.specs.Stores.{slotIn, storeOf, slotNo, withSlot}
+use Rattle.layout.proofs.Slots.{zero-free, free-zero}
+use Rattle.store.proofs.Slots.{slot-is}
+use Rattle.store.proofs.Scans.{Scan, Each, scan-many, scan-slot, scan-inside, each-from, each-passed, each-next}
 use Rattle.slots.specs.declared.Child as child
 use Rattle.slots.specs.Answer.{childSays, grantBody}
 use Rattle.lookup.specs.declared.Found as found
@@ -27,7 +28,7 @@ use Rattle.lookup.specs.declared.Found.the-variants.{At, Nothing}
 use Rattle.apply_place.specs.declared.Node as declared
 use Rattle.apply_place.specs.declared.Node.the-variants.{Nothing as none, Leaf, Inner}
 use Rattle.apply_place.specs.Placing.{Stored, Changed, NoneFree, Lowest, FreeIn, recordSays}
-use Rattle.apply_place.proofs.Changing.{stored-accepted, stored-size, stored-room, slot-changed}
+use Rattle.apply_place.proofs.Changing.{stored-size, stored-room, slot-changed}
 
 spoiled-free : {A : Type 0} (x : Bytes) → spoiled x ≡ free → A
 spoiled-free x e = let z : _≡_ {A = ℕ} 0 1 = cc in absurd (omega arith)
@@ -53,68 +54,41 @@ placed-nowhere r (free ∷ s) h = absurd (h 0 (omega arith) refl)
 placed-nowhere r (used x ∷ s) h = ap (used x ∷_) (placed-nowhere r s (λ j k. h (suc j) (omega arith)))
 placed-nowhere r (spoiled x ∷ s) h = ap (spoiled x ∷_) (placed-nowhere r s (λ j k. h (suc j) (omega arith)))
 
--- free is exactly all zero
-pub zero-free : (x : Bytes) → allZero x ≡ true → slotOf x ≡ free
-unfolding slotOf
-zero-free x e = rw e
+-- slots of which none is free are slots of the store
+none-few : (s : List Slot) (k : ℕ) → NoneFree s k → k ≤ length s
+none-few s zero h = omega arith
+none-few [] (suc k) h = absurd (h 0 (omega arith) refl)
+none-few (x ∷ s) (suc k) h = omega (arith, none-few s k (λ j l. h (suc j) (omega arith)))
 
-pub not-free : (x : Bytes) → allZero x ≡ false → slotOf x ≡ free → ⊥
-unfolding slotOf
-not-free x e = rw e (go (isLeaf x) (isInner x))
-  where
-    go : (a b : Bool) → cond a (used (recordIn x (leafIn x))) (cond b (used (recordIn x (innerIn x))) (spoiled x)) ≡ free → ⊥
-    go true b k = free-used _ (sym k)
-    go false true k = free-used _ (sym k)
-    go false false k = spoiled-free x k
+-- a search for a free slot: none of those passed is free
+abbrev NotFree : Slot → Type 0
+NotFree x = x ≡ free → ⊥
 
--- at slot i of n: no slot before it is free
-pub record Passed (s : Bytes) (n i : ℕ) : Type 0 where
-  pub stored : Stored s
-  pub room : n ≡ roomOf (length s)
-  pub small : n ≤ mostSlots
-  pub many : length (storeOf s .slots) ≡ n
-  pub none : NoneFree (storeOf s .slots) i
+abbrev pub Passed : Bytes → ℕ → ℕ → Type 0
+Passed s n i = Scan s (Each s NotFree) n i
 
-pub from-slot : {s : Bytes} {n i : ℕ} → Stored s → n ≡ roomOf (length s) → NoneFree (storeOf s .slots) i → Passed s n i
-from-slot h e f =
-    let a = stored-accepted h in
-    let k = e ∙ stored-room h in
-    record {
-      stored = h;
-      room = e;
-      small = rw k (a .fits);
-      many = sym k;
-      none = f;
-    }
+pub search-from : {s : Bytes} {n i : ℕ} → Stored s → n ≡ roomOf (length s) → NoneFree (storeOf s .slots) i → Passed s n i
+search-from {s} {n} {i} h e f =
+    each-from s NotFree (stored-size h) e (omega (arith, none-few (storeOf s .slots) i f, stored-room h)) f
 
 module _ {s : Bytes} {n i : ℕ} (w : Passed s n i) where
-  pub passed-has : i < n → Has s i
-  passed-has l = record { size = stored-size (w .stored); inside = omega (arith, w .room) }
+  module _ (l : i < n) where
+    slot-here : slotNo i s ≡ slotOf (slotIn i s)
+    slot-here = slot-is (scan-slot w l)
 
-  slot-here : i < n → getD (storeOf s .slots) i free ≡ slotOf (slotIn i s)
-  slot-here l = slot-at s i (rw (stored-room (w .stored), w .many) l)
+    pub one-more : allZero (slotIn i s) ≡ false → Passed s n (i + 1)
+    one-more e = each-next NotFree w l (λ k. true≢false (sym (free-zero (slotIn i s) (sym slot-here ∙ k)) ∙ e))
 
-  pub one-more : i < n → allZero (slotIn i s) ≡ false → Passed s n (i + 1)
-  one-more l e = record {
-    stored = w .stored;
-    room = w .room;
-    small = w .small;
-    many = w .many;
-    none = below-more (λ j. getD (storeOf s .slots) j free ≡ free → ⊥) i (w .none) (λ k. not-free (slotIn i s) e (sym (slot-here l) ∙ k));
-  }
-
-  pub free-here : i < n → allZero (slotIn i s) ≡ true → FreeIn (storeOf s .slots) (At i)
-  free-here l e =
-      let k : i < length (storeOf s .slots) = rw (w .many) l in
-      record {
-        within = k;
-        none = w .none;
-        placing = λ r. placed-here r (storeOf s .slots) i k (w .none) (slot-here l ∙ zero-free (slotIn i s) e);
-      }
+    pub free-here : allZero (slotIn i s) ≡ true → FreeIn (storeOf s .slots) (At i)
+    free-here e =
+        record {
+          within = scan-inside w l;
+          none = each-passed NotFree w;
+          placing = λ r. placed-here r (storeOf s .slots) i (scan-inside w l) (each-passed NotFree w) (slot-here ∙ zero-free (slotIn i s) e);
+        }
 
   pub none-free : n ≤ i → FreeIn (storeOf s .slots) Nothing
-  none-free l =
-      λ r. placed-nowhere r (storeOf s .slots) (λ j k. w .none j (omega (arith, w .many)))
+  none-free l r = placed-nowhere r (storeOf s .slots) (λ j k. each-passed NotFree w j (omega (arith, scan-many w)))
 
 -- a grant's 64 bytes from two hashes, one after the other
 pub two-hashes : (k v : Hash) (g₀ g₁ y : Bytes) → length g₀ ≡ 64 → g₁ ≡ hashBytes k ++ drop 32 g₀ → y ≡ hashBytes v ++ drop 32 (take 32 (drop 32 g₁)) →

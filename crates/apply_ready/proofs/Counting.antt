@@ -2,7 +2,7 @@
 use Prim.Native.Nat.{ℕ, suc, _+_, _<_, _≤_}
 use native.Mathlib.Omega.{arith}
 use mathlib.Core.Path.{_≡_, refl, sym, _∙_}
-use mathlib.Core.Bool.{true, false}
+use mathlib.Core.Bool.{true, false, true≢false}
 use mathlib.Core.List.{List, _∷_}
 use lib.ListN.{length, drop}
 use Rattle.terms.specs.Bits.{Bytes}
@@ -12,11 +12,11 @@ use Rattle.meaning.specs.Store.{freeSlots}
 use Rattle.layout.specs.Sizes.{roomOf}
 use Rattle.layout.specs.Slots.{slotOf}
 use Rattle.layout.specs.Stores.{slotIn, storeOf, slotNo}
+use Rattle.layout.proofs.Slots.{zero-free, free-zero}
 use Rattle.store.proofs.Slots.{slot-is}
 use Rattle.store.proofs.Scans.{Scan, scan-start, scan-slot, scan-here, scan-next, scan-end}
 use Rattle.apply_place.specs.Placing.{Stored}
 use Rattle.apply_place.proofs.Changing.{stored-size}
-use Rattle.apply_place.proofs.Placing.{zero-free, not-free}
 use Rattle.apply_ready.specs.Ready.{FreeCount}
 
 -- a slot that is free counts one more
@@ -52,7 +52,7 @@ module _ {s : Bytes} {n k i : ℕ} (w : Counted s n k i) where
 
     pub not-one : allZero (slotIn i s) ≡ false → Counted s n k (i + 1)
     not-one e =
-        let f = other-first (slotNo i s) (drop (i + 1) (storeOf s .slots)) (λ z. not-free (slotIn i s) e (sym here ∙ z)) in
+        let f = other-first (slotNo i s) (drop (i + 1) (storeOf s .slots)) (λ z. true≢false (sym (free-zero (slotIn i s) (sym here ∙ z)) ∙ e)) in
         record { scan = scan-next (w .scan) l (Rest s k) (omega (arith, scan-here (w .scan) l, f)); few = omega (arith, w .few) }
 
   pub all-counted : n ≤ i → FreeCount s k

@@ -16,7 +16,8 @@ use Rattle.terms.specs.Form.{AskForm}
 use Rattle.terms.proofs.Tests.{and-left, and-right, and-true}
 use Rattle.terms.proofs.Fields.{num-le, length-le, le-field, length-slice, all-slice, zero-bytes, cuts, flat-cuts, all-of-tests, tests-all, test-passed, test-failed, Sized, cuts-flat, length-flat}
 use Rattle.batch.specs.Sizes.{recordSize, insertLength, insertKind, deleteLength, deleteKind, kindAt, zeroAt, keyAt, valueAt}
-use Rattle.batch.specs.Batch.{askLength, askKind, askValue, inserts, askBytes, headIs, isInsert, isDelete, askForm, ask, askOf}
+use Rattle.batch.specs.Batch.{askLength, askKind, askValue, askBytes, headIs, isInsert, isDelete, askForm, ask}
+use Rattle.batch.specs.Records.{inserts, askOf}
 
 -- a record's fields, and their sizes
 abbrev fields : Ask → List Bytes

@@ -18,7 +18,8 @@ use Rattle.terms.proofs.Lists.{all-map₂}
 use Rattle.terms.proofs.Fields.{all-of-tests, tests-all, test-passed, test-failed}
 use Rattle.meaning.specs.Calls.{ascending}
 use Rattle.batch.specs.Sizes.{recordSize, mostRecords}
-use Rattle.batch.specs.Batch.{askBytes, askForm, ask, records, count, recordsOf, asks, recordAt, askAt, every, batchForm, batchOf, asksBytes}
+use Rattle.batch.specs.Batch.{askBytes, askForm, ask, records, count, recordsOf, asks, every, batchForm, batchOf, asksBytes}
+use Rattle.batch.specs.Records.{recordAt, askAt}
 use Rattle.batch.proofs.Asks.{length-ask, ask-form, ask-says, form-bytes}
 use Rattle.batch.proofs.Records.{length-records, length-asks, records-from, asks-from, records-whole, asks-whole}
 

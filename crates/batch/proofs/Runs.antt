@@ -20,7 +20,8 @@ use Rattle.place.specs.declared.Place as declared
 use Rattle.place.specs.Place.{placeOf, Proper, Grown}
 use Rattle.place.proofs.Places.{proper-count}
 use Rattle.batch.specs.Sizes.{recordSize}
-use Rattle.batch.specs.Batch.{ask, askForm, count, recordsOf, asks, askAt, batchForm}
+use Rattle.batch.specs.Batch.{ask, askForm, count, recordsOf, asks, batchForm}
+use Rattle.batch.specs.Records.{askAt}
 use Rattle.batch.specs.Runs.{Run, RunAt, onSide, lefts, half, runOf}
 use Rattle.batch.proofs.Asks.{key-whole}
 use Rattle.batch.proofs.Records.{all-half, records-half, asks-half, length-asks, asks-at, asks-whole}

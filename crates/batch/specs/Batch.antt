@@ -1,7 +1,7 @@
 -- Document 01, 'Bytes', batch record: what a batch asks for, and the bytes that ask it. A batch is whole records in form, at most 1,024;
 -- the order of its keys is judged after its form ('Numbers of refusal', 4 and 5). Assumes nothing.
-use Prim.Native.Nat.{ℕ, zero, suc, _*_, _/_, _%_}
-use mathlib.Core.Bool.{Bool, true, false, cond, _&&_, _||_}
+use Prim.Native.Nat.{ℕ, zero, suc, _/_, _%_}
+use mathlib.Core.Bool.{Bool, true, cond, _&&_, _||_}
 use mathlib.Core.List.{List, [], _∷_, map}
 use mathlib.Core.Option.{Option, some, none}
 use lib.ListN.{length, take, drop}
@@ -25,11 +25,6 @@ abbrev pub askValue : Ask → Bytes
 askValue (insert k x) = x
 askValue (delete k) = zeros
 
--- An ask is an insert, or else a delete.
-abbrev pub inserts : Ask → Bool
-inserts (insert k x) = true
-inserts (delete k) = false
-
 -- A record's bytes: length, kind, 2 zero, key 32, value 32.
 unfoldable pub askBytes : Ask → Bytes
 askBytes a = flat (le 4 (askLength a) ∷ le 2 (askKind a) ∷ le 2 0 ∷ askKey a ∷ askValue a ∷ [])
@@ -52,10 +47,6 @@ askForm x = isInsert x || isDelete x
 unfoldable pub ask : Bytes → Ask
 ask x = cond (isInsert x) (insert (slice keyAt 32 x) (slice valueAt 32 x)) (delete (slice keyAt 32 x))
 
--- What 72 bytes ask for, if they are a record in form.
-unfoldable pub askOf : Bytes → Option Ask
-askOf x = cond (askForm x) (some (ask x)) none
-
 -- The first n records of a batch.
 unfoldable pub records : ℕ → Bytes → List Bytes
 records zero b = []
@@ -71,13 +62,6 @@ recordsOf b = records (count b) b
 
 unfoldable pub asks : Bytes → List Ask
 asks b = map ask (recordsOf b)
-
--- Record i of a batch, and what it asks for.
-unfoldable pub recordAt : ℕ → Bytes → Bytes
-recordAt i b = slice (recordSize * i) recordSize b
-
-unfoldable pub askAt : ℕ → Bytes → Ask
-askAt i b = ask (recordAt i b)
 
 -- Each entry passes a test.
 abbrev pub every : {A : Type 0} → (A → Bool) → List A → Bool

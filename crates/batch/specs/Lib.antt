@@ -1,3 +1,4 @@
 pub mod Sizes
 pub mod Batch
+pub mod Records
 pub mod Runs

@@ -7,7 +7,8 @@ ghost use lib.ListN.{length};
 ghost use Rattle.terms.specs.Records.{askKey};
 ghost use Rattle.meaning.specs.Calls.{ascending};
 ghost use Rattle.batch.specs.Sizes.{recordSize};
-ghost use Rattle.batch.specs.Batch.{count, headIs, isInsert, isDelete, askForm, recordAt, askAt, askValue, inserts, asks, batchForm};
+ghost use Rattle.batch.specs.Batch.{count, headIs, isInsert, isDelete, askForm, askValue, asks, batchForm};
+ghost use Rattle.batch.specs.Records.{recordAt, askAt, inserts};
 ghost use Rattle.batch.specs.Runs.{RunAt, lefts, runOf};
 
 // Batch record, 72 bytes: length 72 and kind 1 (insert) or length 40 and kind 2 (delete), 2 zero, key 32, value 32 (zero for delete).

@@ -46,7 +46,8 @@ use Rattle.changes_put.specs.Puts.{putInto}
 use Rattle.changes_walk.specs.declared.Walked as walked
 use Rattle.changes_walk.specs.declared.Walked.the-variants.{Passed, Done}
 use Rattle.changes_walk.specs.Walk.{visitsHere, itemsHere, Here, Goes, WalkSays}
-use Rattle.changes.specs.Changes.{countOf, roomAfter, Compares}
+use Rattle.changes.specs.Changes.{roomAfter}
+use Rattle.changes.specs.Parts.{countOf, Compares}
 
 -- the definition, check by check
 module _ (first second limit room : ℕ) (st : Store) where

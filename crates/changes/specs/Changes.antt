@@ -1,36 +1,11 @@
--- Document 02, request 2026-01: what comparing two versions of the store that bytes hold answers for any bytes, and what it leaves of the
--- room. Order: 1, 2; then 3 by full soundness; then 8, 13, 9. Assumes nothing.
-use Prim.Native.Nat.{ℕ}
-use mathlib.Core.Path.{_≡_}
+-- Document 02, request 2026-01: what comparing two versions leaves of the room. Assumes nothing.
 use mathlib.Core.List.{List}
-use lib.ListN.{length}
 use Rattle.terms.specs.Bits.{Bytes}
 use Rattle.meaning.specs.Calls.{Answer, refused, accepted}
 use Rattle.fields.specs.Written.{written}
-use Rattle.promises.specs.Calls.{Does}
 use Rattle.changed.specs.Changes.{Item, listBytes}
-use Rattle.changed.specs.Compare.{compare}
-use Rattle.changes.specs.declared.Compared as declared
-use Rattle.changes.specs.declared.Compared.the-variants.{Refused, Listed}
-
--- What each case of the answer says: a number of refusal, or how many records the list has.
-abbrev pub comparedSays : declared.Compared → Answer ℕ
-comparedSays (Refused m) = refused m
-comparedSays (Listed n) = accepted n
-
--- The number of records.
-abbrev pub countOf : Answer (List Item) → Answer ℕ
-countOf (refused m) = refused m
-countOf (accepted xs) = accepted (length xs)
 
 -- The list fills the front of the room, and the rest stays; a refused call writes nothing.
 abbrev pub roomAfter : Answer (List Item) → Bytes → Bytes
 roomAfter (refused m) room = room
 roomAfter (accepted xs) room = written 0 (listBytes xs) room
-
--- Comparing gives this answer and leaves the room so; the store is as it was.
-pub record Compares (first second limit : ℕ) (s room : Bytes) (r : Answer ℕ) (left : Bytes) : Type 0 where
-  pub answer : Answer (List Item)
-  pub does : Does (compare first second limit (length room)) s answer s
-  pub says : r ≡ countOf answer
-  pub bytes : left ≡ roomAfter answer room

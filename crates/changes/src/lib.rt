@@ -12,7 +12,7 @@ use read_step::Opened;
 use read_step::open;
 use soundness::check;
 ghost use Rattle.promises.specs.Calls.{SoundBytes};
-ghost use Rattle.changes.specs.Changes.{comparedSays, Compares};
+ghost use Rattle.changes.specs.Parts.{comparedSays, Compares};
 
 // A number of refusal, or how many records the list has.
 pub enum Compared {

@@ -6,8 +6,8 @@ use mathlib.Core.List.{List}
 use lib.ListN.{length}
 use Rattle.terms.specs.Bits.{Bytes}
 use Rattle.terms.specs.Fields.{le}
-use Rattle.meaning.specs.Calls.{Answer, refused, accepted}
-use Rattle.meaning.specs.Answers.{numberOf}
+use Rattle.meaning.specs.Calls.{Answer}
+use Rattle.meaning.specs.Answers.{numberOf, toldOf}
 use Rattle.promises.specs.Calls.{Does}
 use Rattle.changed.specs.Changes.{Item}
 use Rattle.changed.specs.Compare.{compare}
@@ -15,8 +15,7 @@ use Rattle.changes.specs.Changes.{roomAfter}
 
 -- The number of records, 4 bytes little-endian; a refused call writes nothing.
 abbrev pub countBytes : Answer (List Item) → Bytes → Bytes
-countBytes (refused n) old = old
-countBytes (accepted xs) old = le 4 (length xs)
+countBytes a old = toldOf (λ xs. le 4 (length xs)) a old
 
 -- Comparing version first of the bytes s with version second, within a limit of visits, answers r; the room is left as t, the array f for the
 -- number of records as g. The answer is the one that the definition gives for any bytes; the store is as it was.

@@ -1,13 +1,13 @@
 -- What the bytes of a slot say of the record in it. Assumes nothing.
 use Prim.Native.Nat.{ℕ, _<_}
 use native.Mathlib.Omega.{arith}
-use mathlib.Core.Path.{_≡_, refl, ap, sym, _∙_, subst}
-use mathlib.Core.Logic.{_⊎_, inl, inr, ⊎-elim}
-use mathlib.Core.Bool.{Bool, true, false, cond}
+use mathlib.Core.Path.{_≡_, ap, sym, _∙_, subst}
+use mathlib.Core.Logic.{_⊎_, inl, inr}
+use mathlib.Core.Bool.{true}
 use lib.ListN.{length}
 use borrow.Author.Tests.{eqb-true}
 use Rattle.terms.specs.Bits.{Bytes, Byte, All}
-use Rattle.terms.specs.Fields.{field, slice, allZero, zeroBytes}
+use Rattle.terms.specs.Fields.{field, slice, zeroBytes}
 use Rattle.terms.specs.Records.{Record, free, used, spoiled}
 use Rattle.terms.proofs.Fields.{all-of-tests}
 use Rattle.meaning.specs.Sound.{At}
@@ -16,7 +16,7 @@ use Rattle.layout.specs.Sizes.{slotSize, mostSlots, leafKind, innerKind}
 use Rattle.layout.specs.Slots.{leafIn, innerIn, recordIn, headRight, isLeaf, isInner, versionIn, sinceIn, slotOf, slotBytes}
 use Rattle.layout.specs.Stores.{slotIn, storeOf, Has, SlotWithin}
 use Rattle.layout.proofs.Headers.{size-says}
-use Rattle.layout.proofs.Slots.{slot-back}
+use Rattle.layout.proofs.Slots.{slot-back, SlotCases, are-free, are-leaf, are-inner, are-spoiled, slot-cases, record-is}
 use Rattle.store.proofs.Slots.{slots-many, slot-long, slot-bytes, slot-within, slot-is}
 use Rattle.check_pass.specs.Passes.{kindIn, Room}
 
@@ -49,24 +49,22 @@ InnerHere x r = (kindIn x ≡ innerKind) × (r ≡ recordIn x (innerIn x)) × (i
 
 -- bytes that are a record are a leaf or an inner record, and their kind says which
 pub record-cases : (x : Bytes) (r : Record) → slotOf x ≡ used r → LeafHere x r ⊎ InnerHere x r
-unfolding slotOf
-record-cases x r = go (allZero x) (isLeaf x) (isInner x) refl refl refl
+record-cases x r e = go (slot-cases x)
   where
-    go : (a b c : Bool) → allZero x ≡ a → isLeaf x ≡ b → isInner x ≡ c →
-        cond a free (cond b (used (recordIn x (leafIn x))) (cond c (used (recordIn x (innerIn x))) (spoiled x))) ≡ used r → LeafHere x r ⊎ InnerHere x r
-    go true b c z l i e = free-used r e
-    go false true c z l i e = inl (leaf-kind x l, sym (used-eq (recordIn x (leafIn x)) r e))
-    go false false true z l i e = inr (inner-kind x i, sym (used-eq (recordIn x (innerIn x)) r e), i)
-    go false false false z l i e = spoiled-used x r e
+    go : SlotCases x → LeafHere x r ⊎ InnerHere x r
+    go (are-free z f) = free-used r (sym f ∙ e)
+    go (are-leaf z l f) = inl (leaf-kind x l, used-eq r (recordIn x (leafIn x)) (sym e ∙ f))
+    go (are-inner z l i f) = inr (inner-kind x i, used-eq r (recordIn x (innerIn x)) (sym e ∙ f), i)
+    go (are-spoiled z l i f) = spoiled-used x r (sym f ∙ e)
 
 module _ (x : Bytes) (r : Record) (e : slotOf x ≡ used r) where
   pub version-of : r .version ≡ versionIn x
   unfolding recordIn
-  version-of = ⊎-elim (λ w. ap (λ q. q .version) (w .1)) (λ w. ap (λ q. q .version) (w .1)) (record-cases x r e)
+  version-of = ap (λ (q : Record). q .version) (sym (record-is x r e))
 
   pub retired-of : r .retired ≡ sinceIn x
   unfolding recordIn
-  retired-of = ⊎-elim (λ w. ap (λ q. q .retired) (w .1)) (λ w. ap (λ q. q .retired) (w .1)) (record-cases x r e)
+  retired-of = ap (λ (q : Record). q .retired) (sym (record-is x r e))
 
 -- a free slot's fields are 0
 pub free-zero : (x : Bytes) → length x ≡ slotSize → All Byte x → slotOf x ≡ free → (versionIn x ≡ 0) × (kindIn x ≡ 0)

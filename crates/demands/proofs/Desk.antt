@@ -18,7 +18,7 @@ use Rattle.terms.proofs.Tests.{and-left, and-right}
 use Rattle.meaning.specs.Store.{formatted}
 use Rattle.meaning.specs.Sound.{Sound}
 use Rattle.meaning.specs.Calls.{Answer, refused, accepted, Result, Applied, apply, prune}
-use Rattle.meaning.specs.Answers.{numberOf}
+use Rattle.meaning.specs.Answers.{numberOf, toldOf}
 use Rattle.meaning.specs.Reading.{readRoot}
 use Rattle.meaning.specs.Desk.{Row, applies, prunes, reads, RowHolds, table, gaps, notAbove, A, B, C, D, a, b, c, d, s₁, g₅, g₉}
 use Rattle.meaning.proofs.Desk.{desk, desk-gaps, not-above}
@@ -33,7 +33,7 @@ use Rattle.reads.specs.Reads.{rootAnswer}
 use Rattle.reads_c.specs.Export.{rootBytes}
 use Rattle.applying_c.specs.Export.{told}
 use Rattle.grants.specs.Contracts.{Applies}
-use Rattle.demands.specs.Desk.{toldOf, RowOverBytes, DeskOverBytes, GapsOverBytes, NotAboveOverBytes}
+use Rattle.demands.specs.Desk.{RowOverBytes, DeskOverBytes, GapsOverBytes, NotAboveOverBytes}
 use Rattle.demands.proofs.Hashes.{leaf-hash-whole, inner-hash-whole}
 use Rattle.demands.proofs.Stored.{stored-is, stored-sound}
 
@@ -105,10 +105,6 @@ root-said : (st : Store) → Sound leafHash innerHash st → (v : ℕ) → rootA
 unfolding rootAnswer
 root-said st s v = rw (stored-sound st s .headed) (ap (λ x. readRoot leafHash innerHash x v) (stored-is st s))
 
-same-told : (answer : Answer Bytes) (f : Bytes) → rootBytes answer f ≡ toldOf (λ root. root) answer f
-same-told (refused n) f = refl
-same-told (accepted root) f = refl
-
 row-over-bytes : (row : Row) → RowHolds leafHash innerHash row → RowReady row → RowOverBytes row
 row-over-bytes (applies st number batch answer end) e w = λ f r t g.
     let is = batch-of-bytes batch (asks-by batch (w .1)) (leb-true (length batch) 1024 (w .2)) in
@@ -121,10 +117,10 @@ row-over-bytes (prunes st n answer end) e w = λ f r t g.
     (λ m h. sym (ap (λ o. o .store) e) ∙ refused-prune-writes-nothing leafHash innerHash n st m (ap (λ o. o .answer) e ∙ h)) f r t g
 row-over-bytes (reads st v answer) e w = λ f r g.
     let is = root-said st w v ∙ e in (
-      λ x. (x .answer ∙ ap (λ a. numberOf a) is, x .root ∙ ap (λ a. rootBytes a f) is ∙ same-told answer f),
+      λ x. (x .answer ∙ ap (λ a. numberOf a) is, x .root ∙ ap (λ a. rootBytes a f) is),
       λ x. record {
         answer = x .0 ∙ ap (λ a. numberOf a) (sym is);
-        root = x .1 ∙ sym (same-told answer f) ∙ ap (λ a. rootBytes a f) (sym is);
+        root = x .1 ∙ ap (λ a. rootBytes a f) (sym is);
       },
     )
 

@@ -10,8 +10,10 @@ use Rattle.terms.specs.Records.{Store}
 use Rattle.meaning.specs.Store.{formatted, rootOf}
 use Rattle.meaning.specs.Sound.{Sound, Kept}
 use Rattle.meaning.specs.Calls.{refused, accepted, Result}
-use Rattle.meaning.specs.History.{Call, applying, pruning, CallForm, after, run, Entry, entry}
-use Rattle.histories.specs.Claims.{NoGap, NoGaps, rootIn01}
+use Rattle.meaning.specs.History.{Call, applying, pruning, Entry, entry}
+use Rattle.meaning.specs.Course.{CallForm, after, run}
+use Rattle.histories.specs.Claims.{NoGap}
+use Rattle.histories.specs.Gaps.{NoGaps, rootIn01}
 use Rattle.histories.proofs.Histories.{keeps-calls}
 use Rattle.histories.proofs.Theorems as laws
 use Rattle.nodehash.specs.Node.{leafHash, innerHash}

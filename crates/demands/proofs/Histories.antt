@@ -19,7 +19,8 @@ use Rattle.meaning.specs.Store.{formatted}
 use Rattle.meaning.specs.Sound.{Kept}
 use Rattle.meaning.specs.Calls.{refused, accepted, Result}
 use Rattle.meaning.specs.Reading.{answerOf}
-use Rattle.meaning.specs.History.{Call, formatting, applying, pruning, CallForm, Entry, entry, noted, ledger, grantsOf, Holds}
+use Rattle.meaning.specs.History.{Call, formatting, applying, pruning, Entry, entry, noted, ledger, grantsOf, Holds}
+use Rattle.meaning.specs.Course.{CallForm}
 use Rattle.histories.proofs.Histories.{Keeps, keeps-holds, keeps-formatted, keeps-calls}
 use Rattle.histories.proofs.Theorems.{records-stand-in-their-lifetimes, paths-have-at-most-256-steps}
 use Rattle.nodehash.specs.Node.{leafHash, innerHash}

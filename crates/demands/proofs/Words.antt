@@ -4,9 +4,9 @@ use Prim.Native.Nat.{ℕ, _<_, _≤_}
 use native.Mathlib.Omega.{arith}
 use mathlib.Core.Path.{_≡_, refl, ap, sym, _∙_, subst}
 use mathlib.Core.Logic.{_↔_, _⊎_, inl, inr}
-use mathlib.Core.Bool.{Bool, true, false, cond, _&&_, not, true≢false}
+use mathlib.Core.Bool.{Bool, true, false, _&&_, not, true≢false}
 use mathlib.Core.List.{[], _∷_}
-use mathlib.Core.Option.{Option, none, some, Option·some-ne-none}
+use mathlib.Core.Option.{Option, none, Option·some-ne-none}
 use lib.ListN.{length, getD, replicate}
 use lib.Dec.{eqb, leb}
 use borrow.Author.Tests.{eqb-true, le-leb, lt-leb}
@@ -15,13 +15,14 @@ use Rattle.terms.specs.Fields.{allZero, zeroBytes}
 use Rattle.terms.specs.Heads.{countIn, versionIn, sinceIn}
 use Rattle.terms.specs.Records.{Record, free, used, spoiled}
 use Rattle.terms.proofs.Tests.{and-left, and-right, is-false}
-use Rattle.meaning.specs.Store.{isNode, isRoot, rootOf, find}
+use Rattle.meaning.specs.Store.{isNode, isRoot, rootOf}
 use Rattle.meaning.proofs.Finding.{Lowest, miss, hit, lowest-is, hits}
 use Rattle.ways.specs.Ways.{Agrees, AgreesRoot, SpoiltIn, NoMatch, NoRoot}
 use Rattle.layout.specs.Sizes.{slotSize, roomOf}
 use Rattle.layout.specs.Headers.{sizeRight}
-use Rattle.layout.specs.Slots.{slotOf, isLeaf, isInner, leafIn, innerIn, recordIn}
-use Rattle.layout.specs.Stores.{slotIn, storeOf, slotNo, Has}
+use Rattle.layout.specs.Slots.{slotOf, leafIn, innerIn, recordIn}
+use Rattle.layout.specs.Stores.{slotIn, storeOf, Has}
+use Rattle.layout.proofs.Slots.{SlotCases, are-free, are-leaf, are-inner, are-spoiled, slot-cases}
 use Rattle.store.proofs.Slots.{slot-long, slot-bytes, slot-within, slot-is, slots-many}
 use Rattle.lookup.specs.Lookup.{isUsed, covers, rootHere}
 use Rattle.lookup.proofs.Matching.{is-node}
@@ -45,27 +46,22 @@ zero-not x e z = true≢false (sym (ap allZero z) ∙ e)
 
 -- bytes that are spoilt
 spoilt-says : (x y : Bytes) → slotOf x ≡ spoiled y → (x ≡ y) × (allZero x ≡ false)
-unfolding slotOf
-spoilt-says x y = go (allZero x) (isLeaf x) (isInner x)
+spoilt-says x y e = go (slot-cases x)
   where
-    go : (a b c : Bool) → cond a free (cond b (used (recordIn x (leafIn x))) (cond c (used (recordIn x (innerIn x))) (spoiled x))) ≡ spoiled y →
-        (x ≡ y) × (a ≡ false)
-    go true b c e = let z : _≡_ {A = ℕ} 0 1 = cc in absurd (omega arith)
-    go false true c e = let z : _≡_ {A = ℕ} 0 1 = cc in absurd (omega arith)
-    go false false true e = let z : _≡_ {A = ℕ} 0 1 = cc in absurd (omega arith)
-    go false false false e = let z : x ≡ y = cc in (z, refl)
+    go : SlotCases x → (x ≡ y) × (allZero x ≡ false)
+    go (are-free z f) = let k : free ≡ spoiled y = sym f ∙ e in let n : _≡_ {A = ℕ} 0 1 = cc in absurd (omega arith)
+    go (are-leaf z t f) = let k : used (recordIn x (leafIn x)) ≡ spoiled y = sym f ∙ e in let n : _≡_ {A = ℕ} 0 1 = cc in absurd (omega arith)
+    go (are-inner z n t f) = let k : used (recordIn x (innerIn x)) ≡ spoiled y = sym f ∙ e in let n : _≡_ {A = ℕ} 0 1 = cc in absurd (omega arith)
+    go (are-spoiled z n m f) = let k : spoiled x ≡ spoiled y = sym f ∙ e in let w : x ≡ y = cc in (w, z)
 
 says-spoilt : (x : Bytes) → allZero x ≡ false → ((r : Record) → slotOf x ≡ used r → ⊥) → slotOf x ≡ spoiled x
-unfolding slotOf
-says-spoilt x = go (allZero x) (isLeaf x) (isInner x)
+says-spoilt x e f = go (slot-cases x)
   where
-    go : (a b c : Bool) → a ≡ false →
-        ((r : Record) → cond a free (cond b (used (recordIn x (leafIn x))) (cond c (used (recordIn x (innerIn x))) (spoiled x))) ≡ used r → ⊥) →
-        cond a free (cond b (used (recordIn x (leafIn x))) (cond c (used (recordIn x (innerIn x))) (spoiled x))) ≡ spoiled x
-    go true b c e f = absurd (true≢false e)
-    go false true c e f = absurd (f _ refl)
-    go false false true e f = absurd (f _ refl)
-    go false false false e f = refl
+    go : SlotCases x → slotOf x ≡ spoiled x
+    go (are-free z g) = absurd (true≢false (sym z ∙ e))
+    go (are-leaf z t g) = absurd (f _ g)
+    go (are-inner z n t g) = absurd (f _ g)
+    go (are-spoiled z n m g) = g
 
 -- where no slot in form whose fields agree stands, the lowest spoilt slot that agrees is the lowest used one
 module _ (s : Bytes) (size : sizeRight (length s) ≡ true) (agree : Bytes → Type 0)

@@ -5,19 +5,13 @@ use mathlib.Core.Path.{_≡_}
 use mathlib.Core.Logic.{_↔_}
 use Rattle.terms.specs.Bits.{Bytes, All}
 use Rattle.terms.specs.Fields.{le}
-use Rattle.meaning.specs.Calls.{Answer, refused, accepted}
-use Rattle.meaning.specs.Answers.{numberOf}
+use Rattle.meaning.specs.Answers.{numberOf, toldOf}
 use Rattle.meaning.specs.Desk.{Row, applies, prunes, reads, table, gaps, notAbove}
 use Rattle.nodehash.specs.Node.{leafHash, innerHash}
 use Rattle.layout.specs.Stores.{storeBytes}
 use Rattle.batch.specs.Batch.{asksBytes}
 use Rattle.applying_c.specs.Export.{told}
 use Rattle.grants.specs.Contracts.{Applies, Prunes, ReadsRoot}
-
--- What is left of the array f for an answer: what is told, or f where the call is refused.
-abbrev pub toldOf : {A : Type 0} → (A → Bytes) → Answer A → Bytes → Bytes
-toldOf tell (refused n) f = f
-toldOf tell (accepted a) f = tell a
 
 -- On the bytes of the row's store the call answers what the row says, tells it, and leaves the bytes of the row's store after it; and the
 -- contract allows that.

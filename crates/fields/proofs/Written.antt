@@ -8,8 +8,8 @@ use mathlib.Core.List.{List, [], _∷_, _++_, append-assoc, append-nil}
 use lib.ListN.{length, getD, take, drop, set, length-append, length-take, length-drop, drop-of-length-le, take-append-drop}
 use lib.Seq.{sets, sets-eq, set-at, drop-cons, take-suc, append-snoc, take-all, length-take-le, take-at, drop-at, drop-append-add, drop-drop}
 use Rattle.terms.specs.Bits.{Bytes}
-use Rattle.terms.specs.Fields.{flat, slice}
-use Rattle.terms.proofs.Fields.{Sized, total, length-flat, length-slice, slice-rest}
+use Rattle.terms.specs.Fields.{le, flat, slice}
+use Rattle.terms.proofs.Fields.{Sized, total, length-le, length-flat, length-slice, slice-rest}
 use Rattle.fields.specs.Written.{written}
 
 -- stores one after the other
@@ -120,6 +120,10 @@ written-whole f s e = ap (f ++_) (drop-of-length-le s {i = 0 + length f} (omega 
 
 pub fields-fill : (ns : List ℕ) (fs : List Bytes) (s : Bytes) → Sized ns fs → total ns ≡ length s → fieldsWritten ns 0 fs s ≡ flat fs
 fields-fill ns fs s h l = fields-written ns 0 fs s h (omega arith) ∙ written-whole (flat fs) s (length-flat ns fs h ∙ l)
+
+-- a number of four bytes fills four bytes
+pub number-fills : (n : ℕ) (s : Bytes) → length s ≡ 4 → written 0 (le 4 n) s ≡ le 4 n
+number-fills n s l = fields-fill (4 ∷ []) (le 4 n ∷ []) s (length-le 4 n, tt) (sym l) ∙ append-nil (le 4 n)
 
 -- a part that is being filled with f from its front: s, where it was s₀ before, has i new bytes
 pub record Filling (f s₀ s : Bytes) (i : ℕ) : Type 0 where

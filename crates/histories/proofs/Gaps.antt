@@ -16,10 +16,12 @@ use Rattle.meaning.specs.Tree.{VTree, vnone, topVersion}
 use Rattle.meaning.specs.Store.{find, rootOf, treeAtVersion}
 use Rattle.meaning.specs.Sound.{Kept, Hashes32, Sound}
 use Rattle.meaning.specs.Calls.{Applied, refuse}
-use Rattle.meaning.specs.History.{Call, formatting, applying, pruning, taking, looking, CallForm, after, run, Entry}
+use Rattle.meaning.specs.History.{Call, formatting, applying, pruning, taking, looking, Entry}
+use Rattle.meaning.specs.Course.{CallForm, after, run}
 use Rattle.meaning.proofs.Finding.{isNode-eq, none-not}
 use Rattle.meaning.proofs.Roots.{root-some}
-use Rattle.histories.specs.Claims.{NoGap, NoGaps, AfterApply, AfterPrune}
+use Rattle.histories.specs.Claims.{NoGap, AfterApply, AfterPrune}
+use Rattle.histories.specs.Gaps.{NoGaps}
 use Rattle.histories.proofs.Slots.{none-find, unique-find, root-has, root-not}
 use Rattle.histories.proofs.Whole.{not-retired, Whole, sound-whole}
 use Rattle.histories.proofs.Pruning.{formatted-tree}

@@ -16,7 +16,8 @@ use Rattle.meaning.specs.Tree.{grantsIn}
 use Rattle.meaning.specs.Store.{formatted, treeAtVersion}
 use Rattle.meaning.specs.Sound.{mostSlots, Kept, Hashes32, Sound}
 use Rattle.meaning.specs.Calls.{Applied, refuse}
-use Rattle.meaning.specs.History.{Call, formatting, applying, pruning, taking, looking, CallForm, isAccepted, after, took, run, history, Entry, entry, keptBy, lasting, noted, ledger, grantsOf, heldFrom, held, Holds}
+use Rattle.meaning.specs.History.{Call, formatting, applying, pruning, taking, looking, Entry, entry, keptBy, lasting, noted, ledger, grantsOf, Holds}
+use Rattle.meaning.specs.Course.{CallForm, isAccepted, after, took, run, history, heldFrom, held}
 use Rattle.meaning.proofs.Shaped.{shaped-treeOf}
 use Rattle.histories.specs.Claims.{AfterApply, AfterPrune}
 use Rattle.histories.proofs.Whole.{sound-whole, whole-sound}

@@ -19,13 +19,15 @@ use Rattle.meaning.specs.Calls.{Answer, refused, accepted, refuse, isKept, Appl
 use Rattle.meaning.specs.Sight.{sighted, rootSight, scan}
 use Rattle.meaning.specs.Reading.{Seen, seenAt, seenRoot, seen, walk, readEnd, readKey, rootRead, readRoot}
 use Rattle.meaning.specs.Proving.{proveSeen, emptyVersion, proof}
-use Rattle.meaning.specs.History.{Call, formatting, applying, pruning, looking, CallForm, isAccepted, after, took, run, history, Entry, entry, ledger, grantsOf, held, Holds, taking}
+use Rattle.meaning.specs.History.{Call, formatting, applying, pruning, looking, Entry, entry, ledger, grantsOf, Holds, taking}
+use Rattle.meaning.specs.Course.{CallForm, isAccepted, after, took, run, history, held}
 use Rattle.meaning.proofs.Finding.{none-not}
 use Rattle.meaning.proofs.Roots.{root-at, root-none, root-some, top-root}
 use Rattle.meaning.proofs.Runs.{Ascending}
 use Rattle.meaning.proofs.Sights.{whole-root}
 use Rattle.meaning.proofs.Shaped.{Shaped, shaped-form, shaped-ascending, shaped-treeOf}
-use Rattle.histories.specs.Claims.{NoChange, NoGaps, rootIn01, ReadAlike, ApplyRefuses, not-in-form, not-ascending, not-above-latest, no-room, AfterApply, AfterPrune}
+use Rattle.histories.specs.Claims.{NoChange, ReadAlike, ApplyRefuses, not-in-form, not-ascending, not-above-latest, no-room, AfterApply, AfterPrune}
+use Rattle.histories.specs.Gaps.{NoGaps, rootIn01}
 use Rattle.histories.proofs.Standing.{node-found}
 use Rattle.histories.proofs.Whole.{sound-whole, whole-sound}
 use Rattle.histories.proofs.Pruning.{cut, formatted-tree, formatted-whole}

@@ -1,20 +1,20 @@
--- What is claimed of apply and prune: when they refuse, and of the store after they accept; what it is to read alike; when numbers leave no
--- gap, and document 01's rule for roots. Assumes nothing.
+-- What is claimed of apply and prune: when they refuse, and of the store after they accept; what it is to read alike; when a number leaves
+-- no gap. Assumes nothing.
 use Prim.Native.Nat.{ℕ, suc, _+_, _<_, _≤_}
 use mathlib.Core.Path.{_≡_}
 use mathlib.Core.Bool.{true, false}
-use mathlib.Core.List.{List, [], _∷_}
+use mathlib.Core.List.{List, []}
 use mathlib.Core.Option.{Option, none, some}
 use lib.ListN.{length}
 use Rattle.terms.specs.Bits.{Bytes}
 use Rattle.terms.specs.Records.{Grant, Ask, insert, delete, Record, Store}
 use Rattle.meaning.specs.Tree.{withBatch, hash, unversioned, grantsIn, nextTree}
-use Rattle.meaning.specs.Store.{find, treeAtVersion, freeSlots, marked, newRecords}
+use Rattle.meaning.specs.Store.{treeAtVersion, freeSlots, marked, newRecords}
 use Rattle.meaning.specs.Sound.{At, Kept, NodeOf, Sound}
 use Rattle.meaning.specs.Calls.{Applied, ascending}
 use Rattle.meaning.specs.Reading.{answerOf, present, absent, readKey, readRoot}
 use Rattle.meaning.specs.Proving.{proof}
-use Rattle.meaning.specs.History.{Call, formatting, applying, pruning, taking, looking, after}
+use Rattle.meaning.specs.History.{Call, formatting, applying, pruning, taking, looking}
 
 -- An ask that is no change: an insert of the value already there, a delete of an absent key.
 abbrev pub NoChange : List Grant → Ask → Type 0
@@ -29,16 +29,7 @@ NoGap (pruning n) st = Unit {0}
 NoGap (taking es) st = ⊥
 NoGap looking st = Unit {0}
 
--- Document 01's rule: the root of a version is the record (version, empty place), if any; the lowest is the one found.
-abbrev pub rootIn01 : Store → ℕ → Option Record
-rootIn01 st v = find v [] (st .slots)
-
 module _ (leafHash innerHash : Bytes → Bytes → Bytes) where
-  -- Nor does any call of a list.
-  abbrev pub NoGaps : List Call → Store → Type 0
-  NoGaps [] st = Unit {0}
-  NoGaps (c ∷ calls) st = NoGap c st × NoGaps calls (after leafHash innerHash c st)
-
   -- Two versions of a store read alike: the root, each key, each proof.
   pub record ReadAlike (st : Store) (v w : ℕ) : Type 0 where
     pub root : readRoot leafHash innerHash st v ≡ readRoot leafHash innerHash st w

@@ -2,17 +2,17 @@
 -- one side; so a parent names a record on that side alone. Assumes nothing.
 use Prim.Native.Nat.{ℕ, _-_, _≤_, max}
 use native.Mathlib.Omega.{arith}
-use mathlib.Core.Path.{_≡_, refl, ap, sym, _∙_, subst}
+use mathlib.Core.Path.{_≡_, refl, ap, ap₂, sym, _∙_, subst}
 use mathlib.Core.Bool.{Bool, true, false, cond, not, _&&_, true≢false, false≢true}
 use mathlib.Core.List.{List, [], _∷_}
 use mathlib.Core.Logic.{⊎-elim}
-use lib.ListN.{length, take, drop}
+use lib.ListN.{length}
 use lib.Dec.{eqb, leb}
 use borrow.Author.Tests.{eqb-true, eq-eqb}
 use types.Run.{OneOf}
 use denote.Enum.Declared.{tagOf}
 use Rattle.terms.specs.Bits.{Bytes, Byte, All, Side, left, right, longer, sameBytes, pack}
-use Rattle.terms.specs.Fields.{field, slice, allOf}
+use Rattle.terms.specs.Fields.{allOf}
 use Rattle.terms.specs.Records.{Child, Body, leafBody, innerBody, Record, Slot, free, used, spoiled, Store}
 use Rattle.terms.specs.Form.{RecordForm}
 use Rattle.terms.proofs.Tests.{and-left, and-right, and-true, is-false, same-bytes, bytes-same}
@@ -198,13 +198,15 @@ module _ {s : Bytes} {j : ℕ} (h : Has s j) (a : All Byte s) (b : declared-belo
 
     -- slot j is a parent
     pub parent-said : (k : declared-kept.Kept) → Keeps s k → couldName b (slotIn j s) ≡ true → (c d : declared-child.Child) → t .kind ≡ Inner c d →
-        (m : Side) → b .right ≡ m → (ends : ℕ) → ends ≡ endsAt (k .latest) (t .retired) → (z : declared-said.Said) →
-        SaidOf (allOf (linkTests k b (t .version) ends (cond m d c) (cond m c d .version))) (ends - max (k .oldest) (t .version)) z → SlotSays s j b z
+        {x y : declared-child.Child} → x ≡ cond (b .right) d c → y ≡ cond (not (b .right)) d c → (ends : ℕ) → ends ≡ endsAt (k .latest) (t .retired) →
+        (z : declared-said.Said) → SaidOf (allOf (linkTests k b (t .version) ends x (y .version))) (ends - max (k .oldest) (t .version)) z → SlotSays s j b z
     unfolding slotSays kindSays recordSays childSays endsBefore
-    parent-said k keep could c d inner m side ends ended z said r i =
+    parent-said k keep could c d inner {x} {y} named-one beside-one ends ended z said r i =
         rw e
         (said-as z
-        (one-link (storeOf s) r q (childSays c) (childSays d) refl m (subst (λ x. names x q r ≡ true) side n) (subst (λ x. names (not x) q r ≡ false) side o) ∙ same-links m)
+        (one-link (storeOf s) r q (childSays c) (childSays d) refl (b .right) n o
+        ∙ same-links (b .right)
+        ∙ ap₂ (λ p v. allOf (linkTests k b (t .version) ends p (v .version))) (sym named-one) (sym beside-one))
         (one-life (storeOf s) r q (childSays c) (childSays d) refl (b .right) n ∙ rw (keep .oldest, keep .latest, ended))
         said)
       where
@@ -220,8 +222,8 @@ module _ {s : Bytes} {j : ℕ} (h : Has s j) (a : All Byte s) (b : declared-belo
         o : names (not (b .right)) q r ≡ false
         o = named-once (slotIn j s) (slot-long j s (slot-within h)) (slot-bytes j s a) q (sym (slot-is h) ∙ e) b w (storeOf s) r i
 
-        same-links : (x : Side) →
-            allOf (linksOn (storeOf s) r q (childSays c) (childSays d) refl x)
-            ≡ allOf (linkTests k b (t .version) ends (cond x d c) (cond x c d .version))
+        same-links : (m : Side) →
+            allOf (linksOn (storeOf s) r q (childSays c) (childSays d) refl m)
+            ≡ allOf (linkTests k b (t .version) ends (cond m d c) (cond (not m) d c .version))
         same-links false = rw (i .hash, i .version, i .ends, keep .oldest, keep .latest, lone-is (childSays d) (r .body), i .kind, ended)
         same-links true = rw (i .hash, i .version, i .ends, keep .oldest, keep .latest, lone-is (childSays c) (r .body), i .kind, ended)

@@ -89,6 +89,13 @@ fn link(kept: Kept, below: Below, version: u32, ends: u64, child: Child, other: 
     Said::Lived(kept_life(kept.oldest, version, ends))
 }
 
+// The child on a side.
+fn on_side(side: bool, left: Child, right: Child) -> Child
+    ensures { λ r. ⌜ r ≡ cond side right left ⌝ }
+{
+    if side { right } else { left }
+}
+
 // What slot j says of a record.
 fn parent_says(store: &[u8], j: usize, kept: Kept, below: Below) -> Said
     requires { ⌜ Has (now store) j × Keeps (now store) kept × Proper (below .up) ⌝ }
@@ -104,10 +111,9 @@ fn parent_says(store: &[u8], j: usize, kept: Kept, below: Below) -> Said
     };
     let version = slot.version;
     let ends = ends_before(kept.latest, slot.retired);
-    if below.right {
-        return link(kept, below, version, ends, right, left.version);
-    }
-    link(kept, below, version, ends, left, right.version)
+    let named = on_side(below.right, left, right);
+    let beside = on_side(!below.right, left, right);
+    link(kept, below, version, ends, named, beside.version)
 }
 
 // Whether all that its parents say of a record is right, and their kept lives add up to its own.

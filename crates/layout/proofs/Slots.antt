@@ -2,7 +2,7 @@
 -- as, and what is read is in form. The fields fill the slot, and each is its number or its part. Assumes nothing.
 use Prim.Native.Nat.{ℕ, _+_, _<_, _≤_}
 use native.Mathlib.Omega.{arith}
-use mathlib.Core.Path.{_≡_, refl, ap, ap₂, sym, _∙_}
+use mathlib.Core.Path.{_≡_, refl, ap, ap₂, sym, _∙_, subst}
 use mathlib.Core.Bool.{Bool, true, false, cond, _||_, false≢true}
 use mathlib.Core.List.{List, [], _∷_, _++_}
 use lib.ListN.{length, getD, drop, length-take}
@@ -241,6 +241,32 @@ one-child : (l r : Child) → someChild l r ≡ true → l .version ≡ 0 → r 
 unfolding someChild
 one-child l r t e f = false≢true (sym (rw (lt-leb 1 (l .version) (omega arith), lt-leb 1 (r .version) (omega arith))) ∙ t)
 
+-- what bytes are: all that is opened of `slotOf`
+pub data SlotCases (x : Bytes) : Type 0 where
+  are-free : allZero x ≡ true → slotOf x ≡ free → SlotCases x
+  are-leaf : allZero x ≡ false → isLeaf x ≡ true → slotOf x ≡ used (recordIn x (leafIn x)) → SlotCases x
+  are-inner : allZero x ≡ false → isLeaf x ≡ false → isInner x ≡ true → slotOf x ≡ used (recordIn x (innerIn x)) → SlotCases x
+  are-spoiled : allZero x ≡ false → isLeaf x ≡ false → isInner x ≡ false → slotOf x ≡ spoiled x → SlotCases x
+
+pub slot-cases : (x : Bytes) → SlotCases x
+unfolding slotOf
+slot-cases x = go (allZero x) (isLeaf x) (isInner x) refl refl refl
+  where
+    go : (a b c : Bool) → allZero x ≡ a → isLeaf x ≡ b → isInner x ≡ c → SlotCases x
+    go true b c z l i = are-free z (rw z)
+    go false true c z l i = are-leaf z l (rw (z, l))
+    go false false true z l i = are-inner z l i (rw (z, l, i))
+    go false false false z l i = are-spoiled z l i (rw (z, l, i))
+
+-- the cases of a slot exclude each other, and a slot holds one record
+abbrev case : Slot → ℕ
+case free = 0
+case (used r) = 1
+case (spoiled x) = 2
+
+one-record : (q r : Record) → used q ≡ used r → q ≡ r
+one-record q r e = cc
+
 -- 120 bytes
 module _ (x : Bytes) (l : length x ≡ 120) (h : All Byte x) where
   length-place : countIn x ≤ 256 → length (placeIn x) ≡ countIn x
@@ -323,36 +349,45 @@ module _ (x : Bytes) (l : length x ≡ 120) (h : All Byte x) where
 
   -- the bytes are those of the slot that they are read as
   pub slot-back : slotBytes (slotOf x) ≡ x
-  unfolding slotOf slotBytes
-  slot-back = go (allZero x) (isLeaf x) (isInner x) refl refl refl
+  unfolding slotBytes
+  slot-back = go (slot-cases x)
     where
-      go : (a b c : Bool) → allZero x ≡ a → isLeaf x ≡ b → isInner x ≡ c →
-          slotBytes (cond a free (cond b (used (recordIn x (leafIn x))) (cond c (used (recordIn x (innerIn x))) (spoiled x)))) ≡ x
-      go true b c d e f = ap zeroBytes (sym l) ∙ sym (zero-bytes x d)
-      go false true c d e f = leaf-back e
-      go false false true d e f = inner-back f
-      go false false false d e f = refl
+      go : SlotCases x → slotBytes (slotOf x) ≡ x
+      go (are-free z e) = ap slotBytes e ∙ ap zeroBytes (sym l) ∙ sym (zero-bytes x z)
+      go (are-leaf z t e) = ap slotBytes e ∙ leaf-back t
+      go (are-inner z n t e) = ap slotBytes e ∙ inner-back t
+      go (are-spoiled z n m e) = ap slotBytes e
 
   -- and that slot is in form
   pub slot-form : SlotForm (slotOf x)
-  unfolding slotOf
-  slot-form = go (allZero x) (isLeaf x) (isInner x) refl refl refl
+  slot-form = go (slot-cases x)
     where
-      go : (a b c : Bool) → allZero x ≡ a → isLeaf x ≡ b → isInner x ≡ c →
-          SlotForm (cond a free (cond b (used (recordIn x (leafIn x))) (cond c (used (recordIn x (innerIn x))) (spoiled x))))
-      go true b c d e f = tt
-      go false true c d e f = leaf-form e
-      go false false true d e f = inner-form f
-      go false false false d e f = (l, h, rw (d, e, f))
+      go : SlotCases x → SlotForm (slotOf x)
+      go (are-free z e) = subst SlotForm (sym e) tt
+      go (are-leaf z t e) = subst SlotForm (sym e) (leaf-form t)
+      go (are-inner z n t e) = subst SlotForm (sym e) (inner-form t)
+      go (are-spoiled z n m e) = subst SlotForm (sym e) (l, h, e)
 
 -- bytes that are a record are a leaf's where they pass for one, else an inner record's
 pub record-is : (x : Bytes) (r : Record) → slotOf x ≡ used r → recordIn x (cond (isLeaf x) (leafIn x) (innerIn x)) ≡ r
-unfolding slotOf
-record-is x r = go (allZero x) (isLeaf x) (isInner x)
+record-is x r e = go (slot-cases x)
   where
-    go : (a b c : Bool) → cond a free (cond b (used (recordIn x (leafIn x))) (cond c (used (recordIn x (innerIn x))) (spoiled x))) ≡ used r →
-        recordIn x (cond b (leafIn x) (innerIn x)) ≡ r
-    go true b c e = let z : _≡_ {A = ℕ} 0 1 = cc in absurd (omega arith)
-    go false true c e = cc
-    go false false true e = cc
-    go false false false e = let z : _≡_ {A = ℕ} 0 1 = cc in absurd (omega arith)
+    go : SlotCases x → recordIn x (cond (isLeaf x) (leafIn x) (innerIn x)) ≡ r
+    go (are-free z f) = absurd (omega (arith, ap case (sym f ∙ e)))
+    go (are-leaf z t f) = rw t (one-record (recordIn x (leafIn x)) r (sym f ∙ e))
+    go (are-inner z n t f) = rw n (one-record (recordIn x (innerIn x)) r (sym f ∙ e))
+    go (are-spoiled z n m f) = absurd (omega (arith, ap case (sym f ∙ e)))
+
+-- free is exactly all zero
+pub zero-free : (x : Bytes) → allZero x ≡ true → slotOf x ≡ free
+unfolding slotOf
+zero-free x e = rw e
+
+pub free-zero : (x : Bytes) → slotOf x ≡ free → allZero x ≡ true
+free-zero x e = go (slot-cases x)
+  where
+    go : SlotCases x → allZero x ≡ true
+    go (are-free z f) = z
+    go (are-leaf z t f) = absurd (omega (arith, ap case (sym e ∙ f)))
+    go (are-inner z n t f) = absurd (omega (arith, ap case (sym e ∙ f)))
+    go (are-spoiled z n m f) = absurd (omega (arith, ap case (sym e ∙ f)))

@@ -45,7 +45,7 @@ root-parts : (v : ℕ) (r : Record) → isRoot v r ≡ (samePlace (r .place) [] 
 unfolding isRoot retiredBy covers
 root-parts v r = refl
 
-and-false : (c : Bool) → (c && false) ≡ false
+pub and-false : (c : Bool) → (c && false) ≡ false
 and-false true = refl
 and-false false = refl
 

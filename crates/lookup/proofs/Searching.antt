@@ -25,7 +25,7 @@ use Rattle.lookup.specs.declared.Found.the-variants.{At, Nothing}
 use Rattle.lookup.proofs.Matching.{NoNode, off-version, off-count, off-byte, is-here}
 
 -- the search past a slot that does not match
-past : (v : ℕ) (p : Place) (x : Slot) (s : List Slot) → ((r : Record) → x ≡ used r → isNode v p r ≡ false) → find v p (x ∷ s) ≡ find v p s
+pub past : (v : ℕ) (p : Place) (x : Slot) (s : List Slot) → ((r : Record) → x ≡ used r → isNode v p r ≡ false) → find v p (x ∷ s) ≡ find v p s
 past v p free s f = refl
 past v p (used r) s f = rw (f r refl)
 past v p (spoiled y) s f = refl

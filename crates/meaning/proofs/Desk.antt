@@ -4,7 +4,8 @@ use mathlib.Core.List.{[], _∷_}
 use Rattle.terms.specs.Bits.{Bytes, All}
 use Rattle.meaning.specs.Computed.{computed}
 use Rattle.meaning.specs.Store.{formatted}
-use Rattle.meaning.specs.History.{run, history, entry, ledger}
+use Rattle.meaning.specs.History.{entry, ledger}
+use Rattle.meaning.specs.Course.{run, history}
 use Rattle.meaning.specs.Desk.{RowHolds, table, gaps, notAbove, gapCalls, gapGranted, g₇}
 
 pub desk : (leafHash innerHash : Bytes → Bytes → Bytes) → All (RowHolds leafHash innerHash) (table leafHash innerHash)

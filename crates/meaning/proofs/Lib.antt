@@ -9,3 +9,4 @@ pub mod Runs
 pub mod Versions
 pub mod Samples
 pub mod Shaped
+pub mod Told

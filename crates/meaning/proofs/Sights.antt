@@ -3,15 +3,15 @@
 use Prim.Native.Nat.{ℕ, zero, suc, _+_, _<_}
 use native.Mathlib.Omega.{arith}
 use native.Mathlib.Nat.{le-of-suc-le-suc, not-suc-le-zero}
-use mathlib.Core.Path.{_≡_, refl, ap, sym, _∙_, subst}
+use mathlib.Core.Path.{_≡_, refl, ap, subst}
 use mathlib.Core.Bool.{Bool, true, false, cond}
 use mathlib.Core.List.{List, [], _∷_}
-use mathlib.Core.Option.{Option, none, some, Option·none-ne-some}
+use mathlib.Core.Option.{Option, none, some}
 use lib.ListN.{length, getD}
 use Rattle.terms.specs.Bits.{Bytes, Place}
 use Rattle.terms.specs.Records.{Record, Slot, free, used, spoiled, Store}
 use Rattle.meaning.specs.Store.{find, rootOf}
-use Rattle.meaning.specs.Sight.{Sight, matches, nothing, spoilt, agrees, agreesRoot, lowestSpoilt, sighted, rootSight, nodeSight}
+use Rattle.meaning.specs.Sight.{matches, nothing, agrees, agreesRoot, lowestSpoilt, sighted, rootSight, nodeSight}
 
 pub free-spoiled : {A : Type 0} (x : Bytes) → free ≡ spoiled x → A
 free-spoiled x e = let z : _≡_ {A = ℕ} 0 1 = cc in absurd (omega arith)
@@ -69,16 +69,6 @@ some-sighted none none r e = let z : _≡_ {A = ℕ} 0 1 = cc in absurd (omega a
 some-sighted none (some i) r e = let z : _≡_ {A = ℕ} 0 1 = cc in absurd (omega arith)
 some-sighted (some q) n r e = let z : q ≡ r = cc in ap some z
 
-pub nothing-sighted : (o : Option Record) (n : Option ℕ) → sighted o n ≡ nothing → (o ≡ none) × (n ≡ none)
-nothing-sighted none none e = (refl, refl)
-nothing-sighted none (some i) e = let z : _≡_ {A = ℕ} 0 1 = cc in absurd (omega arith)
-nothing-sighted (some q) n e = let z : _≡_ {A = ℕ} 0 1 = cc in absurd (omega arith)
-
-pub spoilt-sighted : (o : Option Record) (n : Option ℕ) (i : ℕ) → sighted o n ≡ spoilt i → (o ≡ none) × (n ≡ some i)
-spoilt-sighted none none i e = let z : _≡_ {A = ℕ} 0 1 = cc in absurd (omega arith)
-spoilt-sighted none (some j) i e = let z : j ≡ i = cc in (refl, ap some z)
-spoilt-sighted (some q) n i e = let z : _≡_ {A = ℕ} 0 1 = cc in absurd (omega arith)
-
 module _ (st : Store) (v : ℕ) where
   -- a slot in form matches exactly where a record is found
   pub root-sighted : (r : Record) → rootOf st v ≡ some r → rootSight st v ≡ matches r
@@ -88,10 +78,6 @@ module _ (st : Store) (v : ℕ) where
   pub sighted-root : (r : Record) → rootSight st v ≡ matches r → rootOf st v ≡ some r
   unfolding rootSight
   sighted-root r e = some-sighted (rootOf st v) _ r e
-
-  pub no-sighted-root : rootSight st v ≡ nothing → rootOf st v ≡ none
-  unfolding rootSight
-  no-sighted-root e = nothing-sighted (rootOf st v) _ e .0
 
   module _ (p : Place) where
     pub node-sighted : (r : Record) → find v p (st .slots) ≡ some r → nodeSight st v p ≡ matches r

@@ -1,4 +1,4 @@
--- What an answer is for a caller in another language: a number, and what is found in an array of 33 bytes. Assumes nothing.
+-- What an answer is for a caller in another language: a number, and an array with what the call gives. Assumes nothing.
 use Prim.Native.Nat.{ℕ}
 use mathlib.Core.List.{_∷_}
 use Rattle.terms.specs.Bits.{Bytes}
@@ -11,12 +11,15 @@ abbrev pub numberOf : {A : Type 0} → Answer A → ℕ
 numberOf (refused n) = n
 numberOf (accepted a) = 0
 
--- 1 and the value, or 0 and 32 zero bytes.
+-- What is left of the array for it: a refused call writes nothing.
+abbrev pub toldOf : {A : Type 0} → (A → Bytes) → Answer A → Bytes → Bytes
+toldOf tell (refused n) old = old
+toldOf tell (accepted a) old = tell a
+
+-- What a key read finds: 1 and the value, or 0 and 32 zero bytes.
 abbrev pub foundBytes : Verdict → Bytes
 foundBytes (present x) = 1 ∷ x
 foundBytes absent = 0 ∷ zeros
 
--- A refused call writes nothing.
 abbrev pub foundAfter : Answer Verdict → Bytes → Bytes
-foundAfter (refused n) found = found
-foundAfter (accepted v) found = foundBytes v
+foundAfter a found = toldOf foundBytes a found

@@ -1,19 +1,16 @@
 -- Demand 3: histories. The calls on a store, and the grants that a history gives to each version, told from the calls and from which of
 -- them were accepted. Assumes nothing.
-use Prim.Native.Nat.{ℕ, zero, suc, _+_, _-_, _≤_}
+use Prim.Native.Nat.{ℕ, zero, suc, _+_, _-_}
 use mathlib.Core.Path.{_≡_}
-use mathlib.Core.Bool.{Bool, true, false, cond}
+use mathlib.Core.Bool.{Bool, cond}
 use mathlib.Core.List.{List, [], _∷_}
 use mathlib.Core.Option.{Option, none, some}
-use lib.ListN.{length}
 use lib.Dec.{eqb, leb}
-use Rattle.terms.specs.Bits.{Bytes, All, filter}
+use Rattle.terms.specs.Bits.{Bytes, filter}
 use Rattle.terms.specs.Records.{Grant, Ask, Store}
-use Rattle.terms.specs.Form.{AskForm, top32}
 use Rattle.meaning.specs.Tree.{withBatch, treeOf, unversioned, grantsIn}
-use Rattle.meaning.specs.Store.{formatted, treeAtVersion}
+use Rattle.meaning.specs.Store.{treeAtVersion}
 use Rattle.meaning.specs.Sound.{Sound, Kept}
-use Rattle.meaning.specs.Calls.{Answer, refused, accepted, apply, prune}
 
 -- The grants of a version.
 pub record Entry : Type 0 where
@@ -33,46 +30,6 @@ pub data Call : Type 0 where
   taking : List Entry → Call
   -- check, the reads, proving, and any call refused for its sizes or its header: nothing is written
   looking : Call
-
--- The asks of a batch are in form, as those decoded from bytes are, and its number has four bytes.
-abbrev pub CallForm : Call → Type 0
-CallForm formatting = Unit {0}
-CallForm (applying number none) = Unit {0}
-CallForm (applying number (some batch)) = (number ≤ top32) × All AskForm batch
-CallForm (pruning n) = Unit {0}
-CallForm (taking es) = Unit {0}
-CallForm looking = Unit {0}
-
-abbrev pub isAccepted : {A : Type 0} → Answer A → Bool
-isAccepted (refused n) = false
-isAccepted (accepted x) = true
-
-module _ (leafHash innerHash : Bytes → Bytes → Bytes) where
-  -- The store after a call. What is made of another store isn't told from this one alone: here it is as if it were refused.
-  abbrev pub after : Call → Store → Store
-  after formatting st = formatted (length (st .slots))
-  after (applying number batch) st = apply leafHash innerHash number batch st .store
-  after (pruning n) st = prune n st .store
-  after (taking es) st = st
-  after looking st = st
-
-  -- The call was accepted, so it may have changed what the store holds.
-  abbrev pub took : Call → Store → Bool
-  took formatting st = true
-  took (applying number batch) st = isAccepted (apply leafHash innerHash number batch st .answer)
-  took (pruning n) st = isAccepted (prune n st .answer)
-  took (taking es) st = false
-  took looking st = false
-
-  -- The store after a list of calls.
-  abbrev pub run : List Call → Store → Store
-  run [] st = st
-  run (c ∷ calls) st = run calls (after c st)
-
-  -- A history as the callers see it: each call, and whether it was accepted.
-  abbrev pub history : List Call → Store → List (Call × Bool)
-  history [] st = []
-  history (c ∷ calls) st = (c, took c st) ∷ history calls (after c st)
 
 unfoldable pub keptBy : ℕ → Entry → Bool
 keptBy n e = leb n (e .version)
@@ -104,15 +61,6 @@ ledger (c ∷ calls) es = ledger calls (cond (c .1) (noted (c .0) es) es)
 abbrev pub grantsOf : ℕ → List Entry → Option (List Grant)
 grantsOf v [] = none
 grantsOf v (e ∷ es) = cond (eqb (e .version) v) (some (e .grants)) (grantsOf v es)
-
--- What a store holds by itself: the grants of its kept versions, the newest first, here of the versions o + n down to o. A history that
--- starts at a sound store starts with this.
-abbrev pub heldFrom : Store → ℕ → ℕ → List Entry
-heldFrom st o zero = entry o (grantsIn (treeAtVersion st o)) ∷ []
-heldFrom st o (suc n) = entry (o + suc n) (grantsIn (treeAtVersion st (o + suc n))) ∷ heldFrom st o n
-
-unfoldable pub held : Store → List Entry
-held st = heldFrom st (st .oldest) (st .latest - st .oldest)
 
 -- A store holds what a ledger says: it is sound, each kept version's tree is the tree of its grants, and no other version has any.
 module _ (leafHash innerHash : Bytes → Bytes → Bytes) where

@@ -8,7 +8,9 @@ pub mod Reading
 pub mod Proving
 pub mod Checking
 pub mod History
+pub mod Course
 pub mod Local
 pub mod Desk
 pub mod Computed
 pub mod Answers
+pub mod Sized

@@ -2,11 +2,10 @@
 use Prim.Native.Nat.{ℕ, _-_, _<_, _≤_}
 use native.Mathlib.Omega.{arith}
 use native.Mathlib.Nat.{zero-add}
-use mathlib.Core.Path.{_≡_, refl, ap, sym, _∙_, subst}
+use mathlib.Core.Path.{_≡_, refl, ap, sym, _∙_}
 use mathlib.Core.Bool.{Bool, true, false, cond}
 use mathlib.Core.List.{List, _++_}
 use lib.ListN.{length, take, drop}
-use lib.Dec.{ltb}
 use borrow.Author.Tests.{lt-ltb, le-ltb}
 use Rattle.terms.specs.Bits.{Bytes}
 use Rattle.terms.specs.Records.{Proof}
@@ -28,8 +27,8 @@ use Rattle.palettes.proofs.Turns.{in-turn-same}
 use Rattle.proving.specs.Parts.{provedSays}
 use Rattle.proving.specs.declared.Proved as declared
 use Rattle.proving.specs.declared.Proved.the-variants.{Refused, Length}
-use Rattle.palette.specs.Palettes.{paletteAnswer, proofsBytes, togetherLength, roomAfter}
-use Rattle.palette.specs.Parts.{plannedFor, plannedIn, togetherBytes, Gives}
+use Rattle.palette.specs.Palettes.{paletteAnswer, proofsBytes, roomAfter}
+use Rattle.palette.specs.Parts.{plannedFor, plannedIn, togetherLength, togetherBytes, Gives}
 
 pub gives-refusal : {a : Answer (List Proof)} (n : ℕ) (room : Bytes) → a ≡ refused n → Gives a room room (Refused n)
 unfolding provedSays

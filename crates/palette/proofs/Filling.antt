@@ -4,7 +4,7 @@ use native.Mathlib.Omega.{arith}
 use native.Mathlib.Nat.{zero-add}
 use mathlib.Core.Path.{_≡_, refl, ap, ap₂, sym, _∙_}
 use mathlib.Core.Bool.{true}
-use mathlib.Core.List.{List, [], _∷_, _++_, append-assoc, append-nil}
+use mathlib.Core.List.{List, [], _++_, append-assoc, append-nil}
 use lib.ListN.{length, take, drop, length-append}
 use lib.Seq.{take-at, take-all, length-take-le}
 use Rattle.terms.specs.Bits.{Bytes}
@@ -13,10 +13,10 @@ use Rattle.meaning.specs.Calls.{Answer, refused, accepted}
 use Rattle.meaning.specs.Proving.{proofLength}
 use Rattle.proofrecords.specs.ProofBytes.{proofBytes}
 use Rattle.paths.proofs.Records.{given, part-room, given-long}
-use Rattle.palettes.specs.Palette.{wholeKeys, keysFrom, keysIn, followed, inTurn, lengthTogether}
-use Rattle.palette.specs.Palettes.{togetherLength, proofsBytes}
-use Rattle.palette.specs.Parts.{togetherBytes}
-use Rattle.palette.proofs.Passing.{keyAt, answersFrom, Left, left-start, Turn, turn, none-left}
+use Rattle.palettes.specs.Palette.{wholeKeys, keysIn, followed, inTurn, lengthTogether}
+use Rattle.palette.specs.Palettes.{proofsBytes}
+use Rattle.palette.specs.Parts.{togetherLength, togetherBytes}
+use Rattle.palette.proofs.Passing.{keyAt, answersFrom, Left, left-start, turn, none-left}
 
 -- the proofs before a byte of the list fill the part up to start, and those after it the rest
 pub record Filling (f : Bytes → Answer Proof) (ks : Bytes) (size : ℕ) (part : Bytes) (start at : ℕ) : Type 0 where
@@ -70,9 +70,6 @@ front-then start len part y h l =
 
 module _ {f : Bytes → Answer Proof} {ks part : Bytes} {size start at : ℕ} (w : Filling f ks size part start at) where
   module _ (h : at < length ks) where
-    its-turn : Turn f ks (w .count) at
-    its-turn = turn f ks (w .count) at (w .left) h
-
     -- the proof of the key at this byte, and how far it reaches
     pub record Next : Type 0 where
       pub proof : Proof

@@ -1,19 +1,19 @@
 -- The first pass: a key a turn, the lengths so far added up, or the first refusal. Assumes nothing.
-use Prim.Native.Nat.{ℕ, zero, suc, _+_, _*_, _-_, _<_, _≤_, _/_, _%_}
+use Prim.Native.Nat.{ℕ, zero, suc, _+_, _*_, _-_, _<_, _≤_, _/_}
 use native.Mathlib.Omega.{arith}
 use native.Mathlib.Nat.{add-zero, zero-add}
 use mathlib.Core.Path.{_≡_, refl, ap, ap₂, sym, _∙_}
 use mathlib.Core.Bool.{true}
-use mathlib.Core.List.{List, [], _∷_}
+use mathlib.Core.List.{List}
 use lib.ListN.{length, take, drop, length-take, length-drop}
 use lib.Seq.{drop-drop}
 use Rattle.terms.specs.Bits.{Bytes}
 use Rattle.terms.specs.Records.{Proof}
 use Rattle.meaning.specs.Calls.{Answer, refused, accepted}
 use Rattle.meaning.specs.Proving.{proofLength}
-use Rattle.palettes.specs.Palette.{wholeKeys, keysFrom, keysIn, followed, inTurn, lengthTogether}
-use Rattle.palettes.proofs.Keys.{WholeList, whole-list}
-use Rattle.palette.specs.Palettes.{togetherLength}
+use Rattle.palettes.specs.Palette.{wholeKeys, keysFrom, keysIn, followed, inTurn}
+use Rattle.palettes.proofs.Keys.{whole-list}
+use Rattle.palette.specs.Parts.{togetherLength}
 
 -- the key at a byte of the list, as a part of it, and the answers from that key on
 abbrev pub keyAt : Bytes → ℕ → Bytes

@@ -7,7 +7,7 @@ use lib.ListN.{length, drop}
 use Rattle.terms.specs.Bits.{Bytes}
 use Rattle.terms.specs.Records.{Proof}
 use Rattle.meaning.specs.Calls.{Answer, refused, accepted}
-use Rattle.palettes.specs.Palette.{wholeKeys, keysIn, lengthTogether, palette}
+use Rattle.palettes.specs.Palette.{wholeKeys, keysIn, palette}
 use Rattle.proofrecords.specs.ProofBytes.{proofBytes}
 use Rattle.layout.specs.Headers.{headerOf}
 use Rattle.layout.specs.Stores.{storeOf}
@@ -22,11 +22,6 @@ paletteAnswer s v list room = cond (wholeKeys list) (byHeader (headerOf s) (pale
 abbrev pub proofsBytes : List Proof → Bytes
 proofsBytes [] = []
 proofsBytes (p ∷ ps) = proofBytes p ++ proofsBytes ps
-
--- The answer is the length of all together.
-abbrev pub togetherLength : Answer (List Proof) → Answer ℕ
-togetherLength (refused n) = refused n
-togetherLength (accepted ps) = accepted (lengthTogether ps)
 
 -- Accepted proofs fill the front of the buffer, the rest stays; a refusal writes nothing.
 abbrev pub roomAfter : Answer (List Proof) → Bytes → Bytes

@@ -5,14 +5,15 @@ use mathlib.Core.List.{List, []}
 use Rattle.terms.specs.Bits.{Bytes}
 use Rattle.terms.specs.Records.{Proof}
 use Rattle.meaning.specs.Calls.{Answer, refused, accepted}
+use Rattle.meaning.specs.Sized.{sized}
 use Rattle.meaning.specs.Sight.{scan}
 use Rattle.meaning.specs.Reading.{seen}
 use Rattle.meaning.specs.Proving.{proveSeen}
 use Rattle.layout.specs.Stores.{storeOf}
-use Rattle.palettes.specs.Palette.{keysIn, inTurn}
+use Rattle.palettes.specs.Palette.{keysIn, inTurn, lengthTogether}
 use Rattle.proving.specs.Parts.{provedSays}
 use Rattle.proving.specs.declared.Proved as declared
-use Rattle.palette.specs.Palettes.{proofsBytes, togetherLength, roomAfter}
+use Rattle.palette.specs.Palettes.{proofsBytes, roomAfter}
 
 -- What is planned for a key in a kept version, and for each key of a list.
 abbrev pub plannedFor : Bytes → ℕ → Bytes → Answer Proof
@@ -20,6 +21,10 @@ plannedFor s v k = proveSeen k (seen (scan (storeOf s)) v)
 
 unfoldable pub plannedIn : Bytes → ℕ → Bytes → Answer (List Proof)
 plannedIn s v list = inTurn (plannedFor s v) (keysIn list)
+
+-- The length of all together.
+abbrev pub togetherLength : Answer (List Proof) → Answer ℕ
+togetherLength a = sized lengthTogether a
 
 -- The bytes of all together, none where one is refused.
 abbrev pub togetherBytes : Answer (List Proof) → Bytes

@@ -14,8 +14,8 @@ ghost use Rattle.layout.specs.Headers.{sizeRight};
 ghost use Rattle.meaning.specs.Calls.{accepted};
 ghost use Rattle.palettes.specs.Palette.{wholeKeys, fittedTogether};
 ghost use Rattle.proving.specs.Parts.{provedSays};
-ghost use Rattle.palette.specs.Palettes.{togetherLength, paletteAnswer};
-ghost use Rattle.palette.specs.Parts.{plannedIn, togetherBytes, Gives};
+ghost use Rattle.palette.specs.Palettes.{paletteAnswer};
+ghost use Rattle.palette.specs.Parts.{plannedIn, togetherLength, togetherBytes, Gives};
 
 // A key is 32 bytes; a list has at most 256.
 const KEY_SIZE: usize = 32;

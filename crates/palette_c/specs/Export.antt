@@ -6,8 +6,8 @@ use lib.ListN.{length}
 use Rattle.terms.specs.Bits.{Bytes}
 use Rattle.terms.specs.Fields.{le}
 use Rattle.terms.specs.Records.{Proof}
-use Rattle.meaning.specs.Calls.{Answer, refused, accepted}
-use Rattle.meaning.specs.Answers.{numberOf}
+use Rattle.meaning.specs.Calls.{Answer}
+use Rattle.meaning.specs.Answers.{numberOf, toldOf}
 use Rattle.palettes.specs.Palette.{lengthTogether}
 use Rattle.palette.specs.Palettes.{paletteAnswer, roomAfter}
 
@@ -17,8 +17,7 @@ palettedInto s v list room = paletteAnswer s v list (length room)
 
 -- The length of all together, 4 bytes little-endian; a refused call writes nothing.
 abbrev pub lengthBytes : Answer (List Proof) → Bytes → Bytes
-lengthBytes (refused n) old = old
-lengthBytes (accepted ps) old = le 4 (lengthTogether ps)
+lengthBytes a old = toldOf (λ ps. le 4 (lengthTogether ps)) a old
 
 -- Proving each key of a list in version v of the bytes s answers r; the room is left as t, the array f for the length of all together as g.
 pub record Palettes (s : Bytes) (v : ℕ) (list room f : Bytes) (r : ℕ) (t g : Bytes) : Type 0 where

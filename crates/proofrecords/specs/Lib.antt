@@ -1,1 +1,2 @@
 pub mod ProofBytes
+pub mod Steps

@@ -81,21 +81,6 @@ abbrev pub sidesRight : ℕ → Bytes → Bool
 sidesRight zero x = true
 sidesRight (suc n) x = leb (getD x 0 0) 1 && sidesRight n (drop stepSize x)
 
--- The bytes have room for n steps after the head of a presence proof.
-abbrev pub Room : ℕ → Bytes → Type 0
-Room n x = presenceHead + stepSize * n ≤ length x
-
--- Step i where it lies, counted from the leaf.
-unfoldable pub stepAt : ℕ → Bytes → Step
-stepAt i x = record {
-  side = eqb (getD x (presenceHead + stepSize * i) 0) 1;
-  sibling = slice (presenceHead + stepSize * i + 1) 32 x;
-}
-
--- The first n steps after the head.
-abbrev pub firstSteps : ℕ → Bytes → List Step
-firstSteps n x = stepsIn n (drop presenceHead x)
-
 unfoldable pub stepCount : Bytes → ℕ
 stepCount x = field 6 2 x
 

@@ -1,5 +1,5 @@
--- What the contract of proving settles, and that on a sound store the proof that is given holds against the root that is read. From the
--- definitions' own theorems, through the bytes. Assumes nothing.
+-- On a sound store the proof that is given holds against the root that is read. From the definitions' own theorems, through the bytes.
+-- Assumes nothing.
 use Prim.Native.Nat.{ℕ, _≤_}
 use native.Mathlib.Omega.{arith}
 use mathlib.Core.Path.{_≡_, ap, sym, _∙_}
@@ -21,23 +21,7 @@ use Rattle.layout.specs.Headers.{header, headerOf}
 use Rattle.layout.specs.Stores.{storeOf}
 use Rattle.read_step.specs.Headed.{byHeader}
 use Rattle.reads.specs.Reads.{rootAnswer}
-use Rattle.proving.specs.Proving.{proveAnswer, roomAfter}
-use Rattle.proving.specs.Parts.{lengthAnswer, provedSays}
-use Rattle.proving.specs.declared.Proved as declared
-use Rattle.proving.specs.declared.Proved.the-variants.{Refused, Length}
-
-proved-same : (x y : declared.Proved) → provedSays x ≡ provedSays y → x ≡ y
-unfolding provedSays
-proved-same (Refused m) (Refused n) e = let z : m ≡ n = cc in ap Refused z
-proved-same (Refused m) (Length n) e = let z : _≡_ {A = ℕ} 0 1 = cc in absurd (omega arith)
-proved-same (Length m) (Refused n) e = let z : _≡_ {A = ℕ} 0 1 = cc in absurd (omega arith)
-proved-same (Length m) (Length n) e = let z : m ≡ n = cc in ap Length z
-
--- Two outcomes that the contract allows are equal: the answer, and every byte of the room.
-pub proving-is-settled : (s : Bytes) (v : ℕ) (k room a b : Bytes) (x y : declared.Proved) →
-    provedSays x ≡ lengthAnswer (proveAnswer s v k (length room)) → a ≡ roomAfter (proveAnswer s v k (length room)) room →
-    provedSays y ≡ lengthAnswer (proveAnswer s v k (length room)) → b ≡ roomAfter (proveAnswer s v k (length room)) room → (x ≡ y) × (a ≡ b)
-proving-is-settled s v k room a b x y ex ea ey eb = (proved-same x y (ex ∙ sym ey), ea ∙ sym eb)
+use Rattle.proving.specs.Proving.{proveAnswer}
 
 -- Bytes with a right header that hold a sound store, a kept version that holds a grant, and a key: with room for any proof one is given, and the checker's answer to
 -- it, against the root that is read, is what the version's grants say of the key.

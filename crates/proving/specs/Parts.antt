@@ -6,6 +6,7 @@ use lib.ListN.{length}
 use Rattle.terms.specs.Bits.{Bytes}
 use Rattle.terms.specs.Records.{Proof}
 use Rattle.meaning.specs.Calls.{Answer, refused, accepted}
+use Rattle.meaning.specs.Sized.{sized}
 use Rattle.meaning.specs.Proving.{proofLength, fitted}
 use Rattle.proving.specs.declared.Proved as declared
 use Rattle.proving.specs.declared.Proved.the-variants.{Refused, Length}
@@ -13,8 +14,7 @@ use Rattle.proving.specs.Proving.{roomAfter}
 
 -- Proving answers the proof's length.
 abbrev pub lengthAnswer : Answer Proof → Answer ℕ
-lengthAnswer (refused n) = refused n
-lengthAnswer (accepted p) = accepted (proofLength p)
+lengthAnswer a = sized proofLength a
 
 -- What each case of the answer says.
 unfoldable pub provedSays : declared.Proved → Answer ℕ

@@ -6,8 +6,8 @@ use lib.ListN.{length}
 use Rattle.terms.specs.Bits.{Bytes}
 use Rattle.terms.specs.Fields.{le}
 use Rattle.terms.specs.Records.{Proof}
-use Rattle.meaning.specs.Calls.{Answer, refused, accepted}
-use Rattle.meaning.specs.Answers.{numberOf}
+use Rattle.meaning.specs.Calls.{Answer}
+use Rattle.meaning.specs.Answers.{numberOf, toldOf}
 use Rattle.meaning.specs.Proving.{proofLength}
 use Rattle.proving.specs.Proving.{proveAnswer, roomAfter}
 
@@ -17,8 +17,7 @@ provedInto s v k room = proveAnswer s v k (length room)
 
 -- The proof's length, 4 bytes little-endian; a refused call writes nothing.
 abbrev pub lengthBytes : Answer Proof → Bytes → Bytes
-lengthBytes (refused n) old = old
-lengthBytes (accepted p) old = le 4 (proofLength p)
+lengthBytes a old = toldOf (λ p. le 4 (proofLength p)) a old
 
 -- Proving the key k in version v of the bytes s answers r; the room is left as t, the array f for the proof's length as g.
 pub record Proves (s : Bytes) (v : ℕ) (k room f : Bytes) (r : ℕ) (t g : Bytes) : Type 0 where

@@ -1,13 +1,11 @@
 -- What the call for C leaves, by the cases of the answer: four bytes written over four bytes are all there is. Assumes nothing.
 use Prim.Native.Nat.{ℕ}
 use mathlib.Core.Path.{_≡_, sym, _∙_, subst}
-use mathlib.Core.List.{[], _∷_, append-nil}
 use lib.ListN.{length}
 use Rattle.terms.specs.Bits.{Bytes}
 use Rattle.terms.specs.Fields.{le}
-use Rattle.terms.proofs.Fields.{length-le}
 use Rattle.fields.specs.Written.{written}
-use Rattle.fields.proofs.Written.{fields-fill}
+use Rattle.fields.proofs.Written.{number-fills}
 use Rattle.pruning.specs.Prune.{prunedSays, PruneDoes}
 use Rattle.pruning.specs.declared.Pruned as declared
 use Rattle.pruning.specs.declared.Pruned.the-variants.{Refused, Freed}
@@ -22,5 +20,4 @@ module _ (n : ℕ) {s f t : Bytes} {p : declared.Pruned} (o : PruneDoes n s (pru
   pub export-freed : {k : ℕ} {g : Bytes} → p ≡ Freed k → length f ≡ 4 → g ≡ written 0 (le 4 k) f → PruneExports n s f 0 t g
   unfolding prunedSays
   export-freed {k} {g} e l q =
-      let whole : g ≡ le 4 k = q ∙ fields-fill (4 ∷ []) (le 4 k ∷ []) f (length-le 4 k, tt) (sym l) ∙ append-nil (le 4 k) in
-      subst (PruneExports n s f 0 t) (sym whole) (exports-answer (subst (λ r. PruneDoes n s (prunedSays r) t) e o))
+      subst (PruneExports n s f 0 t) (sym (q ∙ number-fills k f l)) (exports-answer (subst (λ r. PruneDoes n s (prunedSays r) t) e o))

@@ -7,15 +7,14 @@ use mathlib.Core.Bool.{Bool, true, false, cond}
 use mathlib.Core.List.{[]}
 use lib.ListN.{length}
 use Rattle.terms.specs.Bits.{Bytes, Byte, All, Side, Place, longer, begins}
-use Rattle.terms.specs.Fields.{allZero}
-use Rattle.terms.specs.Records.{Child, leafBody, innerBody, Record, free, used, spoiled}
+use Rattle.terms.specs.Records.{Child, leafBody, innerBody, Record, used}
 use Rattle.terms.specs.Form.{RecordForm, placeLimit}
 use Rattle.terms.proofs.Places.{length-longer}
 use Rattle.meaning.specs.Store.{childOn}
 use Rattle.meaning.specs.Sight.{Sight, matches, nothing, spoilt, rootSight, nodeSight, scan}
 use Rattle.meaning.specs.Calls.{accepted}
 use Rattle.meaning.specs.Reading.{lostRecord, spoiltRecord, strayLeaf, lost, gap, leafSeen, fork, seenAt, seen, bodyHash, rootRead}
-use Rattle.meaning.proofs.Finding.{found-in, used-eq}
+use Rattle.meaning.proofs.Finding.{found-in}
 use Rattle.meaning.proofs.Roots.{root-at}
 use Rattle.meaning.proofs.Sights.{sighted-root, sighted-node}
 use Rattle.shown.proofs.SeenAt as shown
@@ -25,9 +24,10 @@ use Rattle.place.specs.Place.{placeOf, Proper, Grown}
 use Rattle.place.proofs.Places.{proper-count}
 use Rattle.layout.specs.Sizes.{roomOf}
 use Rattle.layout.specs.Headers.{sizeRight}
-use Rattle.layout.specs.Slots.{keyIn, valueIn, leftIn, rightIn, kidOn, isLeaf, isInner, leafIn, innerIn, recordIn, slotOf, SlotForm}
+use Rattle.layout.specs.Slots.{keyIn, valueIn, leftIn, rightIn, kidOn, isLeaf, leafIn, innerIn, recordIn, slotOf, SlotForm}
 use Rattle.layout.specs.Stores.{slotIn, storeOf, Has}
 use Rattle.layout.proofs.Headers.{size-says}
+use Rattle.layout.proofs.Slots.{record-is}
 use Rattle.layout.proofs.Stores.{slot-at}
 use Rattle.store.proofs.Slots.{slots-many, slot-formed}
 use Rattle.sights.specs.Sights.{Sighted}
@@ -44,16 +44,9 @@ kid-is false x = refl
 kid-is true x = refl
 
 -- a record in form holds what its bytes say
-body-is : (x : Bytes) (r : Record) → slotOf x ≡ used r → r .body ≡ bodyIn x
-unfolding slotOf bodyIn recordIn
-body-is x r = go (allZero x) (isLeaf x) (isInner x)
-  where
-    go : (a b c : Bool) → cond a free (cond b (used (recordIn x (leafIn x))) (cond c (used (recordIn x (innerIn x))) (spoiled x))) ≡ used r →
-        r .body ≡ cond b (leafIn x) (innerIn x)
-    go true b c e = let z : _≡_ {A = ℕ} 0 1 = cc in absurd (omega arith)
-    go false true c e = ap (λ (q : Record). q .body) (sym (used-eq _ r e))
-    go false false true e = ap (λ (q : Record). q .body) (sym (used-eq _ r e))
-    go false false false e = let z : _≡_ {A = ℕ} 0 1 = cc in absurd (omega arith)
+pub body-is : (x : Bytes) (r : Record) → slotOf x ≡ used r → r .body ≡ bodyIn x
+unfolding bodyIn recordIn
+body-is x r e = ap (λ (q : Record). q .body) (sym (record-is x r e))
 
 pub leaf-body : (x : Bytes) → isLeaf x ≡ true → bodyIn x ≡ leafBody (keyIn x) (valueIn x)
 unfolding bodyIn leafIn

@@ -2,14 +2,13 @@
 use Prim.Native.Nat.{ℕ}
 use mathlib.Core.Path.{_≡_}
 use Rattle.terms.specs.Bits.{Bytes}
-use Rattle.meaning.specs.Calls.{Answer, refused, accepted}
-use Rattle.meaning.specs.Answers.{numberOf, foundAfter}
+use Rattle.meaning.specs.Calls.{Answer}
+use Rattle.meaning.specs.Answers.{numberOf, toldOf, foundAfter}
 use Rattle.reads.specs.Reads.{rootAnswer, keyAnswer}
 
 -- The root's 32 bytes; a refused call writes nothing.
 abbrev pub rootBytes : Answer Bytes → Bytes → Bytes
-rootBytes (refused n) old = old
-rootBytes (accepted root) old = root
+rootBytes a old = toldOf (λ root. root) a old
 
 -- Reading the root of version v of the bytes s answers r; the array f for the root is left as g.
 pub record ReadsRoot (s : Bytes) (v : ℕ) (f : Bytes) (r : ℕ) (g : Bytes) : Type 0 where

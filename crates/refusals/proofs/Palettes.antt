@@ -1,5 +1,5 @@
 -- Rows 8, 14, 17, 3 and 9 of a palette, and its row 12: what the definition answers is what they deserve. Assumes nothing.
-use Prim.Native.Nat.{ℕ, _*_, _≤_, _<_}
+use Prim.Native.Nat.{ℕ}
 use native.Mathlib.Omega.{arith}
 use mathlib.Core.Path.{_≡_, refl, ap, sym, _∙_, subst}
 use mathlib.Core.Logic.{_⊎_, inl, inr}
@@ -20,10 +20,10 @@ use Rattle.ways.proofs.Walking.{Formed}
 use Rattle.ways.proofs.Theorems.{one-trouble, empty-exactly, proof-stopped-exactly}
 use Rattle.layout.specs.Stores.{storeOf}
 use Rattle.palettes.specs.Palette.{wholeKeys, keysIn, followed, inTurn, lengthTogether, fittedTogether, palette}
-use Rattle.palettes.specs.Claims.{ProofOfEach, FirstAsked, FirstRefused}
+use Rattle.palettes.specs.Claims.{FirstRefused}
 use Rattle.palettes.proofs.Turns.{proofs-of-each, first-refused, refused-first, each-proved}
 use Rattle.palettes.proofs.Keys.{keys-are-32, keys-counted, list-is-keys, flat-is-whole}
-use Rattle.refusals.specs.Rows.{StopsProve, NotKept, EmptyVersion, NotKeys, AskedOfEmpty, StopsPalette, TooLongTogether}
+use Rattle.refusals.specs.Rows.{NotKept, EmptyVersion, NotKeys, AskedOfEmpty, StopsPalette, TooLongTogether}
 use Rattle.refusals.specs.Orders.{askingRows}
 use Rattle.refusals.proofs.Exactly.{First}
 use Rattle.refusals.proofs.Stopped.{Stopped, tested, met, passed}
@@ -39,9 +39,6 @@ same-number : {m n : ℕ} → _≡_ {A = Answer (List Proof)} (refused m) (refus
 same-number e = cc
 
 module _ (s : Bytes) (formed : Formed (storeOf s)) (v : ℕ) (keys : List Bytes) (room : Bytes) where
-  single : Bytes → Answer Proof
-  single = proof (storeOf s) v
-
   abbrev Deserved : ℕ → Type 0
   Deserved n = Stopped (askingRows s v keys) ((9, TooLongTogether s v keys room) ∷ []) (StopsPalette s v keys) n
 

@@ -3,42 +3,27 @@ use Prim.Native.Nat.{ℕ, suc, _+_, _-_, _<_, _≤_}
 use native.Mathlib.Omega.{arith}
 use native.Mathlib.Numerals.{add-one}
 use mathlib.Core.Path.{_≡_, refl, ap, ap₂, sym, _∙_, subst}
-use mathlib.Core.Bool.{Bool, true, false, cond, true≢false, false≢true}
-use mathlib.Core.List.{List, [], _∷_}
-use lib.ListN.{length, getD, drop, drop-of-length-le}
+use mathlib.Core.Bool.{Bool, true, false, cond, true≢false}
+use lib.ListN.{length, drop, drop-of-length-le}
 use lib.Seq.{drop-cons}
 use lib.Dec.{eqb}
 use borrow.Author.Tests.{eq-eqb, ne-eqb}
 use Rattle.terms.specs.Bits.{Bytes, Byte, All}
-use Rattle.terms.specs.Fields.{field, allZero}
+use Rattle.terms.specs.Fields.{allZero}
 use Rattle.terms.specs.Records.{Record, Slot, free, used, spoiled}
 use Rattle.layout.specs.Sizes.{roomOf}
 use Rattle.layout.specs.Headers.{sizeRight}
-use Rattle.layout.specs.Slots.{sinceIn, slotOf, isLeaf, isInner, leafIn, innerIn, recordIn}
+use Rattle.layout.specs.Slots.{sinceIn, slotOf}
 use Rattle.layout.specs.Stores.{slotIn, storeOf, slotNo, Has}
 use Rattle.layout.proofs.Headers.{size-says}
-use Rattle.layout.proofs.Slots.{retired-says}
+use Rattle.layout.proofs.Slots.{retired-says, zero-free, free-zero}
 use Rattle.store.proofs.Slots.{slots-many, slot-long, slot-bytes, slot-within, slot-is}
 use Rattle.lookup.specs.Lookup.{isUsed}
-use Rattle.lookup.proofs.Matching.{Says, says}
+use Rattle.lookup.proofs.Matching.{says}
 use Rattle.lookup.proofs.Searching.{used-or}
 use Rattle.rescued.specs.Rescue.{Counts, compared, counts}
 use Rattle.rescue_count.specs.declared.Counts as declared
 use Rattle.rescue_count.specs.Count.{countsSay, Pair, Countable}
-
--- zero bytes are free, and nothing else is
-zero-free : (x : Bytes) → allZero x ≡ true → slotOf x ≡ free
-unfolding slotOf
-zero-free x e = rw e
-
-not-free : (x : Bytes) → allZero x ≡ false → slotOf x ≡ free → ⊥
-unfolding slotOf
-not-free x e k = go (isLeaf x) (isInner x) (sym (rw e) ∙ k)
-  where
-    go : (a b : Bool) → cond a (used (recordIn x (leafIn x))) (cond b (used (recordIn x (innerIn x))) (spoiled x)) ≡ free → ⊥
-    go true b k = let z : _≡_ {A = ℕ} 0 1 = cc in absurd (omega arith)
-    go false true k = let z : _≡_ {A = ℕ} 0 1 = cc in absurd (omega arith)
-    go false false k = let z : _≡_ {A = ℕ} 0 1 = cc in absurd (omega arith)
 
 abbrev Told : ℕ → ℕ → ℕ → Counts
 Told a b c = record { same = a; other = b; out = c }
@@ -48,23 +33,16 @@ module _ (y z : Slot) (c : declared.Counts) where
   free-none : y ≡ free → countsSay c ≡ compared y z (countsSay c)
   free-none e = sym (ap (λ x. compared x z (countsSay c)) e)
 
-  spoiled-out : (y ≡ free → ⊥) → isUsed y ≡ false → Told (c .same) (c .other) (c .out + 1) ≡ compared y z (countsSay c)
-  spoiled-out f u = ap (λ n. Told (c .same) (c .other) n) (add-one (c .out)) ∙ go y refl
+  -- a used slot with no record before or after it is left out
+  left-out : (y ≡ free → ⊥) → (isUsed y ≡ true → isUsed z ≡ false) → Told (c .same) (c .other) (c .out + 1) ≡ compared y z (countsSay c)
+  left-out f u = ap (λ n. Told (c .same) (c .other) n) (add-one (c .out)) ∙ sym (go y z f u)
     where
-      go : (x : Slot) → y ≡ x → Told (c .same) (c .other) (suc (c .out)) ≡ compared y z (countsSay c)
-      go free e = absurd (f e)
-      go (used r) e = absurd (true≢false (sym (ap isUsed e) ∙ u))
-      go (spoiled x) e = sym (ap (λ x. compared x z (countsSay c)) e)
-
-  used-out : isUsed y ≡ true → isUsed z ≡ false → Told (c .same) (c .other) (c .out + 1) ≡ compared y z (countsSay c)
-  used-out a b =
-      let r = used-or y a in
-      ap (λ n. Told (c .same) (c .other) n) (add-one (c .out)) ∙ go (r .0) z refl ∙ sym (ap (λ x. compared x z (countsSay c)) (r .1))
-    where
-      go : (r : Record) (x : Slot) → z ≡ x → Told (c .same) (c .other) (suc (c .out)) ≡ compared (used r) z (countsSay c)
-      go r free e = sym (ap (λ x. compared (used r) x (countsSay c)) e)
-      go r (used q) e = absurd (true≢false (sym (ap isUsed e) ∙ b))
-      go r (spoiled x) e = sym (ap (λ x. compared (used r) x (countsSay c)) e)
+      go : (x w : Slot) → (x ≡ free → ⊥) → (isUsed x ≡ true → isUsed w ≡ false) → compared x w (countsSay c) ≡ Told (c .same) (c .other) (suc (c .out))
+      go free w f u = absurd (f refl)
+      go (used r) free f u = refl
+      go (used r) (used q) f u = absurd (true≢false (u refl))
+      go (used r) (spoiled x) f u = refl
+      go (spoiled x) w f u = refl
 
   both-used : (r q : Record) → y ≡ used r → z ≡ used q → compared y z (countsSay c)
       ≡ cond (eqb (r .retired) (q .retired)) (Told (suc (c .same)) (c .other) (c .out)) (Told (c .same) (suc (c .other)) (c .out))
@@ -87,11 +65,13 @@ module _ {s t : Bytes} {i : ℕ} {c : declared.Counts} (w : Countable s t i c) w
 
     pub counts-spoiled : {a b : Bool} → a ≡ allZero x → a ≡ false → b ≡ isUsed (slotOf x) → b ≡ false → Told (c .same) (c .other) (c .out + 1) ≡ After
     counts-spoiled e k f l =
-        spoiled-out (slotNo i s) (slotNo i t) c (λ z. not-free x (sym e ∙ k) (sym at-s ∙ z)) (ap isUsed at-s ∙ sym f ∙ l)
+        left-out (slotNo i s) (slotNo i t) c (λ z. true≢false (sym (free-zero x (sym at-s ∙ z)) ∙ sym e ∙ k))
+        (λ u. absurd (true≢false (sym u ∙ ap isUsed at-s ∙ sym f ∙ l)))
 
     module _ {b d : Bool} (f : b ≡ isUsed (slotOf x)) (l : b ≡ true) (g : d ≡ isUsed (slotOf y)) where
       pub counts-out : d ≡ false → Told (c .same) (c .other) (c .out + 1) ≡ After
-      counts-out m = used-out (slotNo i s) (slotNo i t) c (ap isUsed at-s ∙ sym f ∙ l) (ap isUsed at-t ∙ sym g ∙ m)
+      counts-out m =
+          left-out (slotNo i s) (slotNo i t) c (λ z. true≢false (sym (ap isUsed at-s ∙ sym f ∙ l) ∙ ap isUsed z)) (λ u. ap isUsed at-t ∙ sym g ∙ m)
 
       module _ (m : d ≡ true) (bytes-s : All Byte s) (bytes-t : All Byte t) {j k : ℕ} (since-s : j ≡ sinceIn (slotIn i s)) (since-t : k ≡ sinceIn (slotIn i t)) where
         source-record : (r : Record) × (slotOf x ≡ used r)
@@ -110,17 +90,17 @@ module _ {s t : Bytes} {i : ℕ} {c : declared.Counts} (w : Countable s t i c) w
         target-since : k ≡ target-record .0 .retired
         target-since = since-t ∙ own t (w .after) bytes-t (target-record .0) (ap slotOf (sym is-t) ∙ target-record .1)
 
+        both-counted : (b : Bool) → eqb j k ≡ b → After ≡ cond b (Told (suc (c .same)) (c .other) (c .out)) (Told (c .same) (suc (c .other)) (c .out))
+        both-counted b e =
+            both-used (slotNo i s) (slotNo i t) c (source-record .0) (target-record .0) (at-s ∙ source-record .1) (at-t ∙ target-record .1)
+            ∙ ap (λ m. cond m (Told (suc (c .same)) (c .other) (c .out)) (Told (c .same) (suc (c .other)) (c .out)))
+            (ap₂ eqb (sym source-since) (sym target-since) ∙ e)
+
         pub counts-same : j ≡ k → Told (c .same + 1) (c .other) (c .out) ≡ After
-        counts-same e =
-            ap (λ n. Told n (c .other) (c .out)) (add-one (c .same))
-            ∙ sym (both-used (slotNo i s) (slotNo i t) c (source-record .0) (target-record .0) (at-s ∙ source-record .1) (at-t ∙ target-record .1)
-            ∙ rw (eq-eqb (source-record .0 .retired) (target-record .0 .retired) (sym source-since ∙ e ∙ target-since)))
+        counts-same e = ap (λ n. Told n (c .other) (c .out)) (add-one (c .same)) ∙ sym (both-counted true (eq-eqb j k e))
 
         pub counts-other : (j ≡ k → ⊥) → Told (c .same) (c .other + 1) (c .out) ≡ After
-        counts-other e =
-            ap (λ n. Told (c .same) n (c .out)) (add-one (c .other))
-            ∙ sym (both-used (slotNo i s) (slotNo i t) c (source-record .0) (target-record .0) (at-s ∙ source-record .1) (at-t ∙ target-record .1)
-            ∙ rw (ne-eqb (source-record .0 .retired) (target-record .0 .retired) (λ z. e (source-since ∙ z ∙ sym target-since))))
+        counts-other e = ap (λ n. Told (c .same) n (c .out)) (add-one (c .other)) ∙ sym (both-counted false (ne-eqb j k e))
 
 -- a slot is counted once at most
 compared-few : (x y : Slot) (c : Counts) →

@@ -2,22 +2,20 @@
 use Prim.Native.Nat.{ℕ, zero, suc, _+_, _<_, _≤_}
 use native.Mathlib.Omega.{arith}
 use mathlib.Core.Path.{_≡_, refl, ap, ap₂, sym, _∙_, subst}
-use mathlib.Core.Bool.{Bool, true, false, cond, not, _&&_, true≢false, false≢true}
+use mathlib.Core.Bool.{Bool, true, false, cond, not, _&&_, true≢false}
 use mathlib.Core.List.{List, [], _∷_}
 use mathlib.Core.Option.{Option, none, some}
 use lib.ListN.{length, getD, take, drop}
 use lib.Seq.{take-all}
-use lib.Dec.{eqb, leb}
-use borrow.Author.Tests.{leb-true, leb-false, eq-eqb, ne-eqb}
+use lib.Dec.{eqb}
 use Rattle.terms.specs.Bits.{Bytes, Byte, All, Side, left, right, Place, longer, begins, sameBytes}
-use Rattle.terms.specs.Fields.{allZero}
 use Rattle.terms.specs.Records.{Child, Body, leafBody, innerBody, Record, Slot, free, used, spoiled}
 use Rattle.terms.specs.Form.{RecordForm, placeLimit}
 use Rattle.terms.proofs.Tests.{is-false}
-use Rattle.meaning.specs.Store.{find, isNode, childOn}
+use Rattle.meaning.specs.Store.{find, isNode}
 use Rattle.meaning.specs.Reading.{bodyHash}
 use Rattle.meaning.specs.Local.{childVersion}
-use Rattle.meaning.proofs.Finding.{used-eq, free-used, found-in, Lowest, miss, hit, Hit, hits}
+use Rattle.meaning.proofs.Finding.{free-used, found-in, hit, Hit, hits}
 use Rattle.local.specs.Test.{byRecord, loneLeaf}
 use Rattle.nodehash.specs.Node.{leafHash, innerHash}
 use Rattle.place.specs.declared.Place as place
@@ -25,26 +23,22 @@ use Rattle.place.specs.Place.{placeOf, Proper, Grown}
 use Rattle.place.proofs.Places.{proper-count}
 use Rattle.layout.specs.Sizes.{roomOf}
 use Rattle.layout.specs.Headers.{sizeRight}
-use Rattle.layout.specs.Slots.{countIn, bitsIn, versionIn, isLeaf, isInner, keyIn, valueIn, leafIn, leftIn, rightIn, kidOn, innerIn, recordIn, slotOf, SlotForm}
-use Rattle.layout.specs.Stores.{slotIn, storeOf, slotNo, Has, SlotWithin}
-use Rattle.layout.proofs.Headers.{size-says}
-use Rattle.store.proofs.Slots.{slots-many, slot-within, slot-is, slot-formed}
+use Rattle.layout.specs.Slots.{countIn, bitsIn, versionIn, isLeaf, keyIn, valueIn, leafIn, leftIn, rightIn, kidOn, innerIn, slotOf, SlotForm}
+use Rattle.layout.specs.Stores.{slotIn, storeOf, slotNo, Has}
+use Rattle.store.proofs.Slots.{slots-many, slot-is, slot-formed}
+use Rattle.store.proofs.Scans.{Scan, Each, scan-many, scan-slot, scan-inside, each-from, each-passed, each-next}
 use Rattle.lookup.specs.declared.Found as found
 use Rattle.lookup.specs.declared.Found.the-variants.{At, Nothing}
 use Rattle.lookup.specs.Lookup.{isUsed}
+use Rattle.lookup.proofs.Searching.{past}
 use Rattle.kin.specs.Kin.{countNode}
 use Rattle.kin.proofs.Holding.{other-version, other-count, other-bits, no-record, held}
 use Rattle.read_step.specs.Walk.{bodyIn}
+use Rattle.read_step.proofs.Seeing.{kid-is, body-is}
 use Rattle.rescued.specs.Joining.{kidOf, linked, bodyRight, recordRight}
-use Rattle.rescued.specs.Entering.{LowestAt}
 use Rattle.rescue_look.specs.Look.{StandsSay, LowestIn, Sought, Inside, KidSays, linkedAt}
 
--- a search past a slot that isn't the node
-past : (v : ℕ) (p : Place) (x : Slot) (s : List Slot) → ((q : Record) → x ≡ used q → isNode v p q ≡ false) → find v p (x ∷ s) ≡ find v p s
-past v p free s f = refl
-past v p (used q) s f = rw (f q refl)
-past v p (spoiled y) s f = refl
-
+-- the first slot that holds the node is found
 find-lowest : (s : List Slot) (v : ℕ) (p : Place) (i : ℕ) (r : Record) → getD s i free ≡ used r → isNode v p r ≡ true →
     ((j : ℕ) (q : Record) → j < i → getD s j free ≡ used q → isNode v p q ≡ false) → find v p s ≡ some r
 find-lowest [] v p i r e t f = free-used r e
@@ -79,53 +73,38 @@ holder-is v p (used q) f = go (isNode v p q) refl
     go false e = absurd (f (rw e))
 holder-is v p (spoiled y) f = absurd (f refl)
 
--- at slot i of n: none before it holds the node
-pub record Passed (s : Bytes) (v : ℕ) (p : Place) (n i : ℕ) : Type 0 where
-  pub size : sizeRight (length s) ≡ true
-  pub room : n ≡ roomOf (length s)
-  pub small : n ≤ 16384
-  pub none-yet : (j : ℕ) (q : Record) → j < i → getD (storeOf s .slots) j free ≡ used q → isNode v p q ≡ false
+-- a search for the node: none of the slots passed holds it
+abbrev NoHolder : ℕ → Place → Slot → Type 0
+NoHolder v p y = (q : Record) → y ≡ used q → isNode v p q ≡ false
+
+abbrev pub Passed : Bytes → ℕ → Place → ℕ → ℕ → Type 0
+Passed s v p n i = Scan s (Each s (NoHolder v p)) n i
 
 pub passed-start : (s : Bytes) (v : ℕ) (p : Place) {n : ℕ} → sizeRight (length s) ≡ true → n ≡ roomOf (length s) → Passed s v p n 0
-passed-start s v p e m = record {
-  size = e;
-  room = m;
-  small = omega (arith, size-says (length s) e);
-  none-yet = λ j q l u. absurd (omega arith);
-}
+passed-start s v p e m = each-from s (NoHolder v p) e m (omega arith) (λ j l. absurd (omega arith))
 
-module _ {s : Bytes} {v : ℕ} {p : Place} {n i : ℕ} (w : Passed s v p n i) where
-  pub passed-has : i < n → Has s i
-  passed-has h = record { size = w .size; inside = omega (arith, w .room) }
-
-  passed-by : byRecord 0 (countNode v p) (slotNo i s) ≡ 0 → Passed s v p n (i + 1)
-  passed-by z = record { size = w .size; room = w .room; small = w .small; none-yet = λ j q l u. go j q l u (leb (suc j) i) refl }
-    where
-      go : (j : ℕ) (q : Record) → j < i + 1 → getD (storeOf s .slots) j free ≡ used q → (b : Bool) → leb (suc j) i ≡ b → isNode v p q ≡ false
-      go j q l u true k = let m = leb-true (suc j) i k in w .none-yet j q (omega arith) u
-      go j q l u false k =
-          let m = leb-false (suc j) i k in
-          let same : j ≡ i = omega arith in
-          no-holder v p (slotNo i s) z q (ap (λ x. getD (storeOf s .slots) x free) (sym same) ∙ u)
-
-  pub passed-end : n ≤ i → LowestIn (storeOf s .slots) v p Nothing
-  passed-end h = find-none (storeOf s .slots) v p (λ j q l u. w .none-yet j q (omega (arith, w .room, slots-many s)) u)
+pub passed-end : (s : Bytes) (v : ℕ) (p : Place) {n i : ℕ} → Passed s v p n i → n ≤ i → LowestIn (storeOf s .slots) v p Nothing
+passed-end s v p w h = find-none (storeOf s .slots) v p (λ j q l u. each-passed (NoHolder v p) w j (omega (arith, scan-many w)) q u)
 
 -- at a place by value
-module _ {s : Bytes} {v : ℕ} (p : place.Place) {n i : ℕ} (w : Passed s v (placeOf p) n i) where
-  pub passed-version : (bytes : All Byte s) → Proper p → i < n → {c : ℕ} → c ≡ versionIn (slotIn i s) → (c ≡ v → ⊥) → Passed s v (placeOf p) n (i + 1)
-  passed-version bytes proper h e f = passed-by w (sym (other-version (passed-has w h) bytes v p proper (λ k. f (e ∙ k))))
+module _ {s : Bytes} (v : ℕ) (p : place.Place) {n i : ℕ} (w : Passed s v (placeOf p) n i) where
+  passed-by : i < n → byRecord 0 (countNode v (placeOf p)) (slotNo i s) ≡ 0 → Passed s v (placeOf p) n (i + 1)
+  passed-by h z = each-next (NoHolder v (placeOf p)) w h (no-holder v (placeOf p) (slotNo i s) z)
 
-  module _ {c : ℕ} (e : c ≡ versionIn (slotIn i s)) (k : c ≡ v) {t : Bool} (say : StandsSay s i p t) where
+  pub passed-version : (bytes : All Byte s) → Proper p → (h : i < n) → {c : ℕ} → c ≡ versionIn (slotIn i s) → (c ≡ v → ⊥) → Passed s v (placeOf p) n (i + 1)
+  passed-version bytes proper h e f = passed-by h (sym (other-version (scan-slot w h) bytes v p proper (λ k. f (e ∙ k))))
+
+  module _ (h : i < n) {c : ℕ} (e : c ≡ versionIn (slotIn i s)) (k : c ≡ v) {t : Bool} (say : StandsSay s i p t) where
     pub passed-next : t ≡ false → Passed s v (placeOf p) n (i + 1)
-    passed-next f = passed-by w (sym (say v (sym e ∙ k)) ∙ (let z : _≡_ {A = ℕ} (cond t 1 0) 0 = rw f in z))
+    passed-next f = passed-by h (sym (say v (sym e ∙ k)) ∙ (let z : _≡_ {A = ℕ} (cond t 1 0) 0 = rw f in z))
 
-    pub passed-found : i < n → t ≡ true → LowestIn (storeOf s .slots) v (placeOf p) (At i)
-    passed-found h f =
+    pub passed-found : t ≡ true → LowestIn (storeOf s .slots) v (placeOf p) (At i)
+    passed-found f =
         let one : _≡_ {A = ℕ} (cond t 1 0) 1 = rw f in
-        let x = holder-is v (placeOf p) (slotNo i s) (λ z. absurd (omega (arith, one, say v (sym e ∙ k), z))) in (
-          omega (arith, w .room, slots-many s),
-          (x .0, record { at = x .1; found = find-lowest (storeOf s .slots) v (placeOf p) i (x .0) (x .1) (x .2) (w .none-yet); lowest = w .none-yet }),
+        let x = holder-is v (placeOf p) (slotNo i s) (λ z. absurd (omega (arith, one, say v (sym e ∙ k), z))) in
+        let none-yet : (j : ℕ) (q : Record) → j < i → slotNo j s ≡ used q → isNode v (placeOf p) q ≡ false = λ j q l u. each-passed (NoHolder v (placeOf p)) w j l q u in (
+          scan-inside w h,
+          (x .0, record { at = x .1; found = find-lowest (storeOf s .slots) v (placeOf p) i (x .0) (x .1) (x .2) none-yet; lowest = none-yet }),
         )
 
 -- one slot, where its version is right
@@ -152,18 +131,7 @@ module _ (s : Bytes) (bytes : All Byte s) (i : ℕ) (has : Has s i) (r : Record)
   its-form = subst SlotForm says (slot-formed has bytes)
 
   pub its-body : r .body ≡ bodyIn (slotIn i s)
-  unfolding slotOf bodyIn recordIn
-  its-body = go (allZero x) (isLeaf x) (isInner x) says
-    where
-      x : Bytes
-      x = slotIn i s
-
-      go : (a b c : Bool) → cond a free (cond b (used (recordIn x (leafIn x))) (cond c (used (recordIn x (innerIn x))) (spoiled x))) ≡ used r →
-          r .body ≡ cond b (leafIn x) (innerIn x)
-      go true b c k = let z : _≡_ {A = ℕ} 0 1 = cc in absurd (omega arith)
-      go false true c k = ap (λ (q : Record). q .body) (sym (used-eq _ r k))
-      go false false true k = ap (λ (q : Record). q .body) (sym (used-eq _ r k))
-      go false false false k = let z : _≡_ {A = ℕ} 0 1 = cc in absurd (omega arith)
+  its-body = body-is (slotIn i s) r says
 
   pub leaf-is : isLeaf (slotIn i s) ≡ true → r .body ≡ leafBody (keyIn (slotIn i s)) (valueIn (slotIn i s))
   leaf-is t = its-body ∙ unfold bodyIn leafIn in rw t
@@ -188,10 +156,6 @@ inside-of s z v p (At i) h = record { size = z; inside = omega (arith, h .0, slo
 inside-of s z v p Nothing h = tt
 
 -- the child's version
-kid-on : (b : Side) (x : Bytes) → kidOn b x ≡ childOn b (leftIn x) (rightIn x)
-kid-on false x = refl
-kid-on true x = refl
-
 module _ (s : Bytes) {f : found.Found} (b : Side) where
   pub kid-nothing : f ≡ Nothing → KidSays s f b 0
   kid-nothing e v p h = sym (ap (kidOf b) (subst (LowestIn (storeOf s .slots) v p) e h))
@@ -211,7 +175,7 @@ module _ (s : Bytes) {f : found.Found} (b : Side) where
     pub kid-inner : {x : Bytes} {t : Bool} {r : ℕ} → x ≡ slotIn i s → t ≡ isLeaf x → t ≡ false → r ≡ kidOn b (slotIn i s) .version → KidSays s f b r
     kid-inner q d t k v p h =
         k
-        ∙ ap (λ (c : Child). c .version) (kid-on b (slotIn i s))
+        ∙ ap (λ (c : Child). c .version) (kid-is b (slotIn i s))
         ∙ sym (kid-by v p h _ (inner-is s bytes i has (at-i v p h .1 .0) (at-i v p h .1 .1 .at) (ap isLeaf (sym q) ∙ sym d ∙ t)))
 
 -- the child on a side, sought at a place

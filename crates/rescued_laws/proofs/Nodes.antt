@@ -2,7 +2,7 @@
 use Prim.Native.Nat.{ℕ, zero, suc, _+_, _≤_, _<_}
 use native.Mathlib.Omega.{arith}
 use mathlib.Core.Path.{_≡_, refl, sym, _∙_, subst}
-use mathlib.Core.Logic.{_⊎_, inl, inr}
+use mathlib.Core.Logic.{inl, inr}
 use mathlib.Core.Bool.{Bool, true, false, cond, _||_, or-true, true≢false, false≢true}
 use mathlib.Core.List.{List, []}
 use mathlib.Core.Option.{Option, none, some}
@@ -43,14 +43,6 @@ node-stands v q (vinner w l r) p (inl n) = rw (is-same v q w p (n .0) (n .1)) re
 node-stands v q (vinner w l r) p (inr (inl n)) = rw (node-stands v q l (longer left p) n) (or-true (sameNode v q w p))
 node-stands v q (vinner w l r) p (inr (inr n)) =
     rw (node-stands v q r (longer right p) n, or-true (standsIn v q l (longer left p))) (or-true (sameNode v q w p))
-
--- a node is in a tree or not
-pub node-or-not : (v : ℕ) (q : Place) (t : VTree) (p : Place) → NodeOf v q t p ⊎ (NodeOf v q t p → ⊥)
-node-or-not v q t p = go _ refl
-  where
-    go : (b : Bool) → standsIn v q t p ≡ b → NodeOf v q t p ⊎ (NodeOf v q t p → ⊥)
-    go true e = inl (stands-node v q t p e)
-    go false e = inr (λ n. true≢false (sym (node-stands v q t p n) ∙ e))
 
 -- what the newest version of a run that has a node is
 pub data Newest (s : List Slot) (f n w : ℕ) (q : Place) : Option ℕ → Type 0 where

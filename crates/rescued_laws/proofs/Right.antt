@@ -175,10 +175,6 @@ module _ (leafHash innerHash : Bytes → Bytes → Bytes) (s : List Slot) (z : F
       omega (arith, ap length (w .2))
 
   module _ (n v : ℕ) (p : Place) (len : length p + n ≡ 256) where
-    -- what stands on each side is right
-    abbrev KidsRight : (Side → ℕ) → Type 0
-    KidsRight kids = (b : Side) → RightAt (kids b) (longer b p) (kidsFrom n s p b (kids b))
-
     no-kids-right : (b : Side) → RightAt 0 (longer b p) (kidsFrom n s p b 0)
     no-kids-right b = subst (RightAt 0 (longer b p)) (sym (no-kids s z n p b)) (none-right (longer b p))
 

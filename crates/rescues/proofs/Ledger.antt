@@ -10,7 +10,8 @@ use Rattle.meaning.specs.Tree.{grantsIn}
 use Rattle.meaning.specs.Store.{treeAtVersion}
 use Rattle.meaning.specs.Sound.{Kept}
 use Rattle.meaning.specs.Calls.{accepted}
-use Rattle.meaning.specs.History.{Entry, entry, heldFrom, held}
+use Rattle.meaning.specs.History.{Entry, entry}
+use Rattle.meaning.specs.Course.{heldFrom, held}
 use Rattle.histories.proofs.Histories.{Keeps, keeps-held}
 use Rattle.nodehash.specs.Node.{leafHash, innerHash}
 use Rattle.layout.specs.Stores.{storeOf}

@@ -2,26 +2,28 @@
 use Prim.Native.Nat.{ℕ, suc, _+_, _<_, _≤_}
 use native.Mathlib.Omega.{arith}
 use mathlib.Core.Path.{_≡_, refl, ap, ap₂, sym, _∙_, subst}
-use mathlib.Core.Bool.{Bool, true, false, cond, _&&_, not, false≢true, true≢false}
+use mathlib.Core.Bool.{Bool, true, false, _&&_, not, false≢true, true≢false}
 use mathlib.Core.List.{List, [], _∷_, _++_}
 use mathlib.Core.Option.{Option, none, some}
-use lib.ListN.{length, getD, take, drop, length-take, length-append}
+use lib.ListN.{length, take, drop, length-append}
 use borrow.Author.Tests.{eq-eqb, ne-eqb}
 use Rattle.terms.specs.Bits.{Bytes, Place, pack, sameBytes}
 use Rattle.terms.specs.Fields.{allZero, allOf}
 use Rattle.terms.specs.Records.{Record, Slot, free, used, spoiled}
 use Rattle.terms.proofs.Tests.{and-true}
-use Rattle.meaning.specs.Sight.{Sight, matches, nothing, spoilt, agrees, livesBy, agreesRoot, lowestSpoilt, sighted}
+use Rattle.meaning.specs.Sight.{agrees, livesBy, agreesRoot, lowestSpoilt, sighted}
 use Rattle.place.specs.declared.Place as declared-place
 use Rattle.place.specs.Place.{placeOf, Proper}
 use Rattle.place.proofs.Places.{proper-count}
 use Rattle.layout.specs.Sizes.{roomOf}
 use Rattle.layout.specs.Headers.{sizeRight}
-use Rattle.layout.specs.Slots.{slotOf, isLeaf, isInner, leafIn, innerIn, recordIn, countIn, bitsIn, versionIn, sinceIn}
+use Rattle.layout.specs.Slots.{slotOf, countIn, bitsIn, versionIn, sinceIn}
 use Rattle.layout.specs.Stores.{slotIn, slotNo, storeOf, Has}
+use Rattle.layout.proofs.Slots.{SlotCases, are-free, are-leaf, are-inner, are-spoiled, slot-cases}
 use Rattle.store.proofs.Slots.{slot-is}
-use Rattle.store.proofs.Scans.{Scan, scan-start, scan-inside, scan-here, scan-next, scan-end}
+use Rattle.store.proofs.Scans.{Scan, scan-start, scan-passed, scan-inside, scan-here, scan-next, scan-end}
 use Rattle.lookup.specs.Lookup.{isUsed, covers, Located}
+use Rattle.lookup.proofs.Rooting.{and-false}
 use Rattle.lookup.specs.declared.Found as declared-found
 use Rattle.lookup.specs.declared.Found.the-variants.{At, Nothing}
 use Rattle.sights.specs.Sights.{spoiltBy, isSpoilt, SpoiltIn, Sighted}
@@ -33,35 +35,25 @@ used-whole free e = refl
 used-whole (used r) e = refl
 used-whole (spoiled x) e = absurd (false≢true e)
 
--- what bytes are, by whether they are free, a leaf, an inner record
-abbrev slot : Bytes → Bool → Bool → Bool → Slot
-slot x a b c = cond a free (cond b (used (recordIn x (leafIn x))) (cond c (used (recordIn x (innerIn x))) (spoiled x)))
-
 pub unused-spoilt : (x : Bytes) → isUsed (slotOf x) ≡ false → not (allZero x) ≡ isSpoilt (slotOf x)
-unfolding slotOf
-unused-spoilt x = go (allZero x) (isLeaf x) (isInner x)
+unused-spoilt x u = go (slot-cases x)
   where
-    go : (a b c : Bool) → isUsed (slot x a b c) ≡ false → not a ≡ isSpoilt (slot x a b c)
-    go true b c e = refl
-    go false true c e = absurd (true≢false e)
-    go false false true e = absurd (true≢false e)
-    go false false false e = refl
+    go : SlotCases x → not (allZero x) ≡ isSpoilt (slotOf x)
+    go (are-free z e) = rw (z, e)
+    go (are-leaf z t e) = absurd (true≢false (sym (ap isUsed e) ∙ u))
+    go (are-inner z n t e) = absurd (true≢false (sym (ap isUsed e) ∙ u))
+    go (are-spoiled z n m e) = rw (z, e)
 
 -- whether a slot is spoilt and passes a test, by the test of its bytes
 module _ (test : Bytes → Bool) (x : Bytes) where
   tested : (c : Bool) → test x ≡ c → (c && isSpoilt (slotOf x)) ≡ spoiltBy test (slotOf x)
-  unfolding slotOf
-  tested c e = go (allZero x) (isLeaf x) (isInner x)
+  tested c e = go (slot-cases x)
     where
-      off : (d : Bool) → (d && false) ≡ false
-      off true = refl
-      off false = refl
-
-      go : (a b d : Bool) → (c && isSpoilt (slot x a b d)) ≡ spoiltBy test (slot x a b d)
-      go true b d = off c
-      go false true d = off c
-      go false false true = off c
-      go false false false = and-true c ∙ sym e
+      go : SlotCases x → (c && isSpoilt (slotOf x)) ≡ spoiltBy test (slotOf x)
+      go (are-free z f) = rw f (and-false c)
+      go (are-leaf z t f) = rw f (and-false c)
+      go (are-inner z n t f) = rw f (and-false c)
+      go (are-spoiled z n m f) = rw f (and-true c ∙ sym e)
 
 module _ {s : Bytes} {i : ℕ} (has : Has s i) (test : Bytes → Bool) where
   pub apart : test (slotIn i s) ≡ false → false ≡ spoiltBy test (slotNo i s)
@@ -102,11 +94,7 @@ module _ (v : ℕ) (x : Bytes) where
 
   pub elsewhen : countIn x ≡ 0 → covers (versionIn x) (sinceIn x) v ≡ false → agreesRoot v x ≡ false
   unfolding agreesRoot allOf
-  elsewhen e f = rw (eq-eqb (countIn x) 0 e, sym lives ∙ f) (off (allZero (bitsIn x)))
-    where
-      off : (d : Bool) → (d && false) ≡ false
-      off true = refl
-      off false = refl
+  elsewhen e f = rw (eq-eqb (countIn x) 0 e, sym lives ∙ f) (and-false (allZero (bitsIn x)))
 
   pub by-zeros : {b : Bool} → countIn x ≡ 0 → covers (versionIn x) (sinceIn x) v ≡ true → b ≡ allZero (bitsIn x) → agreesRoot v x ≡ b
   unfolding agreesRoot allOf
@@ -140,9 +128,7 @@ module _ (test : Bytes → Bool) {s : Bytes} {n i : ℕ} (w : Scan s (Ahead test
   pub spoilt-found : i < n → spoiltBy test (slotNo i s) ≡ true → SpoiltIn test (storeOf s .slots) (At i)
   spoilt-found h e =
       let xs = take i (storeOf s .slots) in
-      let k = scan-inside w h in
-      let long : length xs ≡ i = simp length-take (omega arith) in
-      (k, scan-here w h ∙ here test (length xs) (slotNo i s) (drop (i + 1) (storeOf s .slots)) e ∙ ap some long)
+      (scan-inside w h, scan-here w h ∙ here test (length xs) (slotNo i s) (drop (i + 1) (storeOf s .slots)) e ∙ ap some (scan-passed w))
 
   pub spoilt-nowhere : n ≤ i → SpoiltIn test (storeOf s .slots) Nothing
   spoilt-nowhere h = scan-end w h

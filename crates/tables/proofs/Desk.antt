@@ -4,7 +4,8 @@ use mathlib.Core.List.{[], _∷_}
 use Rattle.terms.specs.Bits.{Bytes}
 use Rattle.meaning.specs.Computed.{computed}
 use Rattle.meaning.specs.Store.{formatted}
-use Rattle.meaning.specs.History.{run, history, entry, ledger}
+use Rattle.meaning.specs.History.{entry, ledger}
+use Rattle.meaning.specs.Course.{run, history}
 use Rattle.meaning.specs.Desk.{calls, granted, s₈}
 
 pub desk-history : (leafHash innerHash : Bytes → Bytes → Bytes) →

@@ -1,8 +1,7 @@
--- What the check's contract settles: one answer, and what an accepted proof shows. Hashes in range have their bytes for themselves; an
--- accepted answer comes from one case of the definition. Assumes nothing.
+-- What an accepted proof shows: an accepted answer comes from one case of the definition. Assumes nothing.
 use Prim.Native.Nat.{ℕ}
 use native.Mathlib.Omega.{arith}
-use mathlib.Core.Path.{_≡_, refl, ap, sym, _∙_}
+use mathlib.Core.Path.{_≡_, refl, sym}
 use mathlib.Core.Bool.{Bool, true, false, cond, _&&_}
 use mathlib.Core.Option.{Option, none, some}
 use lib.ListN.{length}
@@ -13,22 +12,10 @@ use Rattle.terms.proofs.Tests.{and-left, and-right, same-bytes}
 use Rattle.meaning.specs.Calls.{Answer, refused, accepted}
 use Rattle.meaning.specs.Reading.{Verdict, present, absent}
 use Rattle.meaning.specs.Checking.{climb, leadsTo, absenceHolds}
-use Rattle.hash.specs.Hash.{Fits}
-use Rattle.hash.proofs.Laws.{hash-bytes-injective}
 use Rattle.nodehash.specs.Node.{leafHash, innerHash}
 use Rattle.proofrecords.specs.ProofBytes.{proofIn, proofBytes}
 use Rattle.proofrecords.proofs.Proofs.{proof-bytes}
-use Rattle.verify.specs.declared.Checked.{Checked}
-use Rattle.verify.specs.declared.Checked.the-variants.{Refused, Present, Absent}
 use Rattle.verify.specs.Verify.{judged, verified}
-use Rattle.verify.specs.Says.{says}
-use Rattle.meaning.specs.Answers.{numberOf, foundAfter}
-
--- An answer of the machine's: its numbers are in range.
-abbrev pub InRange : Checked → Type 0
-InRange (Refused n) = Unit {0}
-InRange (Present h) = Fits h
-InRange Absent = Unit {0}
 
 refused-not-accepted : {A : Type 0} {n : ℕ} {v : A} → _≡_ {A = Answer A} (refused n) (accepted v) → ⊥
 refused-not-accepted e = let z : _≡_ {A = ℕ} 0 1 = cc in omega arith
@@ -41,26 +28,6 @@ accepted-same e = cc
 
 present-same : {x y : Bytes} → present x ≡ present y → x ≡ y
 present-same e = cc
-
-says-same : (a b : Checked) → InRange a → InRange b → says a ≡ says b → a ≡ b
-says-same (Refused n) (Refused m) r s e = let d : n ≡ m = cc in ap Refused d
-says-same (Refused n) (Present g) r s e = absurd (refused-not-accepted e)
-says-same (Refused n) Absent r s e = absurd (refused-not-accepted e)
-says-same (Present h) (Refused m) r s e = absurd (refused-not-accepted (sym e))
-says-same (Present h) (Present g) r s e = ap Present (hash-bytes-injective h g r s (present-same (accepted-same e)))
-says-same (Present h) Absent r s e = absurd (present-not-absent (accepted-same e))
-says-same Absent (Refused m) r s e = absurd (refused-not-accepted (sym e))
-says-same Absent (Present g) r s e = absurd (present-not-absent (sym (accepted-same e)))
-says-same Absent Absent r s e = refl
-
--- Two answers that the contract of `verify` allows are equal.
-pub one-answer : (root k x : Bytes) (a b : Checked) → InRange a → InRange b → says a ≡ verified root k x → says b ≡ verified root k x → a ≡ b
-one-answer root k x a b r s e d = says-same a b r s (e ∙ sym d)
-
--- Two outcomes that the contract of `grants_verify` allows are equal, the number and every byte.
-pub one-outcome : (v : Answer Verdict) (old : Bytes) {n m : ℕ} {f g : Bytes} →
-    n ≡ numberOf v → f ≡ foundAfter v old → m ≡ numberOf v → g ≡ foundAfter v old → (n ≡ m) × (f ≡ g)
-one-outcome v old a b c d = (a ∙ sym c, b ∙ sym d)
 
 -- The bytes are a presence proof for the key with the value, whose steps lead from the leaf hash to the root.
 pub record ShowsPresent (root k v x : Bytes) (p : Presence) : Type 0 where

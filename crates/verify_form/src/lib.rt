@@ -5,7 +5,8 @@
 ghost use mathlib.Core.Path.{_≡_};
 ghost use Prim.Native.Nat.{_≤_};
 ghost use lib.ListN.{length, drop};
-ghost use Rattle.proofrecords.specs.ProofBytes.{Room, sidesRight, isPresence, neighboursFit, isAbsence};
+ghost use Rattle.proofrecords.specs.ProofBytes.{sidesRight, isPresence, neighboursFit, isAbsence};
+ghost use Rattle.proofrecords.specs.Steps.{Room};
 use fields::get_u16;
 use fields::get_u32;
 use proofrecords::ABSENCE_HEAD;

@@ -6,7 +6,8 @@ use lib.ListN.{drop}
 use Rattle.terms.specs.Bits.{Bytes, left, right, sameBytes}
 use Rattle.terms.specs.Fields.{field}
 use Rattle.meaning.specs.Checking.{leadsTo}
-use Rattle.proofrecords.specs.ProofBytes.{firstSteps, stepCount, presenceIn, leftPart, rightPart, flags, absenceIn}
+use Rattle.proofrecords.specs.ProofBytes.{stepCount, presenceIn, leftPart, rightPart, flags, absenceIn}
+use Rattle.proofrecords.specs.Steps.{firstSteps}
 use Rattle.verify_path.specs.Paths.{topAfter}
 use Rattle.verify_neighbours.specs.Neighbours.{leads, loneNeighbour, bothNeighbours, neighbours}
 

@@ -13,7 +13,8 @@ use Rattle.terms.specs.Fields.{slice}
 use Rattle.terms.specs.Records.{Step, zeros}
 use Rattle.meaning.specs.Checking.{keepsTo, outermost, sameStep, partFromTop, pathsPart}
 use Rattle.shown.proofs.Paths.{part-by-tops}
-use Rattle.proofrecords.specs.ProofBytes.{stepsIn, stepAt, firstSteps}
+use Rattle.proofrecords.specs.ProofBytes.{stepsIn}
+use Rattle.proofrecords.specs.Steps.{stepAt, firstSteps}
 use Rattle.proofrecords.proofs.Lying.{first-at, fromStep, next-step, one-less, none-left}
 use Rattle.verify_path.specs.Paths.{apartAt}
 

@@ -5,7 +5,7 @@ use Rattle.terms.specs.Bits.{Bytes, left, right}
 use Rattle.terms.specs.Fields.{slice}
 use Rattle.meaning.specs.Checking.{outermost, climb}
 use Rattle.nodehash.specs.Node.{leafHash, innerHash}
-use Rattle.proofrecords.specs.ProofBytes.{stepAt, firstSteps}
+use Rattle.proofrecords.specs.Steps.{stepAt, firstSteps}
 
 -- The hash that the first n steps lead to from the leaf hash.
 abbrev pub topAfter : ℕ → Bytes → Bytes

@@ -5,7 +5,7 @@ ghost use Prim.Native.Nat.{suc};
 ghost use Rattle.meaning.specs.Checking.{keepsTo, outermost, sameStep, pathsPart, parentHash};
 ghost use Rattle.hash.specs.Hash.{hashBytes};
 ghost use Rattle.nodehash.specs.Node.{leafHash, innerHash};
-ghost use Rattle.proofrecords.specs.ProofBytes.{Room, stepAt, firstSteps};
+ghost use Rattle.proofrecords.specs.Steps.{Room, stepAt, firstSteps};
 ghost use Rattle.verify_path.specs.Paths.{topAfter, apartAt};
 use hash::Hash;
 use hash::hash_at;

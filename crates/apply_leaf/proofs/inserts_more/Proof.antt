@@ -5,7 +5,8 @@ use native.Mathlib.Omega.{arith}
 use lib.ListN.{drop}
 use borrow.Author.Tests.{not-true, not-false}
 use Rattle.hash.specs.Hash.{hashBytes}
-use Rattle.batch.specs.Batch.{asks, askAt}
+use Rattle.batch.specs.Batch.{asks}
+use Rattle.batch.specs.Records.{askAt}
 use Rattle.steps.specs.Step as step
 use Rattle.apply_leaf.specs.Leaf.{isMore}
 use Rattle.apply_leaf.proofs.Asked.{Looking, look-on, look-end, more-delete, more-own, more-here}

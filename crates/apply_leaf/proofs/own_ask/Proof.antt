@@ -4,7 +4,8 @@ use mathlib.Core.Path.{refl, sym, _∙_}
 use native.Mathlib.Omega.{arith}
 use lib.ListN.{drop}
 use Rattle.hash.specs.Hash.{hashBytes}
-use Rattle.batch.specs.Batch.{asks, askAt}
+use Rattle.batch.specs.Batch.{asks}
+use Rattle.batch.specs.Records.{askAt}
 use Rattle.steps.specs.Step as step
 use Rattle.apply_leaf.proofs.Asked.{Looking, look-on, look-end, own-else, own-insert, own-delete}
 use borrow.Author.Needs.{needs}

@@ -5,8 +5,9 @@ use native.Mathlib.Omega.{arith}
 use borrow.Author.Needs.{needs}
 use Rattle.terms.specs.Fields.{allZero}
 use Rattle.store.proofs.Slots.{slot-within}
+use Rattle.store.proofs.Scans.{scan-slot}
 use Rattle.apply_place.proofs.Changing.{stored-size}
-use Rattle.apply_place.proofs.Placing.{Passed, passed-has, from-slot, one-more, free-here, none-free}
+use Rattle.apply_place.proofs.Placing.{Passed, search-from, one-more, free-here, none-free}
 use Rattle.apply_place.proofs.find_free.Statement.{statement}
 use Rattle.apply_place.proofs.find_free.Tie as tie
 
@@ -20,10 +21,10 @@ slot-count-requires : tie.Need-slot-count-requires Inv-loop μ-loop
 slot-count-requires c κs = stored-size (c .before .pre .0)
 
 loop-holds : tie.Need-loop-holds Inv-loop μ-loop
-loop-holds c = from-slot (c .before .before .pre .0) (c .slot-count .ensures) (c .before .before .pre .1)
+loop-holds c = search-from (c .before .before .pre .0) (c .slot-count .ensures) (c .before .before .pre .1)
 
 slot-of-requires : tie.Need-slot-of-requires Inv-loop μ-loop
-slot-of-requires c κs = slot-within (passed-has (c .before .loop .inv) (c .if1 .left))
+slot-of-requires c κs = slot-within (scan-slot (c .before .loop .inv) (c .if1 .left))
 
 all-zero-requires : tie.Need-all-zero-requires Inv-loop μ-loop
 all-zero-requires c κs = search needs

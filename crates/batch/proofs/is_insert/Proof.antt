@@ -1,7 +1,8 @@
 -- `batch::is_insert` meets its contract: the head of a record in form tells.
 -- Assumes nothing.
 use mathlib.Core.Path.{sym, ap, _∙_}
-use Rattle.batch.specs.Batch.{isInsert, recordAt, askAt}
+use Rattle.batch.specs.Batch.{isInsert}
+use Rattle.batch.specs.Records.{recordAt, askAt}
 use Rattle.batch.proofs.Asks.{insert-is}
 use borrow.Author.Needs.{needs}
 use Rattle.batch.proofs.is_insert.Statement.{statement}

@@ -1,7 +1,6 @@
 -- `kin_parents::parent_says` meets its contract: by its fields a slot names the record or not, and a parent says what `link` says. Assumes nothing.
 use native.Mathlib.Omega.{arith}
 use mathlib.Core.Path.{sym, subst, _∙_}
-use mathlib.Core.Bool.{true, false}
 use borrow.Author.Tests.{not-true, not-false}
 use borrow.Author.Needs.{needs}
 use Rattle.terms.specs.Bits.{Byte}
@@ -47,42 +46,29 @@ returns-2 c =
 ends-before-requires : tie.Need-ends-before-requires
 ends-before-requires c κs = search needs
 
+on-side-requires : tie.Need-on-side-requires
+on-side-requires c κs = search needs
+
+on-side-requires-2 : tie.Need-on-side-requires-2
+on-side-requires-2 c κs = search needs
+
 link-requires : tie.Need-link-requires
-link-requires c κs = c .before .ends-before .ensures .1
+link-requires c κs = c .before .before .before .ends-before .ensures .1
 
 returns-3 : tie.Need-returns-3
 returns-3 c =
-    let d = c .before .before .before .before .before .before .before .before .before .before in
+    let e = c .before .before .before .before in
+    let k = e .before .before in
+    let r = k .before .before in
+    let f = r .before .before in
+    let d = f .before .before in
     let a = d .before in (
       c .link .ensures .0,
-      parent-said (a .pre .0) (all-of Byte (a .args .store .now) 0 (λ i _. omega (arith, d .shared-slice-known .given i))) (a .args .below)
-          (a .pre .2)
-          (c .before .before .before .before .before .before .read-slot .result)
-          (subst (λ x. Read x (c .before .before .before .before .before .before .read-slot .result)) (c .before .before .before .before .before .before .before .slot-of .ensures .0) (c .before .before .before .before .before .before .read-slot .ensures))
-          (a .args .kept) (a .pre .1)
-          (sym (c .before .before .before .before .before .before .before .before .before .could-name .ensures) ∙ not-false _ (c .before .before .before .before .before .before .before .before .if1 .left)) _ _
-          (c .before .before .before .before .kind .given .1)
-          true (c .before .if2 .taken) (c .before .before .ends-before .result) (c .before .before .ends-before .ensures .0) (c .link .result)
-          (c .link .ensures .1),
-    )
-
-link-requires-2 : tie.Need-link-requires-2
-link-requires-2 c κs = c .before .ends-before .ensures .1
-
-returns-4 : tie.Need-returns-4
-returns-4 c =
-    let d = c .before .before .before .before .before .before .before .before .before .before in
-    let a = d .before in (
-      c .link2 .ensures .0,
-      parent-said (a .pre .0) (all-of Byte (a .args .store .now) 0 (λ i _. omega (arith, d .shared-slice-known .given i))) (a .args .below)
-          (a .pre .2)
-          (c .before .before .before .before .before .before .read-slot .result)
-          (subst (λ x. Read x (c .before .before .before .before .before .before .read-slot .result)) (c .before .before .before .before .before .before .before .slot-of .ensures .0) (c .before .before .before .before .before .before .read-slot .ensures))
-          (a .args .kept) (a .pre .1)
-          (sym (c .before .before .before .before .before .before .before .before .before .could-name .ensures) ∙ not-false _ (c .before .before .before .before .before .before .before .before .if1 .left)) _ _
-          (c .before .before .before .before .kind .given .1)
-          false (c .before .if2 .left) (c .before .before .ends-before .result) (c .before .before .ends-before .ensures .0) (c .link2 .result)
-          (c .link2 .ensures .1),
+      parent-said (a .pre .0) (all-of Byte (a .args .store .now) 0 (λ i _. omega (arith, d .shared-slice-known .given i))) (a .args .below) (a .pre .2)
+          (r .read-slot .result) (subst (λ x. Read x (r .read-slot .result)) (r .before .slot-of .ensures .0) (r .read-slot .ensures))
+          (a .args .kept) (a .pre .1) (sym (f .before .could-name .ensures) ∙ not-false _ (f .if1 .left)) _ _ (k .kind .given .1)
+          (c .before .before .before .on-side .ensures) (c .before .on-side2 .ensures) (e .ends-before .result) (e .ends-before .ensures .0)
+          (c .link .result) (c .link .ensures .1),
     )
 
 pub parent-says-spec : {M : Type 1} → statement M
@@ -96,7 +82,7 @@ parent-says-spec =
     enum-known-kind
     returns-2
     ends-before-requires
+    on-side-requires
+    on-side-requires-2
     link-requires
-    returns-3
-    link-requires-2
-    returns-4)
+    returns-3)

@@ -5,7 +5,8 @@ use Rattle.terms.specs.Bits.{Byte}
 use Rattle.terms.proofs.Lists.{all-of}
 use Rattle.place.specs.Place.{placeOf}
 use Rattle.store.proofs.Slots.{slot-within}
-use Rattle.rescue_look.proofs.Looking.{Passed, passed-start, passed-has, passed-version, passed-next, passed-found, passed-end, no-version}
+use Rattle.store.proofs.Scans.{scan-slot}
+use Rattle.rescue_look.proofs.Looking.{Passed, passed-start, passed-version, passed-next, passed-found, passed-end, no-version}
 use Rattle.rescue_look.proofs.lowest.Statement.{statement}
 use Rattle.rescue_look.proofs.lowest.Tie as tie
 
@@ -30,7 +31,7 @@ slots-holds c =
     passed-start (d .args .source .now) (d .args .version) (placeOf (d .args .place)) (d .pre .0) (c .slot-count .ensures)
 
 version-at-requires : tie.Need-version-at-requires Inv-slots μ-slots
-version-at-requires c κs = slot-within (passed-has (c .before .slots .inv) (c .if2 .left))
+version-at-requires c κs = slot-within (scan-slot (c .before .slots .inv) (c .if2 .left))
 
 add-i : tie.Need-add-i Inv-slots μ-slots
 add-i c =
@@ -46,14 +47,14 @@ slots-again c =
     let c3 = c2 .before in
     let c6 = c3 .before .before .before in
     let c7 = c6 .before in
-    passed-version (c7 .args .place) (c3 .slots .inv) (all-of Byte (c7 .args .source .now) 0 (λ i _. omega (arith, c6 .shared-slice-known .given i))) (c7 .pre .1) (c2 .if2 .left)
+    passed-version (c7 .args .version) (c7 .args .place) (c3 .slots .inv) (all-of Byte (c7 .args .source .now) 0 (λ i _. omega (arith, c6 .shared-slice-known .given i))) (c7 .pre .1) (c2 .if2 .left)
     (c .before .version-at .ensures) (c .if3 .taken)
 
 stands-at-requires : tie.Need-stands-at-requires Inv-slots μ-slots
 stands-at-requires c κs =
     let c2 = c .before .before in
     let c3 = c2 .before in
-    (passed-has (c3 .slots .inv) (c2 .if2 .left), c3 .before .before .before .before .pre .1)
+    (scan-slot (c3 .slots .inv) (c2 .if2 .left), c3 .before .before .before .before .pre .1)
 
 add-i-2 : tie.Need-add-i-2 Inv-slots μ-slots
 add-i-2 c =
@@ -68,17 +69,21 @@ slots-again-2 c =
     let c2 = c .before .before in
     let c3 = c2 .before in
     let c5 = c3 .before .before in
-    passed-next (c5 .before .before .before .before .args .place) (c5 .slots .inv) (c3 .version-at .ensures) (c2 .if3 .left) (c .before .stands-at .ensures) (c .if4 .left)
+    let a = c5 .before .before .before .before .args in
+    passed-next (a .version) (a .place) (c5 .slots .inv) (c3 .before .if2 .left) (c3 .version-at .ensures) (c2 .if3 .left) (c .before .stands-at .ensures) (c .if4 .left)
 
 returns-2 : tie.Need-returns-2 Inv-slots μ-slots
-returns-2 c = passed-end (c .before .slots .inv) (c .if2 .taken)
+returns-2 c =
+    let a = c .before .before .before .before .before .args in
+    passed-end (a .source .now) (a .version) (placeOf (a .place)) (c .before .slots .inv) (c .if2 .taken)
 
 returns-3 : tie.Need-returns-3 Inv-slots μ-slots
 returns-3 c =
     let c2 = c .before .before in
     let c3 = c2 .before in
     let c5 = c3 .before .before in
-    passed-found (c5 .before .before .before .before .args .place) (c5 .slots .inv) (c3 .version-at .ensures) (c2 .if3 .left) (c .before .stands-at .ensures) (c3 .before .if2 .left) (c .if4 .taken)
+    let a = c5 .before .before .before .before .args in
+    passed-found (a .version) (a .place) (c5 .slots .inv) (c3 .before .if2 .left) (c3 .version-at .ensures) (c2 .if3 .left) (c .before .stands-at .ensures) (c .if4 .taken)
 
 pub lowest-spec : {M : Type 1} → statement M
 lowest-spec =

@@ -1,7 +1,7 @@
 -- `verify_path::is_right` meets its contract: the side is a step's first byte.
 -- Assumes nothing.
 use mathlib.Core.Path.{refl}
-use Rattle.proofrecords.specs.ProofBytes.{stepAt}
+use Rattle.proofrecords.specs.Steps.{stepAt}
 use borrow.Author.Needs.{needs}
 use Rattle.verify_path.proofs.is_right.Statement.{statement}
 use Rattle.verify_path.proofs.is_right.Tie as tie

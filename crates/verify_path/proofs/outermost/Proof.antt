@@ -6,7 +6,8 @@ use native.Mathlib.Nat.{sub-zero}
 use mathlib.Core.Path.{_≡_, ap, sym, _∙_}
 use borrow.Author.Tests.{not-true, not-false}
 use Rattle.meaning.specs.Checking.{outermost}
-use Rattle.proofrecords.specs.ProofBytes.{stepsIn, firstSteps}
+use Rattle.proofrecords.specs.ProofBytes.{stepsIn}
+use Rattle.proofrecords.specs.Steps.{firstSteps}
 use Rattle.proofrecords.proofs.Lying.{fromStep}
 use Rattle.verify_path.proofs.Steps.{outermost-off, outermost-on, no-steps-left}
 use Rattle.verify_path.proofs.outermost.Statement.{statement}

@@ -6,7 +6,7 @@ use mathlib.Core.Path.{_≡_, refl, sym, _∙_}
 use borrow.Author.Needs.{needs}
 use borrow.Author.Tests.{not-true, not-false}
 use Rattle.meaning.specs.Checking.{pathsPart}
-use Rattle.proofrecords.specs.ProofBytes.{firstSteps}
+use Rattle.proofrecords.specs.Steps.{firstSteps}
 use Rattle.verify_path.proofs.Steps.{left-done, right-done, equal-tops, other-tops}
 use Rattle.verify_path.proofs.paths_part.Statement.{statement}
 use Rattle.verify_path.proofs.paths_part.Tie as tie

@@ -1,7 +1,7 @@
 -- `verify_path::sibling` meets its contract: the sibling stands after the side.
 -- Assumes nothing.
 use Rattle.terms.specs.Fields.{slice}
-use Rattle.proofrecords.specs.ProofBytes.{stepAt}
+use Rattle.proofrecords.specs.Steps.{stepAt}
 use borrow.Author.Needs.{needs}
 use Rattle.verify_path.proofs.sibling.Statement.{statement}
 use Rattle.verify_path.proofs.sibling.Tie as tie
