@@ -1,51 +1,30 @@
 -- A guess that is looked at: a slot that holds a node is where it is found, since it is in one slot at most. Assumes nothing.
-use Prim.Native.Nat.{ℕ, _+_, _*_, _<_, _≤_}
+use Prim.Native.Nat.{ℕ, _<_, _≤_}
 use native.Mathlib.Omega.{arith}
-use mathlib.Core.Path.{_≡_, refl, ap, sym, _∙_, subst}
+use mathlib.Core.Path.{_≡_, refl, ap, _∙_, subst}
 use mathlib.Core.Bool.{Bool, true, false}
 use mathlib.Core.List.{List, [], _∷_}
 use mathlib.Core.Option.{none}
 use lib.ListN.{length}
-use Rattle.terms.specs.Bits.{Bytes, Byte, All, Place, sameBytes}
+use Rattle.terms.specs.Bits.{Bytes, All, Place}
 use Rattle.terms.specs.Records.{Slot, free, used, spoiled}
-use Rattle.terms.proofs.Tests.{same-bytes}
 use Rattle.meaning.specs.Store.{find, isNode}
 use Rattle.histories.proofs.Slots.{not-node}
 use Rattle.place.specs.declared.Place as place
-use Rattle.place.specs.Place.{placeOf, Proper}
-use Rattle.place.proofs.Places.{proper-count}
+use Rattle.place.specs.Place.{placeOf}
 use Rattle.layout.specs.Sizes.{mostSlots, roomOf}
-use Rattle.layout.specs.Slots.{countIn, bitsIn, versionIn, slotOf, SlotForm}
-use Rattle.layout.specs.Stores.{slotIn, storeOf, Has, SlotWithin}
+use Rattle.layout.specs.Slots.{SlotForm}
+use Rattle.layout.specs.Stores.{storeOf, SlotWithin}
 use Rattle.layout.proofs.Headers.{size-says}
-use Rattle.store.proofs.Slots.{slots-many, slot-within, slot-long, slot-bytes, slot-is}
+use Rattle.store.proofs.Slots.{slot-within}
+use Rattle.guess.specs.Guess.{NodeAt}
+use Rattle.guess.proofs.Looking.{slot-has}
 use Rattle.lookup.specs.declared.Found.the-variants.{At, Nothing}
-use Rattle.lookup.specs.Lookup.{isUsed, FoundIn}
-use Rattle.lookup.proofs.Matching.{is-node}
-use Rattle.lookup.proofs.Searching.{used-or}
+use Rattle.lookup.specs.Lookup.{FoundIn}
 use Rattle.apply_place.specs.Placing.{Stored}
 use Rattle.apply_place.proofs.Changing.{stored-size}
 use Rattle.apply_place.proofs.Marking.{single-finds}
-use Rattle.apply_guess.specs.Guess.{NodeAt, Once}
-
--- a slot that is there
-module _ {s : Bytes} (h : Stored s) {n i : ℕ} (e : n ≡ roomOf (length s)) (l : i < n) where
-  pub slot-has : Has s i
-  slot-has = record { size = stored-size h; inside = omega (arith, e) }
-
--- its fields decide
-module _ {s : Bytes} (b : All Byte s) (v : ℕ) (p : place.Place) (w : Proper p) {i : ℕ} (h : Has s i) where
-  pub held : {x y : Bytes} → x ≡ slotIn i s → versionIn (slotIn i s) ≡ v → countIn (slotIn i s) ≡ p .count → y ≡ bitsIn x →
-      sameBytes y (p .bits) ≡ true → (t : Bool) → t ≡ isUsed (slotOf x) → NodeAt s i v (placeOf p) t
-  unfolding countIn
-  held k a c o d true u =
-      let (q, f) = used-or (slotOf (slotIn i s)) (ap (λ y. isUsed (slotOf y)) (sym k) ∙ sym u) in
-      let m : isNode v (placeOf p) q ≡ true =
-      is-node (slotIn i s) (slot-long i s (slot-within h)) (slot-bytes i s b) v (placeOf p) (omega (arith, w .short, proper-count p w)) a
-      (c ∙ sym (proper-count p w)) (ap bitsIn (sym k) ∙ sym o ∙ same-bytes _ (p .bits) d ∙ w .trimmed) q f
-      in
-      (omega (arith, h .inside, slots-many s), (q, slot-is h ∙ f, m))
-  held k a c o d false u = tt
+use Rattle.apply_guess.specs.Guess.{Once}
 
 -- no record has version 0
 none-found : (p : Place) (s : List Slot) → All SlotForm s → find 0 p s ≡ none
@@ -73,4 +52,4 @@ pub room-of-store : {s : Bytes} {n : ℕ} → Stored s → n ≡ roomOf (length 
 room-of-store {s} h e = record { stored = h; many = e; small = omega (arith, size-says (length s) (stored-size h)) }
 
 pub room-slot : {s : Bytes} {n i : ℕ} → Room s n → i < n → SlotWithin i s
-room-slot r l = slot-within (slot-has (r .stored) (r .many) l)
+room-slot {s} r l = slot-within (slot-has s (stored-size (r .stored)) (r .many) l)

@@ -40,6 +40,7 @@ use Rattle.changed.proofs.Visits.{visits-count}
 use Rattle.changed.proofs.Walk.{stands-sits, listed-changed}
 use Rattle.changed.proofs.Ends.{listed-few}
 use Rattle.changed.proofs.Theorems.{visits-at-most-32769}
+use Rattle.changes_guess.specs.Apart.{Apart}
 use Rattle.changes_top.specs.declared.Top as top
 use Rattle.changes_top.specs.Tops.{topTree, TopSays}
 use Rattle.changes_put.specs.Puts.{putInto}
@@ -116,6 +117,10 @@ module _ {s : Bytes} (w : SoundBytes s) where
   pub sound-size : sizeRight (length s) ≡ true
   sound-size = let h = header-accepted s (w .capacity) (w .oldest) (w .latest) (w .headed) in size-right-of (length s) (w .capacity) (h .size) (h .some) (h .fits)
 
+  sound-apart : Apart (storeOf s)
+  unfolding Apart
+  sound-apart = w .sound .unique
+
   module _ (first second limit : ℕ) (room : Bytes) where
     abbrev st : Store
     st = storeOf s
@@ -170,7 +175,7 @@ module _ {s : Bytes} (w : SoundBytes s) where
       few-items = listed-few (256 - p .count) (p .count) (topTree s p x) (topTree s p y)
 
       here : Here s p x y
-      here = record { size = sound-size; proper = empty .proper; old = tx .right; new = ty .right }
+      here = record { size = sound-size; apart = sound-apart; proper = empty .proper; old = tx .right; new = ty .right }
 
       pub may-count : limit < 4294967296 → Goes s p x y limit false room 0
       may-count l = record {

@@ -3,7 +3,7 @@
 use changes_put::ITEM_SIZE;
 use changes_top::root_top;
 use changes_walk::Walked;
-use changes_walk::walk;
+use changes_walk::walk_trees;
 use numbers::NO_ROOM;
 use numbers::NOT_KEPT;
 use numbers::TOO_MANY_VISITS;
@@ -34,14 +34,24 @@ fn changes_sound(store: &[u8], first: u32, second: u32, limit: u32, room: &mut [
     let top = Place::top();
     let old = root_top(store, first, top);
     let new = root_top(store, second, top);
-    let Walked::Done { budget: _, next: n } = walk(store, top, old, new, limit, false, room, 0)
-    else {
+    let Walked::Done { budget: _, next: n } = walk_trees(
+        store,
+        first,
+        second,
+        top,
+        old,
+        new,
+        limit,
+        false,
+        room,
+        0,
+    ) else {
         return Compared::Refused(TOO_MANY_VISITS);
     };
     if room.len() / ITEM_SIZE < n {
         return Compared::Refused(NO_ROOM);
     }
-    walk(store, top, old, new, limit, true, room, 0);
+    walk_trees(store, first, second, top, old, new, limit, true, room, 0);
     Compared::Listed(n as u32)
 }
 

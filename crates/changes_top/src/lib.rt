@@ -1,7 +1,7 @@
 // What two trees are compared by at a place, read from lent memory, document 02, request 2026-01: the node there, or a leaf from further up
 // whose key goes there.
+use changes_guess::find_near;
 use lookup::Found;
-use lookup::find;
 use lookup::find_root;
 use place::Place;
 use place::key_bit;
@@ -20,6 +20,7 @@ ghost use Rattle.place.specs.Place.{Proper, Stands, Grown};
 ghost use Rattle.layout.specs.Headers.{sizeRight};
 ghost use Rattle.layout.specs.Stores.{storeOf, SlotWithin};
 ghost use Rattle.changed.specs.Walk.{under};
+ghost use Rattle.changes_guess.specs.Apart.{Apart};
 ghost use Rattle.changes_top.specs.Tops.{topIn, treeHere, topTree, TopRight, TopSays, DeeperSays};
 
 pub enum Top {
@@ -62,14 +63,14 @@ pub fn root_top(store: &[u8], version: u32, top: Place) -> Top
 }
 
 // The child of a version at its place; version 0 is no child.
-fn top_at(store: &[u8], version: u32, place: Place) -> Top
-    requires { ⌜ (sizeRight (length (now store)) ≡ true) × Proper place ⌝ }
+fn top_at(store: &[u8], guesses: &[u16; 16384], version: u32, place: Place) -> Top
+    requires { ⌜ ((sizeRight (length (now store)) ≡ true) × Apart (storeOf (now store))) × Proper place ⌝ }
     ensures { λ r. ⌜ TopSays (now (store .entry)) place (treeHere (now (store .entry)) place version) r ⌝ }
 {
     if version == 0 {
         return Top::Nothing;
     }
-    let found = find(store, version, place);
+    let found = find_near(store, guesses, version, place);
     let Found::At(i) = found else {
         return Top::Nothing;
     };
@@ -77,8 +78,15 @@ fn top_at(store: &[u8], version: u32, place: Place) -> Top
 }
 
 // What is compared at a longer place, below a place with this top.
-pub fn below(store: &[u8], place: Place, top: Top, right: bool, longer: Place) -> Top
-    requires { ⌜ (sizeRight (length (now store)) ≡ true) × (Proper place × (place .count < 256)) × TopRight (now store) place top × Grown right place longer ⌝ }
+pub fn below(
+    store: &[u8],
+    guesses: &[u16; 16384],
+    place: Place,
+    top: Top,
+    right: bool,
+    longer: Place,
+) -> Top
+    requires { ⌜ ((sizeRight (length (now store)) ≡ true) × Apart (storeOf (now store))) × (Proper place × (place .count < 256)) × TopRight (now store) place top × Grown right place longer ⌝ }
     ensures { λ r. ⌜ TopSays (now (store .entry)) longer (under (place .count) right (topTree (now (store .entry)) place top)) r ⌝ }
 {
     match top {
@@ -95,9 +103,9 @@ pub fn below(store: &[u8], place: Place, top: Top, right: bool, longer: Place) -
             right: r,
         } => {
             if right {
-                return top_at(store, r, longer);
+                return top_at(store, guesses, r, longer);
             }
-            top_at(store, l, longer)
+            top_at(store, guesses, l, longer)
         }
     }
 }

@@ -163,7 +163,7 @@ module _ (s : Bytes) (p : place.Place) (first second : top.Top) (h : Here s p fi
           ap items (ap₂ (λ n k. listed n k (topTree s q x) (topTree s q y)) n-is i ∙ ap₂ (listed m (suc (p .count))) (tx .tree) (ty .tree))
 
       pub side-here : Here s q x y
-      side-here = record { size = h .size; proper = grown .proper; old = tx .right; new = ty .right }
+      side-here = record { size = h .size; apart = h .apart; proper = grown .proper; old = tx .right; new = ty .right }
 
     visits-deeper : visitsHere s p first second ≡ 1 + (visitsAt m (kid left T) (kid left U) + visitsAt m (kid right T) (kid right U))
     unfolding visitsHere

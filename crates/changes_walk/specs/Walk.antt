@@ -9,8 +9,10 @@ use Rattle.terms.specs.Bits.{Bytes}
 use Rattle.place.specs.declared.Place as place
 use Rattle.place.specs.Place.{Proper}
 use Rattle.layout.specs.Headers.{sizeRight}
+use Rattle.layout.specs.Stores.{storeOf}
 use Rattle.changed.specs.Changes.{Item, items, itemSize, listBytes}
 use Rattle.changed.specs.Walk.{visitsAt, listed}
+use Rattle.changes_guess.specs.Apart.{Apart}
 use Rattle.changes_top.specs.declared.Top as top
 use Rattle.changes_top.specs.Tops.{topTree, TopRight}
 use Rattle.changes_put.specs.Puts.{putInto}
@@ -24,9 +26,10 @@ visitsHere s p first second = visitsAt (256 - p .count) (topTree s p first) (top
 unfoldable pub itemsHere : Bytes → place.Place → top.Top → top.Top → List Item
 itemsHere s p first second = items (listed (256 - p .count) (p .count) (topTree s p first) (topTree s p second))
 
--- Two tops at a place.
+-- Two tops at a place of a store in which no two records share version and place.
 pub record Here (s : Bytes) (p : place.Place) (first second : top.Top) : Type 0 where
   pub size : sizeRight (length s) ≡ true
+  pub apart : Apart (storeOf s)
   pub proper : Proper p
   pub old : TopRight s p first
   pub new : TopRight s p second

@@ -20,6 +20,9 @@ returns c =
     let c2 = c .before .before in
     no-version (c2 .pre) (c .if1 .taken)
 
+slice-aggregate-start-of : tie.Need-slice-aggregate-start-of Inv-loop μ-loop
+slice-aggregate-start-of c = search needs
+
 start-of-requires : tie.Need-start-of-requires Inv-loop μ-loop
 start-of-requires c κs =
     search needs
@@ -42,14 +45,14 @@ slot-number-requires c κs = search needs
 
 holds-requires : tie.Need-holds-requires Inv-loop μ-loop
 holds-requires c κs =
-    let c7 = c .before .before .before .before .before .before .before in
-    (c7 .pre .stored, c7 .pre .proper)
+    let start = c .before .before .before .before .before .before .before .before .before in
+    (stored-size (start .pre .stored), start .pre .proper)
 
 returns-2 : tie.Need-returns-2 Inv-loop μ-loop
 returns-2 c =
     let c1 = c .before in
-    let c9 = c1 .before .before .before .before .before .before .before .before in
-    guessed (c9 .pre) (c .if2 .taken) (c1 .holds .ensures)
+    let start = c1 .before .before .before .before .before .before .before .before .before .before in
+    guessed (start .pre) (c .if2 .taken) (c1 .holds .ensures)
 
 add-j : tie.Need-add-j Inv-loop μ-loop
 add-j c = omega arith
@@ -63,8 +66,8 @@ loop-again c =
 
 find-requires : tie.Need-find-requires Inv-loop μ-loop
 find-requires c κs =
-    let c5 = c .before .before .before .before .before in
-    (stored-size (c5 .pre .stored), c5 .pre .proper)
+    let start = c .before .before .before .before .before .before .before in
+    (stored-size (start .pre .stored), start .pre .proper)
 
 returns-3 : tie.Need-returns-3 Inv-loop μ-loop
 returns-3 c =
@@ -77,6 +80,7 @@ find-near-spec =
     Inv-loop
     μ-loop
     returns
+    slice-aggregate-start-of
     start-of-requires
     loop-holds
     add-slot-number

@@ -25,23 +25,29 @@ version-at-requires c κs = room-slot (c .before .loop .inv) (c .loop-test .take
 retired-at-requires : tie.Need-retired-at-requires Inv-loop μ-loop
 retired-at-requires c κs = room-slot (c .before .before .before .loop .inv) (c .before .before .loop-test .taken)
 
-slot-of-requires : tie.Need-slot-of-requires Inv-loop μ-loop
-slot-of-requires c κs = room-slot (c .before .before .before .before .before .loop .inv) (c .before .before .before .before .loop-test .taken)
+count-at-requires : tie.Need-count-at-requires Inv-loop μ-loop
+count-at-requires c κs = room-slot (c .before .before .before .before .before .loop .inv) (c .before .before .before .before .loop-test .taken)
 
-read-slot-requires : tie.Need-read-slot-requires Inv-loop μ-loop
-read-slot-requires c κs = search needs
+cast-count : tie.Need-cast-count Inv-loop μ-loop
+cast-count c = search needs
+
+slot-of-requires : tie.Need-slot-of-requires Inv-loop μ-loop
+slot-of-requires c κs = room-slot (c .before .before .before .before .before .before .before .loop .inv) (c .before .before .before .before .before .before .loop-test .taken)
+
+bits-of-requires : tie.Need-bits-of-requires Inv-loop μ-loop
+bits-of-requires c κs = search needs
 
 start-of-requires : tie.Need-start-of-requires Inv-loop μ-loop
 start-of-requires c κs = search needs
 
 cast-keep : tie.Need-cast-keep Inv-loop μ-loop
-cast-keep c = omega (arith, c .before .before .before .before .before .before .before .before .before .before .loop .inv .small, c .before .before .before .before .before .before .before .before .before .loop-test .taken)
+cast-keep c = let t = c .before .before .before .before .before .before .before .before .before in omega (arith, t .before .loop .inv .small, t .loop-test .taken)
 
 keep-requires : tie.Need-keep-requires Inv-loop μ-loop
 keep-requires c κs = search needs
 
 add-i : tie.Need-add-i Inv-loop μ-loop
-add-i c = omega (arith, c .before .before .before .loop .inv .small, c .before .before .loop-test .taken)
+add-i c = let t = c .before .before in omega (arith, t .before .loop .inv .small, t .loop-test .taken)
 
 loop-less : tie.Need-loop-less Inv-loop μ-loop
 loop-less c = omega (arith, c .before .before .loop-test .taken)
@@ -62,8 +68,10 @@ guess-all-spec =
     loop-holds
     version-at-requires
     retired-at-requires
+    count-at-requires
+    cast-count
     slot-of-requires
-    read-slot-requires
+    bits-of-requires
     start-of-requires
     cast-keep
     keep-requires

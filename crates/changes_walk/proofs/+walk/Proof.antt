@@ -19,14 +19,14 @@ use Rattle.place.proofs.Place.right.Reads as right-reads
 use Rattle.changes_walk.proofs.+walk.{statement}
 use Rattle.changes_walk.proofs.+walk.Tie.{close}
 
-abbrev μ-walk : Measures 2 walk-kinds.ps ℕ
-μ-walk κs a = 256 - a .1 .0 .count
+abbrev μ-walk : Measures 3 walk-kinds.ps ℕ
+μ-walk κs a = 256 - a .1 .1 .0 .count
 
-abbrev walk-at : ℕ → In 2 walk-kinds.ps
-walk-at t = and 2 walk-kinds.ps (is 2 walk-kinds.ps μ-walk t) walk.Pre
+abbrev walk-at : ℕ → In 3 walk-kinds.ps
+walk-at t = and 3 walk-kinds.ps (is 3 walk-kinds.ps μ-walk t) walk.Pre
 
-abbrev walk-below : ℕ → In 2 walk-kinds.ps
-walk-below t = and 2 walk-kinds.ps (falls 2 walk-kinds.ps _<_ μ-walk t) walk.Pre
+abbrev walk-below : ℕ → In 3 walk-kinds.ps
+walk-below t = and 3 walk-kinds.ps (falls 3 walk-kinds.ps _<_ μ-walk t) walk.Pre
 
 abbrev walk-calls : ℕ → walk-lts.Claims
 walk-calls t = (
@@ -107,7 +107,7 @@ walk-below-requires t c κs =
     let s = a .store .now in
     let g = start .pre .1 in
     let on = sym (nd .no-deeper .ensures s (a .place)) ∙ i2 .if2 .left in
-    (g .here .size, (g .here .proper, goes-short s (a .place) (a .first) (a .second) (g .here) on), g .here .old, lf .left .ensures)
+    ((g .here .size, g .here .apart), (g .here .proper, goes-short s (a .place) (a .first) (a .second) (g .here) on), g .here .old, lf .left .ensures)
 
 walk-below-requires-2 : (t : ℕ) → walk-lts.Need-below-requires-2 (walk-calls t) (walk-at t) walk.Post
 walk-below-requires-2 t c κs =
@@ -119,7 +119,7 @@ walk-below-requires-2 t c κs =
     let s = a .store .now in
     let g = start .pre .1 in
     let on = sym (nd .no-deeper .ensures s (a .place)) ∙ i2 .if2 .left in
-    (g .here .size, (g .here .proper, goes-short s (a .place) (a .first) (a .second) (g .here) on), g .here .new, lf .left .ensures)
+    ((g .here .size, g .here .apart), (g .here .proper, goes-short s (a .place) (a .first) (a .second) (g .here) on), g .here .new, lf .left .ensures)
 
 walk-walk-requires : (t : ℕ) → walk-lts.Need-walk-requires (walk-calls t) (walk-at t) walk.Post
 walk-walk-requires t c κs =
@@ -161,7 +161,7 @@ walk-returns-3 t c =
     let s = a .store .now in
     let g = start .pre .1 in
     let on = sym (nd .no-deeper .ensures s (a .place)) ∙ i2 .if2 .left in
-    let x = wk .walk .last .1 .1 .1 .1 .1 .1 .0 in
+    let x = wk .walk .last .1 .1 .1 .1 .1 .1 .1 .0 in
     let q = subst (λ z. WalkSays s (lf .left .result) (b1 .below .result) (b2 .below2 .result) (a .budget - 1) (a .writes) (a .room .now) (a .at) z x) (c .enum-told .given .1) (wk .walk .ensures) in
     passed-left s (a .place) (a .first) (a .second) (g .here) on g (i1 .if1 .left) (lf .left .ensures) (b1 .below .ensures) (b2 .below2 .ensures) x q
 
@@ -186,7 +186,7 @@ walk-below-requires-3 t c κs =
     let s = a .store .now in
     let g = start .pre .1 in
     let on = sym (nd .no-deeper .ensures s (a .place)) ∙ i2 .if2 .left in
-    (g .here .size, (g .here .proper, goes-short s (a .place) (a .first) (a .second) (g .here) on), g .here .old, rt .right .ensures)
+    ((g .here .size, g .here .apart), (g .here .proper, goes-short s (a .place) (a .first) (a .second) (g .here) on), g .here .old, rt .right .ensures)
 
 walk-below-requires-4 : (t : ℕ) → walk-lts.Need-below-requires-4 (walk-calls t) (walk-at t) walk.Post
 walk-below-requires-4 t c κs =
@@ -198,7 +198,7 @@ walk-below-requires-4 t c κs =
     let s = a .store .now in
     let g = start .pre .1 in
     let on = sym (nd .no-deeper .ensures s (a .place)) ∙ i2 .if2 .left in
-    (g .here .size, (g .here .proper, goes-short s (a .place) (a .first) (a .second) (g .here) on), g .here .new, rt .right .ensures)
+    ((g .here .size, g .here .apart), (g .here .proper, goes-short s (a .place) (a .first) (a .second) (g .here) on), g .here .new, rt .right .ensures)
 
 walk-walk-requires-2 : (t : ℕ) → walk-lts.Need-walk-requires-2 (walk-calls t) (walk-at t) walk.Post
 walk-walk-requires-2 t c κs =
@@ -218,10 +218,10 @@ walk-walk-requires-2 t c κs =
     let s = a .store .now in
     let g = start .pre .1 in
     let on = sym (nd .no-deeper .ensures s (a .place)) ∙ i2 .if2 .left in
-    let x = wk .walk .last .1 .1 .1 .1 .1 .1 .0 in
+    let x = wk .walk .last .1 .1 .1 .1 .1 .1 .1 .0 in
     let q = subst (λ z. WalkSays s (lf .left .result) (b1 .below .result) (b2 .below2 .result) (a .budget - 1) (a .writes) (a .room .now) (a .at) z x) (dn .done .given .1) (wk .walk .ensures) in (
       omega (arith, start .pre .0, rt .right .ensures .count, goes-short s (a .place) (a .first) (a .second) (g .here) on),
-      goes-right s (a .place) (a .first) (a .second) (g .here) on g (i1 .if1 .left) (lf .left .ensures) (b1 .below .ensures) (b2 .below2 .ensures) (dn .done .given .0 .0) (dn .done .given .0 .1 .0) x q (wk .walk .kept .1 .1 .1 .1 .1 .1 .0)
+      goes-right s (a .place) (a .first) (a .second) (g .here) on g (i1 .if1 .left) (lf .left .ensures) (b1 .below .ensures) (b2 .below2 .ensures) (dn .done .given .0 .0) (dn .done .given .0 .1 .0) x q (wk .walk .kept .1 .1 .1 .1 .1 .1 .1 .0)
           (rt .right .ensures) (b3 .below3 .ensures) (b4 .below4 .ensures),
     )
 
@@ -247,9 +247,9 @@ walk-returns-4 t c =
     let s = a .store .now in
     let g = start .pre .1 in
     let on = sym (nd .no-deeper .ensures s (a .place)) ∙ i2 .if2 .left in
-    let x = wk .walk .last .1 .1 .1 .1 .1 .1 .0 in
+    let x = wk .walk .last .1 .1 .1 .1 .1 .1 .1 .0 in
     let q = subst (λ z. WalkSays s (lf .left .result) (b1 .below .result) (b2 .below2 .result) (a .budget - 1) (a .writes) (a .room .now) (a .at) z x) (dn .done .given .1) (wk .walk .ensures) in
-    went-on s (a .place) (a .first) (a .second) (g .here) on g (i1 .if1 .left) (lf .left .ensures) (b1 .below .ensures) (b2 .below2 .ensures) (dn .done .given .0 .0) (dn .done .given .0 .1 .0) x q (wk .walk .kept .1 .1 .1 .1 .1 .1 .0)
+    went-on s (a .place) (a .first) (a .second) (g .here) on g (i1 .if1 .left) (lf .left .ensures) (b1 .below .ensures) (b2 .below2 .ensures) (dn .done .given .0 .0) (dn .done .given .0 .1 .0) x q (wk .walk .kept .1 .1 .1 .1 .1 .1 .1 .0)
     (rt .right .ensures) (b3 .below3 .ensures) (b4 .below4 .ensures) (w2 .walk2 .result) _ (w2 .walk2 .ensures)
 
 pub +walk-spec : {M : Type 1} → statement M
