@@ -26,11 +26,11 @@ use Rattle.fields.specs.Written.{written}
 use Rattle.layout.specs.Headers.{sizeRight, headerOf, header}
 use Rattle.layout.specs.Stores.{storeOf, storeBytes}
 use Rattle.layout.proofs.Headers.{accepted as header-accepted, size-right-of}
-use Rattle.read_step.specs.Headed.{byHeader}
-use Rattle.read_step.specs.Walk.{opened, openedSays}
-use Rattle.read_step.specs.declared.Opened as opened-type
-use Rattle.read_step.specs.declared.Opened.the-variants as O
-use Rattle.read_step.proofs.Opened as opened-tags
+use Rattle.read_open.specs.Headed.{byHeader}
+use Rattle.read_open.specs.Opening.{opened, openedSays}
+use Rattle.read_open.specs.declared.Opened as opened-type
+use Rattle.read_open.specs.declared.Opened.the-variants as O
+use Rattle.read_open.proofs.Opened as opened-tags
 use Rattle.promises.specs.Calls.{SoundBytes, Does, refuses, accepts}
 use Rattle.promises.proofs.Calls.{sound-back}
 use Rattle.changed.specs.Changes.{Item, items, itemSize, listBytes}

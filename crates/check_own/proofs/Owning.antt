@@ -19,7 +19,7 @@ use Rattle.lookup.proofs.Matching.{says}
 use Rattle.kin.specs.declared.Kept as declared-kept
 use Rattle.kin.specs.Kin.{Keeps}
 use Rattle.store.proofs.Slots.{slot-is}
-use Rattle.check_slot.specs.Parts.{lifeRight}
+use Rattle.check_alone.specs.Parts.{lifeRight}
 use Rattle.check_pass.specs.Passes.{Passed}
 use Rattle.check_pass.proofs.Records.{free-spoiled, read-long, read-bytes}
 use Rattle.check_seen.specs.Seen.{keyTest, Own, OwnAt}

@@ -5,7 +5,7 @@ use mathlib.Core.Bool.{true}
 use Rattle.terms.specs.Bits.{Bytes, begins}
 use Rattle.layout.specs.Slots.{placeIn, versionIn, sinceIn, keyIn}
 use Rattle.kin.specs.declared.Kept as declared-kept
-use Rattle.check_slot.specs.Parts.{lifeRight}
+use Rattle.check_alone.specs.Parts.{lifeRight}
 
 -- Version and life are right.
 pub record HeadOwn (k : declared-kept.Kept) (x : Bytes) : Type 0 where

@@ -1,5 +1,5 @@
 // The first pass of the check: whether the own fields of each slot's record are right, by its bytes alone.
-use check_slot::life_right;
+use check_alone::life_right;
 use fields::all_zero;
 use kin::Kept;
 use place::begins;

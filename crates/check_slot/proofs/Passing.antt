@@ -1,17 +1,13 @@
 -- What a slot that was read says decides its test. Assumes nothing.
-use Prim.Native.Nat.{ℕ, _+_, _<_, _≤_}
+use Prim.Native.Nat.{ℕ, _<_}
 use native.Mathlib.Omega.{arith}
-use mathlib.Core.Path.{_≡_, refl, ap, sym, _∙_, subst}
+use mathlib.Core.Path.{_≡_, ap, sym, _∙_, subst}
 use mathlib.Core.Bool.{Bool, true, false}
-use mathlib.Core.List.{List, _∷_}
-use lib.ListN.{length, drop}
 use Rattle.terms.specs.Bits.{Bytes, Byte, All}
 use Rattle.terms.specs.Records.{innerBody, Slot}
-use Rattle.local.specs.Test.{every, recordTest, slotTest, slotsTest}
+use Rattle.local.specs.Test.{recordTest, slotTest}
 use Rattle.nodehash.specs.Node.{leafHash, innerHash}
 use Rattle.place.proofs.Places.{proper-count}
-use Rattle.layout.specs.Sizes.{roomOf}
-use Rattle.layout.specs.Headers.{sizeRight}
 use Rattle.layout.specs.Slots.{leafIn, slotOf, SlotForm}
 use Rattle.layout.specs.Stores.{slotIn, storeOf, slotNo, Has}
 use Rattle.layout.proofs.Slots.{slot-form}
@@ -23,9 +19,8 @@ use Rattle.slots.specs.Answer.{childSays, recordSays, kindSays, slotSays, Read}
 use Rattle.kin.specs.declared.Kept as declared-kept
 use Rattle.kin.specs.Kin.{Keeps}
 use Rattle.store.proofs.Slots.{slot-long, slot-bytes, slot-within, slot-is}
-use Rattle.store.proofs.Scans.{Scan, scan-start, scan-here, scan-next, scan-end}
-use Rattle.check_slot.specs.declared.Head as declared
-use Rattle.check_slot.specs.Parts.{recordOn, Headed}
+use Rattle.check_alone.specs.declared.Head as declared
+use Rattle.check_alone.specs.Parts.{recordOn, Headed}
 
 -- the head of a slot
 abbrev headOf : declared-slot.Slot → declared.Head

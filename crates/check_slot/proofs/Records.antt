@@ -20,8 +20,9 @@ use Rattle.slots.specs.declared.Child as declared-child
 use Rattle.slots.specs.Answer.{childSays}
 use Rattle.slots.proofs.Parts.{grant-key, grant-value}
 use Rattle.kin.specs.Kin.{isLeafBody}
-use Rattle.check_slot.specs.declared.Head as declared
-use Rattle.check_slot.specs.Parts.{recordOn, foundOn, aloneTests, AloneSays, aboveTest}
+use Rattle.check_alone.specs.declared.Head as declared
+use Rattle.check_alone.specs.Parts.{recordOn, foundOn, aloneTests, AloneSays}
+use Rattle.check_above.specs.Above.{aboveTest}
 
 regroup : (a b c d e f : Bool) → allOf (a ∷ b ∷ c ∷ d ∷ e ∷ f ∷ []) ≡ allOf (a ∷ b ∷ c ∷ []) && (d && (e && f))
 unfolding allOf

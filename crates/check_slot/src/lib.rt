@@ -1,20 +1,13 @@
 // The exact test of one slot, document 01, 'Sound': its record is looked at with a pass over the slots for its node, its children and its
 // parents, or, of a root, the other roots; no version is tried, and the record is hashed once.
-use hash::Hash;
+use check_above::above_right;
+use check_alone::Head;
+use check_alone::alone_right;
+use check_alone::children_found;
 use kin::Kept;
-use kin::child_found;
-use kin::ends_before;
-use kin::front;
-use kin::holders;
-use kin::kept_life;
-use kin::roots_apart;
-use kin_parents::Below;
-use kin_parents::parents_right;
 use nodehash::inner_hash;
 use nodehash::leaf_hash;
-use place::Place;
 use place::begins;
-use place::key_bit;
 use slots::Child;
 use slots::Kind;
 use slots::grant_of;
@@ -23,96 +16,17 @@ use slots::read_slot;
 use store::slot_count;
 use store::slot_of;
 ghost use mathlib.Core.Path.{_≡_};
-ghost use mathlib.Core.Bool.{true, _&&_};
 ghost use Prim.Native.Nat.{_<_};
 ghost use lib.ListN.{length};
-ghost use Rattle.terms.specs.Bits.{left, right};
 ghost use Rattle.terms.specs.Records.{innerBody};
 ghost use Rattle.local.specs.Test.{recordTest, slotTest, slotsTest};
 ghost use Rattle.nodehash.specs.Node.{leafHash, innerHash};
-ghost use Rattle.place.specs.Place.{Proper};
 ghost use Rattle.layout.specs.Sizes.{slotSize};
-ghost use Rattle.layout.specs.Headers.{sizeRight};
 ghost use Rattle.layout.specs.Slots.{leafIn};
 ghost use Rattle.layout.specs.Stores.{storeOf, slotNo, Has};
 ghost use Rattle.slots.specs.Answer.{childSays};
 ghost use Rattle.kin.specs.Kin.{Keeps};
-ghost use Rattle.check_slot.specs.Parts.{recordOn, Headed, lifeRight, foundOn, AloneSays, AboveSays};
-
-// A record but for its body.
-struct Head {
-    place: Place,
-    version: u32,
-    retired: u32,
-}
-
-// Whether retired-since is 0, or above the version, above oldest and at most latest.
-pub fn life_right(kept: Kept, version: u32, retired: u32) -> bool
-    ensures { λ r. ⌜ r ≡ lifeRight kept version retired ⌝ }
-{
-    if retired == 0 {
-        return true;
-    }
-    if retired <= version {
-        return false;
-    }
-    if retired <= kept.oldest {
-        return false;
-    }
-    retired <= kept.latest
-}
-
-// Whether a record's version and life are right, and one slot alone holds its node.
-fn alone_right(store: &[u8], kept: Kept, head: Head) -> bool
-    requires { ⌜ Headed (now store) kept head ⌝ }
-    ensures { λ r. ⌜ AloneSays (now (store .entry)) head r ⌝ }
-{
-    if kept.latest < head.version {
-        return false;
-    }
-    if !life_right(kept, head.version, head.retired) {
-        return false;
-    }
-    let place = head.place;
-    holders(store, head.version, place) == 1
-}
-
-// Whether a record of that kind and hash is right below its parents, or as a root beside the other roots.
-fn above_right(store: &[u8], kept: Kept, head: Head, leaf: bool, hash: Hash) -> bool
-    requires { ⌜ Headed (now store) kept head ⌝ }
-    ensures { λ r. ⌜ AboveSays (now (store .entry)) head leaf hash r ⌝ }
-{
-    let place = head.place;
-    let version = head.version;
-    let count = place.count;
-    let ends = ends_before(kept.latest, head.retired);
-    if count == 0 {
-        return roots_apart(store, kept, version, ends);
-    }
-    let bits = place.bits;
-    let up = front(&bits, count - 1);
-    let right = key_bit(&bits, count - 1);
-    let below = Below {
-        up,
-        right,
-        version,
-        ends,
-        leaf,
-        hash,
-    };
-    parents_right(store, kept, below, kept_life(kept.oldest, version, ends))
-}
-
-// Whether the children of an inner record are missing or found.
-fn children_found(store: &[u8], place: Place, a: u32, b: u32) -> bool
-    requires { ⌜ (sizeRight (length (now store)) ≡ true) × Proper place × (place .count < 256) ⌝ }
-    ensures { λ r. ⌜ r ≡ (foundOn (now (store .entry)) place left a && foundOn (now (store .entry)) place right b) ⌝ }
-{
-    if !child_found(store, a, place.left()) {
-        return false;
-    }
-    child_found(store, b, place.right())
-}
+ghost use Rattle.check_alone.specs.Parts.{recordOn, Headed};
 
 // Whether a leaf, whose slot is s, passes its tests.
 fn leaf_passes(store: &[u8], kept: Kept, head: Head, s: &[u8]) -> bool

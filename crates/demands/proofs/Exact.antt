@@ -22,9 +22,9 @@ use Rattle.layout.specs.Headers.{Headed, refusal, header, sizeRight, headerOf}
 use Rattle.layout.specs.Stores.{storeOf}
 use Rattle.batch.specs.Batch.{batchOf}
 use Rattle.format.specs.Format.{formatAnswer}
-use Rattle.soundness.specs.Check as check
+use Rattle.promises.specs.Check as check
 use Rattle.promises.specs.Calls.{Does, wrong-header, not-sound, refuses, accepts, Exports, exports-refusal, exports-answer}
-use Rattle.read_step.specs.Headed.{byHeader}
+use Rattle.read_open.specs.Headed.{byHeader}
 use Rattle.reads.specs.Reads.{rootAnswer, keyAnswer}
 use Rattle.proving.specs.Proving.{proveAnswer}
 use Rattle.palettes.specs.Palette.{wholeKeys, keysIn, palette}

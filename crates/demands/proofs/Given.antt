@@ -20,7 +20,7 @@ use Rattle.proofrecords.specs.ProofBytes.{presenceKind, absenceKind, stepsBytes
 use Rattle.proofrecords.proofs.Proofs.{length-presence, length-absence}
 use Rattle.layout.specs.Headers.{Headed, refusal, header, headerOf}
 use Rattle.layout.specs.Stores.{storeOf}
-use Rattle.read_step.specs.Headed.{byHeader}
+use Rattle.read_open.specs.Headed.{byHeader}
 use Rattle.proving.specs.Proving.{proveAnswer, roomAfter}
 use Rattle.proving_c.specs.Export.{provedInto, lengthBytes}
 use Rattle.grants.specs.Contracts.{Proves}

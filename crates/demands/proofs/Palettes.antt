@@ -37,7 +37,7 @@ use Rattle.layout.proofs.Headers as headers
 use Rattle.layout.proofs.Stores.{store-form}
 use Rattle.promises.specs.Calls.{SoundBytes}
 use Rattle.promises.proofs.Calls.{sound-form}
-use Rattle.read_step.specs.Headed.{byHeader}
+use Rattle.read_open.specs.Headed.{byHeader}
 use Rattle.proving.specs.Proving.{proveAnswer}
 use Rattle.palette.specs.Palettes.{paletteAnswer, proofsBytes, roomAfter}
 use Rattle.palette_c.specs.Export.{palettedInto, lengthBytes}

@@ -28,7 +28,7 @@ use Rattle.format.specs.Format.{formatAnswer, formatBytes}
 use Rattle.promises.specs.Calls.{Does, wrong-header, not-sound, refuses, Exports, exports-refusal, exports-answer}
 use Rattle.promises.proofs.Calls.{refused-writes-nothing}
 use Rattle.meaning.specs.Answers.{numberOf, foundAfter}
-use Rattle.read_step.specs.Headed.{byHeader}
+use Rattle.read_open.specs.Headed.{byHeader}
 use Rattle.reads.specs.Reads.{rootAnswer, keyAnswer}
 use Rattle.reads_c.specs.Export.{rootBytes}
 use Rattle.proving.specs.Proving.{proveAnswer, roomAfter}

@@ -5,7 +5,7 @@ use mathlib.Core.Path.{_≡_}
 use Rattle.terms.specs.Bits.{Bytes}
 use Rattle.sha256.specs.Sha256.{sha256}
 use Rattle.format.specs.Format.{formatAnswer, formatBytes}
-use Rattle.soundness.specs.Check.{Checked}
+use Rattle.promises.specs.Check.{Checked}
 use Rattle.applying_c.specs.Export as apply
 use Rattle.pruning_c.specs.Export as prune
 use Rattle.reads_c.specs.Export as read

@@ -39,11 +39,12 @@ use Rattle.slots.specs.Answer.{childSays, recordSays, kindSays, slotSays, Read}
 use Rattle.slots.proofs.Kind as kind
 use Rattle.lookup.proofs.Matching.{says, count-is, bits-are, place-is}
 use Rattle.kin.specs.declared.Kept as declared-kept
-use Rattle.kin_parents.specs.declared.Below as declared-below
-use Rattle.kin_parents.specs.declared.Said as declared-said
-use Rattle.kin_parents.specs.declared.Said.the-variants.{Lived}
+use Rattle.kin_link.specs.declared.Below as declared-below
+use Rattle.kin_link.specs.declared.Said as declared-said
+use Rattle.kin_link.specs.declared.Said.the-variants.{Lived}
 use Rattle.kin.specs.Kin.{Keeps, endsAt, isLeafBody}
-use Rattle.kin_parents.specs.Parents.{Is, couldName, linkTests, SaidOf, SlotSays}
+use Rattle.kin_link.specs.Link.{linkTests, SaidOf}
+use Rattle.kin_parents.specs.Parents.{Is, couldName, SlotSays}
 
 -- the version of an inner record's child, by its field
 child-version : (x : Bytes) → length x ≡ slotSize → All Byte x → (q : Record) → slotOf x ≡ used q → (b : Side) (c d : Child) → q .body ≡ innerBody c d →

@@ -15,10 +15,11 @@ use Rattle.layout.specs.Sizes.{roomOf}
 use Rattle.layout.specs.Headers.{sizeRight}
 use Rattle.layout.specs.Stores.{storeOf, slotNo}
 use Rattle.store.proofs.Scans.{Scan, scan-start, scan-here, scan-next, scan-end}
-use Rattle.kin_parents.specs.declared.Below as declared-below
-use Rattle.kin_parents.specs.declared.Said as declared-said
-use Rattle.kin_parents.specs.declared.Said.the-variants.{Lived, Wrong}
-use Rattle.kin_parents.specs.Parents.{Is, Short, SlotSays, ParentsSay}
+use Rattle.kin_link.specs.declared.Below as declared-below
+use Rattle.kin_link.specs.declared.Said as declared-said
+use Rattle.kin_link.specs.declared.Said.the-variants.{Lived, Wrong}
+use Rattle.kin_link.specs.Link.{Short}
+use Rattle.kin_parents.specs.Parents.{Is, SlotSays, ParentsSay}
 
 abbrev linked : Bytes → Record → Slot → Bool
 linked s r = byRecord true (linkTest leafHash innerHash (storeOf s) r)

@@ -1,9 +1,8 @@
 -- The parents of a record of a store, as the code asks them: what the helpers of the check promise each other. No public promise reaches this
 -- file. Assumes nothing.
-use Prim.Native.Nat.{ℕ, _≤_, max}
+use Prim.Native.Nat.{ℕ, _≤_}
 use mathlib.Core.Path.{_≡_}
-use mathlib.Core.Bool.{Bool, true, false, cond, not, _&&_}
-use mathlib.Core.List.{List, [], _∷_}
+use mathlib.Core.Bool.{Bool, true, _&&_}
 use lib.Dec.{eqb, leb}
 use Rattle.terms.specs.Bits.{Bytes, longer, sameBytes}
 use Rattle.terms.specs.Records.{Record, Store}
@@ -15,12 +14,10 @@ use Rattle.nodehash.specs.Node.{leafHash, innerHash}
 use Rattle.place.specs.Place.{placeOf}
 use Rattle.layout.specs.Slots.{countIn, bitsIn, kidOn}
 use Rattle.layout.specs.Stores.{storeOf, slotNo}
-use Rattle.slots.specs.declared.Child as declared-child
 use Rattle.kin.specs.Kin.{isLeafBody}
-use Rattle.kin.specs.declared.Kept as declared-kept
-use Rattle.kin_parents.specs.declared.Below as declared-below
-use Rattle.kin_parents.specs.declared.Said as declared-said
-use Rattle.kin_parents.specs.declared.Said.the-variants.{Lived, Wrong}
+use Rattle.kin_link.specs.Link.{SaidOf}
+use Rattle.kin_link.specs.declared.Below as declared-below
+use Rattle.kin_link.specs.declared.Said as declared-said
 
 -- A record of the store that stands below the root, as its parents are asked about it.
 pub record Is (st : Store) (b : declared-below.Below) (r : Record) : Type 0 where
@@ -35,25 +32,6 @@ pub record Is (st : Store) (b : declared-below.Below) (r : Record) : Type 0 wher
 unfoldable pub couldName : declared-below.Below → Bytes → Bool
 couldName b x =
     eqb (countIn x) (b .up .count) && (eqb (kidOn (b .right) x .version) (b .version) && sameBytes (bitsIn x) (b .up .bits))
-
--- What a parent with this version and end of life says of it, naming the child c beside one of the version v.
-abbrev pub linkTests : declared-kept.Kept → declared-below.Below → ℕ → ℕ → declared-child.Child → ℕ → List Bool
-linkTests k b version ends c v =
-    sameBytes (hashBytes (b .hash)) (hashBytes (c .hash))
-    ∷ leb (b .version) (max (k .oldest) version)
-    ∷ leb ends (b .ends)
-    ∷ not (cond (b .leaf) (eqb v 0) false)
-    ∷ []
-
--- What is said where a test stands for whether it is right, and n for the kept life of a parent.
-abbrev pub SaidOf : Bool → ℕ → declared-said.Said → Type 0
-SaidOf t n (Lived m) = (t ≡ true) × (n ≡ m)
-SaidOf t n Wrong = t ≡ false
-
--- No life is longer than there are versions.
-abbrev pub Short : declared-said.Said → Type 0
-Short (Lived m) = m ≤ 4294967296
-Short Wrong = Unit {0}
 
 -- What slot j says of each record that is the one below.
 abbrev pub SlotSays : Bytes → ℕ → declared-below.Below → declared-said.Said → Type 0

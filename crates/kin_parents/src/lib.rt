@@ -1,11 +1,9 @@
 // The parents of a record, document 01, 'Sound': what each slot says of a record below it, and whether all that is right and their kept lives add up.
-use hash::Hash;
-use hash::same_hash;
 use kin::Kept;
 use kin::ends_before;
-use kin::kept_life;
-use kin::later;
-use place::Place;
+use kin_link::Below;
+use kin_link::Said;
+use kin_link::link;
 use place::same;
 use slots::Child;
 use slots::Kind;
@@ -16,24 +14,12 @@ use store::count_at;
 use store::slot_count;
 use store::slot_of;
 ghost use mathlib.Core.Path.{_≡_};
-ghost use mathlib.Core.Bool.{false, cond};
-ghost use Prim.Native.Nat.{_-_, _≤_, max};
-ghost use lib.Dec.{eqb};
-ghost use Rattle.terms.specs.Fields.{allOf};
+ghost use mathlib.Core.Bool.{cond};
 ghost use Rattle.place.specs.Place.{Proper};
 ghost use Rattle.layout.specs.Stores.{slotIn, Has};
 ghost use Rattle.kin.specs.Kin.{Keeps};
-ghost use Rattle.kin_parents.specs.Parents.{linkTests, couldName, SaidOf, Short, SlotSays, ParentsSay};
-
-// A record below the root, as its parents are asked about it: it stands one bit below `up`, on the left or the right.
-pub struct Below {
-    pub up: Place,
-    pub right: bool,
-    pub version: u32,
-    pub ends: u64,
-    pub leaf: bool,
-    pub hash: Hash,
-}
+ghost use Rattle.kin_link.specs.Link.{Short};
+ghost use Rattle.kin_parents.specs.Parents.{couldName, SlotSays, ParentsSay};
 
 // Whether slot j, were it an inner record, would name the record below it: most slots have another bit count.
 fn could_name(store: &[u8], j: usize, below: Below) -> bool
@@ -49,44 +35,6 @@ fn could_name(store: &[u8], j: usize, below: Below) -> bool
     }
     let bits = up.bits;
     same(bits_of(slot_of(store, j)), &bits)
-}
-
-// What a slot says of a record below it.
-pub enum Said {
-    // How many kept versions it lives at as a parent; it is none, or all that it says is right.
-    Lived(u64),
-    // It is a parent, and the stored hash or the life isn't the record's, or the record is a lone leaf.
-    Wrong,
-}
-
-// Whether a record of that kind, beside a child of version `other`, is a lone leaf.
-fn lone_leaf(leaf: bool, other: u32) -> bool
-    ensures { λ r. ⌜ r ≡ cond leaf (eqb other 0) false ⌝ }
-{
-    if leaf {
-        return other == 0;
-    }
-    false
-}
-
-// What a parent of that version and end of life says, with the child that it names, beside a child of version `other`.
-fn link(kept: Kept, below: Below, version: u32, ends: u64, child: Child, other: u32) -> Said
-    requires { ⌜ ends ≤ 4294967296 ⌝ }
-    ensures { λ r. ⌜ Short r × SaidOf (allOf (linkTests kept below version ends child other)) (ends - max (kept .oldest) version) r ⌝ }
-{
-    if !same_hash(below.hash, child.hash) {
-        return Said::Wrong;
-    }
-    if later(kept.oldest, version) < below.version {
-        return Said::Wrong;
-    }
-    if below.ends < ends {
-        return Said::Wrong;
-    }
-    if lone_leaf(below.leaf, other) {
-        return Said::Wrong;
-    }
-    Said::Lived(kept_life(kept.oldest, version, ends))
 }
 
 // The child on a side.

@@ -16,11 +16,11 @@ use Rattle.fields.specs.Written.{written}
 use Rattle.fields.proofs.Written.{part-written}
 use Rattle.layout.specs.Headers.{sizeRight, headerOf}
 use Rattle.layout.specs.Stores.{storeOf}
-use Rattle.read_step.specs.Walk.{opened, openedSays}
-use Rattle.read_step.specs.Headed.{byHeader}
-use Rattle.read_step.specs.declared.Opened as declared-opened
-use Rattle.read_step.specs.declared.Opened.the-variants as first
-use Rattle.read_step.proofs.Opening as opening
+use Rattle.read_open.specs.Opening.{opened, openedSays}
+use Rattle.read_open.specs.Headed.{byHeader}
+use Rattle.read_open.specs.declared.Opened as declared-opened
+use Rattle.read_open.specs.declared.Opened.the-variants as first
+use Rattle.read_open.proofs.Opening as opening
 use Rattle.paths.proofs.Records.{part-room}
 use Rattle.palettes.specs.Palette.{wholeKeys, keysIn, inTurn, lengthTogether, fittedTogether, palette}
 use Rattle.palettes.proofs.Turns.{in-turn-same}

@@ -11,7 +11,7 @@ use Rattle.palettes.specs.Palette.{wholeKeys, keysIn, palette}
 use Rattle.proofrecords.specs.ProofBytes.{proofBytes}
 use Rattle.layout.specs.Headers.{headerOf}
 use Rattle.layout.specs.Stores.{storeOf}
-use Rattle.read_step.specs.Headed.{byHeader}
+use Rattle.read_open.specs.Headed.{byHeader}
 
 -- The proofs for a list of keys in version v of the store s, into this much room: 12 where the list isn't 0 to 256 whole keys, then 1, 2, 8, what the
 -- single calls are refused with, 9.

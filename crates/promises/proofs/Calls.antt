@@ -16,8 +16,8 @@ use Rattle.layout.specs.Slots.{SlotForm}
 use Rattle.layout.specs.Stores.{storeOf, storeBytes, HeaderWithin, StoreForm}
 use Rattle.layout.proofs.Headers.{header-refused, accepted as header-accepted}
 use Rattle.layout.proofs.Stores.{store-back}
-use Rattle.soundness.specs.Check.{Checked}
-use Rattle.soundness.specs.Check as check
+use Rattle.promises.specs.Check.{Checked}
+use Rattle.promises.specs.Check as check
 use Rattle.promises.specs.Calls.{SoundBytes, Does, wrong-header, not-sound, refuses, accepts, Exports, exports-refusal, exports-answer}
 
 -- a header is not refused with 0

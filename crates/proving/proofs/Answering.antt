@@ -13,11 +13,11 @@ use Rattle.meaning.specs.Proving.{proveSeen, prove, fitted}
 use Rattle.meaning.proofs.Empty.{proof-by-searches}
 use Rattle.layout.specs.Headers.{sizeRight, headerOf}
 use Rattle.layout.specs.Stores.{storeOf}
-use Rattle.read_step.specs.Walk.{opened, openedSays}
-use Rattle.read_step.specs.Headed.{byHeader}
-use Rattle.read_step.specs.declared.Opened as declared-opened
-use Rattle.read_step.specs.declared.Opened.the-variants as first
-use Rattle.read_step.proofs.Opening as opening
+use Rattle.read_open.specs.Opening.{opened, openedSays}
+use Rattle.read_open.specs.Headed.{byHeader}
+use Rattle.read_open.specs.declared.Opened as declared-opened
+use Rattle.read_open.specs.declared.Opened.the-variants as first
+use Rattle.read_open.proofs.Opening as opening
 use Rattle.proving_plan.specs.Plans.{planSays, Plans}
 use Rattle.proving_plan.specs.declared.Plan as declared-plan
 use Rattle.proving.specs.Proving.{proveAnswer, roomAfter}

@@ -19,7 +19,7 @@ use Rattle.shown.proofs.Theorems.{given-with-room, proofs-have-17080-bytes, sho
 use Rattle.nodehash.specs.Node.{leafHash, innerHash}
 use Rattle.layout.specs.Headers.{header, headerOf}
 use Rattle.layout.specs.Stores.{storeOf}
-use Rattle.read_step.specs.Headed.{byHeader}
+use Rattle.read_open.specs.Headed.{byHeader}
 use Rattle.reads.specs.Reads.{rootAnswer}
 use Rattle.proving.specs.Proving.{proveAnswer}
 

@@ -10,7 +10,7 @@ use Rattle.layout.specs.Stores.{storeOf}
 use Rattle.layout.proofs.Stores.{store-said}
 use Rattle.promises.specs.Calls.{accepts}
 use Rattle.promises.proofs.Calls.{sound-form}
-use Rattle.pruning.specs.Prune.{PruneDoes}
+use Rattle.pruning_sound.specs.Prune.{PruneDoes}
 
 -- Pruning a sound store leaves a sound store, in which each version that is still kept has its tree, and as many slots more are free as
 -- the answer counts.

@@ -6,9 +6,9 @@ use Rattle.terms.specs.Bits.{Bytes}
 use Rattle.terms.specs.Fields.{le}
 use Rattle.fields.specs.Written.{written}
 use Rattle.fields.proofs.Written.{number-fills}
-use Rattle.pruning.specs.Prune.{prunedSays, PruneDoes}
-use Rattle.pruning.specs.declared.Pruned as declared
-use Rattle.pruning.specs.declared.Pruned.the-variants.{Refused, Freed}
+use Rattle.pruning_sound.specs.Prune.{prunedSays, PruneDoes}
+use Rattle.pruning_sound.specs.declared.Pruned as declared
+use Rattle.pruning_sound.specs.declared.Pruned.the-variants.{Refused, Freed}
 use Rattle.promises.specs.Calls.{exports-refusal, exports-answer}
 use Rattle.pruning_c.specs.Export.{PruneExports}
 

@@ -1,7 +1,7 @@
 // Pruning at the boundary: the call answers 0 where it is accepted, else the number of refusal, and then it writes nothing. `grants` exports it.
 use fields::put_u32;
-use pruning::Pruned;
 use pruning::prune;
+use pruning_sound::Pruned;
 ghost use Rattle.pruning_c.specs.Export.{PruneExports};
 
 // Prunes a store to a version; how many records were freed goes out in four bytes.

@@ -1,3 +1,1 @@
-pub mod Opening
 pub mod Seeing
-pub mod Hashing

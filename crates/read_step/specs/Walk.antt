@@ -1,5 +1,4 @@
--- Document 01, 'Reading and proving', with 2026-07, over the bytes of a store: whether a version is kept, and what a read sees at the root and at a
--- child. Assumes nothing.
+-- Document 01, 'Reading and proving', with 2026-07, over the bytes of a store: what a read sees at the root and at a child. Assumes nothing.
 use Prim.Native.Nat.{ℕ, _-_, _<_}
 use mathlib.Core.Path.{_≡_}
 use mathlib.Core.Bool.{true, false, cond}
@@ -7,30 +6,18 @@ use lib.ListN.{length}
 use Rattle.terms.specs.Bits.{Bytes, Side, Place, longer}
 use Rattle.terms.specs.Records.{Child, Body}
 use Rattle.meaning.specs.Store.{childOn}
-use Rattle.meaning.specs.Calls.{Answer, refused, accepted, isKept}
 use Rattle.meaning.specs.Sight.{scan}
 use Rattle.meaning.specs.Reading.{Trouble, lostRecord, spoiltRecord, strayLeaf, Seen, lost, gap, leafSeen, fork, seenBody, seenAt}
 use Rattle.layout.specs.Sizes.{roomOf}
-use Rattle.layout.specs.Headers.{sizeRight, headerOf}
+use Rattle.layout.specs.Headers.{sizeRight}
 use Rattle.layout.specs.Slots.{keyIn, valueIn, leftIn, rightIn, isLeaf, leafIn, innerIn}
 use Rattle.layout.specs.Stores.{slotIn, storeOf}
 use Rattle.place.specs.declared.Place as declared-place
 use Rattle.place.specs.Place.{Proper}
-use Rattle.read_step.specs.Headed.{byHeader}
-use Rattle.read_step.specs.declared.Opened as declared-opened
-use Rattle.read_step.specs.declared.Opened.the-variants.{Refused, Kept}
 use Rattle.read_step.specs.declared.Trouble as declared-trouble
 use Rattle.read_step.specs.declared.Trouble.the-variants as trouble
 use Rattle.read_step.specs.declared.Seen as declared
 use Rattle.read_step.specs.declared.Seen.the-variants.{Gap, Lost, Leaf, Inner}
-
--- What a read tests before it looks at a slot: 1, 2, and 8 where the version isn't kept.
-unfoldable pub opened : Bytes → ℕ → Answer (Unit {0})
-opened s v = byHeader (headerOf s) (cond (isKept (storeOf s) v) (accepted tt) (refused 8))
-
-abbrev pub openedSays : declared-opened.Opened → Answer (Unit {0})
-openedSays (Refused n) = refused n
-openedSays Kept = accepted tt
 
 -- What a slot's bytes hold that are a record in form.
 unfoldable pub bodyIn : Bytes → Body

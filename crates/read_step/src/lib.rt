@@ -1,12 +1,5 @@
-// The steps of a walk down a store in lent memory, document 01, 'Reading and proving': is the version kept, what is seen at the root, what
-// at a child. Only the header and the records on the way are looked at.
-use hash::Hash;
-use hash::hash_at;
-use layout::Header;
-use layout::read_header;
-use nodehash::inner_hash;
-use nodehash::leaf_hash;
-use numbers::NOT_KEPT;
+// The steps of a walk down a store in lent memory, document 01, 'Reading and proving': what is seen at the root of a version, what at a child.
+// Only the records on the way are looked at.
 use numbers::wide::LOST;
 use numbers::wide::NOT_SOUND;
 use place::Place;
@@ -14,8 +7,6 @@ use place::begins;
 use sights::Sight;
 use sights::look;
 use sights::look_root;
-use slots::child_hash;
-use slots::grant_of;
 use slots::is_leaf;
 use slots::key_of;
 use store::child_version_at;
@@ -26,45 +17,14 @@ ghost use mathlib.Core.List.{[]};
 ghost use Prim.Native.Nat.{_<_};
 ghost use lib.ListN.{length};
 ghost use Rattle.meaning.specs.Sight.{scan};
-ghost use Rattle.meaning.specs.Reading.{refusalOf, seen, bodyHash};
-ghost use Rattle.hash.specs.Hash.{hashBytes};
-ghost use Rattle.nodehash.specs.Node.{leafHash, innerHash};
+ghost use Rattle.meaning.specs.Reading.{refusalOf, seen};
 ghost use Rattle.place.specs.Place.{placeOf};
-ghost use Rattle.layout.specs.Sizes.{slotSize, roomOf};
+ghost use Rattle.layout.specs.Sizes.{roomOf};
 ghost use Rattle.layout.specs.Headers.{sizeRight};
 ghost use Rattle.layout.specs.Stores.{slotIn, storeOf};
-ghost use Rattle.read_step.specs.Walk.{opened, openedSays, troubleSays, bodyIn, kidIn, seenBelow, bodySeen, Sees, Slotted, SlotHolds};
+ghost use Rattle.read_step.specs.Walk.{troubleSays, bodyIn, kidIn, seenBelow, bodySeen, Sees, Slotted, SlotHolds};
 
 const HIGH: u64 = 4294967296;
-
-// What a read tests first.
-pub enum Opened {
-    Refused(u32),
-    Kept,
-}
-
-// The header, then the version.
-pub fn open(store: &[u8], version: u32) -> Opened
-    ensures { λ r. ⌜ openedSays r ≡ opened (now (store .entry)) version ⌝ }
-{
-    let header = read_header(store);
-    match header {
-        Header::Refused(n) => Opened::Refused(n),
-        Header::Accepted {
-            capacity: _,
-            oldest,
-            latest,
-        } => {
-            if version < oldest {
-                return Opened::Refused(NOT_KEPT);
-            }
-            if latest < version {
-                return Opened::Refused(NOT_KEPT);
-            }
-            Opened::Kept
-        }
-    }
-}
 
 // What stops a read.
 pub enum Trouble {
@@ -94,19 +54,6 @@ pub enum Seen {
     Lost(Trouble),
     Leaf(usize),
     Inner(usize),
-}
-
-// The hash of a record, from what it holds.
-pub fn record_hash(slot: &[u8]) -> Hash
-    requires { ⌜ length (now slot) ≡ slotSize ⌝ }
-    ensures { λ r. ⌜ hashBytes r ≡ bodyHash leafHash innerHash (bodyIn (now (slot .entry))) ⌝ }
-{
-    if is_leaf(slot) {
-        return leaf_hash(grant_of(slot));
-    }
-    let left = hash_at(child_hash(slot, false), 0);
-    let right = hash_at(child_hash(slot, true), 0);
-    inner_hash(left, right)
 }
 
 // What is seen at a place whose record was found in slot i.

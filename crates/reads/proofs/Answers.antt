@@ -1,33 +1,27 @@
--- The answers of the two reads, by the case of what was tested first and of what was found. Assumes nothing.
+-- The answers of the two reads, by the case of what was tested first. Assumes nothing.
 use Prim.Native.Nat.{ℕ}
-use native.Mathlib.Omega.{arith}
 use mathlib.Core.Path.{_≡_, ap, sym, _∙_}
-use mathlib.Core.Bool.{Bool, true, false}
-use lib.ListN.{length, take, drop}
-use lib.Seq.{take-take}
+use mathlib.Core.Bool.{true}
+use lib.ListN.{length}
 use borrow.Author.Tests.{eq-eqb, ne-eqb}
-use Rattle.terms.specs.Bits.{Bytes, sameBytes}
-use Rattle.terms.specs.Fields.{slice}
-use Rattle.terms.specs.Records.{zeros}
-use Rattle.meaning.specs.Sight.{Sight, nothing, spoilt, rootSight}
+use Rattle.terms.specs.Bits.{Bytes}
+use Rattle.meaning.specs.Sight.{rootSight}
 use Rattle.meaning.specs.Calls.{refused, accepted}
-use Rattle.meaning.specs.Reading.{spoiltRecord, refusalOf, present, readRoot, readKey, rootRead}
-use Rattle.hash.specs.declared.Hash.{Hash}
-use Rattle.hash.specs.Hash.{hashBytes}
+use Rattle.meaning.specs.Reading.{readRoot, readKey, rootRead}
 use Rattle.nodehash.specs.Node.{leafHash, innerHash}
 use Rattle.layout.specs.Headers.{sizeRight}
-use Rattle.layout.specs.Slots.{keyIn, valueIn}
-use Rattle.layout.specs.Stores.{slotIn, storeOf}
-use Rattle.read_step.specs.Walk.{opened, openedSays, leafAt}
-use Rattle.read_step.specs.declared.Opened as declared-opened
-use Rattle.read_step.specs.declared.Opened.the-variants.{Refused, Kept}
-use Rattle.read_step.proofs.Opening as opening
+use Rattle.layout.specs.Stores.{storeOf}
+use Rattle.read_open.specs.Opening.{opened, openedSays}
+use Rattle.read_open.specs.declared.Opened as declared-opened
+use Rattle.read_open.specs.declared.Opened.the-variants.{Refused, Kept}
+use Rattle.read_open.proofs.Opening as opening
+use Rattle.reads_key.specs.Parts.{readSays, walkRead}
+use Rattle.reads_key.specs.declared.KeyRead as declared
+use Rattle.reads_key.specs.declared.KeyRead.the-variants as read
+use Rattle.reads_root.specs.Parts.{rootSays}
+use Rattle.reads_root.specs.declared.RootRead as declared-root
+use Rattle.reads_root.specs.declared.RootRead.the-variants as root
 use Rattle.reads.specs.Reads.{rootAnswer, keyAnswer}
-use Rattle.reads.specs.Parts.{rootSays, readSays, leafRead, walkRead}
-use Rattle.reads.specs.declared.KeyRead as declared
-use Rattle.reads.specs.declared.KeyRead.the-variants as read
-use Rattle.reads.specs.declared.RootRead as declared-root
-use Rattle.reads.specs.declared.RootRead.the-variants as root
 
 -- what was tested first
 module _ (s : Bytes) (v : ℕ) {o : declared-opened.Opened} (says : openedSays o ≡ opened s v) where
@@ -60,40 +54,3 @@ module _ (s : Bytes) (v : ℕ) {o : declared-opened.Opened} (says : openedSays o
 pub key-wrong : (s : Bytes) (v : ℕ) (k : Bytes) → (length k ≡ 32 → ⊥) → readSays (read.Refused 12) ≡ keyAnswer s v k
 unfolding readSays keyAnswer
 key-wrong s v k f = rw (ne-eqb (length k) 32 f)
-
--- the root record's hash, or zeros; a spoilt one is refused
-module _ (x : Sight) where
-  pub root-hashed : (h : Hash) → accepted (hashBytes h) ≡ rootRead leafHash innerHash x → rootSays (root.Hash h) ≡ rootRead leafHash innerHash x
-  unfolding rootSays
-  root-hashed h e = e
-
-  pub root-empty : (h : Hash) → x ≡ nothing → hashBytes h ≡ zeros → rootSays (root.Hash h) ≡ rootRead leafHash innerHash x
-  unfolding rootSays
-  root-empty h e f = ap accepted f ∙ ap (rootRead leafHash innerHash) (sym e)
-
-  pub root-spoilt : {n : ℕ} (i : ℕ) → x ≡ spoilt i → n ≡ refusalOf (spoiltRecord i) → rootSays (root.Refused n) ≡ rootRead leafHash innerHash x
-  unfolding rootSays
-  root-spoilt i e f = ap refused f ∙ ap (rootRead leafHash innerHash) (sym e)
-
--- a leaf's value as 32 bytes, and its key, which is the one asked for or another
-slice-whole : (i n : ℕ) (x : Bytes) → take n (slice i n x) ≡ slice i n x
-unfolding slice
-slice-whole i n x = take-take n n (drop i x) (omega arith)
-
-value-whole : (x : Bytes) → take 32 (valueIn x) ≡ valueIn x
-value-whole x = slice-whole _ 32 x
-
-module _ (i : ℕ) (s k : Bytes) {x l : Bytes} (slot : x ≡ slotIn i s) (its : l ≡ keyIn x) where
-  key-is : {b : Bool} → b ≡ sameBytes k l → sameBytes k (keyIn (slotIn i s)) ≡ b
-  key-is e = ap (λ y. sameBytes k (keyIn y)) (sym slot) ∙ ap (sameBytes k) (sym its) ∙ sym e
-
-  pub leaf-present : {b : Bool} {y : Bytes} (h : Hash) → b ≡ sameBytes k l → b ≡ true → y ≡ valueIn x →
-      hashBytes h ≡ take 32 (drop 0 y) → readSays (read.Present h) ≡ leafRead i s k
-  unfolding readSays leafRead leafAt
-  leaf-present h e t f g =
-      let value = g ∙ ap (take 32) f ∙ value-whole x ∙ ap valueIn slot in
-      rw (key-is e, t) (ap (λ z. accepted (present z)) value)
-
-  pub leaf-absent : {b : Bool} → b ≡ sameBytes k l → b ≡ false → readSays read.Absent ≡ leafRead i s k
-  unfolding readSays leafRead leafAt
-  leaf-absent e t = rw (key-is e, t)

@@ -1,4 +1,3 @@
 pub mod Answers
-pub mod Walking
 pub mod Granted
 pub mod Theorems

@@ -10,7 +10,7 @@ use Rattle.meaning.specs.Reading.{Verdict, readRoot, readKey}
 use Rattle.nodehash.specs.Node.{leafHash, innerHash}
 use Rattle.layout.specs.Headers.{headerOf}
 use Rattle.layout.specs.Stores.{storeOf}
-use Rattle.read_step.specs.Headed.{byHeader}
+use Rattle.read_open.specs.Headed.{byHeader}
 
 -- A root read answers the hash of the root record alone, or zeros: 1, 2, 8, and 3 where the root is spoilt.
 unfoldable pub rootAnswer : Bytes → ℕ → Answer Bytes

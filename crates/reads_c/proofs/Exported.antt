@@ -12,11 +12,12 @@ use Rattle.hash.specs.declared.Hash.{Hash}
 use Rattle.hash.specs.Hash.{hashBytes}
 use Rattle.hash.proofs.Laws.{put-over}
 use Rattle.reads.specs.Reads.{rootAnswer, keyAnswer}
-use Rattle.reads.specs.Parts.{rootSays, readSays}
-use Rattle.reads.specs.declared.RootRead as declared-root
-use Rattle.reads.specs.declared.RootRead.the-variants as root
-use Rattle.reads.specs.declared.KeyRead as declared-read
-use Rattle.reads.specs.declared.KeyRead.the-variants as read
+use Rattle.reads_key.specs.Parts.{readSays}
+use Rattle.reads_root.specs.Parts.{rootSays}
+use Rattle.reads_root.specs.declared.RootRead as declared-root
+use Rattle.reads_root.specs.declared.RootRead.the-variants as root
+use Rattle.reads_key.specs.declared.KeyRead as declared-read
+use Rattle.reads_key.specs.declared.KeyRead.the-variants as read
 use Rattle.reads_c.specs.Export.{ReadsRoot, ReadsKey}
 
 module _ {s : Bytes} {v : ℕ} {r : declared-root.RootRead} (says : rootSays r ≡ rootAnswer s v) (old : Bytes) where

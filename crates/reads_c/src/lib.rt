@@ -2,8 +2,8 @@
 use hash::Hash;
 use hash::no_hash;
 use hash::put_hash;
-use reads::KeyRead;
-use reads::RootRead;
+use reads_key::KeyRead;
+use reads_root::RootRead;
 ghost use mathlib.Core.Path.{_≡_};
 ghost use mathlib.Core.List.{_∷_};
 ghost use lib.ListN.{length};

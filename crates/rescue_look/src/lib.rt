@@ -7,7 +7,7 @@ use lookup::holds_record;
 use place::Place;
 use place::begins;
 use place::same;
-use read_step::record_hash;
+use read_hash::record_hash;
 use slots::bits_of;
 use slots::child_hash;
 use slots::is_leaf;

@@ -14,7 +14,7 @@ ghost use Rattle.local.specs.Test.{slotsTest};
 ghost use Rattle.nodehash.specs.Node.{leafHash, innerHash};
 ghost use Rattle.layout.specs.Stores.{storeOf};
 ghost use Rattle.kin.specs.Kin.{Keeps};
-ghost use Rattle.soundness.specs.Check.{Checked};
+ghost use Rattle.promises.specs.Check.{Checked};
 
 // Whether each slot passes, where slot i is suspect: the exact test of it decides, or where it passes, that of each.
 fn suspect_passes(store: &[u8], kept: Kept, i: usize) -> bool

@@ -1,6 +1,6 @@
 -- `pruning::prune` meets its contract: it is refused by check, or the store is sound. Assumes nothing.
 use borrow.Author.Needs.{needs}
-use Rattle.pruning.specs.Prune.{prunedSays}
+use Rattle.pruning_sound.specs.Prune.{prunedSays}
 use Rattle.promises.proofs.Calls.{checked-refuses, checked-sound}
 use Rattle.pruning.proofs.prune.Statement.{statement}
 use Rattle.pruning.proofs.prune.Tie as tie

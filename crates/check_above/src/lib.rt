@@ -1,0 +1,40 @@
+// What stands above a record, for the exact test of its slot, document 01, 'Sound': its parents, or, of a root, the other roots; no version is
+// tried.
+use check_alone::Head;
+use hash::Hash;
+use kin::Kept;
+use kin::ends_before;
+use kin::front;
+use kin::kept_life;
+use kin::roots_apart;
+use kin_link::Below;
+use kin_parents::parents_right;
+use place::key_bit;
+ghost use Rattle.check_alone.specs.Parts.{Headed};
+ghost use Rattle.check_above.specs.Above.{AboveSays};
+
+// Whether a record of that kind and hash is right below its parents, or as a root beside the other roots.
+pub fn above_right(store: &[u8], kept: Kept, head: Head, leaf: bool, hash: Hash) -> bool
+    requires { ⌜ Headed (now store) kept head ⌝ }
+    ensures { λ r. ⌜ AboveSays (now (store .entry)) head leaf hash r ⌝ }
+{
+    let place = head.place;
+    let version = head.version;
+    let count = place.count;
+    let ends = ends_before(kept.latest, head.retired);
+    if count == 0 {
+        return roots_apart(store, kept, version, ends);
+    }
+    let bits = place.bits;
+    let up = front(&bits, count - 1);
+    let right = key_bit(&bits, count - 1);
+    let below = Below {
+        up,
+        right,
+        version,
+        ends,
+        leaf,
+        hash,
+    };
+    parents_right(store, kept, below, kept_life(kept.oldest, version, ends))
+}

@@ -1,0 +1,44 @@
+-- `read_open::open` meets its contract: the header, oldest and latest are tested in the order of the definition. Assumes nothing.
+use Rattle.read_open.proofs.Opening.{header-refused, before-oldest, after-latest, version-kept}
+use borrow.Author.Needs.{needs}
+use Rattle.read_open.proofs.open.Statement.{statement}
+use Rattle.read_open.proofs.open.Tie as tie
+
+read-header-requires : tie.Need-read-header-requires
+read-header-requires c κs = search needs
+
+enum-known-header : tie.Need-enum-known-header
+enum-known-header c = search needs
+
+enum-known-header-2 : tie.Need-enum-known-header-2
+enum-known-header-2 c = search needs
+
+returns : tie.Need-returns
+returns c =
+    let d = c .before .before in
+    before-oldest _ _ (d .before .before .read-header .ensures) (d .header2 .given .1) (c .if1 .taken)
+
+returns-2 : tie.Need-returns-2
+returns-2 c =
+    let d = c .before .before .before in
+    after-latest _ _ (d .before .before .read-header .ensures) (d .header2 .given .1) (c .before .if1 .left) (c .if2 .taken)
+
+returns-3 : tie.Need-returns-3
+returns-3 c = header-refused _ _ (c .before .before .before .read-header .ensures) (c .before .header .given .1)
+
+returns-4 : tie.Need-returns-4
+returns-4 c =
+    let d = c .before .before .before in
+    version-kept _ _ (d .before .before .read-header .ensures) (d .header2 .given .1) (c .before .if1 .left) (c .if2 .left)
+
+pub open-spec : {M : Type 1} → statement M
+open-spec =
+    tie.close
+    (tie.spec
+    read-header-requires
+    enum-known-header
+    enum-known-header-2
+    returns
+    returns-2
+    returns-3
+    returns-4)

@@ -1,0 +1,35 @@
+// What a read tests before it looks at a slot, document 01, 'Reading and proving': the header, and whether the version is kept.
+use layout::Header;
+use layout::read_header;
+use numbers::NOT_KEPT;
+ghost use mathlib.Core.Path.{_≡_};
+ghost use Rattle.read_open.specs.Opening.{opened, openedSays};
+
+// What a read tests first.
+pub enum Opened {
+    Refused(u32),
+    Kept,
+}
+
+// The header, then the version.
+pub fn open(store: &[u8], version: u32) -> Opened
+    ensures { λ r. ⌜ openedSays r ≡ opened (now (store .entry)) version ⌝ }
+{
+    let header = read_header(store);
+    match header {
+        Header::Refused(n) => Opened::Refused(n),
+        Header::Accepted {
+            capacity: _,
+            oldest,
+            latest,
+        } => {
+            if version < oldest {
+                return Opened::Refused(NOT_KEPT);
+            }
+            if latest < version {
+                return Opened::Refused(NOT_KEPT);
+            }
+            Opened::Kept
+        }
+    }
+}
