@@ -1,10 +1,10 @@
-use crate::{Batch, Key, Value};
+use crate::{Batch, Key, Value, MOST_SLOTS};
 
 /// A limit that no comparison passes: a store of 16,384 slots has at most so many visits.
 pub const MOST_VISITS: u32 = 32_769;
 
-/// Room for every list: a visit lists at most two records.
-pub(crate) const LIST_BYTES: usize = 2 * MOST_VISITS as usize * RECORD;
+/// Room for every list: it has at most one record for each slot of a store.
+pub(crate) const LIST_BYTES: usize = MOST_SLOTS as usize * RECORD;
 
 const RECORD: usize = 72;
 

@@ -2,7 +2,8 @@
 -- visits. Their trees are shaped, so their grants ascend. Assumes nothing.
 use Prim.Native.Nat.{ℕ, _+_, _*_, _≤_}
 use native.Mathlib.Omega.{arith}
-use mathlib.Core.Path.{_≡_, ap, _∙_}
+use mathlib.Core.Path.{_≡_, refl, ap, _∙_}
+use mathlib.Core.Bool.{false}
 use mathlib.Core.List.{List, [], _∷_, map}
 use lib.ListN.{length}
 use Rattle.terms.specs.Bits.{Bytes}
@@ -20,7 +21,9 @@ use Rattle.changed.specs.Compare.{changesOf, visitsOf}
 use Rattle.changed.specs.Claims.{KeyOrder, WhatChanged}
 use Rattle.changed.proofs.Parts.{InOrder, part-changed, changed-order}
 use Rattle.changed.proofs.Lists.{changed-same, changed-undone, changed-applied}
-use Rattle.changed.proofs.Visits.{visits-comm, visits-same, visits-by-slots}
+use Rattle.changed.proofs.Visits.{beyond, visits-comm, visits-same, visits-by-slots, at-most-all}
+use Rattle.changed.proofs.Walk.{stands-sits, listed-changed}
+use Rattle.changed.proofs.Few.{listed-counted}
 
 key-order : (cs : List Change) → InOrder changeKey cs → KeyOrder cs
 key-order [] s = tt
@@ -28,6 +31,9 @@ key-order (c ∷ cs) s = (s .0, key-order cs (s .1))
 
 at-most : {n k : ℕ} → n ≤ 1 + 2 * k → k ≤ 16384 → n ≤ 32769
 at-most h l = omega arith
+
+in-slots : {x y k n : ℕ} → x ≡ y → x ≤ 0 + 0 + k → k ≤ n → n ≤ 16384 → y ≤ 16384
+in-slots e h l m = omega arith
 
 same-root-same-tree : (st : Store) (v w : ℕ) → rootOf st v ≡ rootOf st w → treeAtVersion st v ≡ treeAtVersion st w
 unfolding treeAtVersion
@@ -76,6 +82,19 @@ module _ (leafHash innerHash : Bytes → Bytes → Bytes) (st : Store) (sound : 
     visits-at-most-32769 =
         let w = sound-whole leafHash innerHash st sound in
         at-most (visits-by-slots leafHash innerHash st (treeAtVersion st first) (treeAtVersion st second) (w .stands first a) (w .stands second b)) (w .size .1)
+
+    -- The list has at most 16,384 records: no more than the store has slots.
+    pub list-at-most-16384 : length (items (changesOf st first second)) ≤ 16384
+    unfolding changesOf
+    list-at-most-16384 =
+        let w = sound-whole leafHash innerHash st sound in
+        let t = treeAtVersion st first in
+        let u = treeAtVersion st second in
+        let few = listed-counted leafHash innerHash st 256 0 [] false false t u (w .stands first a) (w .stands second b) in
+        let same = listed-changed leafHash innerHash st (w .formed) 256 [] t u refl
+        (stands-sits leafHash innerHash st (w .formed) [] t (w .stands first a)) (stands-sits leafHash innerHash st (w .formed) [] u (w .stands second b))
+        in
+        in-slots (ap (λ (cs : List Change). length (items cs)) same) few (at-most-all (beyond []) (st .slots)) (w .size .1)
 
 -- Visits are the same for second and first.
 pub visits-symmetric : (st : Store) (first second : ℕ) → visitsOf st first second ≡ visitsOf st second first

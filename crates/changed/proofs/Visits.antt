@@ -98,21 +98,21 @@ visits-leaf (suc n) v g (vleaf w h) = ap suc (go (eqb v w))
 visits-leaf (suc n) v g (vinner w m s) = refl
 
 -- the records at a place or below it
-abbrev beyond : Place → Slot → Bool
+abbrev pub beyond : Place → Slot → Bool
 beyond p free = false
 beyond p (used r) = prefix p (r .place)
 beyond p (spoiled x) = false
 
-abbrev exactly : Place → Slot → Bool
+abbrev pub exactly : Place → Slot → Bool
 exactly p free = false
 exactly p (used r) = samePlace p (r .place)
 exactly p (spoiled x) = false
 
-abbrev counted : (Slot → Bool) → List Slot → ℕ
+abbrev pub counted : (Slot → Bool) → List Slot → ℕ
 counted f s = length (filter f s)
 
 -- a place that goes on to one side neither is the place nor goes on to the other
-abbrev one : Bool → ℕ
+abbrev pub one : Bool → ℕ
 one b = cond b 1 0
 
 apart : (p q : Place) → one (samePlace p q) + one (prefix (longer left p) q) + one (prefix (longer right p) q) ≤ one (prefix p q)
@@ -135,7 +135,7 @@ apart p q = go (samePlace p q) (prefix (longer left p) q) (prefix (longer right 
 count-cons : (f : Slot → Bool) (x : Slot) (s : List Slot) → counted f (x ∷ s) ≡ one (f x) + counted f s
 count-cons f x s = elim (f x) as (λ b. length (cond b (x ∷ filter f s) (filter f s)) ≡ one b + counted f s) [ true ↦ omega arith | false ↦ omega arith ]
 
-slots-apart : (p : Place) (s : List Slot) →
+pub slots-apart : (p : Place) (s : List Slot) →
     counted (exactly p) s + counted (beyond (longer left p)) s + counted (beyond (longer right p)) s ≤ counted (beyond p) s
 slots-apart p [] = omega arith
 slots-apart p (free ∷ s) = slots-apart p s
@@ -149,11 +149,11 @@ slots-apart p (used r ∷ s) =
     omega arith
 slots-apart p (spoiled x ∷ s) = slots-apart p s
 
-some-counted : (x : Slot) (xs : List Slot) → In x xs → 1 ≤ length xs
+pub some-counted : (x : Slot) (xs : List Slot) → In x xs → 1 ≤ length xs
 some-counted x [] h = absurd h
 some-counted x (y ∷ ys) h = omega arith
 
-at-most-all : (f : Slot → Bool) (s : List Slot) → counted f s ≤ length s
+pub at-most-all : (f : Slot → Bool) (s : List Slot) → counted f s ≤ length s
 at-most-all f [] = omega arith
 at-most-all f (x ∷ s) = let a = count-cons f x s in let b = at-most-all f s in go (f x) a b
   where

@@ -19,7 +19,7 @@ use Rattle.layout.specs.Stores.{storeOf}
 use Rattle.promises.specs.Calls.{SoundBytes, Does, wrong-header, not-sound, refuses, accepts}
 use Rattle.changed.specs.Changes.{Item, items, itemSize}
 use Rattle.changed.specs.Compare.{changesOf, visitsOf, compare}
-use Rattle.changed.proofs.Theorems.{list-is-what-changed, swapped-undoes, equal-versions-give-none, visits-symmetric, visits-at-most-32769}
+use Rattle.changed.proofs.Theorems.{list-is-what-changed, swapped-undoes, equal-versions-give-none, visits-symmetric, visits-at-most-32769, list-at-most-16384}
 use Rattle.changes.specs.Changes.{roomAfter}
 use Rattle.changes_c.specs.Export.{countBytes}
 use Rattle.grants.specs.Contracts.{Changes}
@@ -97,6 +97,7 @@ accepted-comparison-lists-changes first second limit {s} {room} {f} {t} {g} w = 
           equal = λ e. ap (changesOf st first) (sym e) ∙ equal-versions-give-none leafHash innerHash st (h .sound) first (u .a);
           room-holds = p ∙ ap (λ ys. roomAfter (accepted ys) room) (sym (u .list));
           told = q ∙ ap (λ ys. countBytes (accepted ys) f) (sym (u .list));
+          short = list-at-most-16384 leafHash innerHash st (h .sound) first second (u .a) (u .b);
           within = u .few;
           symmetric = visits-symmetric st first second;
           few = visits-at-most-32769 leafHash innerHash st (h .sound) first second (u .a) (u .b);

@@ -173,6 +173,8 @@ pub record ListsChanges (first second limit : ℕ) (s room t g : Bytes) : Type 0
   pub equal : first ≡ second → changes ≡ []
   pub room-holds : t ≡ written 0 (listBytes (items changes)) room
   pub told : g ≡ le 4 (length (items changes))
+  -- there are at most 16,384 of them
+  pub short : length (items changes) ≤ 16384
   -- the visits are within the limit, the same for second and first, and at most 32,769
   pub within : visitsOf (storeOf s) first second ≤ limit
   pub symmetric : visitsOf (storeOf s) first second ≡ visitsOf (storeOf s) second first

@@ -15,9 +15,21 @@ use Rattle.nodehash.specs.Node.{leafHash, innerHash}
 use Rattle.layout.specs.Stores.{storeOf}
 use Rattle.batch.specs.Batch.{asks, batchForm, batchOf}
 use Rattle.batch.proofs.Batches.{batch-of-bytes, batch-of-back}
-use Rattle.refusals.specs.Rows.{AskedBy, BatchOffForm, NotAscending, newCount}
+use Rattle.refusals.specs.Rows.{AskedBy, BatchOffForm, NotAscending, NotAbove, TooFewFree, newCount}
 use Rattle.refusals.specs.Orders.{batchRows}
 use Rattle.refusals.proofs.Exactly.{First}
+
+-- Where two neighbouring rows are deserved at once, the answer is the number of the one that is tested first.
+module _ (number : ℕ) (batch s : Bytes) where
+  four-before-five : BatchOffForm batch → NotAscending batch → First (batchRows number batch s) 4
+  four-before-five a b = inl (a, refl)
+
+  module _ (form : BatchOffForm batch → ⊥) where
+    five-before-eighteen : NotAscending batch → NotAbove number s → First (batchRows number batch s) 5
+    five-before-eighteen a b = inr (form, inl (a, refl))
+
+    eighteen-before-seven : (NotAscending batch → ⊥) → NotAbove number s → TooFewFree number batch s → First (batchRows number batch s) 18
+    eighteen-before-seven order a b = inr (form, inr (order, inl (a, refl)))
 
 same-asks : {x y : List Ask} → some x ≡ some y → x ≡ y
 same-asks e = cc

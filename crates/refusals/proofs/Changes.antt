@@ -17,9 +17,18 @@ use Rattle.meaning.specs.Answers.{numberOf}
 use Rattle.changed.specs.Changes.{items, itemSize}
 use Rattle.changed.specs.Compare.{changesOf, visitsOf, compare}
 use Rattle.layout.specs.Stores.{storeOf}
-use Rattle.refusals.specs.Rows.{TooManyVisits, ListTooLong}
+use Rattle.refusals.specs.Rows.{NotBothKept, TooManyVisits, ListTooLong}
 use Rattle.refusals.specs.Orders.{comparisonRows}
 use Rattle.refusals.proofs.Exactly.{First}
+
+-- Where two neighbouring rows are deserved at once, the answer is the number of the one that is tested first.
+module _ (s : Bytes) (first second limit : ℕ) (room : Bytes) where
+  eight-before-thirteen : NotBothKept s first second → TooManyVisits s first second limit → First (comparisonRows s first second limit room) 8
+  eight-before-thirteen a b = inl (a, refl)
+
+  thirteen-before-nine : (NotBothKept s first second → ⊥) → TooManyVisits s first second limit → ListTooLong s first second room →
+      First (comparisonRows s first second limit room) 13
+  thirteen-before-nine kept a b = inr (kept, inl (a, refl))
 
 kept-of : (st : Store) (v : ℕ) → isKept st v ≡ true → Kept st v
 unfolding isKept

@@ -1,5 +1,4 @@
 pub mod Exactly
-pub mod AtOnce
 pub mod Stopped
 pub mod Headers
 pub mod Batches

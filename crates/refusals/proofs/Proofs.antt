@@ -20,6 +20,10 @@ use Rattle.refusals.specs.Rows.{ProofIs, ProofOffForm, DoesNotHold}
 use Rattle.refusals.specs.Orders.{holdingRows}
 use Rattle.refusals.proofs.Exactly.{First}
 
+-- Where both rows are deserved at once, the answer is the number of the one that is tested first.
+ten-before-eleven : (root k x : Bytes) → ProofOffForm x → First (holdingRows root k x) 10
+ten-before-eleven root k x a = inl (a, refl)
+
 same-proof : {p q : Proof} → some p ≡ some q → p ≡ q
 same-proof e = cc
 

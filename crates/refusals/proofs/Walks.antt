@@ -24,10 +24,25 @@ use Rattle.ways.proofs.Walking.{Formed}
 use Rattle.ways.proofs.Theorems.{one-trouble, empty-exactly, root-stopped-exactly, key-stopped-exactly, proof-stopped-exactly}
 use Rattle.layout.specs.Stores.{storeOf}
 use Rattle.refusals.specs.Exactly.{Table, low}
-use Rattle.refusals.specs.Rows.{StopsRoot, StopsGet, StopsProve, NotKept, TooLong, EmptyVersion}
+use Rattle.refusals.specs.Rows.{StopsRoot, StopsGet, StopsProve, Lost, Unsound, NotKept, TooLong, EmptyVersion}
 use Rattle.refusals.specs.Orders.{versionRows, keyRows, provingRows, proofRows}
 use Rattle.refusals.proofs.Exactly.{First}
 use Rattle.refusals.proofs.Stopped.{Stopped, tested, met, passed, stopped-past, stopped-first}
+
+-- Where two neighbouring rows are deserved at once, the answer is the number of the one that is tested first.
+module _ (s : Bytes) (v : ℕ) (k room : Bytes) where
+  eight-before-three : NotKept s v → Unsound (StopsGet s v k) → First (keyRows s v k) 8
+  eight-before-three a b = inl (a, refl)
+
+  eight-before-fourteen : NotKept s v → EmptyVersion s v → First (proofRows s v k room) 8
+  eight-before-fourteen a b = inl (a, refl)
+
+  module _ (kept : NotKept s v → ⊥) where
+    fourteen-before-three : EmptyVersion s v → Unsound (StopsProve s v k) → First (proofRows s v k room) 14
+    fourteen-before-three a b = inr (kept, inl (a, refl))
+
+    three-before-nine : (EmptyVersion s v → ⊥) → (Lost (StopsProve s v k) → ⊥) → Unsound (StopsProve s v k) → First (proofRows s v k room) 3
+    three-before-nine some found a = inr (kept, inr (some, inr (found, inl (a, refl))))
 
 clash : {A : Type 0} → _≡_ {A = ℕ} 0 1 → A
 clash e = absurd (omega arith)

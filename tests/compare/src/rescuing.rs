@@ -4,6 +4,8 @@ use crate::both;
 use crate::cases::{self, Random};
 use crate::ours;
 use crate::tally::Tally;
+use std::cmp::Reverse;
+use std::collections::HashMap;
 use second::bytes::{ask_bytes, bit, put_slot, slot, slot_bytes, u32_at, Ask, Body, Child, Place, Record, Slot, HEADER, NO_CHILD, SLOT};
 use second::{Bytes32, ZEROS};
 
@@ -124,6 +126,57 @@ fn moved(random: &mut Random, s: &mut [u8], some: usize) {
     }
 }
 
+/// Every hash that an inner record names made true of the child that is found, the lowest slot of a pair: what is wrong then is wrong in form alone.
+fn true_hashes(s: &mut [u8]) {
+    let record = |s: &[u8], i: usize| if let Slot::Used(r) = slot(&s[at(i)]) { Some(r) } else { None };
+    let mut order: Vec<(usize, Record)> = (0..slots(s)).filter_map(|i| Some((i, record(s, i)?))).collect();
+    let mut found: HashMap<(u32, Place), usize> = HashMap::new();
+    for (i, r) in &order {
+        found.entry((r.version, r.place)).or_insert(*i);
+    }
+    order.sort_by_key(|(_, r)| Reverse(r.place.count));
+    for (i, r) in order {
+        let Body::Inner(children) = r.body else { continue };
+        for (c, right) in children.iter().zip([false, true]) {
+            let child = found.get(&(c.version, r.place.longer(right))).and_then(|j| record(s, *j));
+            if let (true, Some(q)) = (c.version != 0, child) {
+                s[at(i)][if right { 88 } else { 52 }..][..32].copy_from_slice(&second::tree::record_hash(&q));
+            }
+        }
+    }
+}
+
+/// One thing that no medium does by itself: a child taken away, so that a leaf may be left alone; a key that doesn't begin with its place; a second
+/// record of a version and place, with another value or without a child, in a slot above or below. All hashes are true.
+fn forge(random: &mut Random, s: &mut [u8]) {
+    let n = slots(s);
+    let (used, free): (Vec<usize>, Vec<usize>) = (0..n).partition(|i| s[at(*i)].iter().any(|b| *b != 0));
+    if used.is_empty() {
+        return;
+    }
+    let some = used[random.below(used.len())];
+    let Slot::Used(mut r) = slot(&s[at(some)]) else { return };
+    let pair = random.one_in(3);
+    match &mut r.body {
+        Body::Inner(children) if children.iter().all(|c| c.version != 0) => children[random.below(2)] = NO_CHILD,
+        Body::Inner(_) => {}
+        Body::Leaf { value, .. } if pair || r.place.count == 0 => value[31] ^= 1,
+        Body::Leaf { key, .. } => {
+            let bit = random.below(r.place.count);
+            key[bit / 8] ^= 128 >> (bit % 8);
+        }
+    }
+    let to = if pair && !free.is_empty() { free[random.below(free.len())] } else { some };
+    put_slot(s, to, &slot_bytes(&r));
+    // A free slot is above most used ones: as often the two are exchanged.
+    if to != some && random.one_in(2) {
+        let (x, y) = (s[at(some)].to_vec(), s[at(to)].to_vec());
+        s[at(some)].copy_from_slice(&y);
+        s[at(to)].copy_from_slice(&x);
+    }
+    true_hashes(s);
+}
+
 /// Bounds around the store's own, and any.
 fn bounds(random: &mut Random, s: &[u8]) -> (u32, u32) {
     let (oldest, latest) = (u32_at(s, 12), u32_at(s, 16));
@@ -178,6 +231,12 @@ pub fn round(seed: u64, tally: &mut Tally) {
         let target = vec![random.byte(); s.len()];
         let _ = both::rescue(tally, "any bytes", seed, &s, random.below(3) as u32, random.below(6) as u32, &target);
     }
+    let mut forged = s.clone();
+    for _ in 0..1 + random.below(2) {
+        forge(&mut random, &mut forged);
+    }
+    let (oldest, latest) = bounds(&mut random, &s);
+    let _ = both::rescue(tally, "a forged store", seed, &forged, oldest, latest, &vec![random.byte(); s.len()]);
     stays(tally, seed, &s);
 }
 
@@ -259,24 +318,69 @@ fn rows(tally: &mut Tally) {
     }
 }
 
-/// Trees whose every hash is true and that are no tree all the same: a leaf alone below an inner node, a leaf whose key doesn't begin with its place.
+/// A store of eight slots with these records, every hash true.
+fn made(records: &[(usize, Record)]) -> Vec<u8> {
+    let mut s = cases::fresh(8, 0, 0);
+    records.iter().for_each(|(i, r)| put_slot(&mut s, *i, &slot_bytes(r)));
+    true_hashes(&mut s);
+    s
+}
+
+fn record(place: Place, version: u32, retired: u32, body: Body) -> Record {
+    Record { place, version, retired, body }
+}
+
+fn leaf(right: bool, version: u32, retired: u32, first: u8, value: u8) -> Record {
+    record(Place::EMPTY.longer(right), version, retired, Body::Leaf { key: key(first), value: [value; 32] })
+}
+
+fn inner(version: u32, retired: u32, left: u32, right: u32) -> Record {
+    let child = |version: u32| Child { version, hash: ZEROS };
+    record(Place::EMPTY, version, retired, Body::Inner([child(left), child(right)]))
+}
+
+/// Trees whose every hash is true and that are no tree all the same: a leaf alone below an inner node, a leaf whose key doesn't begin with its place;
+/// each in the latest version, and in one before it, where the run then begins.
 fn forged(tally: &mut Tally) {
-    let leaf = |first: u8| Record { place: Place::EMPTY.longer(false), version: 1, retired: 0, body: Body::Leaf { key: key(first), value: [1; 32] } };
-    let right = Record { place: Place::EMPTY.longer(true), ..leaf(0x80) };
-    for (what, left, other, wanted) in [
-        ("two leaves below the root", leaf(0), Some(right), Ok((1, 3, 0, 0))),
-        ("a lone leaf", leaf(0), None, Err(3)),
-        ("a leaf at another key's place", leaf(0x90), Some(right), Err(3)),
+    let (left, right) = (leaf(false, 1, 0, 0, 1), leaf(true, 1, 0, 0x80, 1));
+    let stray = |retired: u32| leaf(false, 1, retired, 0x90, 1);
+    for (what, records, latest, wanted) in [
+        ("two leaves below the root", vec![left, right, inner(1, 0, 1, 1)], 1, Ok((1, 3, 0, 0))),
+        ("a lone leaf", vec![left, inner(1, 0, 1, 0)], 1, Err(3)),
+        ("a lone leaf before", vec![left, inner(1, 2, 1, 0), leaf(true, 2, 0, 0x80, 1), inner(2, 0, 1, 2)], 2, Ok((2, 3, 0, 1))),
+        ("a leaf at another key's place", vec![stray(0), right, inner(1, 0, 1, 1)], 1, Err(3)),
+        ("a leaf at another key's place before", vec![stray(2), right, inner(1, 2, 1, 1), leaf(false, 2, 0, 0, 1), inner(2, 0, 2, 1)], 2, Ok((2, 3, 0, 2))),
     ] {
-        let child = |r: &Record| Child { version: 1, hash: second::tree::record_hash(r) };
-        let body = Body::Inner([child(&left), other.as_ref().map_or(NO_CHILD, child)]);
-        let root = Record { place: Place::EMPTY, version: 1, retired: 0, body };
-        let mut s = cases::fresh(4, 1, 1);
-        for (i, r) in [Some(left), other, Some(root)].iter().enumerate() {
-            r.iter().for_each(|r| put_slot(&mut s, i, &slot_bytes(r)));
-        }
-        let (answer, _) = both::rescue(tally, what, 0, &s, 0, 1, &vec![6; s.len()]);
+        let s = made(&records.into_iter().enumerate().collect::<Vec<_>>());
+        let (answer, _) = both::rescue(tally, what, 0, &s, 0, latest, &vec![6; s.len()]);
         tally.equal(what, 0, answer, wanted);
+    }
+}
+
+/// Two slots in form of one version and place: the lowest is used, whichever is right.
+fn shared(tally: &mut Tally) {
+    let (l, r, root) = (leaf(false, 1, 0, 0, 1), leaf(true, 1, 0, 0x80, 1), inner(1, 0, 1, 1));
+    let s = made(&[(3, l), (4, r), (5, root)]);
+    let hashed = |i: usize| if let Slot::Used(r) = slot(&s[at(i)]) { r } else { unreachable!() };
+    let root = hashed(5);
+    let (lower, upper) = (1, 7);
+    for (what, i, second_record, latest, wanted, kept) in [
+        ("the same leaf above", upper, l, 1, Ok((1, 3, 0, 1)), vec![3, 4, 5]),
+        ("the same leaf below", lower, l, 1, Ok((1, 3, 0, 1)), vec![1, 4, 5]),
+        ("a leaf with another value above", upper, leaf(false, 1, 0, 0, 2), 1, Ok((1, 3, 0, 1)), vec![3, 4, 5]),
+        ("a leaf with another value below: its hash is false", lower, leaf(false, 1, 0, 0, 2), 1, Err(3), vec![]),
+        ("a leaf with another retired-since below", lower, leaf(false, 1, 9, 0, 1), 1, Ok((1, 2, 1, 1)), vec![1, 4, 5]),
+        ("another root above", upper, record(Place::EMPTY, 1, 0, l.body), 1, Ok((1, 3, 0, 1)), vec![3, 4, 5]),
+        ("another root below", lower, record(Place::EMPTY, 1, 0, l.body), 1, Ok((1, 1, 0, 3)), vec![1]),
+        ("the root above, retired by latest", upper, Record { retired: 2, ..root }, 2, Ok((1, 3, 0, 1)), vec![3, 4, 5]),
+        ("the root below, retired by latest", lower, Record { retired: 2, ..root }, 2, Err(3), vec![]),
+    ] {
+        let mut d = s.clone();
+        put_slot(&mut d, i, &slot_bytes(&second_record));
+        let (answer, target) = both::rescue(tally, what, 0, &d, 0, latest, &vec![0; d.len()]);
+        tally.equal(what, 0, answer, wanted);
+        let used: Vec<usize> = (0..slots(&target)).filter(|i| target[at(*i)].iter().any(|b| *b != 0)).collect();
+        tally.equal(what, 0, used, kept);
     }
 }
 
@@ -352,6 +456,7 @@ fn worn(tally: &mut Tally) {
 pub fn named(tally: &mut Tally) {
     rows(tally);
     forged(tally);
+    shared(tally);
     pairs(tally);
     worn(tally);
 }

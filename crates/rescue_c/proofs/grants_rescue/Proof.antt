@@ -26,8 +26,7 @@ same-length c =
 
 returns : tie.Need-returns
 returns c =
-    let d = (c .before .before .before .before .before .before .before .before .before) in
-    export-refused (d .args .oldest) (d .args .latest) ((c .before .before .before .before .before) .rescue .ensures) ((c .before) .rescued .given .1)
+    export-refused _ _ ((c .before .before .before .before .before) .rescue .ensures) ((c .before) .rescued .given .1)
 
 same-length-2 : tie.Need-same-length-2
 same-length-2 c =
@@ -35,8 +34,7 @@ same-length-2 c =
 
 returns-2 : tie.Need-returns-2
 returns-2 c =
-    let d = (c .before .before .before .before .before .before .before .before .before .before .before) in
-    export-kept (d .args .oldest) (d .args .latest) ((c .before .before .before .before .before .before .before) .rescue .ensures) ((c .before .before .before) .rescued2 .given .1) (c .put-report .ensures)
+    export-kept _ _ ((c .before .before .before .before .before .before .before) .rescue .ensures) ((c .before .before .before) .rescued2 .given .1) (c .put-report .ensures)
 
 pub grants-rescue-spec : {M : Type 1} → statement M
 grants-rescue-spec =

@@ -11,7 +11,7 @@ use Rattle.rescue_count.proofs.count_slot.Statement.{statement}
 use Rattle.rescue_count.proofs.count_slot.Tie as tie
 
 slot-of-requires : tie.Need-slot-of-requires
-slot-of-requires c κs = slot-within (c .before .before .pre .before)
+slot-of-requires c κs = search (slot-within (c .before .before .pre .before), slot-within (c .before .before .pre .after))
 
 slot-of-requires-2 : tie.Need-slot-of-requires-2
 slot-of-requires-2 c κs = slot-within (c .before .before .before .pre .after)
