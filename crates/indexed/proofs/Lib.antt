@@ -1,0 +1,9 @@
+pub mod Before
+pub mod Packed
+pub mod Halving
+pub mod Searching
+pub mod Scanned
+pub mod Leads
+pub mod One
+pub mod Counted
+pub mod Samples
