@@ -1,0 +1,76 @@
+-- `message_fields::inner_op` meets its contract, by the length and the head. Assumes nothing.
+use mathlib.Core.Path.{sym, _∙_}
+use Rattle.message_fields.proofs.Inners.{inner-left, inner-no-left, inner-right, inner-no-right, inner-neither}
+use borrow.Author.Needs.{needs}
+use Rattle.message_fields.proofs.inner_op.Statement.{statement}
+use Rattle.message_fields.proofs.inner_op.Tie as tie
+
+sub-same : tie.Need-sub-same
+sub-same c = search needs
+
+part-same-start : tie.Need-part-same-start
+part-same-start c = search needs
+
+part-same-end : tie.Need-part-same-end
+part-same-end c = search needs
+
+slice-aggregate-same : tie.Need-slice-aggregate-same
+slice-aggregate-same c = search needs
+
+same-requires : tie.Need-same-requires
+same-requires c κs = search needs
+
+returns : tie.Need-returns
+returns c =
+    let x = c .before .before .before .before .before .before .args .x .now in inner-left x (c .before .before .before .before .if1 .taken) (sym (c .before .same .ensures) ∙ c .if2 .taken)
+
+returns-2 : tie.Need-returns-2
+returns-2 c =
+    let x = c .before .before .before .before .before .before .args .x .now in inner-no-left x (c .before .before .before .before .if1 .taken) (sym (c .before .same .ensures) ∙ c .if2 .left)
+
+sub-same-2 : tie.Need-sub-same-2
+sub-same-2 c = search needs
+
+part-same-start-2 : tie.Need-part-same-start-2
+part-same-start-2 c = search needs
+
+part-same-end-2 : tie.Need-part-same-end-2
+part-same-end-2 c = search needs
+
+slice-aggregate-same-2 : tie.Need-slice-aggregate-same-2
+slice-aggregate-same-2 c = search needs
+
+same-requires-2 : tie.Need-same-requires-2
+same-requires-2 c κs = search needs
+
+returns-3 : tie.Need-returns-3
+returns-3 c =
+    let x = c .before .before .before .before .before .before .before .args .x .now in inner-right x (c .before .before .before .before .if3 .taken) (sym (c .before .same2 .ensures) ∙ c .if4 .taken)
+
+returns-4 : tie.Need-returns-4
+returns-4 c =
+    let x = c .before .before .before .before .before .before .before .args .x .now in inner-no-right x (c .before .before .before .before .if3 .taken) (sym (c .before .same2 .ensures) ∙ c .if4 .left)
+
+returns-5 : tie.Need-returns-5
+returns-5 c =
+    let x = c .before .before .before .args .x .now in inner-neither x (c .before .if1 .left) (c .if3 .left)
+
+pub inner-op-spec : {M : Type 1} → statement M
+inner-op-spec =
+    tie.close
+    (tie.spec
+    sub-same
+    part-same-start
+    part-same-end
+    slice-aggregate-same
+    same-requires
+    returns
+    returns-2
+    sub-same-2
+    part-same-start-2
+    part-same-end-2
+    slice-aggregate-same-2
+    same-requires-2
+    returns-3
+    returns-4
+    returns-5)

@@ -1,0 +1,7 @@
+pub mod Wires
+pub mod Steps
+pub mod Back
+pub mod Lending
+pub mod Spots
+pub mod Operations
+pub mod Samples

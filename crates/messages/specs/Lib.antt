@@ -1,0 +1,6 @@
+pub mod Wire
+pub mod Message
+pub mod Reading
+pub mod Lending
+pub mod Spots
+pub mod Operations
