@@ -18,7 +18,7 @@ use proofrecords::PRESENCE_HEAD;
 use proofrecords::STEP_SIZE;
 
 // Whether the node of step i is the right child.
-fn is_right(p: &[u8], i: usize) -> bool
+pub fn is_right(p: &[u8], i: usize) -> bool
     requires { ⌜ Room (suc i) (now p) ⌝ }
     ensures { λ r. ⌜ r ≡ stepAt i (now (p .entry)) .side ⌝ }
 {
@@ -27,7 +27,7 @@ fn is_right(p: &[u8], i: usize) -> bool
 }
 
 // The sibling's hash in step i.
-fn sibling(p: &[u8], i: usize) -> Hash
+pub fn sibling(p: &[u8], i: usize) -> Hash
     requires { ⌜ Room (suc i) (now p) ⌝ }
     ensures { λ r. ⌜ hashBytes r ≡ stepAt i (now (p .entry)) .sibling ⌝ }
 {

@@ -1,0 +1,83 @@
+-- `forged_nodes::zero_node` meets its contract: no slot passed is such a node. Assumes nothing.
+use Prim.Native.Nat.{_-_}
+use native.Mathlib.Omega.{arith}
+use mathlib.Core.Path.{ap, sym, _∙_}
+use borrow.Author.Needs.{needs}
+use Rattle.store.proofs.Slots.{slot-within}
+use Rattle.store.proofs.Scans.{Scan, scan-slot}
+use Rattle.forged_nodes.specs.Nodes.{messageIn}
+use Rattle.forged_nodes.proofs.Scanning.{ZeroAhead, zero-start, zero-next, zero-found, no-zero}
+use Rattle.forged_nodes.proofs.zero_node.Statement.{statement}
+use Rattle.forged_nodes.proofs.zero_node.Tie as tie
+
+abbrev Inv-loop : tie.InvT-loop
+Inv-loop store version n i₀ i = Scan store (ZeroAhead store version) n i
+
+abbrev μ-loop : tie.MeasureT-loop
+μ-loop store version n i₀ i = n - i
+
+slot-count-requires : tie.Need-slot-count-requires Inv-loop μ-loop
+slot-count-requires c κs = c .before .pre
+
+loop-holds : tie.Need-loop-holds Inv-loop μ-loop
+loop-holds c =
+    let start = c .before .before in
+    zero-start (start .args .store .now) (start .args .version) (start .pre) (c .slot-count .ensures)
+
+zero-here-requires : tie.Need-zero-here-requires Inv-loop μ-loop
+zero-here-requires c κs = scan-slot (c .before .loop .inv) (c .loop-test .taken)
+
+slot-of-requires : tie.Need-slot-of-requires Inv-loop μ-loop
+slot-of-requires c κs =
+    let inside = c .before .before in
+    slot-within (scan-slot (inside .before .loop .inv) (inside .loop-test .taken))
+
+record-message-requires : tie.Need-record-message-requires Inv-loop μ-loop
+record-message-requires c κs = search needs
+
+returns : tie.Need-returns Inv-loop μ-loop
+returns c =
+    let slot = c .before in
+    let passed = slot .before in
+    let here = passed .before in
+    let inside = here .before in
+    let at = inside .before in
+    let a = at .before .before .before .args in
+    zero-found (a .version) (at .loop .inv) (inside .loop-test .taken) (sym (here .zero-here .ensures) ∙ passed .if1 .taken)
+    (c .record-message .result) (c .record-message .ensures ∙ ap messageIn (slot .slot-of .ensures .0))
+
+add-i : tie.Need-add-i Inv-loop μ-loop
+add-i c = omega (arith, c .before .before .before .loop .inv .small)
+
+loop-less : tie.Need-loop-less Inv-loop μ-loop
+loop-less c = omega arith
+
+loop-again : tie.Need-loop-again Inv-loop μ-loop
+loop-again c =
+    let here = c .before in
+    let inside = here .before in
+    let at = inside .before in
+    let a = at .before .before .before .args in
+    zero-next (a .version) (at .loop .inv) (inside .loop-test .taken) (sym (here .zero-here .ensures) ∙ c .if1 .left)
+
+returns-2 : tie.Need-returns-2 Inv-loop μ-loop
+returns-2 c =
+    let a = c .before .before .before .before .args in
+    no-zero (a .version) (c .before .loop .inv) (c .loop-test .left)
+
+pub zero-node-spec : {M : Type 1} → statement M
+zero-node-spec =
+    tie.close
+    (tie.spec
+    Inv-loop
+    μ-loop
+    slot-count-requires
+    loop-holds
+    zero-here-requires
+    slot-of-requires
+    record-message-requires
+    returns
+    add-i
+    loop-less
+    loop-again
+    returns-2)

@@ -1,0 +1,36 @@
+-- Request 2026-12: what the search over a store's slots names, case by case. Assumes nothing.
+use Prim.Native.Nat.{ℕ}
+use mathlib.Core.Bool.{Bool, true, false, _&&_, not}
+use Rattle.terms.specs.Bits.{Bytes, sameBytes}
+use Rattle.terms.specs.Records.{Slot, free, used, spoiled, zeros}
+use Rattle.sha256.specs.Sha256.{sha256}
+use Rattle.layout.specs.Slots.{slotOf}
+use Rattle.read_step.specs.Walk.{bodyIn}
+use Rattle.forgery.specs.Messages.{messageOf, standsIn}
+use Rattle.forgery.specs.Finding.{Finding, nothing, twoEqual, oneZero}
+use Rattle.forged_message.specs.Parts.{messageBytes}
+use Rattle.forged_nodes.specs.declared.Named as declared
+use Rattle.forged_nodes.specs.declared.Named.the-variants.{Nothing, Two, Zero}
+
+-- What is named.
+unfoldable pub namedSays : declared.Named → Finding
+namedSays Nothing = nothing
+namedSays (Two n m) = twoEqual (messageBytes n) (messageBytes m)
+namedSays (Zero m) = oneZero (messageBytes m)
+
+-- A slot holds a record that is in v's tree.
+abbrev pub standsHere : ℕ → Slot → Bool
+standsHere v free = false
+standsHere v (used r) = standsIn v r
+standsHere v (spoiled x) = false
+
+-- The message of a slot's bytes that are a record.
+abbrev pub messageIn : Bytes → Bytes
+messageIn x = messageOf (bodyIn x)
+
+-- It is a node with another message than m and the same hash; or one with hash zero.
+unfoldable pub partnerHere : ℕ → Bytes → Bytes → Bool
+partnerHere v m x = standsHere v (slotOf x) && (not (sameBytes (messageIn x) m) && sameBytes (sha256 (messageIn x)) (sha256 m))
+
+unfoldable pub zeroHere : ℕ → Bytes → Bool
+zeroHere v x = standsHere v (slotOf x) && sameBytes (sha256 (messageIn x)) zeros

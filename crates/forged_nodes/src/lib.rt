@@ -1,0 +1,125 @@
+// The messages of a version's nodes, request 2026-12, read slot by slot: the first that is another than a given message and has its hash, and the
+// first whose hash is zero.
+use forged_message::Message;
+use forged_message::collides;
+use forged_message::hashes_to_zero;
+use hash::hash_at;
+use lookup::covers;
+use lookup::holds_record;
+use slots::child_hash;
+use slots::is_leaf;
+use slots::key_of;
+use slots::value_of;
+use store::retired_at;
+use store::slot_count;
+use store::slot_of;
+use store::version_at;
+ghost use mathlib.Core.Path.{_≡_};
+ghost use mathlib.Core.Bool.{true};
+ghost use lib.ListN.{length};
+ghost use Rattle.sha256.specs.Sha256.{sha256};
+ghost use Rattle.layout.specs.Sizes.{slotSize};
+ghost use Rattle.layout.specs.Headers.{sizeRight};
+ghost use Rattle.layout.specs.Slots.{slotOf};
+ghost use Rattle.layout.specs.Stores.{slotIn, storeOf, Has};
+ghost use Rattle.forgery.specs.Messages.{nodeMessages};
+ghost use Rattle.forgery.specs.Finding.{partner, zeroAmong};
+ghost use Rattle.forged_message.specs.Parts.{messageBytes};
+ghost use Rattle.forged_nodes.specs.Nodes.{namedSays, standsHere, messageIn, partnerHere, zeroHere};
+
+// What was found: nothing, two different messages with equal hash, or one whose hash is zero.
+pub enum Named {
+    Nothing,
+    Two { node: Message, checked: Message },
+    Zero(Message),
+}
+
+// The message of a record, from what it holds.
+fn record_message(slot: &[u8]) -> Message
+    requires { ⌜ length (now slot) ≡ slotSize ⌝ }
+    ensures { λ r. ⌜ messageBytes r ≡ messageIn (now (slot .entry)) ⌝ }
+{
+    if is_leaf(slot) {
+        let first = hash_at(key_of(slot), 0);
+        let second = hash_at(value_of(slot), 0);
+        return Message {
+            leaf: true,
+            first,
+            second,
+        };
+    }
+    let first = hash_at(child_hash(slot, false), 0);
+    let second = hash_at(child_hash(slot, true), 0);
+    Message {
+        leaf: false,
+        first,
+        second,
+    }
+}
+
+// Whether slot i holds a record that is in a version's tree.
+fn stands_in(store: &[u8], i: usize, version: u32) -> bool
+    requires { ⌜ Has (now store) i ⌝ }
+    ensures { λ r. ⌜ r ≡ standsHere version (slotOf (slotIn i (now (store .entry)))) ⌝ }
+{
+    if !covers(version_at(store, i), retired_at(store, i), version) {
+        return false;
+    }
+    holds_record(slot_of(store, i))
+}
+
+// Whether it is a node whose message is another than m and has the same hash.
+fn partner_here(store: &[u8], i: usize, version: u32, m: Message) -> bool
+    requires { ⌜ Has (now store) i ⌝ }
+    ensures { λ r. ⌜ r ≡ partnerHere version (messageBytes m) (slotIn i (now (store .entry))) ⌝ }
+{
+    if !stands_in(store, i, version) {
+        return false;
+    }
+    collides(record_message(slot_of(store, i)), m)
+}
+
+// Whether it is a node whose hash is zero.
+fn zero_here(store: &[u8], i: usize, version: u32) -> bool
+    requires { ⌜ Has (now store) i ⌝ }
+    ensures { λ r. ⌜ r ≡ zeroHere version (slotIn i (now (store .entry))) ⌝ }
+{
+    if !stands_in(store, i, version) {
+        return false;
+    }
+    hashes_to_zero(record_message(slot_of(store, i)))
+}
+
+// The first node of a version whose message is another than m and has the same hash.
+pub fn partner(store: &[u8], version: u32, m: Message) -> Named
+    requires { ⌜ sizeRight (length (now store)) ≡ true ⌝ }
+    ensures { λ r. ⌜ namedSays r ≡ partner sha256 (messageBytes m) (nodeMessages version (storeOf (now (store .entry)) .slots)) ⌝ }
+{
+    let n = slot_count(store);
+    let mut i = 0;
+    while i < n {
+        if partner_here(store, i, version, m) {
+            let node = record_message(slot_of(store, i));
+            return Named::Two { node, checked: m };
+        }
+        i += 1;
+    }
+    Named::Nothing
+}
+
+// The first node of a version whose hash is zero.
+pub fn zero_node(store: &[u8], version: u32) -> Named
+    requires { ⌜ sizeRight (length (now store)) ≡ true ⌝ }
+    ensures { λ r. ⌜ namedSays r ≡ zeroAmong sha256 (nodeMessages version (storeOf (now (store .entry)) .slots)) ⌝ }
+{
+    let n = slot_count(store);
+    let mut i = 0;
+    while i < n {
+        if zero_here(store, i, version) {
+            let node = record_message(slot_of(store, i));
+            return Named::Zero(node);
+        }
+        i += 1;
+    }
+    Named::Nothing
+}

@@ -1,0 +1,80 @@
+// The search for a finding of a proof where it lies in bytes, request 2026-12: along its paths, the left one first, then over a version's nodes.
+use fields::get_u16;
+use fields::get_u32;
+use forged_nodes::Named;
+use forged_nodes::zero_node;
+use forged_path::along;
+use forged_path::is_nothing;
+use proofrecords::ABSENCE_HEAD;
+use proofrecords::FLAGS_AT;
+use proofrecords::STEPS_AT;
+ghost use mathlib.Core.Path.{_≡_};
+ghost use mathlib.Core.Bool.{true};
+ghost use lib.ListN.{length};
+ghost use Rattle.layout.specs.Headers.{sizeRight};
+ghost use Rattle.proofrecords.specs.ProofBytes.{isPresence, isAbsence};
+ghost use Rattle.forged_nodes.specs.Nodes.{namedSays};
+ghost use Rattle.forged_path.specs.Along.{nodesIn};
+ghost use Rattle.forged_proof.specs.Search.{onPath, onTwo, onNeighbours, orZero, inPresence, inAbsence};
+
+// Along the path of a presence proof.
+fn on_path(store: &[u8], version: u32, p: &[u8]) -> Named
+    requires { ⌜ (sizeRight (length (now store)) ≡ true) × (isPresence (now p) ≡ true) ⌝ }
+    ensures { λ r. ⌜ namedSays r ≡ onPath (nodesIn version (now (store .entry))) (now (p .entry)) ⌝ }
+{
+    let n = get_u16(p, STEPS_AT) as usize;
+    along(store, version, p, n)
+}
+
+// Along two paths.
+fn on_two(store: &[u8], version: u32, l: &[u8], r: &[u8]) -> Named
+    requires { ⌜ (sizeRight (length (now store)) ≡ true) × (isPresence (now l) ≡ true) × (isPresence (now r) ≡ true) ⌝ }
+    ensures { λ x. ⌜ namedSays x ≡ onTwo (nodesIn version (now (store .entry))) (now (l .entry)) (now (r .entry)) ⌝ }
+{
+    let named = on_path(store, version, l);
+    if !is_nothing(named) {
+        return named;
+    }
+    on_path(store, version, r)
+}
+
+// Along the paths of an absence proof's neighbours, each read where it lies in the proof.
+fn on_neighbours(store: &[u8], version: u32, proof: &[u8]) -> Named
+    requires { ⌜ (sizeRight (length (now store)) ≡ true) × (isAbsence (now proof) ≡ true) ⌝ }
+    ensures { λ r. ⌜ namedSays r ≡ onNeighbours (nodesIn version (now (store .entry))) (now (proof .entry)) ⌝ }
+{
+    let n = proof.len();
+    let flags = get_u16(proof, FLAGS_AT);
+    if flags <= 2 {
+        return on_path(store, version, &proof[ABSENCE_HEAD..n]);
+    }
+    let e = ABSENCE_HEAD + get_u32(proof, ABSENCE_HEAD) as usize;
+    on_two(store, version, &proof[ABSENCE_HEAD..e], &proof[e..n])
+}
+
+// What was named, else a node whose hash is zero.
+fn or_zero(store: &[u8], version: u32, named: Named) -> Named
+    requires { ⌜ sizeRight (length (now store)) ≡ true ⌝ }
+    ensures { λ r. ⌜ namedSays r ≡ orZero (nodesIn version (now (store .entry))) (namedSays named) ⌝ }
+{
+    if !is_nothing(named) {
+        return named;
+    }
+    zero_node(store, version)
+}
+
+// The finding of a presence proof.
+pub fn in_presence(store: &[u8], version: u32, proof: &[u8]) -> Named
+    requires { ⌜ (sizeRight (length (now store)) ≡ true) × (isPresence (now proof) ≡ true) ⌝ }
+    ensures { λ r. ⌜ namedSays r ≡ inPresence (nodesIn version (now (store .entry))) (now (proof .entry)) ⌝ }
+{
+    or_zero(store, version, on_path(store, version, proof))
+}
+
+// The finding of an absence proof.
+pub fn in_absence(store: &[u8], version: u32, proof: &[u8]) -> Named
+    requires { ⌜ (sizeRight (length (now store)) ≡ true) × (isAbsence (now proof) ≡ true) ⌝ }
+    ensures { λ r. ⌜ namedSays r ≡ inAbsence (nodesIn version (now (store .entry))) (now (proof .entry)) ⌝ }
+{
+    or_zero(store, version, on_neighbours(store, version, proof))
+}

@@ -1,0 +1,92 @@
+-- Document 02, request 2026-12: what a proof says, what a finding is, and which finding is named where a proof says something false. Assumes
+-- nothing.
+use Prim.Native.Nat.{ℕ}
+use mathlib.Core.Path.{_≡_}
+use mathlib.Core.Logic.{_⊎_}
+use mathlib.Core.Bool.{Bool, true, false, cond, _&&_, not}
+use mathlib.Core.List.{List, [], _∷_, _++_}
+use mathlib.Core.Option.{Option, none, some}
+use Rattle.terms.specs.Bits.{Bytes, All, sameBytes}
+use Rattle.terms.specs.Records.{Grant, Presence, Proof, presence, absence, Store, zeros}
+use Rattle.meaning.specs.Tree.{grantsIn}
+use Rattle.meaning.specs.Store.{treeAtVersion}
+use Rattle.meaning.specs.Reading.{Verdict, present, absent, answerOf}
+use Rattle.forgery.specs.Messages.{nodeMessages, checkedMessages}
+
+-- What is said of a key.
+pub record Saying : Type 0 where
+  pub key : Bytes
+  pub verdict : Verdict
+
+abbrev pub saying : Bytes → Verdict → Saying
+saying k v = record { key = k; verdict = v }
+
+abbrev pub neighbourSays : Option Presence → List Saying
+neighbourSays none = []
+neighbourSays (some p) = saying (p .key) (present (p .value)) ∷ []
+
+-- What a proof says: of its key that it is present with the value, or absent; and of each neighbour that it is present with its value.
+abbrev pub says : Proof → List Saying
+says (presence p) = saying (p .key) (present (p .value)) ∷ []
+says (absence a) = saying (a .key) absent ∷ (neighbourSays (a .leftward) ++ neighbourSays (a .rightward))
+
+-- It is true of a set of grants if they say the same of each key.
+abbrev pub True : List Grant → Proof → Type 0
+True gs p = All (λ s. answerOf (s .key) gs ≡ s .verdict) (says p)
+
+-- The same as a test.
+abbrev pub sameVerdict : Verdict → Verdict → Bool
+sameVerdict (present x) (present y) = sameBytes x y
+sameVerdict (present x) absent = false
+sameVerdict absent (present y) = false
+sameVerdict absent absent = true
+
+abbrev pub allTrue : List Grant → List Saying → Bool
+allTrue gs [] = true
+allTrue gs (s ∷ rest) = sameVerdict (answerOf (s .key) gs) (s .verdict) && allTrue gs rest
+
+-- Nothing; two different messages with equal hash; or one whose hash is 32 zero bytes.
+pub data Finding : Type 0 where
+  nothing : Finding
+  twoEqual : Bytes → Bytes → Finding
+  oneZero : Bytes → Finding
+
+-- A message is among those of a list.
+abbrev pub Among : Bytes → List Bytes → Type 0
+Among m [] = ⊥
+Among m (n ∷ ms) = (n ≡ m) ⊎ Among m ms
+
+-- The first, where it is something, else the second.
+abbrev pub orElse : Finding → Finding → Finding
+orElse nothing f = f
+orElse (twoEqual m n) f = twoEqual m n
+orElse (oneZero m) f = oneZero m
+
+module _ (H : Bytes → Bytes) where
+  -- What is found is named from a list of messages.
+  abbrev pub NamedFrom : List Bytes → Finding → Type 0
+  NamedFrom ms nothing = ⊥
+  NamedFrom ms (twoEqual m n) = Among m ms × Among n ms × (m ≡ n → ⊥) × (H m ≡ H n)
+  NamedFrom ms (oneZero m) = Among m ms × (H m ≡ zeros)
+
+  -- The first of some messages that differs from m and has the same hash.
+  abbrev pub partner : Bytes → List Bytes → Finding
+  partner m [] = nothing
+  partner m (n ∷ ns) = cond (not (sameBytes n m) && sameBytes (H n) (H m)) (twoEqual n m) (partner m ns)
+
+  -- The first of some messages with hash zero.
+  abbrev pub zeroAmong : List Bytes → Finding
+  zeroAmong [] = nothing
+  zeroAmong (m ∷ ms) = cond (sameBytes (H m) zeros) (oneZero m) (zeroAmong ms)
+
+  -- One after the other, the messages hashed while checking: its hash is zero, or it has a partner among the nodes' messages. Then the nodes' own.
+  abbrev pub searched : List Bytes → List Bytes → Finding
+  searched nodes [] = zeroAmong nodes
+  searched nodes (m ∷ ms) = cond (sameBytes (H m) zeros) (oneZero m) (orElse (partner m nodes) (searched nodes ms))
+
+  -- What is found of a proof that was accepted: nothing if it is true, else what the search names.
+  unfoldable pub finding : Store → ℕ → Proof → Finding
+  finding st v p =
+      cond (allTrue (grantsIn (treeAtVersion st v)) (says p))
+      nothing
+      (searched (nodeMessages v (st .slots)) (checkedMessages H p))
