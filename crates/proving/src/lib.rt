@@ -22,7 +22,7 @@ pub enum Proved {
 }
 
 // Gives the proof of a key as it was planned, if there is room.
-fn give(store: &[u8], key: &[u8], plan: Plan, room: &mut [u8]) -> Proved
+pub fn give(store: &[u8], key: &[u8], plan: Plan, room: &mut [u8]) -> Proved
     requires { ⌜ PlanIn (now store) plan × (length (now key) ≡ 32) ⌝ }
     ensures { λ r. ⌜ Offers (planSays (now (store .entry)) (now (key .entry)) plan) (now (room .entry)) (now (room .exit)) r ⌝ }
 {

@@ -1,0 +1,58 @@
+-- `figures_count::lives` meets its contract: version and retired-since, test by test. Assumes nothing.
+use native.Mathlib.Omega.{arith}
+use mathlib.Core.Path.{ap, sym, _∙_}
+use lib.Dec.{ltb}
+use Rattle.terms.specs.Bits.{Byte}
+use Rattle.terms.proofs.Lists.{all-of}
+use Rattle.layout.specs.Stores.{slotIn, slotNo}
+use Rattle.store.proofs.Slots.{slot-within}
+use Rattle.figures_count.proofs.Slots.{Holds, holding, not-there, not-yet, not-ended, ended}
+use borrow.Author.Needs.{needs}
+use Rattle.figures_count.proofs.lives.Statement.{statement}
+use Rattle.figures_count.proofs.lives.Tie as tie
+
+version-at-requires : tie.Need-version-at-requires
+version-at-requires c κs = slot-within (c .before .pre .has)
+
+returns : tie.Need-returns
+returns c =
+    let v = c .before in
+    let start = v .before .before in
+    let s = start .args .store .now in
+    not-there (holding s (start .args .i) (start .pre) (all-of Byte s 0 (λ i _. omega (arith, v .before .shared-slice-known .given i)))) (start .args .first) (start .args .last)
+    (sym (v .version-at .ensures) ∙ c .if1 .taken)
+
+returns-2 : tie.Need-returns-2
+returns-2 c =
+    let v = c .before .before in
+    let start = v .before .before in
+    let s = start .args .store .now in
+    not-yet (holding s (start .args .i) (start .pre) (all-of Byte s 0 (λ i _. omega (arith, v .before .shared-slice-known .given i)))) (start .args .first) (start .args .last)
+    (λ z. c .before .if1 .left (v .version-at .ensures ∙ z)) (omega (arith, v .version-at .ensures, c .if2 .taken))
+
+retired-at-requires : tie.Need-retired-at-requires
+retired-at-requires c κs = slot-within (c .before .before .before .before .pre .has)
+
+returns-3 : tie.Need-returns-3
+returns-3 c =
+    let t = c .before in
+    let v = t .before .before .before in
+    let start = v .before .before in
+    let s = start .args .store .now in
+    not-ended (holding s (start .args .i) (start .pre) (all-of Byte s 0 (λ i _. omega (arith, v .before .shared-slice-known .given i)))) (start .args .first) (start .args .last)
+    (λ z. t .before .before .if1 .left (v .version-at .ensures ∙ z)) (omega (arith, v .version-at .ensures, t .before .if2 .left)) (sym (t .retired-at .ensures) ∙ c .if3 .taken)
+
+returns-4 : tie.Need-returns-4
+returns-4 c =
+    let t = c .before in
+    let v = t .before .before .before in
+    let start = v .before .before in
+    let s = start .args .store .now in
+    ap (ltb (start .args .first)) (t .retired-at .ensures)
+    ∙ ended (holding s (start .args .i) (start .pre) (all-of Byte s 0 (λ i _. omega (arith, v .before .shared-slice-known .given i)))) (start .args .first) (start .args .last)
+    (λ z. t .before .before .if1 .left (v .version-at .ensures ∙ z)) (omega (arith, v .version-at .ensures, t .before .if2 .left)) (λ z. c .if3 .left (t .retired-at .ensures ∙ z))
+
+pub lives-spec : {M : Type 1} → statement M
+lives-spec =
+    tie.close
+    (tie.spec version-at-requires returns returns-2 retired-at-requires returns-3 returns-4)

@@ -1,0 +1,59 @@
+-- `figures_count::records_in` meets its contract: the slots from i on are counted. Assumes nothing.
+use native.Mathlib.Omega.{arith}
+use Rattle.figures_count.proofs.Backward.{Backward, backward-slot}
+use Rattle.figures_count.proofs.Tallies.{Living, living-start, living-few, living-more, living-same, living-end}
+use Rattle.figures_count.proofs.records_in.Statement.{statement}
+use Rattle.figures_count.proofs.records_in.Tie as tie
+
+abbrev Inv-loop : tie.InvT-loop
+Inv-loop store first last n records₀ i₀ records i = Backward store (Living first last records) n i
+
+abbrev μ-loop : tie.MeasureT-loop
+μ-loop store first last n records₀ i₀ records i = i
+
+slot-count-requires : tie.Need-slot-count-requires Inv-loop μ-loop
+slot-count-requires c κs = c .before .pre .size
+
+loop-holds : tie.Need-loop-holds Inv-loop μ-loop
+loop-holds c = let start = c .before .before in living-start (start .args .first) (start .args .last) (start .pre) (c .slot-count .ensures)
+
+sub-i : tie.Need-sub-i Inv-loop μ-loop
+sub-i c = omega arith
+
+lives-requires : tie.Need-lives-requires Inv-loop μ-loop
+lives-requires c κs = backward-slot (c .before .loop .inv) (c .loop-test .taken)
+
+add-records : tie.Need-add-records Inv-loop μ-loop
+add-records c = let few = living-few (c .before .before .before .loop .inv) in omega arith
+
+loop-less : tie.Need-loop-less Inv-loop μ-loop
+loop-less c = omega arith
+
+loop-again : tie.Need-loop-again Inv-loop μ-loop
+loop-again c = living-more (c .before .before .before .loop .inv) (c .before .before .loop-test .taken) (c .before .lives .ensures) (c .if1 .taken)
+
+loop-less-2 : tie.Need-loop-less-2 Inv-loop μ-loop
+loop-less-2 c = omega arith
+
+loop-again-2 : tie.Need-loop-again-2 Inv-loop μ-loop
+loop-again-2 c = living-same (c .before .before .before .loop .inv) (c .before .before .loop-test .taken) (c .before .lives .ensures) (c .if1 .left)
+
+returns : tie.Need-returns Inv-loop μ-loop
+returns c = living-end (c .before .loop .inv) (c .loop-test .left)
+
+pub records-in-spec : {M : Type 1} → statement M
+records-in-spec =
+    tie.close
+    (tie.spec
+    Inv-loop
+    μ-loop
+    slot-count-requires
+    loop-holds
+    sub-i
+    lives-requires
+    add-records
+    loop-less
+    loop-again
+    loop-less-2
+    loop-again-2
+    returns)

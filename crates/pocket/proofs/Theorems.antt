@@ -1,0 +1,93 @@
+-- Inside the profile the pocket checker and the full one agree, and so do the provers; what the pocket prover gives, the pocket checker accepts. Assumes
+-- nothing.
+use Prim.Native.Nat.{ℕ, _+_, _≤_}
+use native.Mathlib.Omega.{arith}
+use mathlib.Core.Path.{_≡_, refl, ap, sym, _∙_}
+use mathlib.Core.Bool.{Bool, true, false, cond, _&&_}
+use mathlib.Core.Option.{Option, none, some}
+use lib.ListN.{length}
+use lib.Dec.{ltb}
+use borrow.Author.Tests.{leb-true}
+use Rattle.terms.specs.Bits.{Bytes, Whole32}
+use Rattle.terms.specs.Records.{Presence, Absence, Proof, presence, absence, Store}
+use Rattle.terms.proofs.Tests.{and-left, and-right}
+use Rattle.meaning.specs.Tree.{grantsIn}
+use Rattle.meaning.specs.Store.{treeAtVersion}
+use Rattle.meaning.specs.Sound.{Kept, Sound}
+use Rattle.meaning.specs.Calls.{Answer, refused, accepted}
+use Rattle.meaning.specs.Reading.{Verdict, readRoot, answerOf}
+use Rattle.meaning.specs.Proving.{HoldsGrant, proof, presenceLength, neighbourLength, proofLength, fitted, prove}
+use Rattle.meaning.specs.Checking.{checked}
+use Rattle.shown.proofs.Theorems.{shown}
+use Rattle.pocket.specs.Pocket.{pocketSteps, shortPath, shortNeighbour, small, inProfile, pocketProve, pocketChecked}
+
+module _ (leafHash innerHash : Bytes → Bytes → Bytes) (root k : Bytes) (p : Proof) where
+  -- Inside the profile, the pocket checker and the full one agree;
+  pub inside-they-agree : small p ≡ true → pocketChecked leafHash innerHash root k p ≡ checked leafHash innerHash root k p
+  unfolding pocketChecked
+  inside-they-agree e = rw e refl
+
+  -- outside it the pocket checker gives 19.
+  pub outside-is-refused : small p ≡ false → pocketChecked leafHash innerHash root k p ≡ refused 19
+  unfolding pocketChecked
+  outside-is-refused e = rw e refl
+
+-- What the pocket prover gives is what the full one gives, and inside the profile;
+given : (room : ℕ) (p : Proof) (a : Answer Proof) → fitted room (inProfile a) ≡ accepted p →
+    (small p ≡ true) × (a ≡ accepted p) × (fitted room a ≡ accepted p)
+given room p (refused n) h = let z : _≡_ {A = ℕ} 0 1 = cc in absurd (omega arith)
+given room p (accepted q) h = go (small q) refl (ltb room (proofLength q)) refl h
+  where
+    go : (b : Bool) → small q ≡ b → (c : Bool) → ltb room (proofLength q) ≡ c → fitted room (cond b (accepted q) (refused 19)) ≡ accepted p →
+        (small p ≡ true) × (accepted q ≡ accepted p) × (cond (ltb room (proofLength q)) (refused 9) (accepted q) ≡ accepted p)
+    go false f c g h = let z : _≡_ {A = ℕ} 0 1 = cc in absurd (omega arith)
+    go true f true g h = let z : accepted p ≡ refused 9 = sym h ∙ rw g refl in let y : _≡_ {A = ℕ} 0 1 = cc in absurd (omega arith)
+    go true f false g h =
+        let same : accepted q ≡ accepted p = sym (rw g refl) ∙ h in
+        let q-is : q ≡ p = cc in
+        (ap small (sym q-is) ∙ f, same, rw g same)
+
+module _ (st : Store) (v : ℕ) (k : Bytes) (room : ℕ) (p : Proof) where
+  pub pocket-gives-proofs-inside : pocketProve st v k room ≡ accepted p → (small p ≡ true) × (prove st v k room ≡ accepted p)
+  unfolding pocketProve prove
+  pocket-gives-proofs-inside e = let g = given room p (proof st v k) e in (g .0, g .2)
+
+  -- and inside the profile, the provers agree.
+  pub inside-provers-agree : proof st v k ≡ accepted p → small p ≡ true → pocketProve st v k room ≡ prove st v k room
+  unfolding pocketProve prove
+  inside-provers-agree e s = ap (λ a. fitted room (inProfile a)) e ∙ ap (λ b. fitted room (cond b (accepted p) (refused 19))) s ∙ sym (ap (fitted room) e)
+
+  -- 19 exactly where the full prover has a proof, of whatever length, that is outside.
+  pub outside-is-not-given : proof st v k ≡ accepted p → small p ≡ false → pocketProve st v k room ≡ refused 19
+  unfolding pocketProve
+  outside-is-not-given e s = ap (λ a. fitted room (inProfile a)) e ∙ ap (λ b. fitted room (cond b (accepted p) (refused 19))) s
+
+-- From a sound store, what the pocket prover gives the pocket checker accepts, against the root that is read, with what the version's grants say of the key.
+pub pocket-is-shown : (leafHash innerHash : Bytes → Bytes → Bytes) (st : Store) → Sound leafHash innerHash st → (v : ℕ) → Kept st v → (k : Bytes) → Whole32 k →
+    HoldsGrant st v → (root : Bytes) → readRoot leafHash innerHash st v ≡ accepted root → (room : ℕ) (p : Proof) → pocketProve st v k room ≡ accepted p →
+    pocketChecked leafHash innerHash root k p ≡ accepted (answerOf k (grantsIn (treeAtVersion st v)))
+unfolding pocketProve
+pocket-is-shown leafHash innerHash st s v kept k whole holds root read room p e =
+    let w = shown leafHash innerHash st s v kept k whole holds root read in
+    let g = given room p (proof st v k) e in
+    let same : w .0 ≡ p = accepted-same (sym (w .1) ∙ g .1) in
+    inside-they-agree leafHash innerHash root k p (g .0) ∙ ap (λ x. checked leafHash innerHash root k x) (sym same) ∙ w .2
+  where
+    accepted-same : {x y : Proof} → _≡_ {A = Answer Proof} (accepted x) (accepted y) → x ≡ y
+    accepted-same e = cc
+
+-- A proof inside the profile has at most 1,128 bytes for each leaf shown, 2,296 in all.
+short-length : (p : Presence) → shortPath p ≡ true → presenceLength p ≤ 1128
+unfolding shortPath presenceLength
+short-length p e = omega (arith, leb-true (length (p .steps)) pocketSteps e)
+
+short-neighbour : (o : Option Presence) → shortNeighbour o ≡ true → neighbourLength o ≤ 1128
+short-neighbour none e = omega arith
+short-neighbour (some p) e = short-length p e
+
+pub pocket-proofs-have-2296-bytes : (p : Proof) → small p ≡ true → proofLength p ≤ 2296
+pocket-proofs-have-2296-bytes (presence p) e = omega (arith, short-length p e)
+pocket-proofs-have-2296-bytes (absence a) e =
+    let l = shortNeighbour (a .leftward) in
+    let r = shortNeighbour (a .rightward) in
+    omega (arith, short-neighbour (a .leftward) (and-left l r e), short-neighbour (a .rightward) (and-right l r e))

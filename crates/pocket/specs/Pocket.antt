@@ -1,0 +1,42 @@
+-- Document 02, request 2026-14, the pocket profile: proofs of at most 32 steps for each leaf shown. Assumes nothing.
+use Prim.Native.Nat.{ℕ}
+use mathlib.Core.Bool.{Bool, true, cond, _&&_}
+use mathlib.Core.Option.{Option, none, some}
+use lib.ListN.{length}
+use lib.Dec.{leb}
+use Rattle.terms.specs.Bits.{Bytes}
+use Rattle.terms.specs.Records.{Presence, Proof, presence, absence, Store}
+use Rattle.meaning.specs.Calls.{Answer, refused, accepted}
+use Rattle.meaning.specs.Reading.{Verdict}
+use Rattle.meaning.specs.Proving.{proof, fitted}
+use Rattle.meaning.specs.Checking.{checked}
+
+abbrev pub pocketSteps : ℕ
+pocketSteps = 32
+
+-- The path of a leaf has at most 32 steps.
+unfoldable pub shortPath : Presence → Bool
+shortPath p = leb (length (p .steps)) pocketSteps
+
+abbrev pub shortNeighbour : Option Presence → Bool
+shortNeighbour none = true
+shortNeighbour (some p) = shortPath p
+
+-- A proof is inside the profile if the path of each leaf shown is short.
+abbrev pub small : Proof → Bool
+small (presence p) = shortPath p
+small (absence a) = shortNeighbour (a .leftward) && shortNeighbour (a .rightward)
+
+-- A proof outside it is refused with 19.
+abbrev pub inProfile : Answer Proof → Answer Proof
+inProfile (refused n) = refused n
+inProfile (accepted p) = cond (small p) (accepted p) (refused 19)
+
+-- The pocket writer refuses as the full one does, with 19 before 9.
+unfoldable pub pocketProve : Store → ℕ → Bytes → ℕ → Answer Proof
+pocketProve st v k room = fitted room (inProfile (proof st v k))
+
+-- The pocket checker, of a proof in form: 19, before 11; else what the full one says.
+module _ (leafHash innerHash : Bytes → Bytes → Bytes) where
+  unfoldable pub pocketChecked : Bytes → Bytes → Proof → Answer Verdict
+  pocketChecked root k p = cond (small p) (checked leafHash innerHash root k p) (refused 19)

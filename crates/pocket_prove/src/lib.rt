@@ -1,0 +1,76 @@
+// Proving in the pocket profile over lent bytes, document 02, request 2026-14: as the full prover, with 19 before 9.
+ghost use mathlib.Core.Path.{_≡_};
+ghost use lib.ListN.{length};
+ghost use Rattle.proving.specs.Parts.{Gives};
+ghost use Rattle.pocket_prove.specs.Parts.{wayShort, oneLong, planOutside};
+ghost use Rattle.pocket_prove.specs.Proving.{pocketAnswer};
+use numbers::NOT_32_BYTES;
+use paths::Sought;
+use paths::Way;
+use pocket::OUTSIDE;
+use pocket::POCKET_STEPS;
+use proving::Proved;
+use proving::give;
+use proving_plan::Plan;
+use proving_plan::Shape;
+use proving_plan::plan_of;
+use read_open::Opened;
+use read_open::open;
+
+// Whether the neighbour that a search found, if any, has at most 32 steps.
+fn is_short(n: Sought) -> bool
+    ensures { λ r. ⌜ r ≡ wayShort (n .way) (n .path) ⌝ }
+{
+    let way = n.way;
+    let path = n.path;
+    let place = path.place;
+    match way {
+        Way::Somebody => place.count <= POCKET_STEPS,
+        Way::Nobody => true,
+        Way::Lost(_) => true,
+    }
+}
+
+// Whether one of two neighbours has more.
+fn one_is_long(left: Sought, right: Sought) -> bool
+    ensures { λ r. ⌜ r ≡ oneLong left right ⌝ }
+{
+    if !is_short(left) {
+        return true;
+    }
+    !is_short(right)
+}
+
+// Whether a planned proof shows a leaf with more than 32 steps.
+fn is_outside(plan: Plan) -> bool
+    ensures { λ r. ⌜ r ≡ planOutside plan ⌝ }
+{
+    let shape = plan.shape;
+    let first = plan.first;
+    let second = plan.second;
+    let path = first.path;
+    let place = path.place;
+    match shape {
+        Shape::Refused(_) => false,
+        Shape::Presence => POCKET_STEPS < place.count,
+        Shape::Absence => one_is_long(first, second),
+    }
+}
+
+// Proves a key present or absent in a version by a proof of the profile: it fills the front of the room and the rest stays; refused, nothing is written.
+pub fn pocket_prove(store: &[u8], version: u32, key: &[u8], room: &mut [u8]) -> Proved
+    ensures { λ r. ⌜ Gives (pocketAnswer (now (store .entry)) version (now (key .entry)) (length (now (room .entry)))) (now (room .entry)) (now (room .exit)) r ⌝ }
+{
+    if key.len() != 32 {
+        return Proved::Refused(NOT_32_BYTES as u64);
+    }
+    let opened = open(store, version);
+    if let Opened::Refused(n) = opened {
+        return Proved::Refused(n as u64);
+    }
+    let plan = plan_of(store, version, key);
+    if is_outside(plan) {
+        return Proved::Refused(OUTSIDE as u64);
+    }
+    give(store, key, plan, room)
+}

@@ -1,0 +1,73 @@
+// The proof check of the pocket profile over hostile bytes, document 02, request 2026-14: 12, 10, 19, then as the full check.
+ghost use mathlib.Core.Path.{_≡_};
+ghost use mathlib.Core.Bool.{true};
+ghost use Rattle.terms.specs.Records.{absence};
+ghost use Rattle.pocket.specs.Pocket.{shortPath, small};
+ghost use Rattle.proofrecords.specs.ProofBytes.{isPresence, presenceIn, isAbsence, absenceIn};
+ghost use Rattle.verify.specs.Says.{says};
+ghost use Rattle.pocket_verify.specs.Verify.{outside, pocketVerified};
+use fields::get_u16;
+use fields::get_u32;
+use numbers::NOT_32_BYTES;
+use pocket::OUTSIDE;
+use pocket::POCKET_STEPS;
+use proofrecords::ABSENCE_HEAD;
+use proofrecords::FLAGS_AT;
+use proofrecords::STEPS_AT;
+use verify::Checked;
+use verify::verify;
+use verify_form::is_absence;
+use verify_form::is_presence;
+
+// Whether a presence proof has at most 32 steps.
+fn short_path(p: &[u8]) -> bool
+    requires { ⌜ isPresence (now p) ≡ true ⌝ }
+    ensures { λ r. ⌜ r ≡ shortPath (presenceIn (now (p .entry))) ⌝ }
+{
+    get_u16(p, STEPS_AT) as usize <= POCKET_STEPS
+}
+
+// Whether each neighbour that an absence proof shows has at most 32 steps. Each is read where it lies.
+fn short_neighbours(p: &[u8]) -> bool
+    requires { ⌜ isAbsence (now p) ≡ true ⌝ }
+    ensures { λ r. ⌜ r ≡ small (absence (absenceIn (now (p .entry)))) ⌝ }
+{
+    let n = p.len();
+    if get_u16(p, FLAGS_AT) <= 2 {
+        return short_path(&p[ABSENCE_HEAD..n]);
+    }
+    let e = ABSENCE_HEAD + get_u32(p, ABSENCE_HEAD) as usize;
+    if !short_path(&p[ABSENCE_HEAD..e]) {
+        return false;
+    }
+    short_path(&p[e..n])
+}
+
+// Whether the bytes are a proof in form outside the profile.
+fn is_outside(p: &[u8]) -> bool
+    ensures { λ r. ⌜ r ≡ outside (now (p .entry)) ⌝ }
+{
+    if is_presence(p) {
+        return !short_path(p);
+    }
+    if is_absence(p) {
+        return !short_neighbours(p);
+    }
+    false
+}
+
+// What a proof of the profile says of a key under a root: any bytes may be handed in.
+pub fn pocket_verify(root: &[u8], key: &[u8], proof: &[u8]) -> Checked
+    ensures { λ r. ⌜ says r ≡ pocketVerified (now (root .entry)) (now (key .entry)) (now (proof .entry)) ⌝ }
+{
+    if root.len() != 32 {
+        return Checked::Refused(NOT_32_BYTES);
+    }
+    if key.len() != 32 {
+        return Checked::Refused(NOT_32_BYTES);
+    }
+    if is_outside(proof) {
+        return Checked::Refused(OUTSIDE);
+    }
+    verify(root, key, proof)
+}

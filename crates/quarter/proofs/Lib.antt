@@ -1,0 +1,5 @@
+pub mod Slots
+pub mod Trees
+pub mod Ranges
+pub mod Theorems
+pub mod Samples

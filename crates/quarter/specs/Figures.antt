@@ -1,0 +1,123 @@
+-- Document 02, request 2026-14: the figures of a range of 1 to 1,024 kept versions of a sound store, each a count over the trees. Order: 8, 9; 1, 2 and 3 are
+-- refused before, as in the other calls that test soundness. Assumes nothing.
+use Prim.Native.Nat.{ℕ, zero, suc, _+_, _*_, _-_, max}
+use mathlib.Core.Bool.{Bool, true, false, cond, _&&_, _||_}
+use mathlib.Core.List.{List, [], _∷_, _++_, map}
+use lib.ListN.{length}
+use lib.Dec.{eqb, leb, ltb}
+use Rattle.terms.specs.Bits.{Bytes, left, right, Place, longer, samePlace}
+use Rattle.terms.specs.Fields.{le, flat}
+use Rattle.terms.specs.Records.{Store}
+use Rattle.meaning.specs.Tree.{VTree, vnone, vleaf, vinner}
+use Rattle.meaning.specs.Store.{treeAtVersion}
+use Rattle.meaning.specs.Calls.{Result, accepted, refuse, isKept}
+
+-- A figure of a tree is what its nodes give, taken together: a leaf with n inner nodes above it gives `leaf n`, an inner node gives `inner`.
+abbrev pub figure : (ℕ → ℕ → ℕ) → (ℕ → ℕ) → ℕ → ℕ → VTree → ℕ
+figure together leaf inner n vnone = 0
+figure together leaf inner n (vleaf v g) = leaf n
+figure together leaf inner n (vinner v l r) =
+    together inner (together (figure together leaf inner (suc n) l) (figure together leaf inner (suc n) r))
+
+-- Leaves count one each, and so do inner nodes.
+unfoldable pub leaves : VTree → ℕ
+leaves t = figure _+_ (λ n. 1) 0 0 t
+
+unfoldable pub inners : VTree → ℕ
+inners t = figure _+_ (λ n. 0) 1 0 t
+
+-- The path of a leaf has a step for each inner node above it: the longest path, and the sum of path lengths.
+unfoldable pub longest : VTree → ℕ
+longest t = figure max (λ n. n) 0 0 t
+
+unfoldable pub pathSum : VTree → ℕ
+pathSum t = figure _+_ (λ n. n) 0 0 t
+
+-- The four numbers of a version, 4 bytes each.
+pub record Figures : Type 0 where
+  pub leaves : ℕ
+  pub inners : ℕ
+  pub longest : ℕ
+  pub pathSum : ℕ
+
+abbrev pub figuresOf : VTree → Figures
+figuresOf t = record { leaves = leaves t; inners = inners t; longest = longest t; pathSum = pathSum t }
+
+unfoldable pub figuresBytes : Figures → Bytes
+figuresBytes f = flat (le 4 (f .leaves) ∷ le 4 (f .inners) ∷ le 4 (f .longest) ∷ le 4 (f .pathSum) ∷ [])
+
+abbrev pub figuresSize : ℕ
+figuresSize = 16
+
+-- A range has 1 to 1,024 versions, all of them kept.
+abbrev pub mostVersions : ℕ
+mostVersions = 1024
+
+unfoldable pub rangeRight : Store → ℕ → ℕ → Bool
+rangeRight st first last = isKept st first && isKept st last && leb first last && ltb (last - first) mostVersions
+
+-- The n versions from v on, and those of a range.
+abbrev pub versionsFrom : ℕ → ℕ → List ℕ
+versionsFrom v zero = []
+versionsFrom v (suc n) = v ∷ versionsFrom (suc v) n
+
+unfoldable pub versions : ℕ → ℕ → List ℕ
+versions first last = versionsFrom first (suc last - first)
+
+-- A record is named by its node: no two share version and place. The nodes of a tree that stands at a place.
+pub record Node : Type 0 where
+  pub version : ℕ
+  pub place : Place
+
+abbrev pub node : ℕ → Place → Node
+node v p = record { version = v; place = p }
+
+abbrev pub nodes : Place → VTree → List Node
+nodes p vnone = []
+nodes p (vleaf v g) = node v p ∷ []
+nodes p (vinner v l r) = node v p ∷ nodes (longer left p) l ++ nodes (longer right p) r
+
+-- A node stands in a list, and how many different ones do.
+abbrev pub among : Node → List Node → Bool
+among n [] = false
+among n (m ∷ ms) = (eqb (n .version) (m .version) && samePlace (n .place) (m .place)) || among n ms
+
+abbrev pub different : List Node → ℕ
+different [] = 0
+different (n ∷ ns) = cond (among n ns) (different ns) (suc (different ns))
+
+module _ (st : Store) where
+  -- The nodes of the versions' trees, one tree after the other.
+  abbrev pub nodesOver : List ℕ → List Node
+  nodesOver [] = []
+  nodesOver (v ∷ vs) = nodes [] (treeAtVersion st v) ++ nodesOver vs
+
+  -- The records of each version, leaves and inner nodes, added up.
+  abbrev pub recordsOver : List ℕ → ℕ
+  recordsOver [] = 0
+  recordsOver (v ∷ vs) = leaves (treeAtVersion st v) + inners (treeAtVersion st v) + recordsOver vs
+
+  -- The four numbers of each version.
+  abbrev pub figuresOver : List ℕ → List Figures
+  figuresOver [] = []
+  figuresOver (v ∷ vs) = figuresOf (treeAtVersion st v) ∷ figuresOver vs
+
+-- The four numbers for each version; over the range distinct records, and the sum of records over versions.
+pub record Quarter : Type 0 where
+  pub each : List Figures
+  pub distinct : ℕ
+  pub records : ℕ
+
+unfoldable pub quarterOf : Store → ℕ → ℕ → Quarter
+quarterOf st first last = record {
+  each = figuresOver st (versions first last);
+  distinct = different (nodesOver st (versions first last));
+  records = recordsOver st (versions first last);
+}
+
+-- 8 if the range isn't 1 to 1,024 kept versions, 9 if the numbers don't fit in the room; else the figures, and the store stays as it is.
+unfoldable pub figures : ℕ → ℕ → ℕ → Store → Result Quarter
+figures first last room st =
+    cond (rangeRight st first last)
+    (cond (ltb room (figuresSize * (suc last - first))) (refuse 9 st) (record { answer = accepted (quarterOf st first last); store = st }))
+    (refuse 8 st)
