@@ -1,26 +1,18 @@
 -- A store has one right table at most. Assumes nothing.
-use Prim.Native.Nat.{ℕ, zero, suc, _≤_, _<_}
+use Prim.Native.Nat.{ℕ, zero, suc, _<_}
 use native.Mathlib.Omega.{arith}
-use native.Mathlib.Nat.{le-of-suc-le-suc}
-use mathlib.Core.Path.{_≡_, refl, ap, ap₂, sym, _∙_, subst}
+use mathlib.Core.Path.{_≡_, refl, ap, sym, _∙_, subst}
 use mathlib.Core.Bool.{Bool, true, false, true≢false}
-use mathlib.Core.List.{List, [], _∷_}
-use lib.ListN.{length, getD}
+use mathlib.Core.List.{List}
+use lib.ListN.{length}
+use lib.Seq.{ext-getD}
 use lib.Dec.{ltb}
 use borrow.Author.Tests.{ltb-true, ltb-false}
 use Rattle.terms.specs.Records.{Record, Store}
 use Rattle.meaning.specs.Sound.{At}
-use Rattle.meaning.proofs.Finding.{same-slot}
 use Rattle.indexed.specs.Index.{nodeBefore}
 use Rattle.indexed.specs.Table.{entry, Right}
 use Rattle.indexed.proofs.Before.{node-itself, node-once}
-
--- lists of one length with the same entries are one
-by-entries : (xs ys : List ℕ) (d : ℕ) → length xs ≡ length ys → ((k : ℕ) → k < length xs → getD xs k d ≡ getD ys k d) → xs ≡ ys
-by-entries [] [] d e f = refl
-by-entries [] (y ∷ ys) d e f = absurd (omega arith)
-by-entries (x ∷ xs) [] d e f = absurd (omega arith)
-by-entries (x ∷ xs) (y ∷ ys) d e f = ap₂ _∷_ (f 0 (omega arith)) (by-entries xs ys d (omega arith) (λ k l. f (suc k) (omega arith)))
 
 module _ (st : Store) where
   -- no slot is named twice
@@ -107,4 +99,4 @@ module _ (st : Store) where
 
     pub one-right-table : t ≡ u
     one-right-table =
-        by-entries t u (length (st .slots)) (a .size ∙ sym (b .size)) (λ k l. agree (suc k) k (omega arith) l)
+        ext-getD (length (st .slots)) t u (a .size ∙ sym (b .size)) (λ k l. agree (suc k) k (omega arith) l)

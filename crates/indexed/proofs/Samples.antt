@@ -42,7 +42,8 @@ st = record { oldest = 1; latest = 4; slots = slots }
 table : List ℕ
 table = 4 ∷ 0 ∷ 2 ∷ 5 ∷ 3 ∷ 6 ∷ []
 
--- roots: of 1 and 2 that of version 1, of 3 and 4 that of version 3, of 0 none; nodes; and where two slots match the one looked at first, not the lowest
+-- roots: of 1 and 2 that of version 1, of 3 and 4 that of version 3, of 0 none; nodes; and where two slots match the one looked at first, not the lowest;
+-- a root that is retired by then is none, though nothing else is named
 found : List (Option Record)
 found =
     search (rootLook 1) table slots
@@ -53,10 +54,11 @@ found =
     ∷ search (nodeLook 1 (left ∷ [])) table slots
     ∷ search (nodeLook 2 (left ∷ [])) table slots
     ∷ search (nodeLook 2 (right ∷ [])) table slots
+    ∷ search (rootLook 3) (replicate 6 4) slots
     ∷ []
 
 searched : found ≡
-    some (at 1 [] 3) ∷ some (at 1 [] 3) ∷ some (at 3 [] 0) ∷ some (at 3 [] 0) ∷ none ∷ some (at 1 (left ∷ []) 0) ∷ none ∷ some (at 2 (right ∷ []) 7) ∷ []
+    some (at 1 [] 3) ∷ some (at 1 [] 3) ∷ some (at 3 [] 0) ∷ some (at 3 [] 0) ∷ none ∷ some (at 1 (left ∷ []) 0) ∷ none ∷ some (at 2 (right ∷ []) 7) ∷ none ∷ []
 unfolding found search rootLook nodeLook nodeBefore retiredBy table named
 searched = refl
 

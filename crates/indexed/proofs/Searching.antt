@@ -6,9 +6,9 @@ use mathlib.Core.Logic.{_⊎_, inl, inr}
 use mathlib.Core.Bool.{Bool, true, false, cond, true≢false}
 use mathlib.Core.List.{List, [], _∷_}
 use mathlib.Core.Option.{Option, none, some, Option·none-ne-some}
-use lib.ListN.{length, getD, List·getD-eq-default}
+use lib.ListN.{length, getD}
 use lib.Dec.{ltb}
-use borrow.Author.Tests.{ltb-true, ltb-false}
+use borrow.Author.Tests.{ltb-false}
 use Rattle.terms.specs.Bits.{Place, samePlace}
 use Rattle.terms.specs.Records.{Record, Slot, free, used, spoiled, Store}
 use Rattle.terms.proofs.Tests.{same-place}
@@ -53,6 +53,12 @@ root-met v r q e = go _ refl _ refl _ refl e
     go true h false k true m f = small-meets q f
     go true h false k false m f = (meets-eq r q f, root-is v r (same-place (r .place) [] h) (ltb-false v (r .version) k, m))
 
+-- a slot that holds a record is one of the store's
+pub inside : (s : List Slot) (i : ℕ) (r : Record) → getD s i free ≡ used r → i < length s
+inside [] i r e = free-used r e
+inside (x ∷ s) zero r e = omega arith
+inside (x ∷ s) (suc i) r e = let l = inside s i r e in omega arith
+
 -- the slot that a search ends on
 pub record Ends (look : Record → Look) (s : List Slot) (r : Record) : Type 0 where
   pub slot : ℕ
@@ -66,17 +72,10 @@ module _ (look : Record → Look) (own : (q r : Record) → look q ≡ meets r �
   unfolding named
   entry-met i r e = go (getD s i free) refl e
     where
-      inside : (q : Record) → getD s i free ≡ used q → i < length s
-      inside q h = within (ltb i (length s)) refl
-        where
-          within : (b : Bool) → ltb i (length s) ≡ b → i < length s
-          within true k = ltb-true i (length s) k
-          within false k = free-used q (sym (List·getD-eq-default s free (ltb-false i (length s) k)) ∙ h)
-
       go : (x : Slot) → getD s i free ≡ x → lookAt look (inForm x) ≡ meets r → (i < length s) × (getD s i free ≡ used r)
       go free h f = great-meets r f
       go (spoiled x) h f = great-meets r f
-      go (used q) h f = (inside q h, h ∙ ap used (own q r f))
+      go (used q) h f = (inside s i q h, h ∙ ap used (own q r f))
 
   entry-look : (i : ℕ) (r : Record) → lookAt look (named s i) ≡ meets r → look r ≡ meets r
   unfolding named

@@ -1,11 +1,16 @@
 -- The desk's store after M6 and after M8, and its store with gaps, worked out by hand from 02's words and computed. Assumes nothing.
 use Prim.Native.Nat.{ℕ}
 use mathlib.Core.Path.{_≡_, refl}
-use mathlib.Core.List.{[], _∷_}
+use mathlib.Core.Bool.{Bool, true, false}
+use mathlib.Core.List.{List, [], _∷_}
 use Rattle.terms.specs.Bits.{Bytes}
+use Rattle.terms.specs.Records.{Store}
+use Rattle.meaning.specs.Calls.{isKept}
+use Rattle.meaning.specs.Store.{retiredBy}
 use Rattle.meaning.specs.Computed.{computed}
 use Rattle.meaning.specs.Desk.{s₆, s₈, g₉}
 use Rattle.quarter.specs.Figures.{leaves, inners, longest, pathSum, Figures, versions, quarterOf, rangeRight}
+use Rattle.quarter.specs.Living.{livesIn, livingRecords}
 
 abbrev four : ℕ → ℕ → ℕ → ℕ → Figures
 four a b c d = record { leaves = a; inners = b; longest = c; pathSum = d }
@@ -36,3 +41,19 @@ with-gaps : (leafHash innerHash : Bytes → Bytes → Bytes) → quarterOf (g₉
 }
 unfolding computed leaves inners longest pathSum versions quarterOf
 with-gaps leafHash innerHash = refl
+
+-- 1,024 versions are a range, 1,025 are not.
+ranges : List Bool
+ranges = rangeRight long 1 1024 ∷ rangeRight long 1 1025 ∷ []
+  where
+    long : Store
+    long = record { oldest = 0; latest = 2000; slots = [] }
+
+ranges-right : ranges ≡ true ∷ false ∷ []
+unfolding ranges rangeRight isKept
+ranges-right = refl
+
+-- Counted over the slots: 14 records live in some version of 0 to 6, most of them retired by the last.
+living-in-range : (leafHash innerHash : Bytes → Bytes → Bytes) → livingRecords 0 6 (s₆ leafHash innerHash .slots) ≡ 14
+unfolding computed livesIn livingRecords retiredBy
+living-in-range leafHash innerHash = refl

@@ -1,13 +1,12 @@
--- Within the time of one root nothing is compared: a version before the next one with the same root joins it exactly if it is not below
--- the floor, and the floor stays. So a loop goes back by roots and not by versions. Assumes nothing.
-use Prim.Native.Nat.{ℕ, zero, suc, _≤_, max}
+-- Within the time of one root nothing is compared: the version before has the same root, and equal versions join and hold nothing new. So a
+-- loop goes back by roots and not by versions. Assumes nothing.
+use Prim.Native.Nat.{ℕ, zero, suc, _≤_}
 use native.Mathlib.Omega.{arith}
 use mathlib.Core.Path.{_≡_, refl, ap, sym, _∙_}
-use mathlib.Core.Bool.{Bool, true, false, not, _&&_}
+use mathlib.Core.Bool.{true, false}
 use mathlib.Core.List.{List, []}
 use mathlib.Core.Option.{Option, none, some, Option·some-injective}
-use lib.Dec.{eqb, leb}
-use borrow.Author.Tests.{eq-eqb, ne-eqb}
+use borrow.Author.Tests.{eq-eqb}
 use Rattle.terms.specs.Bits.{Bytes, Place}
 use Rattle.terms.specs.Records.{Record, Slot}
 use Rattle.meaning.specs.Store.{find, retiredBy}
@@ -15,7 +14,7 @@ use Rattle.histories.proofs.Slots.{Has, find-has}
 use Rattle.histories.proofs.Standing.{Formed}
 use Rattle.histories.proofs.Whole.{retired-later, not-retired}
 use Rattle.rescued.specs.Rescue.{newestRoot, unlessRetired, sourceRoot}
-use Rattle.rescued.specs.Joining.{versionOf, rootVersion, floor, newestChild, joinAt, joinsNext}
+use Rattle.rescued.specs.Joining.{versionOf, rootVersion, newestChild, joinAt}
 use Rattle.rescued_laws.proofs.Roots.{Newest, no-root, is-newest, newest-root, root-at, root-place, root-newest, root-lives}
 
 module _ (s : List Slot) (v : ℕ) (r : Record) (e : sourceRoot s (suc v) ≡ some r) (h : r .version ≤ v) where
@@ -49,26 +48,8 @@ pub same-floor : (n : ℕ) (s : List Slot) (a b : ℕ) (p : Place) → a ≡ b �
 same-floor zero s a b p e = refl
 same-floor (suc n) s a b p e = rw (eq-eqb a b e) refl
 
-third-test : (x y k : Bool) → x ≡ true → y ≡ true → x && (y && k) ≡ k
-third-test x y k e f = rw (e, f) refl
-
-no-more : (x y : ℕ) → y ≡ 0 → max x y ≡ x
-no-more x y e = omega arith
-
 module _ (leafHash innerHash : Bytes → Bytes → Bytes) (s : List Slot) (z : Formed s) (v : ℕ) (r : Record) (e : sourceRoot s (suc v) ≡ some r)
     (h : r .version ≤ v) where
   pub same-version : (rootVersion s v ≡ r .version) × (rootVersion s v ≡ rootVersion s (suc v))
   unfolding rootVersion
   same-version = (ap versionOf (same-block s v r e h), ap versionOf (same-block s v r e h ∙ sym e))
-
-  there : not (eqb (rootVersion s v) 0) ≡ true
-  there =
-      let f = z r (find-has (r .version) [] s r (root-at s (suc v) r e) .0) .versioned .0 in
-      ap not (ne-eqb (rootVersion s v) 0 (λ k. omega (arith, same-version .0, f)))
-
-  pub block-joins : (lowest : ℕ) → joinsNext leafHash innerHash s v (rootVersion s (suc v)) lowest ≡ leb lowest v
-  unfolding joinsNext
-  block-joins lowest = third-test _ _ _ there (same-joins leafHash innerHash 256 s (suc v) (rootVersion s v) (rootVersion s (suc v)) [] (same-version .1))
-
-  pub block-floor : (n : ℕ) → floor s v (suc n) ≡ floor s (suc v) n
-  block-floor n = no-more _ _ (same-floor 256 s (rootVersion s v) (rootVersion s (suc v)) [] (same-version .1))
