@@ -4,13 +4,13 @@ use changes_put::ITEM_SIZE;
 use changes_top::root_top;
 use changes_walk::Walked;
 use changes_walk::walk_trees;
-use numbers::NO_ROOM;
-use numbers::NOT_KEPT;
-use numbers::TOO_MANY_VISITS;
+use check_store::check;
 use place::Place;
 use read_open::Opened;
 use read_open::open;
-use soundness::check;
+use refusal_numbers::NO_ROOM;
+use refusal_numbers::NOT_KEPT;
+use refusal_numbers::TOO_MANY_VISITS;
 ghost use Rattle.promises.specs.Calls.{SoundBytes};
 ghost use Rattle.changes.specs.Parts.{comparedSays, Compares};
 

@@ -21,11 +21,11 @@ use Rattle.place.specs.declared.Place as declared-place
 use Rattle.place.specs.Place.{placeOf, Stands}
 use Rattle.place.proofs.Places.{proper-whole, proper-count}
 use Rattle.layout.specs.Stores.{storeOf, slotNo}
-use Rattle.kin.specs.declared.Kept as declared-kept
-use Rattle.kin.specs.Kin.{endsAt, clearOf}
-use Rattle.kin_parents.specs.Parents.{Is, ParentsSay}
-use Rattle.kin.proofs.Roots.{root-clear}
-use Rattle.kin_parents.proofs.Naming.{none-said}
+use Rattle.check_kin.specs.declared.Kept as declared-kept
+use Rattle.check_kin.specs.Kin.{endsAt, clearOf}
+use Rattle.check_parents.specs.Parents.{Is, ParentsSay}
+use Rattle.check_kin.proofs.Roots.{root-clear}
+use Rattle.check_parents.proofs.Naming.{none-said}
 use Rattle.check_alone.specs.declared.Head as declared
 use Rattle.check_alone.specs.Parts.{recordOn, Headed}
 use Rattle.check_above.specs.Above.{AboveSays}

@@ -9,7 +9,7 @@ use Rattle.hash.specs.declared.Hash.{Hash}
 use Rattle.hash.specs.Hash.{hashBytes}
 use Rattle.nodehash.specs.Node.{leafHash, innerHash}
 use Rattle.layout.specs.Stores.{storeOf}
-use Rattle.kin.specs.Kin.{isLeafBody}
+use Rattle.check_kin.specs.Kin.{isLeafBody}
 use Rattle.check_alone.specs.declared.Head as declared
 use Rattle.check_alone.specs.Parts.{recordOn}
 

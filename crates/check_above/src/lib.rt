@@ -1,14 +1,14 @@
 // What stands above a record, for the exact test of its slot, document 01, 'Sound': its parents, or, of a root, the other roots; no version is
 // tried.
 use check_alone::Head;
+use check_kin::Kept;
+use check_kin::ends_before;
+use check_kin::front;
+use check_kin::kept_life;
+use check_kin::roots_apart;
+use check_link::Below;
+use check_parents::parents_right;
 use hash::Hash;
-use kin::Kept;
-use kin::ends_before;
-use kin::front;
-use kin::kept_life;
-use kin::roots_apart;
-use kin_link::Below;
-use kin_parents::parents_right;
 use place::key_bit;
 ghost use Rattle.check_alone.specs.Parts.{Headed};
 ghost use Rattle.check_above.specs.Above.{AboveSays};

@@ -14,8 +14,8 @@ use Rattle.local.specs.Test.{total, byRecord, isSame, holders, lifeTest, isFoun
 use Rattle.place.specs.declared.Place as declared-place
 use Rattle.place.specs.Place.{placeOf, Grown}
 use Rattle.layout.specs.Stores.{storeOf}
-use Rattle.kin.specs.declared.Kept as declared-kept
-use Rattle.kin.specs.Kin.{countNode}
+use Rattle.check_kin.specs.declared.Kept as declared-kept
+use Rattle.check_kin.specs.Kin.{countNode}
 use Rattle.check_alone.specs.declared.Head as declared
 use Rattle.check_alone.specs.Parts.{recordOn, Headed, lifeRight, foundOn, aloneTests}
 

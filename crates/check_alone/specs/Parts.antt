@@ -13,8 +13,8 @@ use Rattle.place.specs.declared.Place as declared-place
 use Rattle.place.specs.Place.{placeOf, Proper}
 use Rattle.layout.specs.Slots.{recordOf}
 use Rattle.layout.specs.Stores.{storeOf}
-use Rattle.kin.specs.declared.Kept as declared-kept
-use Rattle.kin.specs.Kin.{Keeps}
+use Rattle.check_kin.specs.declared.Kept as declared-kept
+use Rattle.check_kin.specs.Kin.{Keeps}
 use Rattle.check_alone.specs.declared.Head as declared
 
 -- The record with this head and body.

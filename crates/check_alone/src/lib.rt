@@ -1,8 +1,8 @@
 // A record by itself, for the exact test of its slot, document 01, 'Sound': its version, its life, how many slots hold its node, and its
 // children; each with a pass over the slots at most.
-use kin::Kept;
-use kin::child_found;
-use kin::holders;
+use check_kin::Kept;
+use check_kin::child_found;
+use check_kin::holders;
 use place::Place;
 ghost use mathlib.Core.Path.{_≡_};
 ghost use mathlib.Core.Bool.{true, _&&_};

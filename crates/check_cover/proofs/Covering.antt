@@ -13,8 +13,8 @@ use Rattle.layout.specs.Slots.{countIn, versionIn, sinceIn}
 use Rattle.layout.specs.Stores.{slotIn, storeOf, Has}
 use Rattle.lookup.proofs.Matching.{count-is}
 use Rattle.lookup.proofs.Rooting.{no-bits}
-use Rattle.kin.specs.declared.Kept as declared-kept
-use Rattle.kin.specs.Kin.{Keeps, endsAt}
+use Rattle.check_kin.specs.declared.Kept as declared-kept
+use Rattle.check_kin.specs.Kin.{Keeps, endsAt}
 use Rattle.check_pass.specs.Passes.{Passed}
 use Rattle.check_pass.proofs.Records.{version-of, retired-of, read-long, read-bytes, read-as}
 use Rattle.check_cover.specs.Cover.{CoveredBy}

@@ -1,13 +1,13 @@
 // The last pass of the check: whether what the parents of each record add up to covers its kept life.
-use kin::Kept;
-use kin::ends_before;
-use kin::kept_life;
+use check_kin::Kept;
+use check_kin::ends_before;
+use check_kin::kept_life;
 use store::count_at;
 use store::retired_at;
 use store::slot_count;
 use store::version_at;
 ghost use Rattle.layout.specs.Stores.{Has};
-ghost use Rattle.kin.specs.Kin.{Keeps};
+ghost use Rattle.check_kin.specs.Kin.{Keeps};
 ghost use Rattle.check_pass.specs.Passes.{Passed, Each};
 ghost use Rattle.check_cover.specs.Cover.{CoveredBy, CoveredAt};
 

@@ -14,7 +14,7 @@ use Rattle.terms.proofs.Tests.{is-false, same-bytes}
 use Rattle.layout.specs.Sizes.{slotSize}
 use Rattle.layout.specs.Slots.{countIn, bitsIn, versionIn, sinceIn}
 use Rattle.layout.specs.Stores.{slotIn, Has}
-use Rattle.kin.specs.Kin.{endsAt}
+use Rattle.check_kin.specs.Kin.{endsAt}
 use Rattle.check_pass.specs.Passes.{Passed}
 use Rattle.check_pass.proofs.Records.{version-of, read-as}
 use Rattle.check_order.specs.Order.{nodeKey, Stepwise, PartedNo, Named, NamedAt}

@@ -17,7 +17,7 @@ use Rattle.layout.specs.Headers.{sizeRight}
 use Rattle.layout.specs.Stores.{slotIn, storeOf, Has}
 use Rattle.lookup.proofs.Matching.{count-is}
 use Rattle.store.proofs.Slots.{slots-many}
-use Rattle.kin.specs.Kin.{endsAt}
+use Rattle.check_kin.specs.Kin.{endsAt}
 use Rattle.check_pass.proofs.Records.{version-of, retired-of, read-long, read-bytes, read-as}
 use Rattle.check_order.specs.Order.{nodeKey, keyNo, InOrder, Named}
 

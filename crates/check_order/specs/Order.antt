@@ -11,7 +11,7 @@ use Rattle.meaning.specs.Sound.{At}
 use Rattle.layout.specs.Sizes.{slotSize}
 use Rattle.layout.specs.Slots.{countIn, bitsIn, versionIn, sinceIn, slotOf}
 use Rattle.layout.specs.Stores.{slotIn, storeOf, Has}
-use Rattle.kin.specs.Kin.{endsAt}
+use Rattle.check_kin.specs.Kin.{endsAt}
 
 -- The key of the check: the bit count of the place, its bytes, the version. So the records of one level stand together, and the children
 -- on one side stand in the order of their parents.

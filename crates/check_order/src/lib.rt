@@ -1,8 +1,8 @@
 // The order of a store's records by bit count, bits and version: whether one slot stands before another, whether a table's entries ascend,
 // and whether they name each record. The roots stand first, by their versions; so that no two live together shows at each root and the next.
+use check_kin::ends_before;
 use hash::hash_at;
 use hash::same_hash;
-use kin::ends_before;
 use place::before;
 use slots::bits_of;
 use store::count_at;

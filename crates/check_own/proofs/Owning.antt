@@ -16,8 +16,8 @@ use Rattle.layout.specs.Slots.{countIn, bitsIn, placeIn, versionIn, sinceIn, ke
 use Rattle.layout.specs.Stores.{slotIn, storeOf, slotNo, Has}
 use Rattle.slots.proofs.Reading.{leaf-head}
 use Rattle.lookup.proofs.Matching.{says}
-use Rattle.kin.specs.declared.Kept as declared-kept
-use Rattle.kin.specs.Kin.{Keeps}
+use Rattle.check_kin.specs.declared.Kept as declared-kept
+use Rattle.check_kin.specs.Kin.{Keeps}
 use Rattle.store.proofs.Slots.{slot-is}
 use Rattle.check_alone.specs.Parts.{lifeRight}
 use Rattle.check_pass.specs.Passes.{Passed}

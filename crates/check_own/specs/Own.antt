@@ -4,7 +4,7 @@ use mathlib.Core.Path.{_≡_}
 use mathlib.Core.Bool.{true}
 use Rattle.terms.specs.Bits.{Bytes, begins}
 use Rattle.layout.specs.Slots.{placeIn, versionIn, sinceIn, keyIn}
-use Rattle.kin.specs.declared.Kept as declared-kept
+use Rattle.check_kin.specs.declared.Kept as declared-kept
 use Rattle.check_alone.specs.Parts.{lifeRight}
 
 -- Version and life are right.

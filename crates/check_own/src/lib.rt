@@ -1,7 +1,7 @@
 // The first pass of the check: whether the own fields of each slot's record are right, by its bytes alone.
 use check_alone::life_right;
+use check_kin::Kept;
 use fields::all_zero;
-use kin::Kept;
 use place::begins;
 use place::place_at;
 use slots::bits_of;
@@ -17,7 +17,7 @@ ghost use mathlib.Core.Path.{_≡_};
 ghost use mathlib.Core.Bool.{true};
 ghost use Rattle.layout.specs.Slots.{isLeaf};
 ghost use Rattle.layout.specs.Stores.{slotIn, storeOf, Has};
-ghost use Rattle.kin.specs.Kin.{Keeps};
+ghost use Rattle.check_kin.specs.Kin.{Keeps};
 ghost use Rattle.check_pass.specs.Passes.{Passed, Each};
 ghost use Rattle.check_seen.specs.Seen.{OwnAt};
 ghost use Rattle.check_own.specs.Own.{HeadOwn, LeafOwn};

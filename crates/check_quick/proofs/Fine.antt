@@ -19,8 +19,8 @@ use Rattle.layout.proofs.Headers.{size-says}
 use Rattle.layout.specs.Slots.{versionIn, sinceIn, slotOf}
 use Rattle.layout.specs.Stores.{slotIn, storeOf, slotNo, Has}
 use Rattle.store.proofs.Slots.{slots-many, slot-is}
-use Rattle.kin.specs.declared.Kept as declared-kept
-use Rattle.kin.specs.Kin.{endsAt}
+use Rattle.check_kin.specs.declared.Kept as declared-kept
+use Rattle.check_kin.specs.Kin.{endsAt}
 use Rattle.check_order.specs.Order.{nodeKey, InOrder, Named, NamedAt}
 use Rattle.check_order.proofs.Unique.{node-key-by-node, ascending-unique}
 use Rattle.check_order.proofs.Parting.{roots-parted}

@@ -3,6 +3,7 @@
 use check_ahead::hash_ahead;
 use check_cover::covered;
 use check_guess::guessed;
+use check_kin::Kept;
 use check_order::ascending;
 use check_order::named;
 use check_own::own_right;
@@ -10,7 +11,6 @@ use check_slot::slot_passes;
 use check_sort::rank;
 use check_sort::sort;
 use check_tie::tie_all;
-use kin::Kept;
 use store::slot_count;
 ghost use mathlib.Core.Path.{_≡_};
 ghost use mathlib.Core.Bool.{true};
@@ -18,7 +18,7 @@ ghost use Prim.Native.Nat.{_≤_, _<_};
 ghost use Rattle.local.specs.Test.{slotsTest};
 ghost use Rattle.nodehash.specs.Node.{leafHash, innerHash};
 ghost use Rattle.layout.specs.Stores.{storeOf, Has};
-ghost use Rattle.kin.specs.Kin.{Keeps};
+ghost use Rattle.check_kin.specs.Kin.{Keeps};
 ghost use Rattle.check_tie.specs.Side.{Ready};
 ghost use Rattle.check_quick.specs.Look.{Sure, Alone, Linked};
 

@@ -16,8 +16,8 @@ use Rattle.slots.specs.declared.Kind as declared-kind
 use Rattle.slots.specs.declared.Kind.the-variants.{Free, Leaf, Inner, Spoiled}
 use Rattle.slots.specs.declared.Slot as declared-slot
 use Rattle.slots.specs.Answer.{childSays, recordSays, kindSays, slotSays, Read}
-use Rattle.kin.specs.declared.Kept as declared-kept
-use Rattle.kin.specs.Kin.{Keeps}
+use Rattle.check_kin.specs.declared.Kept as declared-kept
+use Rattle.check_kin.specs.Kin.{Keeps}
 use Rattle.store.proofs.Slots.{slot-long, slot-bytes, slot-within, slot-is}
 use Rattle.check_alone.specs.declared.Head as declared
 use Rattle.check_alone.specs.Parts.{recordOn, Headed}

@@ -19,7 +19,7 @@ use Rattle.layout.specs.Stores.{storeOf}
 use Rattle.slots.specs.declared.Child as declared-child
 use Rattle.slots.specs.Answer.{childSays}
 use Rattle.slots.proofs.Parts.{grant-key, grant-value}
-use Rattle.kin.specs.Kin.{isLeafBody}
+use Rattle.check_kin.specs.Kin.{isLeafBody}
 use Rattle.check_alone.specs.declared.Head as declared
 use Rattle.check_alone.specs.Parts.{recordOn, foundOn, aloneTests, AloneSays}
 use Rattle.check_above.specs.Above.{aboveTest}

@@ -4,7 +4,7 @@ use check_above::above_right;
 use check_alone::Head;
 use check_alone::alone_right;
 use check_alone::children_found;
-use kin::Kept;
+use check_kin::Kept;
 use nodehash::inner_hash;
 use nodehash::leaf_hash;
 use place::begins;
@@ -25,7 +25,7 @@ ghost use Rattle.layout.specs.Sizes.{slotSize};
 ghost use Rattle.layout.specs.Slots.{leafIn};
 ghost use Rattle.layout.specs.Stores.{storeOf, slotNo, Has};
 ghost use Rattle.slots.specs.Answer.{childSays};
-ghost use Rattle.kin.specs.Kin.{Keeps};
+ghost use Rattle.check_kin.specs.Kin.{Keeps};
 ghost use Rattle.check_alone.specs.Parts.{recordOn, Headed};
 
 // Whether a leaf, whose slot is s, passes its tests.

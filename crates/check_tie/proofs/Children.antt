@@ -22,7 +22,7 @@ use Rattle.layout.specs.Slots.{innerIn, recordIn, countIn, bitsIn, versionIn, s
 use Rattle.layout.specs.Stores.{slotIn, storeOf, Has}
 use Rattle.lookup.proofs.Matching.{place-is}
 use Rattle.store.proofs.Slots.{slot-is}
-use Rattle.kin.specs.Kin.{endsAt, isLeafBody}
+use Rattle.check_kin.specs.Kin.{endsAt, isLeafBody}
 use Rattle.check_pass.specs.Passes.{kindIn, Passed}
 use Rattle.check_pass.proofs.Records.{record-cases, version-of, retired-of, free-zero, read-long, read-bytes, read-as, stands}
 use Rattle.check_seen.specs.Seen.{OwnAt}

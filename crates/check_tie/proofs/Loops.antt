@@ -22,8 +22,8 @@ use Rattle.layout.specs.Headers.{sizeRight}
 use Rattle.layout.specs.Slots.{countIn, bitsIn, placeIn, versionIn, sinceIn, leafIn, leftIn, rightIn, kidOn, innerIn, recordIn, headRight, isInner, slotOf}
 use Rattle.layout.specs.Stores.{slotIn, storeOf, Has}
 use Rattle.slots.proofs.Reading.{inner-head}
-use Rattle.kin.specs.declared.Kept as declared-kept
-use Rattle.kin.specs.Kin.{Keeps, endsAt}
+use Rattle.check_kin.specs.declared.Kept as declared-kept
+use Rattle.check_kin.specs.Kin.{Keeps, endsAt}
 use Rattle.store.proofs.Slots.{slots-many}
 use Rattle.check_pass.specs.Passes.{kindIn}
 use Rattle.check_pass.proofs.Walks.{Walk, walk-start, walk-next}

@@ -19,7 +19,7 @@ use Rattle.local.proofs.Naming.{names-eq, eq-names}
 use Rattle.nodehash.specs.Node.{leafHash, innerHash}
 use Rattle.place.specs.Place.{placeOf}
 use Rattle.layout.specs.Stores.{storeOf}
-use Rattle.kin.specs.Kin.{isLeafBody}
+use Rattle.check_kin.specs.Kin.{isLeafBody}
 use Rattle.hash.specs.Hash.{hashBytes}
 use Rattle.check_sums.specs.Sums.{Added}
 use Rattle.check_sums.proofs.Sums.{added-side, none-added}

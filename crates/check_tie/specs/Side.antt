@@ -17,8 +17,8 @@ use Rattle.place.specs.Place.{placeOf, Proper}
 use Rattle.layout.specs.Sizes.{roomOf}
 use Rattle.layout.specs.Slots.{placeIn, versionIn, sinceIn}
 use Rattle.layout.specs.Stores.{storeOf}
-use Rattle.kin.specs.declared.Kept as declared-kept
-use Rattle.kin.specs.Kin.{Keeps, endsAt, isLeafBody}
+use Rattle.check_kin.specs.declared.Kept as declared-kept
+use Rattle.check_kin.specs.Kin.{Keeps, endsAt, isLeafBody}
 use Rattle.check_pass.specs.Passes.{Each}
 use Rattle.check_seen.specs.Seen.{OwnAt, Tied}
 use Rattle.check_sums.specs.Sums.{SideAdded, Under}

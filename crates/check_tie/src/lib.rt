@@ -1,15 +1,15 @@
 // Parents and their children, found at once by a guess: whether each child stands in the slot that was guessed, and all that is said of it is
 // right. Slots are read by single fields, since the own fields of all were looked at before.
 use check_hash::hash_right;
+use check_kin::Kept;
+use check_kin::ends_before;
+use check_kin::kept_life;
+use check_kin::later;
+use check_kin::longer;
 use check_sums::add;
 use hash::Hash;
 use hash::hash_at;
 use hash::same_hash;
-use kin::Kept;
-use kin::ends_before;
-use kin::kept_life;
-use kin::later;
-use kin::longer;
 use layout::sizes::INNER_KIND;
 use layout::sizes::LEAF_KIND;
 use place::Place;

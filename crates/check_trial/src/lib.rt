@@ -1,14 +1,14 @@
 // The passes of the check for a test and a bench to link (tests/passes); the library has nothing of this.
+use check_kin::Kept;
 use check_quick::Look;
 use check_quick::quick;
 use check_slot::slot_passes;
-use kin::Kept;
+use check_store::check;
 use layout::Header;
 use layout::read_header;
 use layout::size_right;
 use nodehash::leaf_hash;
 use slots::grant_of;
-use soundness::check;
 use store::kind_at;
 use store::slot_count;
 use store::slot_of;
@@ -16,7 +16,7 @@ ghost use mathlib.Core.Path.{_≡_};
 ghost use mathlib.Core.Bool.{true};
 ghost use lib.ListN.{length};
 ghost use Rattle.layout.specs.Headers.{sizeRight};
-ghost use Rattle.kin.specs.Kin.{Keeps};
+ghost use Rattle.check_kin.specs.Kin.{Keeps};
 
 const FINE: u32 = 0;
 

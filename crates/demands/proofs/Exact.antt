@@ -25,9 +25,9 @@ use Rattle.format.specs.Format.{formatAnswer}
 use Rattle.promises.specs.Check as check
 use Rattle.promises.specs.Calls.{Does, wrong-header, not-sound, refuses, accepts, Exports, exports-refusal, exports-answer}
 use Rattle.read_open.specs.Headed.{byHeader}
-use Rattle.reads.specs.Reads.{rootAnswer, keyAnswer}
-use Rattle.proving.specs.Proving.{proveAnswer}
-use Rattle.palettes.specs.Palette.{wholeKeys, keysIn, palette}
+use Rattle.read.specs.Reads.{rootAnswer, keyAnswer}
+use Rattle.prove.specs.Proving.{proveAnswer}
+use Rattle.palette_rules.specs.Palette.{wholeKeys, keysIn, palette}
 use Rattle.palette.specs.Palettes.{paletteAnswer}
 use Rattle.changed.specs.Compare.{compare}
 use Rattle.verify.specs.Verify.{judged, verified}

@@ -33,14 +33,14 @@ use Rattle.batch.specs.Batch.{batchOf}
 use Rattle.batch.proofs.Batches.{batch-of-back}
 use Rattle.format.specs.Format.{formatAnswer, formatBytes}
 use Rattle.promises.specs.Calls.{SoundBytes, wrong-header, not-sound, refuses, accepts, Exports, exports-refusal, exports-answer}
-use Rattle.rescues.specs.Rescues as rescue
-use Rattle.rescues.specs.Rescues.{slotsIn, Report, reportBytes}
-use Rattle.rescues.specs.Claims.{runLedger}
-use Rattle.rescues.proofs.Outcomes as rescued
-use Rattle.rescues.proofs.Outcomes.{refused-leaves, accepted-report}
-use Rattle.rescues.proofs.Worth.{worth}
-use Rattle.rescues.proofs.Ledger.{rescued-keeps}
-use Rattle.rescues.proofs.Report.{first-told}
+use Rattle.rescue_bytes.specs.Rescues as rescue
+use Rattle.rescue_bytes.specs.Rescues.{slotsIn, Report, reportBytes}
+use Rattle.rescue_bytes.specs.Claims.{runLedger}
+use Rattle.rescue_bytes.proofs.Outcomes as rescued
+use Rattle.rescue_bytes.proofs.Outcomes.{refused-leaves, accepted-report}
+use Rattle.rescue_bytes.proofs.Worth.{worth}
+use Rattle.rescue_bytes.proofs.Ledger.{rescued-keeps}
+use Rattle.rescue_bytes.proofs.Report.{first-told}
 use Rattle.grants.specs.Contracts.{Formats, ReadsRoot, ReadsKey, Proves, Rescues, Verifies}
 use Rattle.meaning.specs.Answers.{foundBytes}
 use Rattle.demands.specs.Calls.{Called, formats, applies, prunes, checks, reads-root, reads-key, proves, palettes, compares, verifies, hashes, Calls, none-yet, then-called, Life, rescues-from, rescues-into, Begins, by-format, by-rescue, takenOver}

@@ -3,12 +3,12 @@
 use Prim.Native.Nat.{ℕ}
 use mathlib.Core.Path.{_≡_, ap, sym, _∙_}
 use Rattle.terms.specs.Bits.{Bytes}
-use Rattle.soundness.proofs.Answers.{one-answer}
+use Rattle.check_store.proofs.Answers.{one-answer}
 use Rattle.meaning.specs.Answers.{numberOf}
 use Rattle.promises.proofs.Calls.{one-outcome, one-export}
 use Rattle.changes.specs.Changes.{roomAfter}
 use Rattle.changes_c.specs.Export.{countBytes}
-use Rattle.rescues.proofs.Outcomes as rescue
+use Rattle.rescue_bytes.proofs.Outcomes as rescue
 use Rattle.grants.specs.Contracts.{Formats, Checks, Applies, Prunes, ReadsRoot, ReadsKey, Proves, Palettes, Changes, Verifies, Hashes, Rescues}
 
 module _ {s : Bytes} {a b : ℕ} where

@@ -23,10 +23,10 @@ use Rattle.meaning.specs.Checking.{checked}
 use Rattle.meaning.specs.Answers.{numberOf, foundBytes}
 use Rattle.shown.proofs.Verdicts.{accepted-same}
 use Rattle.shown.proofs.Theorems.{proofs-have-17080-bytes, root-read-is-hash, shown}
-use Rattle.palettes.specs.Palette.{wholeKeys, keysIn, followed, inTurn, lengthTogether, fittedTogether, palette}
-use Rattle.palettes.specs.Claims.{ProofOfEach}
-use Rattle.palettes.proofs.Turns.{proofs-of-each, each-proved, first-refused}
-use Rattle.palettes.proofs.Keys.{keys-are-32, keys-are-bytes, keys-counted}
+use Rattle.palette_rules.specs.Palette.{wholeKeys, keysIn, followed, inTurn, lengthTogether, fittedTogether, palette}
+use Rattle.palette_rules.specs.Claims.{ProofOfEach}
+use Rattle.palette_rules.proofs.Turns.{proofs-of-each, each-proved, first-refused}
+use Rattle.palette_rules.proofs.Keys.{keys-are-32, keys-are-bytes, keys-counted}
 use Rattle.nodehash.specs.Node.{leafHash, innerHash}
 use Rattle.proofrecords.specs.ProofBytes.{stepsBytes, flagsOf, neighbourBytes, presenceBytes, absenceBytes, proofBytes, ProofForm}
 use Rattle.proofrecords.proofs.Proofs.{length-absence}
@@ -38,7 +38,7 @@ use Rattle.layout.proofs.Stores.{store-form}
 use Rattle.promises.specs.Calls.{SoundBytes}
 use Rattle.promises.proofs.Calls.{sound-form}
 use Rattle.read_open.specs.Headed.{byHeader}
-use Rattle.proving.specs.Proving.{proveAnswer}
+use Rattle.prove.specs.Proving.{proveAnswer}
 use Rattle.palette.specs.Palettes.{paletteAnswer, proofsBytes, roomAfter}
 use Rattle.palette_c.specs.Export.{palettedInto, lengthBytes}
 use Rattle.verify.specs.Verify.{verified}

@@ -29,14 +29,14 @@ use Rattle.promises.specs.Calls.{Does, wrong-header, not-sound, refuses, Export
 use Rattle.promises.proofs.Calls.{refused-writes-nothing}
 use Rattle.meaning.specs.Answers.{numberOf, foundAfter}
 use Rattle.read_open.specs.Headed.{byHeader}
-use Rattle.reads.specs.Reads.{rootAnswer, keyAnswer}
-use Rattle.reads_c.specs.Export.{rootBytes}
-use Rattle.proving.specs.Proving.{proveAnswer, roomAfter}
-use Rattle.proving_c.specs.Export.{provedInto, lengthBytes}
+use Rattle.read.specs.Reads.{rootAnswer, keyAnswer}
+use Rattle.read_c.specs.Export.{rootBytes}
+use Rattle.prove.specs.Proving.{proveAnswer, roomAfter}
+use Rattle.prove_c.specs.Export.{provedInto, lengthBytes}
 use Rattle.changes.specs.Changes as compared
 use Rattle.changes_c.specs.Export.{countBytes}
 use Rattle.verify.specs.Verify.{verified}
-use Rattle.rescues.proofs.Outcomes.{refused-export-leaves}
+use Rattle.rescue_bytes.proofs.Outcomes.{refused-export-leaves}
 use Rattle.grants.specs.Contracts.{Formats, Applies, Prunes, ReadsRoot, ReadsKey, Proves, Changes, Rescues, Verifies}
 
 -- One of the numbers in a list.

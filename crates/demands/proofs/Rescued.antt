@@ -14,12 +14,12 @@ use Rattle.meaning.specs.Answers.{foundBytes}
 use Rattle.nodehash.specs.Node.{leafHash, innerHash}
 use Rattle.layout.specs.Stores.{storeOf}
 use Rattle.promises.specs.Calls.{SoundBytes}
-use Rattle.rescues.specs.Rescues as rescue
-use Rattle.rescues.specs.Rescues.{slotsIn, Report}
-use Rattle.rescues.specs.Claims.{Worth, AllRooted, AsItWas}
-use Rattle.rescues.proofs.Outcomes.{accepted-report, former-never-matter}
-use Rattle.rescues.proofs.Worth as worths
-use Rattle.rescues.proofs.Again.{GaveBack, sound-comes-back, rescued-comes-back}
+use Rattle.rescue_bytes.specs.Rescues as rescue
+use Rattle.rescue_bytes.specs.Rescues.{slotsIn, Report}
+use Rattle.rescue_bytes.specs.Claims.{Worth, AllRooted, AsItWas}
+use Rattle.rescue_bytes.proofs.Outcomes.{accepted-report, former-never-matter}
+use Rattle.rescue_bytes.proofs.Worth as worths
+use Rattle.rescue_bytes.proofs.Again.{GaveBack, sound-comes-back, rescued-comes-back}
 use Rattle.grants.specs.Contracts.{Rescues}
 use Rattle.demands.specs.Claims.{Rescued, GivenBack}
 use Rattle.demands.proofs.Stored.{stored-sound}

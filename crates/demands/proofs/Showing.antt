@@ -27,11 +27,11 @@ use Rattle.proofrecords.proofs.Proofs.{proof-back}
 use Rattle.layout.specs.Stores.{storeOf}
 use Rattle.promises.specs.Calls.{SoundBytes}
 use Rattle.promises.proofs.Calls.{sound-form}
-use Rattle.reads.specs.Reads.{rootAnswer, keyAnswer}
-use Rattle.reads.proofs.Theorems.{root-read-of-sound, key-read-of-sound}
-use Rattle.reads_c.specs.Export.{rootBytes}
-use Rattle.proving.specs.Proving.{proveAnswer}
-use Rattle.proving_c.specs.Export.{provedInto}
+use Rattle.read.specs.Reads.{rootAnswer, keyAnswer}
+use Rattle.read.proofs.Theorems.{root-read-of-sound, key-read-of-sound}
+use Rattle.read_c.specs.Export.{rootBytes}
+use Rattle.prove.specs.Proving.{proveAnswer}
+use Rattle.prove_c.specs.Export.{provedInto}
 use Rattle.verify.specs.Verify.{verified}
 use Rattle.meaning.specs.Answers.{numberOf, foundBytes, foundAfter}
 use Rattle.grants.specs.Contracts.{ReadsRoot, ReadsKey, Proves, Verifies}

@@ -11,8 +11,8 @@ use Rattle.meaning.specs.History.{Call, formatting, applying, pruning, taking, 
 use Rattle.histories.specs.Claims.{NoGap}
 use Rattle.layout.specs.Stores.{storeOf}
 use Rattle.batch.specs.Batch.{batchOf}
-use Rattle.rescues.specs.Rescues.{slotsIn}
-use Rattle.rescues.specs.Claims.{runLedger}
+use Rattle.rescue_bytes.specs.Rescues.{slotsIn}
+use Rattle.rescue_bytes.specs.Claims.{runLedger}
 use Rattle.grants.specs.Contracts.{Formats, Checks, Applies, Prunes, ReadsRoot, ReadsKey, Proves, Palettes, Changes, Rescues, Verifies, Hashes}
 
 -- What a rescued store takes over: the grants of its versions, from the first that was reported to latest, by the source's trees.

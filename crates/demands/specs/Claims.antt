@@ -29,10 +29,10 @@ use Rattle.layout.specs.Sizes.{slotSize}
 use Rattle.layout.specs.Stores.{slotIn, storeOf, storeBytes}
 use Rattle.batch.specs.Batch.{batchOf}
 use Rattle.promises.specs.Calls.{SoundBytes}
-use Rattle.rescued.specs.Rescue.{sourceTree}
-use Rattle.rescues.specs.Rescues.{slotsIn, Report, reportBytes}
-use Rattle.rescues.specs.Claims.{Worth, AsItWas}
-use Rattle.applying_c.specs.Export.{told}
+use Rattle.rescue_rules.specs.Rescue.{sourceTree}
+use Rattle.rescue_bytes.specs.Rescues.{slotsIn, Report, reportBytes}
+use Rattle.rescue_bytes.specs.Claims.{Worth, AsItWas}
+use Rattle.apply_c.specs.Export.{told}
 use Rattle.meaning.specs.Answers.{foundBytes}
 use Rattle.grants.specs.Contracts.{ReadsRoot, ReadsKey, Proves, Verifies}
 

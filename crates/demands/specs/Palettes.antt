@@ -8,7 +8,7 @@ use Rattle.terms.specs.Bits.{Bytes}
 use Rattle.terms.specs.Fields.{num, field, flat}
 use Rattle.meaning.specs.Reading.{answerOf}
 use Rattle.meaning.specs.Answers.{foundBytes}
-use Rattle.palettes.specs.Palette.{keysIn}
+use Rattle.palette_rules.specs.Palette.{keysIn}
 use Rattle.grants.specs.Contracts.{ReadsRoot, Proves, Palettes, Verifies}
 use Rattle.demands.specs.Claims.{grantsOfVersion}
 

@@ -4,7 +4,7 @@
 use Prim.Native.Nat.{ℕ}
 use mathlib.Core.List.{[], _∷_, _++_}
 use Rattle.terms.specs.Bits.{Bytes}
-use Rattle.palettes.specs.Palette.{keysIn}
+use Rattle.palette_rules.specs.Palette.{keysIn}
 use Rattle.refusals.specs.Exactly.{Table}
 use Rattle.refusals.specs.Rows.{WrongLength, NotSound, Not32, NotKeys}
 use Rattle.refusals.specs.Orders.{headerRows, batchRows, versionRows, lookupRows, keyRows, provingRows, proofRows, askingRows, togetherRows, comparisonRows, holdingRows, rescueRows}

@@ -7,14 +7,14 @@ ghost use Rattle.quarter.specs.Figures.{rangeRight, figuresBytes};
 ghost use Rattle.figures_count.specs.Count.{figuresSay};
 ghost use Rattle.figures.specs.Figures.{figuredSays, Tells};
 ghost use Rattle.figures.specs.Parts.{Range, Writes};
+use check_store::check;
 use fields::put_u32;
 use figures_count::Figures;
 use figures_count::figures_of;
 use figures_count::records_in;
-use freeing::is_kept;
-use numbers::NO_ROOM;
-use numbers::NOT_KEPT;
-use soundness::check;
+use prune_free::is_kept;
+use refusal_numbers::NO_ROOM;
+use refusal_numbers::NOT_KEPT;
 
 // Four numbers of 4 bytes for each version.
 pub const FIGURES_SIZE: usize = 16;

@@ -2,7 +2,7 @@
 use fields::clear;
 use layout::put_header;
 use layout::size_right;
-use numbers::WRONG_SIZE;
+use refusal_numbers::WRONG_SIZE;
 use store::slot_count;
 ghost use mathlib.Core.Path.{_≡_};
 ghost use Rattle.format.specs.Format.{formatAnswer, formatBytes};

@@ -6,13 +6,13 @@ use Rattle.terms.specs.Bits.{Bytes}
 use Rattle.sha256.specs.Sha256.{sha256}
 use Rattle.format.specs.Format.{formatAnswer, formatBytes}
 use Rattle.promises.specs.Check.{Checked}
-use Rattle.applying_c.specs.Export as apply
-use Rattle.pruning_c.specs.Export as prune
-use Rattle.reads_c.specs.Export as read
-use Rattle.proving_c.specs.Export as prove
+use Rattle.apply_c.specs.Export as apply
+use Rattle.prune_c.specs.Export as prune
+use Rattle.read_c.specs.Export as read
+use Rattle.prove_c.specs.Export as prove
 use Rattle.palette_c.specs.Export as palette
 use Rattle.changes_c.specs.Export as compare
-use Rattle.rescues.specs.Rescues as rescue
+use Rattle.rescue_bytes.specs.Rescues as rescue
 use Rattle.verify.specs.Verify as verify
 
 -- Formatting the bytes s answers r and leaves the bytes t.

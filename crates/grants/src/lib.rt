@@ -15,7 +15,7 @@ pub extern "C" fn grants_format(store: &mut [u8]) -> u32
 pub extern "C" fn grants_check(store: &[u8]) -> u32
     ensures { λ r. ⌜ Checks (now (store .entry)) r ⌝ }
 {
-    soundness::check(store)
+    check_store::check(store)
 }
 
 // Makes the version of a number above latest of a batch; answer: version, root and count of new records, little-endian.
@@ -28,7 +28,7 @@ pub extern "C" fn grants_apply(
 ) -> u32
     ensures { λ r. ⌜ Applies number (now (batch .entry)) (now (store .entry)) (now (answer .entry)) r (now (store .exit)) (now (answer .exit)) ⌝ }
 {
-    applying_c::grants_apply(store, number, batch, answer)
+    apply_c::grants_apply(store, number, batch, answer)
 }
 
 // Frees every record retired since a version or earlier; freed: how many, little-endian.
@@ -36,7 +36,7 @@ pub extern "C" fn grants_apply(
 pub extern "C" fn grants_prune(store: &mut [u8], version: u32, freed: &mut [u8; 4]) -> u32
     ensures { λ r. ⌜ Prunes version (now (store .entry)) (now (freed .entry)) r (now (store .exit)) (now (freed .exit)) ⌝ }
 {
-    pruning_c::grants_prune(store, version, freed)
+    prune_c::grants_prune(store, version, freed)
 }
 
 // The root of a version.
@@ -44,7 +44,7 @@ pub extern "C" fn grants_prune(store: &mut [u8], version: u32, freed: &mut [u8; 
 pub extern "C" fn grants_root(store: &[u8], version: u32, root: &mut [u8; 32]) -> u64
     ensures { λ r. ⌜ ReadsRoot (now (store .entry)) version (now (root .entry)) r (now (root .exit)) ⌝ }
 {
-    reads_c::grants_root(store, version, root)
+    read_c::grants_root(store, version, root)
 }
 
 // A key in a version: 1 and its value, or 0 and 32 zero bytes where it is absent.
@@ -52,7 +52,7 @@ pub extern "C" fn grants_root(store: &[u8], version: u32, root: &mut [u8; 32]) -
 pub extern "C" fn grants_get(store: &[u8], version: u32, key: &[u8], found: &mut [u8; 33]) -> u64
     ensures { λ r. ⌜ ReadsKey (now (store .entry)) version (now (key .entry)) (now (found .entry)) r (now (found .exit)) ⌝ }
 {
-    reads_c::grants_get(store, version, key, found)
+    read_c::grants_get(store, version, key, found)
 }
 
 // Writes the proof for a key in a version to the front of the room; length: how long it is, little-endian.
@@ -66,7 +66,7 @@ pub extern "C" fn grants_prove(
 ) -> u64
     ensures { λ r. ⌜ Proves (now (store .entry)) version (now (key .entry)) (now (room .entry)) (now (length .entry)) r (now (room .exit)) (now (length .exit)) ⌝ }
 {
-    proving_c::grants_prove(store, version, key, room, length)
+    prove_c::grants_prove(store, version, key, room, length)
 }
 
 // Writes the proofs for a list of keys in a version one after the other to the front of the room; length: of all together, little-endian.

@@ -15,7 +15,7 @@ use Rattle.sha256.specs.declared.Words.{Words}
 use Rattle.sha256.specs.Sha256.{H0, hashValue, padded}
 use Rattle.sha256.specs.Rolling.{folded, blockAt}
 use Rattle.sha256.proofs.Blocks.{block-of-words, value-next}
-use Rattle.second_start.specs.Second.{secondBlock}
+use Rattle.sha256_second_start.specs.Second.{secondBlock}
 use Rattle.nodehash.specs.Words.{message, seamWord, middleWord}
 
 three-bytes : (y x : ℕ) → wordAt (y ∷ big 8 x) 0 ≡ y * 2 ^ 24 + x / 2 ^ 40 % 2 ^ 24

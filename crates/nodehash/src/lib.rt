@@ -9,11 +9,11 @@ ghost use Rattle.nodehash.specs.Node.{leafHash, innerHash};
 ghost use Rattle.nodehash.specs.Words.{message, seamWord, middleWord};
 use hash::Hash;
 use hash::hash_at;
-use second_block::compress_second;
 use sha256::Words;
 use sha256::compress;
 use sha256::start;
 use sha256::to_hash;
+use sha256_second_block::compress_second;
 
 fn seam(x: u64, y: u64) -> u32
     ensures { λ v. ⌜ v ≡ seamWord x y ⌝ }

@@ -7,7 +7,7 @@ use Rattle.sha256.specs.declared.State.{State}
 use Rattle.sha256.specs.declared.Words.{Words}
 use Rattle.sha256.specs.Sha256.{H0, padded, sha256, stateBytes}
 use Rattle.sha256.specs.Rolling.{folded, blockAt}
-use Rattle.second_start.specs.Second.{secondBlock}
+use Rattle.sha256_second_start.specs.Second.{secondBlock}
 use Rattle.nodehash.specs.Words.{message}
 use Rattle.nodehash.proofs.Blocks.{two-blocks}
 use Rattle.nodehash_four.specs.declared.Message.{Message}

@@ -1,5 +1,4 @@
 // The hashes of four nodes side by side, request 2026-06: two runs over four lanes.
-use four::compress_four;
 use hash::Hash;
 use nodehash::first_words;
 use nodehash::last_word;
@@ -7,11 +6,12 @@ use sha256::State;
 use sha256::Words;
 use sha256::start;
 use sha256::to_hash;
+use sha256_four::compress_four;
 ghost use mathlib.Core.Path.{_≡_};
 ghost use Prim.Native.Nat.{_+_, _*_, _%_, _<_};
 ghost use Rattle.sha256.specs.Sha256.{padded, hashValue};
 ghost use Rattle.sha256.specs.Rolling.{blockAt};
-ghost use Rattle.second_start.specs.Second.{secondBlock};
+ghost use Rattle.sha256_second_start.specs.Second.{secondBlock};
 ghost use Rattle.nodehash.specs.Words.{message};
 ghost use Rattle.nodehash_four.specs.Hashed.{Hashed};
 

@@ -21,12 +21,12 @@ use Rattle.read_open.specs.Headed.{byHeader}
 use Rattle.read_open.specs.declared.Opened as declared-opened
 use Rattle.read_open.specs.declared.Opened.the-variants as first
 use Rattle.read_open.proofs.Opening as opening
-use Rattle.paths.proofs.Records.{part-room}
-use Rattle.palettes.specs.Palette.{wholeKeys, keysIn, inTurn, lengthTogether, fittedTogether, palette}
-use Rattle.palettes.proofs.Turns.{in-turn-same}
-use Rattle.proving.specs.Parts.{provedSays}
-use Rattle.proving.specs.declared.Proved as declared
-use Rattle.proving.specs.declared.Proved.the-variants.{Refused, Length}
+use Rattle.prove_paths.proofs.Records.{part-room}
+use Rattle.palette_rules.specs.Palette.{wholeKeys, keysIn, inTurn, lengthTogether, fittedTogether, palette}
+use Rattle.palette_rules.proofs.Turns.{in-turn-same}
+use Rattle.prove.specs.Parts.{provedSays}
+use Rattle.prove.specs.declared.Proved as declared
+use Rattle.prove.specs.declared.Proved.the-variants.{Refused, Length}
 use Rattle.palette.specs.Palettes.{paletteAnswer, proofsBytes, roomAfter}
 use Rattle.palette.specs.Parts.{plannedFor, plannedIn, togetherLength, togetherBytes, Gives}
 

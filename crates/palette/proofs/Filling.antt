@@ -12,8 +12,8 @@ use Rattle.terms.specs.Records.{Proof}
 use Rattle.meaning.specs.Calls.{Answer, refused, accepted}
 use Rattle.meaning.specs.Proving.{proofLength}
 use Rattle.proofrecords.specs.ProofBytes.{proofBytes}
-use Rattle.paths.proofs.Records.{given, part-room, given-long}
-use Rattle.palettes.specs.Palette.{wholeKeys, keysIn, followed, inTurn, lengthTogether}
+use Rattle.prove_paths.proofs.Records.{given, part-room, given-long}
+use Rattle.palette_rules.specs.Palette.{wholeKeys, keysIn, followed, inTurn, lengthTogether}
 use Rattle.palette.specs.Palettes.{proofsBytes}
 use Rattle.palette.specs.Parts.{togetherLength, togetherBytes}
 use Rattle.palette.proofs.Passing.{keyAt, answersFrom, Left, left-start, turn, none-left}

@@ -11,8 +11,8 @@ use Rattle.terms.specs.Bits.{Bytes}
 use Rattle.terms.specs.Records.{Proof}
 use Rattle.meaning.specs.Calls.{Answer, refused, accepted}
 use Rattle.meaning.specs.Proving.{proofLength}
-use Rattle.palettes.specs.Palette.{wholeKeys, keysFrom, keysIn, followed, inTurn}
-use Rattle.palettes.proofs.Keys.{whole-list}
+use Rattle.palette_rules.specs.Palette.{wholeKeys, keysFrom, keysIn, followed, inTurn}
+use Rattle.palette_rules.proofs.Keys.{whole-list}
 use Rattle.palette.specs.Parts.{togetherLength}
 
 -- the key at a byte of the list, as a part of it, and the answers from that key on

@@ -7,7 +7,7 @@ use lib.ListN.{length, drop}
 use Rattle.terms.specs.Bits.{Bytes}
 use Rattle.terms.specs.Records.{Proof}
 use Rattle.meaning.specs.Calls.{Answer, refused, accepted}
-use Rattle.palettes.specs.Palette.{wholeKeys, keysIn, palette}
+use Rattle.palette_rules.specs.Palette.{wholeKeys, keysIn, palette}
 use Rattle.proofrecords.specs.ProofBytes.{proofBytes}
 use Rattle.layout.specs.Headers.{headerOf}
 use Rattle.layout.specs.Stores.{storeOf}

@@ -10,9 +10,9 @@ use Rattle.meaning.specs.Sight.{scan}
 use Rattle.meaning.specs.Reading.{seen}
 use Rattle.meaning.specs.Proving.{proveSeen}
 use Rattle.layout.specs.Stores.{storeOf}
-use Rattle.palettes.specs.Palette.{keysIn, inTurn, lengthTogether}
-use Rattle.proving.specs.Parts.{provedSays}
-use Rattle.proving.specs.declared.Proved as declared
+use Rattle.palette_rules.specs.Palette.{keysIn, inTurn, lengthTogether}
+use Rattle.prove.specs.Parts.{provedSays}
+use Rattle.prove.specs.declared.Proved as declared
 use Rattle.palette.specs.Palettes.{proofsBytes, roomAfter}
 
 -- What is planned for a key in a kept version, and for each key of a list.

@@ -1,19 +1,19 @@
 // Several proofs in one call over lent bytes, document 02, request 2026-04: a first pass over the keys measures, a second one writes.
-use numbers::NOT_32_BYTES;
-use numbers::wide::NO_ROOM;
-use proving::Proved;
-use proving_plan::Shape;
-use proving_plan::plan_of;
-use proving_write::write;
+use prove::Proved;
+use prove_plan::Shape;
+use prove_plan::plan_of;
+use prove_write::write;
 use read_open::Opened;
 use read_open::open;
+use refusal_numbers::NOT_32_BYTES;
+use refusal_numbers::wide::NO_ROOM;
 ghost use mathlib.Core.Path.{_≡_};
 ghost use mathlib.Core.Bool.{true};
 ghost use lib.ListN.{length};
 ghost use Rattle.layout.specs.Headers.{sizeRight};
 ghost use Rattle.meaning.specs.Calls.{accepted};
-ghost use Rattle.palettes.specs.Palette.{wholeKeys, fittedTogether};
-ghost use Rattle.proving.specs.Parts.{provedSays};
+ghost use Rattle.palette_rules.specs.Palette.{wholeKeys, fittedTogether};
+ghost use Rattle.prove.specs.Parts.{provedSays};
 ghost use Rattle.palette.specs.Palettes.{paletteAnswer};
 ghost use Rattle.palette.specs.Parts.{plannedIn, togetherLength, togetherBytes, Gives};
 

@@ -7,10 +7,10 @@ use Rattle.terms.specs.Fields.{le}
 use Rattle.fields.specs.Written.{written}
 use Rattle.fields.proofs.Written.{number-fills}
 use Rattle.meaning.proofs.Told.{told-refused, told-given}
-use Rattle.palettes.specs.Palette.{lengthTogether}
-use Rattle.proving.specs.Parts.{provedSays}
-use Rattle.proving.specs.declared.Proved as declared
-use Rattle.proving.specs.declared.Proved.the-variants.{Refused, Length}
+use Rattle.palette_rules.specs.Palette.{lengthTogether}
+use Rattle.prove.specs.Parts.{provedSays}
+use Rattle.prove.specs.declared.Proved as declared
+use Rattle.prove.specs.declared.Proved.the-variants.{Refused, Length}
 use Rattle.palette.specs.Parts.{Gives}
 use Rattle.palette_c.specs.Export.{palettedInto, Palettes}
 

@@ -8,7 +8,7 @@ use Rattle.terms.specs.Fields.{le}
 use Rattle.terms.specs.Records.{Proof}
 use Rattle.meaning.specs.Calls.{Answer}
 use Rattle.meaning.specs.Answers.{numberOf, toldOf}
-use Rattle.palettes.specs.Palette.{lengthTogether}
+use Rattle.palette_rules.specs.Palette.{lengthTogether}
 use Rattle.palette.specs.Palettes.{paletteAnswer, roomAfter}
 
 -- The proofs for a list of keys in version v of the store s, into a room.

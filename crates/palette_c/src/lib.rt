@@ -1,7 +1,7 @@
 // Several proofs at the boundary: the call answers 0 where it is accepted, else the number of refusal, and then it writes nothing. `grants` exports it.
 use fields::put_u32;
 use palette::palette;
-use proving::Proved;
+use prove::Proved;
 ghost use Rattle.palette_c.specs.Export.{Palettes};
 
 // The proofs for a list of keys in a version fill the front of the room; the length of all together goes out in four bytes.

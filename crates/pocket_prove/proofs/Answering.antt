@@ -19,12 +19,12 @@ use Rattle.read_open.specs.declared.Opened as declared-opened
 use Rattle.read_open.specs.declared.Opened.the-variants as first
 use Rattle.read_open.proofs.Opening as opening
 use Rattle.pocket.specs.Pocket.{inProfile, pocketProve}
-use Rattle.proving_plan.specs.Plans.{planSays, Plans}
-use Rattle.proving_plan.specs.declared.Plan as declared-plan
-use Rattle.proving.specs.Parts.{Gives}
-use Rattle.proving.specs.declared.Proved as declared
-use Rattle.proving.specs.declared.Proved.the-variants.{Refused}
-use Rattle.proving.proofs.Giving.{gives-refusal}
+use Rattle.prove_plan.specs.Plans.{planSays, Plans}
+use Rattle.prove_plan.specs.declared.Plan as declared-plan
+use Rattle.prove.specs.Parts.{Gives}
+use Rattle.prove.specs.declared.Proved as declared
+use Rattle.prove.specs.declared.Proved.the-variants.{Refused}
+use Rattle.prove.proofs.Giving.{gives-refusal}
 use Rattle.pocket_prove.specs.Parts.{planOutside}
 use Rattle.pocket_prove.specs.Proving.{pocketAnswer}
 use Rattle.pocket_prove.proofs.Planned.{outside-plan, inside-plan}

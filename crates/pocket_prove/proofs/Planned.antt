@@ -8,18 +8,18 @@ use borrow.Author.Tests.{not-true, not-false, ltb-true, ltb-false, lt-leb, le-le
 use Rattle.terms.specs.Bits.{Bytes}
 use Rattle.meaning.specs.Calls.{refused, accepted}
 use Rattle.place.specs.Place.{placeOf}
-use Rattle.paths.specs.Paths.{pathSteps, presenceAt}
-use Rattle.paths.specs.Neighbours.{wayAt, found, neighbourAt}
-use Rattle.paths.specs.declared.Path as declared-path
-use Rattle.paths.specs.declared.Way as declared-way
-use Rattle.paths.specs.declared.Way.the-variants.{Lost, Nobody, Somebody}
-use Rattle.paths.specs.declared.Sought as declared-sought
-use Rattle.paths.proofs.Records.{steps-count}
+use Rattle.prove_paths.specs.Paths.{pathSteps, presenceAt}
+use Rattle.prove_paths.specs.Neighbours.{wayAt, found, neighbourAt}
+use Rattle.prove_paths.specs.declared.Path as declared-path
+use Rattle.prove_paths.specs.declared.Way as declared-way
+use Rattle.prove_paths.specs.declared.Way.the-variants.{Lost, Nobody, Somebody}
+use Rattle.prove_paths.specs.declared.Sought as declared-sought
+use Rattle.prove_paths.proofs.Records.{steps-count}
 use Rattle.pocket.specs.Pocket.{shortPath, shortNeighbour, inProfile}
-use Rattle.proving_plan.specs.Plans.{shapeSays, planSays}
-use Rattle.proving_plan.specs.declared.Shape as declared-shape
-use Rattle.proving_plan.specs.declared.Shape.the-variants.{Refused, Presence, Absence}
-use Rattle.proving_plan.specs.declared.Plan as declared
+use Rattle.prove_plan.specs.Plans.{shapeSays, planSays}
+use Rattle.prove_plan.specs.declared.Shape as declared-shape
+use Rattle.prove_plan.specs.declared.Shape.the-variants.{Refused, Presence, Absence}
+use Rattle.prove_plan.specs.declared.Plan as declared
 use Rattle.pocket_prove.specs.Parts.{wayShort, oneLong, shapeOutside, planOutside}
 
 path-short : (s : Bytes) (p : declared-path.Path) → shortPath (presenceAt s p) ≡ leb (p .place .count) 32

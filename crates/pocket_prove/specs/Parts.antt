@@ -1,14 +1,14 @@
 -- What the helpers of the pocket writer promise each other. No public promise reaches this file. Assumes nothing.
 use mathlib.Core.Bool.{Bool, true, false, not, _&&_}
 use lib.Dec.{leb, ltb}
-use Rattle.paths.specs.declared.Path as declared-path
-use Rattle.paths.specs.declared.Way as declared-way
-use Rattle.paths.specs.declared.Way.the-variants.{Lost, Nobody, Somebody}
-use Rattle.paths.specs.declared.Sought as declared-sought
+use Rattle.prove_paths.specs.declared.Path as declared-path
+use Rattle.prove_paths.specs.declared.Way as declared-way
+use Rattle.prove_paths.specs.declared.Way.the-variants.{Lost, Nobody, Somebody}
+use Rattle.prove_paths.specs.declared.Sought as declared-sought
 use Rattle.pocket.specs.Pocket.{pocketSteps}
-use Rattle.proving_plan.specs.declared.Shape as declared-shape
-use Rattle.proving_plan.specs.declared.Shape.the-variants.{Refused, Presence, Absence}
-use Rattle.proving_plan.specs.declared.Plan as declared
+use Rattle.prove_plan.specs.declared.Shape as declared-shape
+use Rattle.prove_plan.specs.declared.Shape.the-variants.{Refused, Presence, Absence}
+use Rattle.prove_plan.specs.declared.Plan as declared
 
 -- The neighbour that a search found, if any, has at most 32 steps.
 abbrev pub wayShort : declared-way.Way → declared-path.Path → Bool

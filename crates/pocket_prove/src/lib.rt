@@ -1,21 +1,21 @@
 // Proving in the pocket profile over lent bytes, document 02, request 2026-14: as the full prover, with 19 before 9.
 ghost use mathlib.Core.Path.{_≡_};
 ghost use lib.ListN.{length};
-ghost use Rattle.proving.specs.Parts.{Gives};
+ghost use Rattle.prove.specs.Parts.{Gives};
 ghost use Rattle.pocket_prove.specs.Parts.{wayShort, oneLong, planOutside};
 ghost use Rattle.pocket_prove.specs.Proving.{pocketAnswer};
-use numbers::NOT_32_BYTES;
-use paths::Sought;
-use paths::Way;
 use pocket::OUTSIDE;
 use pocket::POCKET_STEPS;
-use proving::Proved;
-use proving::give;
-use proving_plan::Plan;
-use proving_plan::Shape;
-use proving_plan::plan_of;
+use prove::Proved;
+use prove::give;
+use prove_paths::Sought;
+use prove_paths::Way;
+use prove_plan::Plan;
+use prove_plan::Shape;
+use prove_plan::plan_of;
 use read_open::Opened;
 use read_open::open;
+use refusal_numbers::NOT_32_BYTES;
 
 // Whether the neighbour that a search found, if any, has at most 32 steps.
 fn is_short(n: Sought) -> bool

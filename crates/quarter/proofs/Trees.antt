@@ -20,8 +20,8 @@ use Rattle.meaning.proofs.Finding.{isNode-eq, isNode-refl}
 use Rattle.meaning.proofs.Nodes.{node-prefix, sides-apart}
 use Rattle.histories.proofs.Slots.{Has, Unique, find-has}
 use Rattle.histories.proofs.Whole.{Whole, sound-whole}
-use Rattle.rescued.specs.Rescue.{sameNode, standsIn}
-use Rattle.rescued_laws.proofs.Nodes.{same-is, is-same, stands-node, node-stands}
+use Rattle.rescue_rules.specs.Rescue.{sameNode, standsIn}
+use Rattle.rescue_laws.proofs.Nodes.{same-is, is-same, stands-node, node-stands}
 use Rattle.quarter.specs.Figures.{figure, leaves, inners, longest, pathSum, figuresOf}
 use Rattle.quarter.specs.Living.{livesIn, given, givenBy, onlyIf, overSlots, livingFigures}
 use Rattle.quarter.proofs.Slots.{Orderless, over-same, over-none, over-either, over-one}

@@ -1,7 +1,7 @@
 // What a read tests before it looks at a slot, document 01, 'Reading and proving': the header, and whether the version is kept.
 use layout::Header;
 use layout::read_header;
-use numbers::NOT_KEPT;
+use refusal_numbers::NOT_KEPT;
 ghost use mathlib.Core.Path.{_≡_};
 ghost use Rattle.read_open.specs.Opening.{opened, openedSays};
 

@@ -1,9 +1,9 @@
 // The steps of a walk down a store in lent memory, document 01, 'Reading and proving': what is seen at the root of a version, what at a child.
 // Only the records on the way are looked at.
-use numbers::wide::LOST;
-use numbers::wide::NOT_SOUND;
 use place::Place;
 use place::begins;
+use refusal_numbers::wide::LOST;
+use refusal_numbers::wide::NOT_SOUND;
 use sights::Sight;
 use sights::look;
 use sights::look_root;

@@ -19,10 +19,10 @@ use Rattle.shown.proofs.Fourteen.{fourteen-exactly-without-root}
 use Rattle.ways.proofs.Walking.{Formed}
 use Rattle.ways.proofs.Theorems.{one-trouble, empty-exactly, proof-stopped-exactly}
 use Rattle.layout.specs.Stores.{storeOf}
-use Rattle.palettes.specs.Palette.{wholeKeys, keysIn, followed, inTurn, lengthTogether, fittedTogether, palette}
-use Rattle.palettes.specs.Claims.{FirstRefused}
-use Rattle.palettes.proofs.Turns.{proofs-of-each, first-refused, refused-first, each-proved}
-use Rattle.palettes.proofs.Keys.{keys-are-32, keys-counted, list-is-keys, flat-is-whole}
+use Rattle.palette_rules.specs.Palette.{wholeKeys, keysIn, followed, inTurn, lengthTogether, fittedTogether, palette}
+use Rattle.palette_rules.specs.Claims.{FirstRefused}
+use Rattle.palette_rules.proofs.Turns.{proofs-of-each, first-refused, refused-first, each-proved}
+use Rattle.palette_rules.proofs.Keys.{keys-are-32, keys-counted, list-is-keys, flat-is-whole}
 use Rattle.refusals.specs.Rows.{NotKept, EmptyVersion, NotKeys, AskedOfEmpty, StopsPalette, TooLongTogether}
 use Rattle.refusals.specs.Orders.{askingRows}
 use Rattle.refusals.proofs.Exactly.{First}

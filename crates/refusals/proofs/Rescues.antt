@@ -11,7 +11,7 @@ use Rattle.meaning.specs.Answers.{numberOf}
 use Rattle.layout.specs.Sizes.{roomOf}
 use Rattle.layout.specs.Headers.{sizeRight}
 use Rattle.layout.proofs.Headers.{size-says, size-right-of}
-use Rattle.rescues.specs.Rescues.{SameSize, Report, Rescues, wrong-size, out-of-order, no-version, rescues, RescueExports, exports-refusal, exports-report}
+use Rattle.rescue_bytes.specs.Rescues.{SameSize, Report, Rescues, wrong-size, out-of-order, no-version, rescues, RescueExports, exports-refusal, exports-report}
 use Rattle.refusals.specs.Rows.{WrongSizes}
 use Rattle.refusals.specs.Orders.{rescueRows}
 use Rattle.refusals.proofs.Exactly.{First}

@@ -15,14 +15,14 @@ use Rattle.meaning.specs.Sound.{Kept, Sound}
 use Rattle.meaning.specs.Calls.{accepted, ascending}
 use Rattle.meaning.specs.Reading.{Trouble, lostRecord, spoiltRecord, strayLeaf, Verdict}
 use Rattle.meaning.specs.Proving.{proof, proofLength}
-use Rattle.palettes.specs.Palette.{keySize, mostKeys, lengthTogether}
-use Rattle.palettes.specs.Claims.{ProofOfEach, FirstAsked}
+use Rattle.palette_rules.specs.Palette.{keySize, mostKeys, lengthTogether}
+use Rattle.palette_rules.specs.Claims.{ProofOfEach, FirstAsked}
 use Rattle.changed.specs.Changes.{items, itemSize}
 use Rattle.changed.specs.Compare.{changesOf, visitsOf}
 use Rattle.checker.specs.Holding.{Holds}
 use Rattle.ways.specs.Ways as ways
 use Rattle.ways.specs.Ways.{RootStopped, KeyStopped, ProofStopped}
-use Rattle.rescues.specs.Rescues.{NoRun}
+use Rattle.rescue_bytes.specs.Rescues.{NoRun}
 use Rattle.nodehash.specs.Node.{leafHash, innerHash}
 use Rattle.proofrecords.specs.ProofBytes.{proofBytes, ProofForm}
 use Rattle.layout.specs.Sizes.{headerSize, headerKind, mostSlots, kindAt, capacityAt, oldestAt, latestAt, slotSize}

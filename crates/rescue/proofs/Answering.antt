@@ -11,12 +11,12 @@ use Rattle.meaning.specs.Calls.{Answer, refused, accepted}
 use Rattle.nodehash.specs.Node.{leafHash, innerHash}
 use Rattle.layout.specs.Headers.{sizeRight}
 use Rattle.layout.specs.Stores.{storeOf}
-use Rattle.rescued.specs.Rescue.{Counts, counts, Run}
-use Rattle.rescued.specs.Joining.{rootVersion, newestChild}
-use Rattle.rescued_laws.proofs.Runs.{Readable}
-use Rattle.rescued_laws.proofs.Coming.{no-root-no-run, broken-no-run, low-no-run}
-use Rattle.rescues.specs.Rescues.{slotsIn, SameSize, NoRun, Report, Rescues, wrong-size, out-of-order, no-version, rescues}
-use Rattle.rescues.proofs.Readable.{readable}
+use Rattle.rescue_rules.specs.Rescue.{Counts, counts, Run}
+use Rattle.rescue_rules.specs.Joining.{rootVersion, newestChild}
+use Rattle.rescue_laws.proofs.Runs.{Readable}
+use Rattle.rescue_laws.proofs.Coming.{no-root-no-run, broken-no-run, low-no-run}
+use Rattle.rescue_bytes.specs.Rescues.{slotsIn, SameSize, NoRun, Report, Rescues, wrong-size, out-of-order, no-version, rescues}
+use Rattle.rescue_bytes.proofs.Readable.{readable}
 use Rattle.rescue_step.specs.Step.{joinsTop, lowestTop, Stops, rootless, apart, above, Joins}
 use Rattle.rescue_fill.specs.Fill.{Fillable, Filled}
 

@@ -1,14 +1,14 @@
 // Rescue from a damaged store, document 02, request 2026-08.
 use layout::size_right;
-use numbers::NOT_SOUND;
-use numbers::WRONG_HEADER;
-use numbers::WRONG_SIZE;
+use refusal_numbers::NOT_SOUND;
+use refusal_numbers::WRONG_HEADER;
+use refusal_numbers::WRONG_SIZE;
 use rescue_count::Counts;
 use rescue_count::count;
 use rescue_fill::fill;
 use rescue_step::Stepped;
 use rescue_step::step;
-ghost use Rattle.rescues.specs.Rescues.{Rescues};
+ghost use Rattle.rescue_bytes.specs.Rescues.{Rescues};
 ghost use Rattle.rescue.specs.Answer.{rescuedSays};
 
 // A number of refusal, or the run's first version and the counts.

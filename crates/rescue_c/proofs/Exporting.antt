@@ -8,7 +8,7 @@ use Rattle.terms.specs.Fields.{le}
 use Rattle.terms.proofs.Fields.{length-le}
 use Rattle.fields.specs.Written.{written}
 use Rattle.fields.proofs.Written.{fields-fill}
-use Rattle.rescues.specs.Rescues.{Rescues, reportBytes, RescueExports, exports-refusal, exports-report}
+use Rattle.rescue_bytes.specs.Rescues.{Rescues, reportBytes, RescueExports, exports-refusal, exports-report}
 use Rattle.rescue.specs.Answer.{rescuedSays}
 use Rattle.rescue.specs.declared.Rescued as declared
 use Rattle.rescue.specs.declared.Rescued.the-variants.{Refused, Kept}

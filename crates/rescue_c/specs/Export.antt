@@ -1,6 +1,6 @@
 -- Document 02, request 2026-08: what is reported of an accepted rescue. Assumes nothing.
 use Prim.Native.Nat.{ℕ}
-use Rattle.rescues.specs.Rescues.{Report}
+use Rattle.rescue_bytes.specs.Rescues.{Report}
 use Rattle.rescue_count.specs.declared.Counts as declared
 use Rattle.rescue_count.specs.Count.{countsSay}
 

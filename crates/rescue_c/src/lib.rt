@@ -6,7 +6,7 @@ use rescue::rescue;
 use rescue_count::Counts;
 ghost use mathlib.Core.Path.{_≡_};
 ghost use lib.ListN.{length};
-ghost use Rattle.rescues.specs.Rescues.{reportBytes, RescueExports};
+ghost use Rattle.rescue_bytes.specs.Rescues.{reportBytes, RescueExports};
 ghost use Rattle.rescue_c.specs.Export.{reportSays};
 
 // The first version and the three counts fill 16 bytes.

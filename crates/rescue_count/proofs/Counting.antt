@@ -21,7 +21,7 @@ use Rattle.store.proofs.Slots.{slots-many, slot-long, slot-bytes, slot-within, 
 use Rattle.lookup.specs.Lookup.{isUsed}
 use Rattle.lookup.proofs.Matching.{says}
 use Rattle.lookup.proofs.Searching.{used-or}
-use Rattle.rescued.specs.Rescue.{Counts, compared, counts}
+use Rattle.rescue_rules.specs.Rescue.{Counts, compared, counts}
 use Rattle.rescue_count.specs.declared.Counts as declared
 use Rattle.rescue_count.specs.Count.{countsSay, Pair, Countable}
 

@@ -6,7 +6,7 @@ use lib.ListN.{length}
 use Rattle.terms.specs.Bits.{Bytes}
 use Rattle.layout.specs.Headers.{sizeRight}
 use Rattle.layout.specs.Stores.{Has}
-use Rattle.rescued.specs.Rescue.{Counts}
+use Rattle.rescue_rules.specs.Rescue.{Counts}
 use Rattle.rescue_count.specs.declared.Counts as declared
 
 -- The three numbers.

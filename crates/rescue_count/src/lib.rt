@@ -7,7 +7,7 @@ use store::slot_count;
 use store::slot_of;
 ghost use mathlib.Core.Path.{_≡_};
 ghost use Rattle.layout.specs.Stores.{storeOf, slotNo};
-ghost use Rattle.rescued.specs.Rescue.{compared, counts};
+ghost use Rattle.rescue_rules.specs.Rescue.{compared, counts};
 ghost use Rattle.rescue_count.specs.Count.{countsSay, Countable, Pair};
 
 pub struct Counts {

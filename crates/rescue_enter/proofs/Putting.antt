@@ -22,7 +22,7 @@ use Rattle.layout.proofs.Stores.{slot-put-form, slot-put-bytes, retired-put-byt
 use Rattle.store.proofs.Slots.{slots-many, slot-long, slot-bytes, slot-within, slot-is, slot-formed}
 use Rattle.lookup.specs.declared.Found as found
 use Rattle.lookup.specs.declared.Found.the-variants.{At, Nothing}
-use Rattle.rescued.specs.Entering.{LowestAt, Put, nothing, puts}
+use Rattle.rescue_rules.specs.Entering.{LowestAt, Put, nothing, puts}
 use Rattle.rescue_look.specs.Look.{LowestIn}
 use Rattle.rescue_enter.specs.Enter.{Target, Held, Puts}
 

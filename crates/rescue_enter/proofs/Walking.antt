@@ -19,9 +19,9 @@ use Rattle.layout.specs.Stores.{storeOf, slotNo, Has}
 use Rattle.store.proofs.Slots.{slots-many}
 use Rattle.lookup.specs.declared.Found as found
 use Rattle.lookup.specs.declared.Found.the-variants.{At, Nothing}
-use Rattle.rescued.specs.Joining.{kidOf}
-use Rattle.rescued.specs.Entering.{LowestAt, Put, Entered}
-use Rattle.rescued_laws.proofs.Entered.{entered-same, entered-end, entered-step}
+use Rattle.rescue_rules.specs.Joining.{kidOf}
+use Rattle.rescue_rules.specs.Entering.{LowestAt, Put, Entered}
+use Rattle.rescue_laws.proofs.Entered.{entered-same, entered-end, entered-step}
 use Rattle.rescue_look.specs.Look.{LowestIn}
 use Rattle.rescue_look.proofs.Looking.{its-form}
 use Rattle.rescue_enter.specs.Enter.{Target, Held, Puts, Entering, Enters}

@@ -11,7 +11,7 @@ use Rattle.layout.specs.Headers.{sizeRight}
 use Rattle.layout.specs.Stores.{storeOf, storeBytes, slotNo, StoreForm, Has}
 use Rattle.lookup.specs.declared.Found as found
 use Rattle.lookup.specs.declared.Found.the-variants.{At, Nothing}
-use Rattle.rescued.specs.Entering.{Put, Entered}
+use Rattle.rescue_rules.specs.Entering.{Put, Entered}
 use Rattle.rescue_look.specs.Look.{LowestIn}
 
 -- A source of the right size, and a target of the same, which is in form.

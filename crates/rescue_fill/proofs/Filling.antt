@@ -24,13 +24,13 @@ use Rattle.layout.proofs.Headers.{size-says, length-header}
 use Rattle.layout.proofs.Stores.{store-said}
 use Rattle.store.proofs.Slots.{slots-many}
 use Rattle.format.specs.Format.{formatBytes}
-use Rattle.rescued.specs.Rescue.{sourceRoot, runStore, rescued, Longest}
-use Rattle.rescued.specs.Joining.{versionOf, rootVersion, newestChild, joinAt}
-use Rattle.rescued.specs.Entering.{Entered}
-use Rattle.rescued_laws.proofs.Roots.{root-up-to}
-use Rattle.rescued_laws.proofs.Runs.{Readable}
-use Rattle.rescued_laws.proofs.Coming.{Come, come-first, come-step, come-back, come-oldest, come-low, come-no-root, come-apart, come-above}
-use Rattle.rescues.proofs.Readable.{readable}
+use Rattle.rescue_rules.specs.Rescue.{sourceRoot, runStore, rescued, Longest}
+use Rattle.rescue_rules.specs.Joining.{versionOf, rootVersion, newestChild, joinAt}
+use Rattle.rescue_rules.specs.Entering.{Entered}
+use Rattle.rescue_laws.proofs.Roots.{root-up-to}
+use Rattle.rescue_laws.proofs.Runs.{Readable}
+use Rattle.rescue_laws.proofs.Coming.{Come, come-first, come-step, come-back, come-oldest, come-low, come-no-root, come-apart, come-above}
+use Rattle.rescue_bytes.proofs.Readable.{readable}
 use Rattle.rescue_enter.specs.Enter.{Target, Entering, Enters}
 use Rattle.rescue_step.specs.Step.{joinsTop, lowestTop, Stops, rootless, apart, above, Joins}
 use Rattle.rescue_fill.specs.Fill.{bounded, Shaped, Fillable, Filled}

@@ -8,7 +8,7 @@ use Rattle.terms.specs.Records.{Store}
 use Rattle.nodehash.specs.Node.{leafHash, innerHash}
 use Rattle.layout.specs.Headers.{sizeRight}
 use Rattle.layout.specs.Stores.{storeOf, storeBytes}
-use Rattle.rescued.specs.Rescue.{rescued, Longest}
+use Rattle.rescue_rules.specs.Rescue.{rescued, Longest}
 use Rattle.rescue_step.specs.Step.{Joins}
 
 -- The target's bytes with other bounds.

@@ -1,7 +1,7 @@
 // The target filled, document 02, request 2026-08: from latest, whose tree has passed, back by root records; each tree is compared with the next
 // one alone, and what it alone has is entered once it has passed.
+use check_kin::later;
 use format::format;
-use kin::later;
 use layout::put_header;
 use place::Place;
 use rescue_enter::enter;

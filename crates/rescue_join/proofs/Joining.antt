@@ -14,7 +14,7 @@ use Rattle.nodehash.specs.Node.{leafHash, innerHash}
 use Rattle.place.specs.declared.Place as place
 use Rattle.place.specs.Place.{placeOf, Grown}
 use Rattle.layout.specs.Stores.{storeOf}
-use Rattle.rescued.specs.Joining.{kidOf, newer, newestChild, recordRight, joinAt}
+use Rattle.rescue_rules.specs.Joining.{kidOf, newer, newestChild, recordRight, joinAt}
 use Rattle.rescue_join.specs.Join.{joinsHere, lowestHere, JoinSays}
 use Rattle.rescue_join.specs.declared.Joined as joined
 use Rattle.rescue_join.specs.declared.Joined.the-variants.{Broken, Fits}

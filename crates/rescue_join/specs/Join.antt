@@ -9,7 +9,7 @@ use Rattle.nodehash.specs.Node.{leafHash, innerHash}
 use Rattle.place.specs.declared.Place as place
 use Rattle.place.specs.Place.{placeOf}
 use Rattle.layout.specs.Stores.{storeOf}
-use Rattle.rescued.specs.Joining.{joinAt, newestChild}
+use Rattle.rescue_rules.specs.Joining.{joinAt, newestChild}
 use Rattle.rescue_join.specs.declared.Joined as declared
 use Rattle.rescue_join.specs.declared.Joined.the-variants.{Broken, Fits}
 

@@ -1,5 +1,5 @@
 // Two trees of a source compared, document 02, request 2026-08: whether a version's tree joins the next one's.
-use kin::later;
+use check_kin::later;
 use place::Place;
 use rescue_look::kid;
 use rescue_look::lowest;
@@ -10,7 +10,7 @@ ghost use lib.ListN.{length};
 ghost use lib.Dec.{eqb};
 ghost use Rattle.place.specs.Place.{Proper};
 ghost use Rattle.layout.specs.Headers.{sizeRight};
-ghost use Rattle.rescued.specs.Joining.{newer};
+ghost use Rattle.rescue_rules.specs.Joining.{newer};
 ghost use Rattle.rescue_join.specs.Join.{JoinSays};
 
 // Whether a version is 0 or the next one.

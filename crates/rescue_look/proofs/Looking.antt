@@ -31,11 +31,11 @@ use Rattle.lookup.specs.declared.Found as found
 use Rattle.lookup.specs.declared.Found.the-variants.{At, Nothing}
 use Rattle.lookup.specs.Lookup.{isUsed}
 use Rattle.lookup.proofs.Searching.{past}
-use Rattle.kin.specs.Kin.{countNode}
-use Rattle.kin.proofs.Holding.{other-version, other-count, other-bits, no-record, held}
+use Rattle.check_kin.specs.Kin.{countNode}
+use Rattle.check_kin.proofs.Holding.{other-version, other-count, other-bits, no-record, held}
 use Rattle.read_step.specs.Walk.{bodyIn}
 use Rattle.read_step.proofs.Seeing.{kid-is, body-is}
-use Rattle.rescued.specs.Joining.{kidOf, linked, bodyRight, recordRight}
+use Rattle.rescue_rules.specs.Joining.{kidOf, linked, bodyRight, recordRight}
 use Rattle.rescue_look.specs.Look.{StandsSay, LowestIn, Sought, Inside, KidSays, linkedAt}
 
 -- the first slot that holds the node is found

@@ -18,9 +18,9 @@ use Rattle.layout.specs.Slots.{versionIn, kidOn}
 use Rattle.layout.specs.Stores.{slotIn, storeOf, slotNo, Has}
 use Rattle.lookup.specs.declared.Found as found
 use Rattle.lookup.specs.declared.Found.the-variants.{At, Nothing}
-use Rattle.kin.specs.Kin.{countNode}
-use Rattle.rescued.specs.Joining.{kidOf, linked}
-use Rattle.rescued.specs.Entering.{LowestAt}
+use Rattle.check_kin.specs.Kin.{countNode}
+use Rattle.rescue_rules.specs.Joining.{kidOf, linked}
+use Rattle.rescue_rules.specs.Entering.{LowestAt}
 
 -- Where slot i has the version v, it holds the node at a place or it doesn't.
 abbrev pub StandsSay : Bytes → ℕ → place.Place → Bool → Type 0

@@ -25,7 +25,7 @@ ghost use Rattle.nodehash.specs.Node.{leafHash, innerHash};
 ghost use Rattle.place.specs.Place.{placeOf, Proper};
 ghost use Rattle.layout.specs.Headers.{sizeRight};
 ghost use Rattle.layout.specs.Stores.{storeOf, Has};
-ghost use Rattle.rescued.specs.Joining.{recordRight};
+ghost use Rattle.rescue_rules.specs.Joining.{recordRight};
 ghost use Rattle.rescue_look.specs.Look.{StandsSay, LowestIn, Sought, Inside, KidSays, linkedAt};
 
 // Whether slot i, where its version is right, holds the node at a place.

@@ -26,8 +26,8 @@ use Rattle.lookup.specs.Lookup.{isUsed, Located}
 use Rattle.lookup.specs.declared.Found as found
 use Rattle.lookup.specs.declared.Found.the-variants.{At, Nothing}
 use Rattle.lookup.proofs.Matching.{Says, says, version-is, count-is}
-use Rattle.rescued.specs.Rescue.{newerRoot, rootUpTo, newestRoot, unlessRetired, sourceRoot}
-use Rattle.rescued.specs.Joining.{versionOf, rootVersion}
+use Rattle.rescue_rules.specs.Rescue.{newerRoot, rootUpTo, newestRoot, unlessRetired, sourceRoot}
+use Rattle.rescue_rules.specs.Joining.{versionOf, rootVersion}
 use Rattle.rescue_root.specs.Roots.{rootAbove}
 
 not-such : (test : Record → Bool) (y : Slot) → ((r : Record) → y ≡ used r → test r ≡ false) → false ≡ byRecord false test y

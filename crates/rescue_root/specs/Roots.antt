@@ -4,7 +4,7 @@ use Prim.Native.Nat.{ℕ}
 use mathlib.Core.Bool.{Bool, _&&_}
 use lib.Dec.{ltb}
 use Rattle.terms.specs.Records.{Record}
-use Rattle.rescued.specs.Rescue.{rootUpTo}
+use Rattle.rescue_rules.specs.Rescue.{rootUpTo}
 
 -- A root record above one version and not above another.
 unfoldable pub rootAbove : ℕ → ℕ → Record → Bool

@@ -13,8 +13,8 @@ ghost use Rattle.local.specs.Test.{byRecord};
 ghost use Rattle.layout.specs.Headers.{sizeRight};
 ghost use Rattle.layout.specs.Stores.{storeOf, slotNo, Has};
 ghost use Rattle.lookup.specs.Lookup.{Located};
-ghost use Rattle.rescued.specs.Rescue.{newestRoot};
-ghost use Rattle.rescued.specs.Joining.{rootVersion};
+ghost use Rattle.rescue_rules.specs.Rescue.{newestRoot};
+ghost use Rattle.rescue_rules.specs.Joining.{rootVersion};
 ghost use Rattle.rescue_root.specs.Roots.{rootAbove};
 
 // Whether slot i holds a root record of a version above `above` and not above `version`.

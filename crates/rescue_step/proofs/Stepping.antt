@@ -9,7 +9,7 @@ use Rattle.nodehash.specs.Node.{leafHash, innerHash}
 use Rattle.place.specs.declared.Place as place
 use Rattle.place.specs.Place.{placeOf, Stands}
 use Rattle.layout.specs.Stores.{storeOf}
-use Rattle.rescued.specs.Joining.{rootVersion, newestChild, joinAt}
+use Rattle.rescue_rules.specs.Joining.{rootVersion, newestChild, joinAt}
 use Rattle.rescue_join.specs.declared.Joined as joined
 use Rattle.rescue_join.specs.declared.Joined.the-variants.{Broken, Fits}
 use Rattle.rescue_join.specs.Join.{joinsHere, lowestHere, JoinSays}

@@ -7,7 +7,7 @@ use mathlib.Core.List.{[]}
 use Rattle.terms.specs.Bits.{Bytes}
 use Rattle.nodehash.specs.Node.{leafHash, innerHash}
 use Rattle.layout.specs.Stores.{storeOf}
-use Rattle.rescued.specs.Joining.{rootVersion, newestChild, joinAt}
+use Rattle.rescue_rules.specs.Joining.{rootVersion, newestChild, joinAt}
 use Rattle.rescue_step.specs.declared.Stepped as declared
 use Rattle.rescue_step.specs.declared.Stepped.the-variants.{No, Yes}
 

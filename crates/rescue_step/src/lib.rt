@@ -1,5 +1,5 @@
 // One step back of a rescue, document 02, request 2026-08: whether a version joins the next one's tree.
-use kin::later;
+use check_kin::later;
 use place::Place;
 use rescue_join::Joined;
 use rescue_join::join;

@@ -1,5 +1,5 @@
 -- `check_trial::check_suspect` is safe and ends. Assumes nothing.
-use Rattle.soundness.proofs.Answers.{says-kept}
+use Rattle.check_store.proofs.Answers.{says-kept}
 use borrow.Author.Needs.{needs}
 use Rattle.check_trial.proofs.check_suspect.Statement.{statement}
 use Rattle.check_trial.proofs.check_suspect.Tie as tie

@@ -1,7 +1,7 @@
 -- The words but the first are known.
 -- Assumes nothing.
 use mathlib.Core.Path.{ap}
-use Rattle.second_start.specs.Second.{secondBlock}
+use Rattle.sha256_second_start.specs.Second.{secondBlock}
 use borrow.Author.Needs.{needs}
 use Rattle.nodehash_four.proofs.second_block.Statement.{statement}
 use Rattle.nodehash_four.proofs.second_block.Tie as tie

@@ -3,9 +3,9 @@ use Prim.Native.Nat.{_-_}
 use native.Mathlib.Omega.{arith}
 use mathlib.Core.Path.{refl, ap, sym, _∙_}
 use lib.ListN.{length}
-use Rattle.paths.proofs.Records.{part-room}
-use Rattle.proving_write.specs.Written.{plannedLength, plannedBytes}
-use Rattle.proving_write.proofs.Lengths.{planned}
+use Rattle.prove_paths.proofs.Records.{part-room}
+use Rattle.prove_write.specs.Written.{plannedLength, plannedBytes}
+use Rattle.prove_write.proofs.Lengths.{planned}
 use Rattle.palette.specs.Parts.{plannedFor, plannedIn}
 use Rattle.palette.proofs.Filling.{Filling, its-length, filling-starts, next, filling-next, filling-done}
 use Rattle.palette.proofs.fill.Statement.{statement}

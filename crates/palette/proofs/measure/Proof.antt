@@ -4,8 +4,8 @@ use native.Mathlib.Omega.{arith}
 use mathlib.Core.Path.{sym, _∙_}
 use lib.ListN.{length}
 use borrow.Author.Needs.{needs}
-use Rattle.proving.specs.Parts.{provedSays}
-use Rattle.proving_write.proofs.Lengths.{not-refused, refusal-planned}
+use Rattle.prove.specs.Parts.{provedSays}
+use Rattle.prove_write.proofs.Lengths.{not-refused, refusal-planned}
 use Rattle.palette.specs.Parts.{plannedFor, plannedIn}
 use Rattle.palette.proofs.Passing.{keyAt, Measuring, measuring-starts, its-turn, measuring-refused, measuring-next, measuring-done}
 use Rattle.palette.proofs.measure.Statement.{statement}

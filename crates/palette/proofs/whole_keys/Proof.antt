@@ -1,5 +1,5 @@
 -- `palette::whole_keys` meets its contract. Assumes nothing.
-use Rattle.palettes.proofs.Keys.{torn, counted}
+use Rattle.palette_rules.proofs.Keys.{torn, counted}
 use Rattle.palette.proofs.whole_keys.Statement.{statement}
 use Rattle.palette.proofs.whole_keys.Tie as tie
 

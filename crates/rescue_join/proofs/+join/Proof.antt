@@ -19,7 +19,7 @@ use Rattle.rescue_join.proofs.newer.Reads as newer-reads
 use Rattle.rescue_look.proofs.lowest.Reads as lowest-reads
 use Rattle.rescue_look.proofs.record_right.Reads as record-right-reads
 use Rattle.rescue_look.proofs.kid.Reads as kid-reads
-use Rattle.kin.proofs.later.Reads as later-reads
+use Rattle.check_kin.proofs.later.Reads as later-reads
 use Rattle.place.proofs.Place.left.Reads as left-reads
 use Rattle.place.proofs.Place.right.Reads as right-reads
 use Rattle.rescue_join.proofs.+join.{statement}

@@ -1,6 +1,6 @@
 -- `rescue_join::newer` meets its contract. Assumes nothing.
 use borrow.Author.Tests.{lt-ltb, le-ltb}
-use Rattle.rescued.specs.Joining.{newer}
+use Rattle.rescue_rules.specs.Joining.{newer}
 use Rattle.rescue_join.proofs.newer.Statement.{statement}
 use Rattle.rescue_join.proofs.newer.Tie as tie
 

@@ -1,0 +1,46 @@
+-- `apply_c::grants_apply` meets its contract: the number of refusal goes out as it is, the answer in 40 bytes. Assumes nothing.
+use Rattle.apply_c.proofs.Exporting.{export-refused, export-made}
+use borrow.Author.Needs.{needs}
+use Rattle.apply_c.proofs.grants_apply.Statement.{statement}
+use Rattle.apply_c.proofs.grants_apply.Tie as tie
+
+apply-requires : tie.Need-apply-requires
+apply-requires c κs = search needs
+
+enum-known-applied : tie.Need-enum-known-applied
+enum-known-applied c = search needs
+
+enum-known-applied-2 : tie.Need-enum-known-applied-2
+enum-known-applied-2 c = search needs
+
+put-answer-requires : tie.Need-put-answer-requires
+put-answer-requires c κs = search needs
+
+same-length : tie.Need-same-length
+same-length c = search needs
+
+returns : tie.Need-returns
+returns c =
+    let a = c .before .before .before .before .before .before .before .before .before .args in
+    export-refused (a .number) (a .batch .now) (c .before .before .before .before .before .apply .ensures) (c .before .applied .given .1)
+
+same-length-2 : tie.Need-same-length-2
+same-length-2 c = search needs
+
+returns-2 : tie.Need-returns-2
+returns-2 c =
+    let a = c .before .before .before .before .before .before .before .before .before .before .before .args in
+    export-made (a .number) (a .batch .now) (c .before .before .before .before .before .before .before .apply .ensures) (c .before .before .before .applied2 .given .1) (c .put-answer .ensures)
+
+pub grants-apply-spec : {M : Type 1} → statement M
+grants-apply-spec =
+    tie.close
+    (tie.spec
+    apply-requires
+    enum-known-applied
+    enum-known-applied-2
+    put-answer-requires
+    same-length
+    returns
+    same-length-2
+    returns-2)

@@ -1,0 +1,41 @@
+-- `check_kin::lives_apart` meets its contract: one early return for each test. Assumes nothing.
+use borrow.Author.Needs.{needs}
+use Rattle.check_kin.proofs.Roots.{one-version, ended, not-ended}
+use Rattle.check_kin.proofs.lives_apart.Statement.{statement}
+use Rattle.check_kin.proofs.lives_apart.Tie as tie
+
+returns : tie.Need-returns
+returns c =
+    let a = c .before .args in
+    one-version (a .oldest) (a .version) (a .ends) (a .other) (a .end) (c .if1 .taken)
+
+later-requires : tie.Need-later-requires
+later-requires c κs = search needs
+
+cast-if2 : tie.Need-cast-if2
+cast-if2 c = search needs
+
+returns-2 : tie.Need-returns-2
+returns-2 c =
+    let c2 = c .before .before in
+    let a = c2 .before .args in
+    ended (a .oldest) (a .version) (a .ends) (a .other) (a .end) (c2 .if1 .left) (c .before .later .ensures) (c .if2 .taken)
+
+later-requires-2 : tie.Need-later-requires-2
+later-requires-2 c κs = search needs
+
+cast-result : tie.Need-cast-result
+cast-result c = search needs
+
+returns-3 : tie.Need-returns-3
+returns-3 c =
+    let c2 = c .before .before in
+    let c3 = c2 .before in
+    let a = c3 .before .args in
+    not-ended (a .oldest) (a .version) (a .ends) (a .other) (a .end) (c3 .if1 .left) (c2 .later .ensures) (c .before .if2 .left)
+    (c .later2 .ensures)
+
+pub lives-apart-spec : {M : Type 1} → statement M
+lives-apart-spec =
+    tie.close
+    (tie.spec returns later-requires cast-if2 returns-2 later-requires-2 cast-result returns-3)

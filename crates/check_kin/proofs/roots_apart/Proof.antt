@@ -1,0 +1,68 @@
+-- `check_kin::roots_apart` meets its contract: the slots before j pass. Assumes nothing.
+use Prim.Native.Nat.{_-_}
+use native.Mathlib.Omega.{arith}
+use mathlib.Core.Bool.{true}
+use borrow.Author.Tests.{not-true, not-false}
+use Rattle.local.specs.Test.{byRecord}
+use Rattle.layout.specs.Stores.{storeOf}
+use Rattle.store.proofs.Scans.{scan-slot}
+use Rattle.check_kin.specs.Kin.{clearOf}
+use Rattle.check_kin.proofs.Scanning.{Passed, pass-start, pass-next, pass-off, pass-end}
+use Rattle.check_kin.proofs.roots_apart.Statement.{statement}
+use Rattle.check_kin.proofs.roots_apart.Tie as tie
+
+abbrev Inv-loop : tie.InvT-loop
+Inv-loop store kept version ends n j₀ j = Passed store (byRecord true (clearOf (storeOf store) version ends)) n j
+
+abbrev μ-loop : tie.MeasureT-loop
+μ-loop store kept version ends n j₀ j = n - j
+
+slot-count-requires : tie.Need-slot-count-requires Inv-loop μ-loop
+slot-count-requires c κs = c .before .pre .size
+
+loop-holds : tie.Need-loop-holds Inv-loop μ-loop
+loop-holds c =
+    let c2 = c .before .before in
+    pass-start (c2 .args .store .now) (byRecord true (clearOf (storeOf (c2 .args .store .now)) (c2 .args .version) (c2 .args .ends)))
+    (c2 .pre .size) (c .slot-count .ensures)
+
+root-apart-requires : tie.Need-root-apart-requires Inv-loop μ-loop
+root-apart-requires c κs =
+    let c4 = c .before .before .before .before in
+    (scan-slot (c .before .loop .inv) (c .loop-test .taken), c4 .pre)
+
+returns : tie.Need-returns Inv-loop μ-loop
+returns c =
+    let c2 = c .before .before in
+    pass-off (c2 .before .loop .inv) (c2 .loop-test .taken) (c .before .root-apart .ensures) (not-true _ (c .if1 .taken))
+
+add-j : tie.Need-add-j Inv-loop μ-loop
+add-j c =
+    let c3 = c .before .before .before in
+    omega (arith, c3 .loop .inv .small)
+
+loop-less : tie.Need-loop-less Inv-loop μ-loop
+loop-less c = omega arith
+
+loop-again : tie.Need-loop-again Inv-loop μ-loop
+loop-again c =
+    let c2 = c .before .before in
+    pass-next (c2 .before .loop .inv) (c2 .loop-test .taken) (c .before .root-apart .ensures) (not-false _ (c .if1 .left))
+
+returns-2 : tie.Need-returns-2 Inv-loop μ-loop
+returns-2 c = pass-end (c .before .loop .inv) (c .loop-test .left)
+
+pub roots-apart-spec : {M : Type 1} → statement M
+roots-apart-spec =
+    tie.close
+    (tie.spec
+    Inv-loop
+    μ-loop
+    slot-count-requires
+    loop-holds
+    root-apart-requires
+    returns
+    add-j
+    loop-less
+    loop-again
+    returns-2)

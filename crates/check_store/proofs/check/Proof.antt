@@ -1,0 +1,54 @@
+-- `check_store::check` meets its contract: of an accepted header the test of the slots decides soundness. Assumes nothing.
+use native.Mathlib.Omega.{arith}
+use borrow.Author.Tests.{not-true, not-false}
+use borrow.Author.Needs.{needs}
+use Rattle.terms.specs.Bits.{Byte}
+use Rattle.terms.proofs.Lists.{all-of}
+use Rattle.check_store.proofs.Answers.{says-refused, says-kept, says-unsound, says-sound}
+use Rattle.check_store.proofs.check.Statement.{statement}
+use Rattle.check_store.proofs.check.Tie as tie
+
+read-header-requires : tie.Need-read-header-requires
+read-header-requires c κs = search needs
+
+enum-known-header : tie.Need-enum-known-header
+enum-known-header c = search needs
+
+enum-known-header-2 : tie.Need-enum-known-header-2
+enum-known-header-2 c = search needs
+
+slots-pass-requires : tie.Need-slots-pass-requires
+slots-pass-requires c κs =
+    says-kept (c .before .before .before .before .before .args .store .now) (c .before .before .before .read-header .ensures)
+    (c .before .header2 .given .1)
+
+returns : tie.Need-returns
+returns c =
+    let s = c .before .before .before .before .before .before .before .args .store .now in
+    says-unsound s (c .before .before .before .before .before .read-header .ensures) (c .before .before .before .header2 .given .1)
+    (all-of Byte s 0 (λ i _. omega (arith, c .before .before .before .before .before .before .shared-slice-known .given i)))
+    (c .before .slots-pass .ensures) (not-true _ (c .if1 .taken))
+
+returns-2 : tie.Need-returns-2
+returns-2 c =
+    says-refused (c .before .before .before .before .before .args .store .now) (c .before .before .before .read-header .ensures)
+    (c .before .header .given .1)
+
+returns-3 : tie.Need-returns-3
+returns-3 c =
+    let s = c .before .before .before .before .before .before .before .args .store .now in
+    says-sound s (c .before .before .before .before .before .read-header .ensures) (c .before .before .before .header2 .given .1)
+    (all-of Byte s 0 (λ i _. omega (arith, c .before .before .before .before .before .before .shared-slice-known .given i)))
+    (c .before .slots-pass .ensures) (not-false _ (c .if1 .left))
+
+pub check-spec : {M : Type 1} → statement M
+check-spec =
+    tie.close
+    (tie.spec
+    read-header-requires
+    enum-known-header
+    enum-known-header-2
+    slots-pass-requires
+    returns
+    returns-2
+    returns-3)

@@ -1,0 +1,65 @@
+// Checking a store, document 01, 'Sound': a check in few passes over the slots says that all is fine or names a suspect, and the exact test of
+// the suspect decides. Each record is looked at by itself, and no version is tried.
+use check_kin::Kept;
+use check_quick::Look;
+use check_quick::quick;
+use check_slot::each_passes;
+use check_slot::slot_passes;
+use layout::Header;
+use layout::read_header;
+use refusal_numbers::NOT_SOUND;
+use store::slot_count;
+ghost use mathlib.Core.Path.{_≡_};
+ghost use Rattle.local.specs.Test.{slotsTest};
+ghost use Rattle.nodehash.specs.Node.{leafHash, innerHash};
+ghost use Rattle.layout.specs.Stores.{storeOf};
+ghost use Rattle.check_kin.specs.Kin.{Keeps};
+ghost use Rattle.promises.specs.Check.{Checked};
+
+// Whether each slot passes, where slot i is suspect: the exact test of it decides, or where it passes, that of each.
+fn suspect_passes(store: &[u8], kept: Kept, i: usize) -> bool
+    requires { ⌜ Keeps (now store) kept ⌝ }
+    ensures { λ r. ⌜ r ≡ slotsTest leafHash innerHash (storeOf (now (store .entry))) ⌝ }
+{
+    let n = slot_count(store);
+    if n <= i {
+        return each_passes(store, kept);
+    }
+    if !slot_passes(store, i, kept) {
+        return false;
+    }
+    each_passes(store, kept)
+}
+
+// Whether each slot passes.
+fn slots_pass(store: &[u8], kept: Kept) -> bool
+    requires { ⌜ Keeps (now store) kept ⌝ }
+    ensures { λ r. ⌜ r ≡ slotsTest leafHash innerHash (storeOf (now (store .entry))) ⌝ }
+{
+    let seen = quick(store, kept);
+    match seen {
+        Look::Fine => true,
+        Look::Suspect(i) => suspect_passes(store, kept, i),
+    }
+}
+
+// 0 where any bytes are a sound store, else the number of refusal.
+pub fn check(store: &[u8]) -> u32
+    ensures { λ r. ⌜ Checked (now (store .entry)) r ⌝ }
+{
+    let header = read_header(store);
+    match header {
+        Header::Refused(n) => n,
+        Header::Accepted {
+            capacity: _,
+            oldest,
+            latest,
+        } => {
+            let kept = Kept { oldest, latest };
+            if !slots_pass(store, kept) {
+                return NOT_SOUND;
+            }
+            0
+        }
+    }
+}

@@ -1,0 +1,31 @@
+-- What the helpers of proving promise each other, and what each case of an answer of the code says. No public promise reaches this file.
+-- Assumes nothing.
+use Prim.Native.Nat.{ℕ}
+use mathlib.Core.Path.{_≡_}
+use lib.ListN.{length}
+use Rattle.terms.specs.Bits.{Bytes}
+use Rattle.terms.specs.Records.{Proof}
+use Rattle.meaning.specs.Calls.{Answer, refused, accepted}
+use Rattle.meaning.specs.Sized.{sized}
+use Rattle.meaning.specs.Proving.{proofLength, fitted}
+use Rattle.prove.specs.declared.Proved as declared
+use Rattle.prove.specs.declared.Proved.the-variants.{Refused, Length}
+use Rattle.prove.specs.Proving.{roomAfter}
+
+-- Proving answers the proof's length.
+abbrev pub lengthAnswer : Answer Proof → Answer ℕ
+lengthAnswer a = sized proofLength a
+
+-- What each case of the answer says.
+unfoldable pub provedSays : declared.Proved → Answer ℕ
+provedSays (Refused n) = refused n
+provedSays (Length n) = accepted n
+
+-- The answer and the room afterwards are those of the answer a.
+pub record Gives (a : Answer Proof) (room after : Bytes) (r : declared.Proved) : Type 0 where
+  pub answer : provedSays r ≡ lengthAnswer a
+  pub bytes : after ≡ roomAfter a room
+
+-- The same where the proof is still to be fitted into the room: 9 if it is longer.
+abbrev pub Offers : Answer Proof → Bytes → Bytes → declared.Proved → Type 0
+Offers a room after r = Gives (fitted (length room) a) room after r

@@ -1,0 +1,50 @@
+-- `prove_absence::put_neighbour` meets its contract: a presence proof, or nothing in an empty part. Assumes nothing.
+use mathlib.Core.Path.{refl, ap, sym, _∙_}
+use Rattle.proofrecords.specs.ProofBytes.{neighbourBytes}
+use Rattle.prove_paths.specs.Neighbours.{wayAt, found, neighbourAt, roomFor}
+use Rattle.prove_paths.specs.declared.Way.the-variants.{Lost, Nobody}
+use Rattle.prove_absence.proofs.Absences.{somebody-in, nobody-put}
+use borrow.Author.Needs.{needs}
+use Rattle.prove_absence.proofs.put_neighbour.Statement.{statement}
+use Rattle.prove_absence.proofs.put_neighbour.Tie as tie
+
+enum-told : tie.Need-enum-told
+enum-told c = search needs
+
+put-presence-requires : tie.Need-put-presence-requires
+unfolding roomFor
+put-presence-requires c κs = let a = c .before .before .before .before .before .before in somebody-in (a .args .store .now) (a .args .part .now) (a .args .n .path) (c .before .enum-told .given .1) (a .pre .0) (a .pre .1)
+
+enum-told-2 : tie.Need-enum-told-2
+enum-told-2 c = search needs
+
+enum-told-3 : tie.Need-enum-told-3
+enum-told-3 c = search needs
+
+same-length : tie.Need-same-length
+same-length c = search needs
+
+returns : tie.Need-returns
+unfolding neighbourAt
+returns c = let a = c .before .before .before .before .before .before .before .before .before .args in c .before .before .put-presence .ensures ∙ ap (λ w. neighbourBytes (found (wayAt (a .store .now) w (a .n .path)))) (sym (c .before .before .before .before .enum-told .given .1))
+
+returns-2 : tie.Need-returns-2
+unfolding neighbourAt roomFor
+returns-2 c = let a = c .before .before .before .before .before in nobody-put (a .args .store .now) (a .args .part .now) (a .args .n .path) Nobody (c .enum-told2 .given .1) refl refl (a .pre .1)
+
+returns-3 : tie.Need-returns-3
+unfolding neighbourAt roomFor
+returns-3 c = let a = c .before .before .before .before .before in nobody-put (a .args .store .now) (a .args .part .now) (a .args .n .path) (Lost _) (c .enum-told3 .given .1) refl refl (a .pre .1)
+
+pub put-neighbour-spec : {M : Type 1} → statement M
+put-neighbour-spec =
+    tie.close
+    (tie.spec
+    enum-told
+    put-presence-requires
+    enum-told-2
+    enum-told-3
+    same-length
+    returns
+    returns-2
+    returns-3)

@@ -1,0 +1,96 @@
+-- `prove_paths::put_steps` meets its contract: a step a turn, from the end of the path upwards. Assumes nothing.
+use Prim.Native.Nat.{_-_}
+use native.Mathlib.Omega.{arith}
+use borrow.Author.Needs.{needs}
+use mathlib.Core.Path.{sym, _∙_}
+use lib.ListN.{length-take, length-drop}
+use Rattle.place.specs.Place.{placeOf}
+use Rattle.place.proofs.Places.{proper-whole}
+use Rattle.prove_paths.specs.Paths.{pathSteps}
+use Rattle.prove_paths.proofs.Writing.{Steps, steps-start, steps-next, steps-done}
+use Rattle.prove_paths.proofs.put_steps.Statement.{statement}
+use Rattle.prove_paths.proofs.put_steps.Tie as tie
+
+abbrev Inv-loop : tie.InvT-loop
+Inv-loop part₀ store slots bits depth₀ start₀ part depth start = Steps store slots bits depth₀ part depth start
+
+abbrev μ-loop : tie.MeasureT-loop
+μ-loop part₀ store slots bits depth₀ start₀ part depth start = depth
+
+loop-holds : tie.Need-loop-holds Inv-loop μ-loop
+loop-holds c = steps-start _ _ _ _ _ (c .before .before .before .before .before .pre .1)
+
+sub-depth : tie.Need-sub-depth Inv-loop μ-loop
+sub-depth c = omega arith
+
+add-end : tie.Need-add-end Inv-loop μ-loop
+add-end c = omega (arith, c .before .loop .inv, c .before .before .before .before .before .before .before .pre .0 .proper .short)
+
+mul-i : tie.Need-mul-i Inv-loop μ-loop
+mul-i c = omega arith
+
+array-read-i : tie.Need-array-read-i Inv-loop μ-loop
+array-read-i c = omega (arith, c .before .loop .inv, c .before .before .before .before .before .before .before .pre .0 .proper .short)
+
+cast-i : tie.Need-cast-i Inv-loop μ-loop
+cast-i c = let k = c .before .loop .inv .within in omega (arith, c .before .before .before .before .before .before .before .pre .0 .above (c .before .loop .depth - 1) (omega arith))
+
+sub-put-step : tie.Need-sub-put-step Inv-loop μ-loop
+sub-put-step c = omega arith
+
+part-put-step-start : tie.Need-part-put-step-start Inv-loop μ-loop
+part-put-step-start c = omega (arith, c .before .loop .inv)
+
+part-put-step-end : tie.Need-part-put-step-end Inv-loop μ-loop
+part-put-step-end c = omega (arith, c .before .loop .inv)
+
+slice-aggregate-key-bit : tie.Need-slice-aggregate-key-bit Inv-loop μ-loop
+slice-aggregate-key-bit c = search needs
+
+key-bit-requires : tie.Need-key-bit-requires Inv-loop μ-loop
+key-bit-requires c κs =
+    let start = c .before .before .before .before .before .before .before .before .before in omega (arith, proper-whole (start .args .path .place) (start .pre .0 .proper), start .pre .0 .proper .short, c .before .before .before .loop .inv .within)
+
+put-step-requires : tie.Need-put-step-requires Inv-loop μ-loop
+put-step-requires c κs =
+    let w = c .before .before .before .before .loop .inv in
+    (simp (length-take, length-drop) (omega (arith, w)), c .before .before .before .before .before .before .before .before .before .before .pre .0 .above (c .before .before .before .before .loop .depth - 1) (omega (arith, w .within)))
+
+loop-less : tie.Need-loop-less Inv-loop μ-loop
+loop-less c = omega arith
+
+loop-again : tie.Need-loop-again Inv-loop μ-loop
+loop-again c =
+    let w = c .before .before .before .before .before .before .before in
+    steps-next (w .loop .depth) (c .before .before .put-step .last .0) (w .loop .inv) (c .before .before .before .before .before .before .loop-test .taken)
+    (c .before .before .put-step .kept .0 ∙ simp (length-take, length-drop) (omega (arith, w .loop .inv))) (c .before .before .before .key-bit .ensures) (c .before .before .put-step .ensures)
+
+same-length : tie.Need-same-length Inv-loop μ-loop
+same-length c = c .before .loop .inv .long ∙ sym (c .before .before .before .before .before .before .before .pre .1)
+
+returns : tie.Need-returns Inv-loop μ-loop
+unfolding pathSteps placeOf
+returns c = steps-done _ (c .before .loop .inv) (c .loop-test .left)
+
+pub put-steps-spec : {M : Type 1} → statement M
+put-steps-spec =
+    tie.close
+    (tie.spec
+    Inv-loop
+    μ-loop
+    loop-holds
+    sub-depth
+    add-end
+    mul-i
+    array-read-i
+    cast-i
+    sub-put-step
+    part-put-step-start
+    part-put-step-end
+    slice-aggregate-key-bit
+    key-bit-requires
+    put-step-requires
+    loop-less
+    loop-again
+    same-length
+    returns)

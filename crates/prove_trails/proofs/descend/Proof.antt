@@ -1,0 +1,84 @@
+-- `prove_trails::descend` meets its contract: each turn goes one inner node further, to the side where it can, until a leaf. Assumes nothing.
+use Prim.Native.Nat.{_-_}
+use native.Mathlib.Omega.{arith}
+use borrow.Author.Needs.{needs}
+use mathlib.Core.Path.{refl}
+use Rattle.read_step.specs.declared.Seen.the-variants.{Gap, Lost}
+use Rattle.prove_trails.proofs.Trails.{at-inner}
+use Rattle.prove_trails.proofs.Searches.{Descent, descent-start, descent-next, descent-leaf, descent-lost}
+use Rattle.read_step.specs.declared.Trouble.the-variants as trouble
+use Rattle.prove_trails.proofs.descend.Statement.{statement}
+use Rattle.prove_trails.proofs.descend.Tie as tie
+
+abbrev Inv-loop : tie.InvT-loop
+Inv-loop store side here₀ here = Descent store side here₀ here
+
+abbrev μ-loop : tie.MeasureT-loop
+μ-loop store side here₀ here = 256 - here .place .count
+
+loop-holds : tie.Need-loop-holds Inv-loop μ-loop
+loop-holds c = descent-start _ _ _ (c .before .pre)
+
+enum-known-seen : tie.Need-enum-known-seen Inv-loop μ-loop
+enum-known-seen c = search needs
+
+towards-requires : tie.Need-towards-requires Inv-loop μ-loop
+towards-requires c κs = let a = at-inner (c .before .before .before .loop .inv .trail) (c .before .seen .given .1) in (a .size, a .inside)
+
+further-requires : tie.Need-further-requires Inv-loop μ-loop
+further-requires c κs = at-inner (c .before .before .before .before .loop .inv .trail) (c .before .before .seen .given .1)
+
+loop-less : tie.Need-loop-less Inv-loop μ-loop
+loop-less c = let a = at-inner (c .before .before .before .before .before .loop .inv .trail) (c .before .before .before .seen .given .1) in omega (arith, a .short, c .further .ensures .place .count)
+
+loop-again : tie.Need-loop-again Inv-loop μ-loop
+loop-again c = descent-next (c .before .before .before .before .before .loop .inv) _ _ (c .before .before .before .seen .given .1) (c .before .towards .ensures) (c .further .ensures)
+
+enum-known-seen-2 : tie.Need-enum-known-seen-2 Inv-loop μ-loop
+enum-known-seen-2 c = search needs
+
+answer-requires : tie.Need-answer-requires Inv-loop μ-loop
+answer-requires c κs = search needs
+
+returns : tie.Need-returns Inv-loop μ-loop
+returns c = descent-leaf (c .before .before .before .before .loop .inv) _ (c .before .before .seen2 .given .1) (c .answer .ensures)
+
+enum-told : tie.Need-enum-told Inv-loop μ-loop
+enum-told c = search needs
+
+answer-requires-2 : tie.Need-answer-requires-2 Inv-loop μ-loop
+answer-requires-2 c κs = search needs
+
+returns-2 : tie.Need-returns-2 Inv-loop μ-loop
+returns-2 c = descent-lost (c .before .before .before .loop .inv) Gap trouble.Lost (c .before .enum-told .given .1) refl (c .answer2 .ensures)
+
+enum-known-seen-3 : tie.Need-enum-known-seen-3 Inv-loop μ-loop
+enum-known-seen-3 c = search needs
+
+answer-requires-3 : tie.Need-answer-requires-3 Inv-loop μ-loop
+answer-requires-3 c κs = search needs
+
+returns-3 : tie.Need-returns-3 Inv-loop μ-loop
+returns-3 c = descent-lost (c .before .before .before .before .loop .inv) (Lost _) _ (c .before .before .seen3 .given .1) refl (c .answer3 .ensures)
+
+pub descend-spec : {M : Type 1} → statement M
+descend-spec =
+    tie.close
+    (tie.spec
+    Inv-loop
+    μ-loop
+    loop-holds
+    enum-known-seen
+    towards-requires
+    further-requires
+    loop-less
+    loop-again
+    enum-known-seen-2
+    answer-requires
+    returns
+    enum-told
+    answer-requires-2
+    returns-2
+    enum-known-seen-3
+    answer-requires-3
+    returns-3)

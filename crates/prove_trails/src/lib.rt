@@ -1,0 +1,220 @@
+// The walk that remembers its way, and the search for a neighbour, document 01, 'Reading and proving'.
+use place::Place;
+use place::before;
+use place::child_place;
+use place::key_bit;
+use prove_paths::Path;
+use prove_paths::Sought;
+use prove_paths::Way;
+use read_step::Seen;
+use read_step::Trouble;
+use read_step::child;
+use read_step::child_version;
+use read_step::root;
+use slots::key_of;
+use store::slot_of;
+ghost use mathlib.Core.Path.{_≡_};
+ghost use mathlib.Core.Bool.{true, false, cond, not};
+ghost use Prim.Native.Nat.{_<_};
+ghost use lib.ListN.{length};
+ghost use lib.Dec.{eqb};
+ghost use Rattle.layout.specs.Headers.{sizeRight};
+ghost use Rattle.read_step.specs.Walk.{kidIn};
+ghost use Rattle.layout.specs.Sizes.{roomOf};
+ghost use Rattle.meaning.specs.Proving.{beyond};
+ghost use Rattle.prove_trails.specs.Trails.{TrailIn, AtInner, Further, Started, forkAfter, ForkIn, forkSays, forkOn, Walks};
+ghost use Rattle.prove_trails.specs.Searches.{soughtOf, Finds, descentSays, WalkedIn, neighbourSays};
+
+// The way so far: what is seen at its end, the slots of the inner nodes passed, the root's first, and the place of its end.
+pub struct Trail {
+    pub seen: Seen,
+    pub slots: [u16; 256],
+    pub place: Place,
+}
+
+// An inner node on the trail where the walk turned away from a side that has a child; its place, if there is one.
+pub struct Fork {
+    pub there: bool,
+    pub place: Place,
+}
+
+// Where a walk ended, with the deepest fork towards each side.
+pub struct Walked {
+    pub trail: Trail,
+    pub left: Fork,
+    pub right: Fork,
+}
+
+// At the root of a version.
+fn start(store: &[u8], version: u32) -> Trail
+    requires { ⌜ sizeRight (length (now store)) ≡ true ⌝ }
+    ensures { λ r. ⌜ Started (now (store .entry)) version r ⌝ }
+{
+    let seen = root(store, version);
+    let place = Place::top();
+    Trail {
+        seen,
+        slots: [0u16; 256],
+        place,
+    }
+}
+
+// One inner node further, that in slot i, to a side.
+fn further(store: &[u8], trail: Trail, i: usize, side: bool) -> Trail
+    requires { ⌜ AtInner (now store) trail i ⌝ }
+    ensures { λ r. ⌜ Further (now (store .entry)) trail i side r ⌝ }
+{
+    let mut slots = trail.slots;
+    let here = trail.place;
+    let depth = here.count;
+    slots[depth] = i as u16;
+    let place = child_place(here, side);
+    let seen = child(store, i, side, place);
+    Trail { seen, slots, place }
+}
+
+// The deepest fork towards a side, where the walk takes a turn at the inner node in slot i: this node, if it turns away and a child is there.
+fn deepest(store: &[u8], fork: Fork, place: Place, i: usize, turn: bool, side: bool) -> Fork
+    requires { ⌜ (sizeRight (length (now store)) ≡ true) × (i < roomOf (length (now store))) ⌝ }
+    ensures { λ r. ⌜ r ≡ forkAfter (now (store .entry)) i place turn side fork ⌝ }
+{
+    if turn == side {
+        return fork;
+    }
+    if child_version(store, i, side) == 0 {
+        return fork;
+    }
+    Fork { there: true, place }
+}
+
+// Walks by the key's bits from the root of a version to a leaf or a missing child, or until it is stopped.
+pub fn walk(store: &[u8], version: u32, key: &[u8]) -> Walked
+    requires { ⌜ (sizeRight (length (now store)) ≡ true) × (length (now key) ≡ 32) ⌝ }
+    ensures { λ r. ⌜ Walks (now (store .entry)) version (now (key .entry)) r ⌝ }
+{
+    let top = Place::top();
+    let mut trail = start(store, version);
+    let mut left = Fork {
+        there: false,
+        place: top,
+    };
+    let mut right = Fork {
+        there: false,
+        place: top,
+    };
+    loop {
+        let seen = trail.seen;
+        let Seen::Inner(i) = seen else {
+            return Walked { trail, left, right };
+        };
+        let place = trail.place;
+        let depth = place.count;
+        let turn = key_bit(key, depth);
+        left = deepest(store, left, place, i, turn, false);
+        right = deepest(store, right, place, i, turn, true);
+        trail = further(store, trail, i, turn);
+    }
+}
+
+// A search's answer of a trail that ends in slot i.
+fn answer(trail: Trail, way: Way, i: usize) -> Sought
+    ensures { λ r. ⌜ r ≡ soughtOf trail way i ⌝ }
+{
+    let slots = trail.slots;
+    let place = trail.place;
+    let path = Path {
+        slots,
+        place,
+        at: i,
+    };
+    Sought { way, path }
+}
+
+// Where a descent goes on from the inner node in slot i: to a side where there is a child on that side, else to the other.
+fn towards(store: &[u8], i: usize, to: bool) -> bool
+    requires { ⌜ (sizeRight (length (now store)) ≡ true) × (i < roomOf (length (now store))) ⌝ }
+    ensures { λ r. ⌜ r ≡ cond (eqb (kidIn i (now (store .entry)) to .version) 0) (not to) to ⌝ }
+{
+    if child_version(store, i, to) == 0 {
+        return !to;
+    }
+    to
+}
+
+// Descends from the end of a trail, to a side where it can, until a leaf.
+fn descend(store: &[u8], trail: Trail, side: bool) -> Sought
+    requires { ⌜ TrailIn (now store) trail ⌝ }
+    ensures { λ r. ⌜ Finds (now (store .entry)) (descentSays (now (store .entry)) trail side) r ⌝ }
+{
+    let mut here = trail;
+    loop {
+        let seen = here.seen;
+        match seen {
+            Seen::Inner(i) => {
+                let turn = towards(store, i, side);
+                here = further(store, here, i, turn);
+            }
+            Seen::Leaf(i) => return answer(here, Way::Somebody, i),
+            Seen::Gap => return answer(here, Way::Lost(Trouble::Lost), 0),
+            Seen::Lost(trouble) => return answer(here, Way::Lost(trouble), 0),
+        }
+    }
+}
+
+// Searches from a fork of a trail, where there is one.
+fn from_fork(store: &[u8], trail: Trail, fork: Fork, side: bool) -> Sought
+    requires { ⌜ TrailIn (now store) trail × ForkIn (trail .place .count) fork ⌝ }
+    ensures { λ r. ⌜ Finds (now (store .entry)) (forkSays (now (store .entry)) (trail .slots) side fork) r ⌝ }
+{
+    let there = fork.there;
+    if !there {
+        return answer(trail, Way::Nobody, 0);
+    }
+    let slots = trail.slots;
+    let place = fork.place;
+    let depth = place.count;
+    let i = slots[depth] as usize;
+    let back = Trail {
+        seen: Seen::Inner(i),
+        slots,
+        place,
+    };
+    let next = further(store, back, i, side);
+    descend(store, next, !side)
+}
+
+// Whether a key is on a side of another: smaller on the left, greater on the right.
+fn beyond(other: &[u8], key: &[u8], side: bool) -> bool
+    ensures { λ r. ⌜ r ≡ beyond side (now (other .entry)) (now (key .entry)) ⌝ }
+{
+    if side {
+        return before(key, other);
+    }
+    before(other, key)
+}
+
+fn fork_towards(walked: Walked, side: bool) -> Fork
+    ensures { λ r. ⌜ r ≡ forkOn side (walked .left) (walked .right) ⌝ }
+{
+    if side {
+        return walked.right;
+    }
+    walked.left
+}
+
+// The neighbour of a key on a side: the leaf at the end of its walk, if it is on that side; else from the fork.
+pub fn neighbour(store: &[u8], key: &[u8], walked: Walked, side: bool) -> Sought
+    requires { ⌜ WalkedIn (now store) walked ⌝ }
+    ensures { λ r. ⌜ Finds (now (store .entry)) (neighbourSays (now (store .entry)) (now (key .entry)) walked side) r ⌝ }
+{
+    let trail = walked.trail;
+    let fork = fork_towards(walked, side);
+    let seen = trail.seen;
+    let Seen::Leaf(i) = seen else {
+        return from_fork(store, trail, fork, side);
+    };
+    if beyond(key_of(slot_of(store, i)), key, side) {
+        return answer(trail, Way::Somebody, i);
+    }
+    from_fork(store, trail, fork, side)
+}

@@ -1,0 +1,30 @@
+-- `prune::prune` meets its contract: it is refused by check, or the store is sound. Assumes nothing.
+use borrow.Author.Needs.{needs}
+use Rattle.prune_sound.specs.Prune.{prunedSays}
+use Rattle.promises.proofs.Calls.{checked-refuses, checked-sound}
+use Rattle.prune.proofs.prune.Statement.{statement}
+use Rattle.prune.proofs.prune.Tie as tie
+
+check-requires : tie.Need-check-requires
+check-requires c κs = search needs
+
+same-length : tie.Need-same-length
+same-length c = search needs
+
+returns : tie.Need-returns
+unfolding prunedSays
+returns c = checked-refuses (c .before .check .ensures) (c .if1 .taken)
+
+prune-sound-requires : tie.Need-prune-sound-requires
+prune-sound-requires c κs = checked-sound (c .before .before .check .ensures) (c .before .if1 .left)
+
+same-length-2 : tie.Need-same-length-2
+same-length-2 c = search needs
+
+returns-2 : tie.Need-returns-2
+returns-2 c = search needs
+
+pub prune-spec : {M : Type 1} → statement M
+prune-spec =
+    tie.close
+    (tie.spec check-requires same-length returns prune-sound-requires same-length-2 returns-2)

@@ -1,0 +1,47 @@
+-- `read::root` meets its contract: what is tested first is refused first. Assumes nothing.
+use Rattle.read.proofs.Answers.{size-kept, root-refused, root-is-read}
+use borrow.Author.Needs.{needs}
+use Rattle.read.proofs.root.Statement.{statement}
+use Rattle.read.proofs.root.Tie as tie
+
+open-requires : tie.Need-open-requires
+open-requires c κs = search needs
+
+enum-known-opened : tie.Need-enum-known-opened
+enum-known-opened c = search needs
+
+cast-t5 : tie.Need-cast-t5
+cast-t5 c = search needs
+
+returns : tie.Need-returns
+returns c =
+    let o = c .before .before .before in
+    let a = o .before .before .args in
+    root-refused (a .store .now) (a .version) (o .«open» .ensures) (c .before .opened .given .1)
+
+enum-told : tie.Need-enum-told
+enum-told c = search needs
+
+root-hash-requires : tie.Need-root-hash-requires
+root-hash-requires c κs =
+    let o = c .before .before in
+    let a = o .before .before .args in
+    size-kept (a .store .now) (a .version) (o .«open» .ensures) (c .enum-told .given .1)
+
+returns-2 : tie.Need-returns-2
+returns-2 c =
+    let o = c .before .before .before in
+    let a = o .before .before .args in
+    root-is-read (a .store .now) (a .version) (o .«open» .ensures) (c .root-hash .result) (c .before .enum-told .given .1) (c .root-hash .ensures)
+
+pub root-spec : {M : Type 1} → statement M
+root-spec =
+    tie.close
+    (tie.spec
+    open-requires
+    enum-known-opened
+    cast-t5
+    returns
+    enum-told
+    root-hash-requires
+    returns-2)

@@ -1,0 +1,21 @@
+-- The reads for a caller in another language: what each answers for any bytes, and every byte of its array. Assumes nothing.
+use Prim.Native.Nat.{ℕ}
+use mathlib.Core.Path.{_≡_}
+use Rattle.terms.specs.Bits.{Bytes}
+use Rattle.meaning.specs.Calls.{Answer}
+use Rattle.meaning.specs.Answers.{numberOf, toldOf, foundAfter}
+use Rattle.read.specs.Reads.{rootAnswer, keyAnswer}
+
+-- The root's 32 bytes; a refused call writes nothing.
+abbrev pub rootBytes : Answer Bytes → Bytes → Bytes
+rootBytes a old = toldOf (λ root. root) a old
+
+-- Reading the root of version v of the bytes s answers r; the array f for the root is left as g.
+pub record ReadsRoot (s : Bytes) (v : ℕ) (f : Bytes) (r : ℕ) (g : Bytes) : Type 0 where
+  pub answer : r ≡ numberOf (rootAnswer s v)
+  pub root : g ≡ rootBytes (rootAnswer s v) f
+
+-- Reading the key k in version v of the bytes s answers r; the array f for what is found is left as g.
+pub record ReadsKey (s : Bytes) (v : ℕ) (k f : Bytes) (r : ℕ) (g : Bytes) : Type 0 where
+  pub answer : r ≡ numberOf (keyAnswer s v k)
+  pub found : g ≡ foundAfter (keyAnswer s v k) f

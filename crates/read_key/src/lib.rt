@@ -1,0 +1,65 @@
+// A key looked for from the root of a version on, for the key read of document 01, 'Reading and proving'. Writes nothing.
+use hash::Hash;
+use hash::hash_at;
+use place::Place;
+use place::child_place;
+use place::key_bit;
+use place::same;
+use read_step::Seen;
+use read_step::child;
+use read_step::refusal;
+use slots::key_of;
+use slots::value_of;
+use store::slot_of;
+ghost use mathlib.Core.Path.{_≡_};
+ghost use mathlib.Core.Bool.{true};
+ghost use Prim.Native.Nat.{_<_};
+ghost use lib.ListN.{length};
+ghost use Rattle.layout.specs.Sizes.{roomOf};
+ghost use Rattle.layout.specs.Headers.{sizeRight};
+ghost use Rattle.read_key.specs.Parts.{readSays, leafRead, walkRead};
+
+// What a key read answers.
+pub enum KeyRead {
+    Refused(u64),
+    // The key's value.
+    Present(Hash),
+    Absent,
+}
+
+// What the leaf in slot i says of a key: its value if the key is its own.
+fn leaf_read(store: &[u8], i: usize, key: &[u8]) -> KeyRead
+    requires { ⌜ (sizeRight (length (now store)) ≡ true) × (i < roomOf (length (now store))) ⌝ }
+    ensures { λ r. ⌜ readSays r ≡ leafRead i (now (store .entry)) (now (key .entry)) ⌝ }
+{
+    let slot = slot_of(store, i);
+    if same(key, key_of(slot)) {
+        let value = hash_at(value_of(slot), 0);
+        return KeyRead::Present(value);
+    }
+    KeyRead::Absent
+}
+
+// Walks by the key's bits from the root of a version to a leaf or a missing child.
+pub fn walk_read(store: &[u8], version: u32, key: &[u8]) -> KeyRead
+    requires { ⌜ (sizeRight (length (now store)) ≡ true) × (length (now key) ≡ 32) ⌝ }
+    ensures { λ r. ⌜ readSays r ≡ walkRead (now (store .entry)) version (now (key .entry)) ⌝ }
+{
+    let mut place = Place::top();
+    let mut seen = read_step::root(store, version);
+    loop {
+        match seen {
+            Seen::Gap => return KeyRead::Absent,
+            Seen::Lost(trouble) => {
+                let number = refusal(trouble);
+                return KeyRead::Refused(number);
+            }
+            Seen::Leaf(i) => return leaf_read(store, i, key),
+            Seen::Inner(i) => {
+                let side = key_bit(key, place.count);
+                place = child_place(place, side);
+                seen = child(store, i, side, place);
+            }
+        }
+    }
+}

@@ -1,0 +1,88 @@
+-- `read_root::root_hash` meets its contract: the record sighted is the root record. Assumes nothing.
+use native.Mathlib.Omega.{arith}
+use mathlib.Core.Path.{ap, _∙_}
+use Rattle.meaning.specs.Calls.{accepted}
+use Rattle.meaning.specs.Reading.{bodyHash}
+use Rattle.meaning.specs.Sight.{rootSight}
+use Rattle.layout.specs.Stores.{storeOf}
+use Rattle.nodehash.specs.Node.{leafHash, innerHash}
+use Rattle.read_step.specs.Walk.{bodyIn}
+use Rattle.store.proofs.Slots.{slot-fits}
+use Rattle.read_step.proofs.Seeing.{none-sighted, spoilt-sighted, spoilt-small, inside, root-hash}
+use Rattle.read_root.proofs.Answers.{root-hashed, root-empty, root-spoilt}
+use borrow.Author.Needs.{needs}
+use Rattle.read_root.proofs.root_hash.Statement.{statement}
+use Rattle.read_root.proofs.root_hash.Tie as tie
+
+look-root-requires : tie.Need-look-root-requires
+look-root-requires c κs = search needs
+
+enum-known-sight : tie.Need-enum-known-sight
+enum-known-sight c = search needs
+
+slot-of-requires : tie.Need-slot-of-requires
+slot-of-requires c κs =
+    let start = c .before .before .before .before .before in
+    let s = start .args .store .now in
+    slot-fits s (start .pre) _ (inside s (rootSight (storeOf s) (start .args .version)) (c .before .before .before .look-root .ensures) (c .before .sight .given .1))
+
+record-hash-requires : tie.Need-record-hash-requires
+record-hash-requires c κs = search needs
+
+enum-told : tie.Need-enum-told
+enum-told c = search needs
+
+no-hash-requires : tie.Need-no-hash-requires
+no-hash-requires c κs = search needs
+
+enum-known-sight-2 : tie.Need-enum-known-sight-2
+enum-known-sight-2 c = search needs
+
+cast-slot : tie.Need-cast-slot
+cast-slot c =
+    let start = c .before .before .before .before .before in
+    let s = start .args .store .now in
+    omega (arith, spoilt-small s (rootSight (storeOf s) (start .args .version)) (c .before .before .before .look-root .ensures) (c .before .sight2 .given .1) (start .pre))
+
+refusal-requires : tie.Need-refusal-requires
+refusal-requires c κs = search needs
+
+returns : tie.Need-returns
+returns c =
+    let start = c .before .before .before .before .before .before .before in
+    let s = start .args .store .now in
+    let x = rootSight (storeOf s) (start .args .version) in
+    root-hashed x (c .record-hash .result)
+    (ap accepted (c .record-hash .ensures ∙ ap (λ y. bodyHash leafHash innerHash (bodyIn y)) (c .before .slot-of .ensures .0))
+    ∙ root-hash s x (c .before .before .before .before .before .look-root .ensures) (c .before .before .before .sight .given .1) leafHash innerHash)
+
+returns-2 : tie.Need-returns-2
+returns-2 c =
+    let start = c .before .before .before .before .before in
+    let s = start .args .store .now in
+    let x = rootSight (storeOf s) (start .args .version) in
+    root-empty x (c .no-hash .result) (none-sighted s x (c .before .before .before .look-root .ensures) (c .before .enum-told .given .1)) (c .no-hash .ensures)
+
+returns-3 : tie.Need-returns-3
+returns-3 c =
+    let start = c .before .before .before .before .before .before in
+    let s = start .args .store .now in
+    let x = rootSight (storeOf s) (start .args .version) in
+    root-spoilt x _ (spoilt-sighted s x (c .before .before .before .before .look-root .ensures) (c .before .before .sight2 .given .1)) (c .refusal .ensures)
+
+pub root-hash-spec : {M : Type 1} → statement M
+root-hash-spec =
+    tie.close
+    (tie.spec
+    look-root-requires
+    enum-known-sight
+    slot-of-requires
+    record-hash-requires
+    enum-told
+    no-hash-requires
+    enum-known-sight-2
+    cast-slot
+    refusal-requires
+    returns
+    returns-2
+    returns-3)

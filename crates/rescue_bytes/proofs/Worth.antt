@@ -1,0 +1,86 @@
+-- What an accepted rescue is worth: the target is the rescued store of the longest run, so each claim is a law of that store, read from the
+-- bytes. Assumes nothing.
+use Prim.Native.Nat.{ℕ, _+_, _<_, _≤_}
+use native.Mathlib.Omega.{arith}
+use mathlib.Core.Path.{_≡_, refl, ap, ap₂, sym, _∙_, subst}
+use mathlib.Core.Bool.{true}
+use mathlib.Core.List.{List}
+use mathlib.Core.Option.{some}
+use lib.ListN.{length, getD}
+use Rattle.terms.specs.Bits.{Bytes, Byte, All, Place}
+use Rattle.terms.specs.Form.{top32}
+use Rattle.terms.specs.Records.{Record, Slot, free, used, spoiled, Store}
+use Rattle.terms.proofs.Members.{In, all-in}
+use Rattle.meaning.specs.Store.{freeSlots, marked, rootOf, treeAtVersion}
+use Rattle.meaning.specs.Sound.{At, Kept, Sound}
+use Rattle.meaning.specs.Calls.{accepted}
+use Rattle.histories.proofs.Whole.{Whole, sound-whole}
+use Rattle.nodehash.specs.Node.{leafHash, innerHash}
+use Rattle.layout.specs.Slots.{SlotForm}
+use Rattle.layout.specs.Stores.{storeOf, storeBytes, StoreForm}
+use Rattle.layout.proofs.Stores.{store-said}
+use Rattle.rescue_rules.specs.Rescue.{sourceTree, inRun, fresh, taken, rescued, counts, Run, Longest}
+use Rattle.rescue_laws.proofs.Runs.{Readable}
+use Rattle.rescue_laws.proofs.Taken.{length-taken}
+use Rattle.rescue_laws.proofs.Steps.{slots-kept}
+use Rattle.rescue_laws.proofs.Counts.{counts-add-up}
+use Rattle.rescue_laws.proofs.Coming.{slots-of}
+use Rattle.rescue_laws.proofs.Again.{bounds, rescued-sound, rescued-tree, rescued-rooted}
+use Rattle.rescue_bytes.specs.Rescues.{slotsIn, Report, Rescues, rescues}
+use Rattle.rescue_bytes.specs.Claims.{Worth}
+use Rattle.rescue_bytes.proofs.Readable.{readable}
+
+-- a sound store is in form
+pub sound-form : (st : Store) → Sound leafHash innerHash st → StoreForm st
+sound-form st ok =
+    let w = sound-whole leafHash innerHash st ok in
+    record { some = w .size .0; fits = w .size .1; ordered = w .header .0; number = w .header .1; each = all-in SlotForm (st .slots) (λ x h. go w x h) }
+  where
+    go : Whole leafHash innerHash st → (x : Slot) → In x (st .slots) → SlotForm x
+    go w free h = tt
+    go w (used r) h = w .formed r h
+    go w (spoiled x) h = absurd (w .whole x h)
+
+module _ (oldest latest : ℕ) (s : List Slot) (z : Readable s latest) (f m : ℕ) (l : Longest leafHash innerHash s oldest latest f m) where
+  -- the target's bytes hold the rescued store
+  pub target-is : storeOf (storeBytes (rescued s f m)) ≡ rescued s f m
+  target-is = store-said (rescued s f m) (sound-form (rescued s f m) (rescued-sound leafHash innerHash s oldest latest f m z l))
+
+  -- a record of it is that of its slot in the source
+  kept-slots : (i : ℕ) (q : Record) → At (rescued s f m) i q →
+      (x : Record) × ((i < length s) × (getD s i free ≡ used x)) × (q ≡ marked (q .retired) x) × (q .retired ≡ fresh s f m (q .version) (q .place))
+  unfolding At marked
+  kept-slots i q (k, e) =
+      let (x, g, d) = slots-kept (inRun s f m) (fresh s f m) s i q (ap (λ y. getD y i free) (sym (slots-of s f m)) ∙ e) in
+      let r : q .retired ≡ fresh s f m (x .version) (x .place) = ap (λ y. y .retired) d in (
+        x,
+        (subst (λ n. i < n) (ap length (slots-of s f m) ∙ length-taken (inRun s f m) (fresh s f m) s) k, g),
+        d ∙ ap (λ n. marked n x) (sym r),
+        r ∙ ap₂ (fresh s f m) (sym (ap (λ y. y .version) d)) (sym (ap (λ y. y .place) d)),
+      )
+
+pub worth : {oldest latest : ℕ} {s old t : Bytes} {r : Report} → All Byte s → latest ≤ top32 → Rescues oldest latest s old (accepted r) t →
+    Worth oldest latest s t r
+unfolding At
+worth {oldest} {latest} {s} h n (rescues {f = f} {m = m} {t = t} size o l e) =
+    let z = readable s h (size .source) latest n in
+    let said : storeOf t ≡ rescued (slotsIn s) f m = ap storeOf e ∙ target-is oldest latest (slotsIn s) z f m l in
+    let b = bounds (slotsIn s) f m in
+    let slots : slotsIn t ≡ taken (inRun (slotsIn s) f m) (fresh (slotsIn s) f m) (slotsIn s) = ap (λ y. y .slots) said ∙ slots-of (slotsIn s) f m in
+    let numbers = counts-add-up (inRun (slotsIn s) f m) (fresh (slotsIn s) f m) (slotsIn s) in
+    record {
+      sound = subst (Sound leafHash innerHash) (sym said) (rescued-sound leafHash innerHash (slotsIn s) oldest latest f m z l);
+      bytes = e ∙ ap storeBytes (sym said);
+      begins = ap (λ y. y .oldest) said ∙ b .0;
+      ends = ap (λ y. y .latest) said ∙ b .1 ∙ l .ends;
+      low = l .kept;
+      high = omega (arith, l .ends);
+      rooted = subst (λ y. (v : ℕ) → Kept y v → (q : Record) × (rootOf y v ≡ some q)) (sym said) (rescued-rooted leafHash innerHash (slotsIn s) oldest latest f m z l);
+      trees = subst (λ y. (v : ℕ) → Kept y v → treeAtVersion y v ≡ sourceTree (slotsIn s) v) (sym said) (λ v k.
+          rescued-tree leafHash innerHash (slotsIn s) oldest latest f m z l v (omega (arith, b .0, k .0)) (omega (arith, b .1, k .1, l .ends)));
+      longest = l .longest;
+      slots = λ i q a. let (x, c, d, g) = kept-slots oldest latest (slotsIn s) z f m l i q (subst (λ y. At y i q) said a) in
+          (x, c, d, λ more k. g ∙ ap (λ y. fresh (slotsIn s) f y (q .version) (q .place)) (omega (arith, l .ends, k)));
+      adds-up = rw slots (numbers .0);
+      kept-adds-up = rw slots (numbers .1);
+    }

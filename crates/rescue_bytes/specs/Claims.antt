@@ -1,0 +1,54 @@
+-- What an accepted rescue is worth, in the words of document 02, request 2026-08. Assumes nothing.
+use Prim.Native.Nat.{ℕ, zero, suc, _+_, _≤_}
+use mathlib.Core.Path.{_≡_}
+use mathlib.Core.List.{List, [], _∷_}
+use mathlib.Core.Option.{some}
+use lib.ListN.{length, getD}
+use Rattle.terms.specs.Bits.{Bytes}
+use Rattle.terms.specs.Records.{Record, Slot, free, used, Store}
+use Rattle.meaning.specs.Store.{freeSlots, marked, rootOf, treeAtVersion}
+use Rattle.meaning.specs.Tree.{grantsIn}
+use Rattle.meaning.specs.Sound.{At, Kept, Sound}
+use Rattle.meaning.specs.History.{Entry, entry}
+use Rattle.nodehash.specs.Node.{leafHash, innerHash}
+use Rattle.layout.specs.Stores.{storeOf, storeBytes}
+use Rattle.rescue_rules.specs.Rescue.{sourceTree, fresh, Run}
+use Rattle.rescue_bytes.specs.Rescues.{slotsIn, Report}
+
+-- The target t of a rescue of the source s that was accepted with this report.
+pub record Worth (oldest latest : ℕ) (s t : Bytes) (r : Report) : Type 0 where
+  -- the target holds a sound store, and its bytes are those of that store
+  pub sound : Sound leafHash innerHash (storeOf t)
+  pub bytes : t ≡ storeBytes (storeOf t)
+  -- it keeps the versions from the first reported to the latest given, none before oldest
+  pub begins : storeOf t .oldest ≡ r .first
+  pub ends : storeOf t .latest ≡ latest
+  pub low : oldest ≤ r .first
+  pub high : r .first ≤ latest
+  -- each of them has a root, and the tree that the source has for it
+  pub rooted : (v : ℕ) → Kept (storeOf t) v → (q : Record) × (rootOf (storeOf t) v ≡ some q)
+  pub trees : (v : ℕ) → Kept (storeOf t) v → treeAtVersion (storeOf t) v ≡ sourceTree (slotsIn s) v
+  -- no longer run would do, with any setting of retired-since
+  pub longest : (f m : ℕ) → f + m ≡ latest → oldest ≤ f → Run leafHash innerHash (slotsIn s) f m → r .first ≤ f
+  -- records keep their slots, and all but retired-since; that is set afresh from the run's trees
+  pub slots : (i : ℕ) (q : Record) → At (storeOf t) i q →
+      (x : Record)
+      × At (storeOf s) i x
+      × (q ≡ marked (q .retired) x)
+      × ((more : ℕ) → r .first + more ≡ latest → q .retired ≡ fresh (slotsIn s) (r .first) more (q .version) (q .place))
+  -- the three numbers and the source's free slots add up to the capacity; so do the records kept and the target's free slots
+  pub adds-up : r .numbers .same + r .numbers .other + r .numbers .out + freeSlots (slotsIn s) ≡ length (slotsIn s)
+  pub kept-adds-up : r .numbers .same + r .numbers .other + freeSlots (slotsIn t) ≡ length (slotsIn s)
+
+-- The grants of the run's versions, from the source's trees, the newest first: a rescued store's history begins with these (demand 3).
+abbrev pub runLedger : List Slot → ℕ → ℕ → List Entry
+runLedger s first zero = entry first (grantsIn (sourceTree s first)) ∷ []
+runLedger s first (suc more) = entry (first + suc more) (grantsIn (sourceTree s (first + suc more))) ∷ runLedger s first more
+
+-- Nothing changed and nothing left out.
+abbrev pub AsItWas : Report → Type 0
+AsItWas r = (r .numbers .other ≡ 0) × (r .numbers .out ≡ 0)
+
+-- Every kept version of the store that bytes hold has a root.
+abbrev pub AllRooted : Bytes → Type 0
+AllRooted s = (v : ℕ) → Kept (storeOf s) v → (q : Record) × (rootOf (storeOf s) v ≡ some q)
