@@ -11,7 +11,7 @@ uint32_t grants_apply(uint8_t *store, size_t store_len, uint32_t number, const u
 int printf(const char *, ...);
 void *memset(void *, int, size_t);
 
-enum { SLOTS = 1100, STORE = 24 + 120 * SLOTS, PAINTED = 1 << 20 };
+enum { SLOTS = 1100, STORE = 24 + 128 * SLOTS, PAINTED = 1 << 20 };
 static uint8_t store[STORE], batch[144], answer[40];
 
 static void ask(uint8_t *a, uint8_t last, uint8_t value) {

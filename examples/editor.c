@@ -1,4 +1,4 @@
-/* A marketplace publishes grants, and an editor checks one: format, apply, prove, verify, and what refusals look like.
+/* A marketplace publishes grants, and an editor checks one: format, apply, count, at, prove, verify, and what refusals look like.
  *
  *   make lib
  *   cc -Iinclude examples/editor.c target/native/libgrants.a -o editor
@@ -11,7 +11,7 @@
 #include <stdlib.h>
 #include <string.h>
 
-enum { CAPACITY = 20, STORE = 24 + 120 * CAPACITY, RECORD = 72, LONGEST_PROOF = 17080 };
+enum { CAPACITY = 20, STORE = GRANTS_SIZE(CAPACITY), RECORD = 72, LONGEST_PROOF = 17080 };
 
 /* The store may be anywhere: on the heap, in a mapped file, in an array. The library allocates nothing. */
 static uint8_t *store, *proof;
@@ -41,6 +41,19 @@ static uint32_t publish(uint32_t number, const uint8_t *batch, size_t records, u
     return 0;
 }
 
+/* What a marketplace's own page does: how many grants a version has, and those from a position on, in the order of their keys. */
+static void list(uint32_t version, uint64_t from, uint64_t most) {
+    uint8_t count[8], grant[64];
+    uint64_t n;
+    if (grants_count(store, STORE, version, count)) return;
+    n = number_at(count) | (uint64_t)number_at(count + 4) << 32;
+    printf("version %u has %llu\n", (unsigned)version, (unsigned long long)n);
+    for (uint64_t i = from; i < n && i - from < most; i++) {
+        if (grants_at(store, STORE, version, i, grant)) return;
+        printf("  %llu: key %02x.., value %02x..\n", (unsigned long long)i, grant[0], grant[32]);
+    }
+}
+
 /* What any copy of the store does: show, for a version, whether the key is there. */
 static size_t show(uint32_t version, const uint8_t key[32]) {
     uint8_t length[4];
@@ -67,7 +80,7 @@ static int granted(const uint8_t root[32], const uint8_t key[32], size_t length)
 }
 
 int main(void) {
-    uint8_t plugin[32], other[32], score[32], first[32], second[32], third[32], batch[2 * RECORD], length[4], found[33];
+    uint8_t plugin[32], other[32], score[32], first[32], second[32], third[32], batch[2 * RECORD], length[4], found[33], grant[64];
     size_t proof_length;
     uint64_t read;
     memset(plugin, 0x40, 32);
@@ -83,6 +96,11 @@ int main(void) {
     if (publish(10, batch, 2, first)) return 1;
     ask(batch, plugin, NULL);
     if (publish(20, batch, 1, second)) return 1;
+
+    /* Two grants, then one. A page of a long list is read by position; the rest of it isn't. */
+    list(10, 0, 100);
+    list(20, 0, 100);
+    list(10, 1, 1);
 
     /* The grant stood in version 10, and so in 15, which reads as 10; not in version 20. */
     proof_length = show(10, plugin);
@@ -102,22 +120,23 @@ int main(void) {
     printf("an empty version: refused with %u\n", (unsigned)grants_prove(store, STORE, 21, plugin, 32, proof, LONGEST_PROOF, length));
     if (granted(third, plugin, 0)) return 1;
 
-    /* Refused are also keys out of order, a number that is not above the latest, a version that is not kept, and a proof for which there is no
-       room; none of these writes anything. */
+    /* Refused are also keys out of order, a number that is not above the latest, a version that is not kept, a position past the last grant, and a
+       proof for which there is no room; none of these writes anything. */
     ask(batch, other, score);
     ask(batch + RECORD, plugin, score);
     printf("keys out of order: refused with %u\n", (unsigned)publish(22, batch, 2, second));
     printf("number 21 again: refused with %u\n", (unsigned)publish(21, batch, 1, second));
     printf("version 22: refused with %u\n", (unsigned)grants_root(store, STORE, 22, second));
+    printf("position 2: refused with %u\n", (unsigned)grants_at(store, STORE, 10, 2, grant));
     printf("no room: refused with %u\n", (unsigned)grants_prove(store, STORE, 10, plugin, 32, proof, proof_length - 1, length));
     printf("the store is %s\n", grants_check(store, STORE) == 0 ? "sound" : "not sound");
 
     /* Of a damaged store a read says which record is missing. Slot 0 has the plug-in's grant of version 10: first a byte of it is spoilt, then all
        of it is lost. */
-    store[24] ^= 1;
+    store[GRANTS_SIZE(0)] ^= 1;
     read = grants_get(store, STORE, 10, plugin, 32, found);
     printf("a byte spoilt: refused with %u, slot %d\n", (unsigned)GRANTS_NUMBER(read), (int)GRANTS_SLOT(read));
-    memset(store + 24, 0, 120);
+    memset(store + GRANTS_SIZE(0), 0, GRANTS_SIZE(1) - GRANTS_SIZE(0));
     read = grants_get(store, STORE, 10, plugin, 32, found);
     printf("a record lost: refused with %u, slot %d\n", (unsigned)GRANTS_NUMBER(read), (int)GRANTS_SLOT(read));
     free(proof);

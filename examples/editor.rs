@@ -1,10 +1,10 @@
-//! A marketplace publishes grants, and an editor checks one: format, apply, prove, verify, and what refusals look like.
+//! A marketplace publishes grants, and an editor checks one: format, apply, count, at, prove, verify, and what refusals look like.
 //!
 //!     cargo run --offline --manifest-path rust/Cargo.toml --example editor
 //!
 //! An editor needs `granted` alone: a root whose signature it has checked, a key, and a proof from anybody.
 
-use grants::{Applied, Batch, Error, Key, Proof, Root, Store, Value};
+use grants::{store_bytes, Applied, Batch, Error, Key, Proof, Root, Store, Value};
 
 /// What an editor does. Unless the proof shows that the grant stands, nothing is opened. A signed root of 32 zero bytes is itself the proof that
 /// nothing is granted: there is no other.
@@ -33,6 +33,17 @@ fn tell(made: &Applied) {
     println!("version {version}, new records: {new_records}, root {root}");
 }
 
+/// What a marketplace's own page does: how many grants a version has, and those from a position on, in the order of their keys.
+fn list(store: &Store<Vec<u8>>, version: u32, from: usize, most: usize) -> Result<(), Error> {
+    println!("version {version} has {}", store.count(version)?);
+    let page = store.positions(version)?.skip(from).take(most);
+    for (i, grant) in page.enumerate() {
+        let (key, value) = grant?;
+        println!("  {}: key {key:.2}.., value {value:.2}..", from + i);
+    }
+    Ok(())
+}
+
 fn main() -> Result<(), Box<dyn std::error::Error>> {
     let (plugin, other) = (Key::from([0x40; 32]), Key::from([0x80; 32]));
     let score = Value::from([7; 32]);
@@ -47,6 +58,11 @@ fn main() -> Result<(), Box<dyn std::error::Error>> {
     batch.delete(plugin)?;
     let second = store.apply(20, &batch)?;
     tell(&second);
+
+    // Two grants, then one. A page of a long list is read by position; the rest of it isn't.
+    list(&store, 10, 0, 100)?;
+    list(&store, 20, 0, 100)?;
+    list(&store, 10, 1, 1)?;
 
     // The grant stood in version 10, and so in 15, which reads as 10; not in version 20.
     let old = store.prove(10, plugin)?;
@@ -69,8 +85,8 @@ fn main() -> Result<(), Box<dyn std::error::Error>> {
     );
     assert!(!granted(third.root, plugin, &old));
 
-    // Refused are also keys out of order, a number that is not above the latest, a version that is not kept, and a proof for which there is no room;
-    // none of these writes anything. A `Batch` puts its keys in order, so disorder takes bytes from elsewhere.
+    // Refused are also keys out of order, a number that is not above the latest, a version that is not kept, a position past the last grant, and a proof
+    // for which there is no room; none of these writes anything. A `Batch` puts its keys in order, so disorder takes bytes from elsewhere.
     let mut both = Batch::new();
     both.insert(plugin, score)?.insert(other, score)?;
     let mut bytes = both.to_bytes();
@@ -86,6 +102,10 @@ fn main() -> Result<(), Box<dyn std::error::Error>> {
     println!(
         "version 22: refused with {}",
         number(store.root(22).map(drop))
+    );
+    println!(
+        "position 2: refused with {}",
+        number(store.at(10, 2).map(drop))
     );
     let mut room = vec![0; old.as_bytes().len() - 1];
     println!(
@@ -105,14 +125,14 @@ fn main() -> Result<(), Box<dyn std::error::Error>> {
     // it is lost.
     let slot = |refused: Error| refused.slot().map_or(-1, i64::from);
     let mut bytes = store.into_bytes();
-    bytes[24] ^= 1;
+    bytes[store_bytes(0)] ^= 1;
     let refused = Store::over(&bytes).get(10, plugin).unwrap_err();
     println!(
         "a byte spoilt: refused with {}, slot {}",
         refused.number(),
         slot(refused)
     );
-    bytes[24..144].fill(0);
+    bytes[store_bytes(0)..store_bytes(1)].fill(0);
     let refused = Store::over(&bytes).get(10, plugin).unwrap_err();
     println!(
         "a record lost: refused with {}, slot {}",

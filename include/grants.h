@@ -4,14 +4,14 @@
  * version, or that it has none; whoever has the version's root checks it with grants_verify alone. examples/editor.c shows all of it.
  *
  * Each call returns 0 where it is accepted, else a number of refusal; a refused call writes nothing, its answer included. The reads (root, get,
- * prove) return 64 bits: the number in the low half, and in the high half a slot + 1 where they name one; who keeps 32 bits has the number
+ * count, at, prove, palette) return 64 bits: the number in the low half, and in the high half a slot + 1 where they name one; who keeps 32 bits has the number
  * alone. Buffers lent to one call do not overlap. A pointer is never null, also where its length is 0. The calls keep no state, take no lock and allocate nothing; a
  * store may be used from any thread that owns it. All numbers in buffers are little-endian. Every call takes any bytes: bad input is refused.
  * The stack that each call takes is in docs/FIGURES.md; every byte of a store, a batch and a proof is in docs/FORMAT.md, and
  * what the library does, complete and in words, in docs/RULES.md. The archive to link is target/native/libgrants.a of the checkout, or what
  * `pkg-config --libs grants` names after `make install`.
  *
- *   1  the store's length isn't 24 + 120n, n in 1 to 16,384
+ *   1  the store's length isn't 24 + 128n, n in 1 to 16,384
  *   2  a header field isn't right, its capacity isn't n, or oldest is above latest
  *   3  the store isn't sound (check, apply, prune, changes), or the walk says so (reads); rescue: no version can be rescued
  *   4  the batch isn't whole records in form, or has over 1,024
@@ -26,6 +26,7 @@
  *  14  the version is empty, so there is no proof
  *  17  a record is lost: a child that is wanted stands in no slot (reads)
  *  18  the number isn't above latest
+ *  20  the position isn't below the number of grants
  *
  * 'Refused' below names a call's numbers in the order in which it tests for them: where several are deserved, the first is given.
  */
@@ -39,15 +40,20 @@
 #define GRANTS_NUMBER(r) ((uint32_t)(r))
 #define GRANTS_SLOT(r) ((int64_t)((uint64_t)(r) >> 32) - 1)
 
+/* The bytes of a store of n slots, and of one of the old form, whose inner records have no counts. Every call refuses a store of the old form,
+   with 1 by its size or with 2 by the kind in its header (24 + 120 x 16 is 24 + 128 x 15). */
+#define GRANTS_SIZE(n) (24 + 128 * (size_t)(n))
+#define GRANTS_OLD_SIZE(n) (24 + 120 * (size_t)(n))
+
 #ifdef __cplusplus
 extern "C" {
 #endif
 
-/* Makes a fresh, empty store of any bytes of the right length, 24 + 120 for each slot: version 0, which holds no grant, is the only one kept.
+/* Makes a fresh, empty store of any bytes of the right length, GRANTS_SIZE(n) for n slots: version 0, which holds no grant, is the only one kept.
    A record takes a slot, and a publishing makes a record for each node that it changes. Refused: 1. */
 uint32_t grants_format(uint8_t *store, size_t store_len);
 
-/* Whether the store is sound: every kept version is a whole tree with every hash true, and each record stands in exactly the kept versions of
+/* Whether the store is sound: every kept version is a whole tree with every hash and every count true, and each record stands in exactly the kept versions of
    its lifetime. A store that only these calls wrote always is. Refused: 1, 2, 3. */
 uint32_t grants_check(const uint8_t *store, size_t store_len);
 
@@ -75,6 +81,17 @@ uint64_t grants_root(const uint8_t *store, size_t store_len, uint32_t version, u
    used slot, not in form, whose version, bit count and bits are the child's; 3 alone for a leaf whose key doesn't begin with its place.
    Refused: 12, 1, 2, 8, 3 or 17. */
 uint64_t grants_get(const uint8_t *store, size_t store_len, uint32_t version, const uint8_t *key, size_t key_len, uint8_t found[33]);
+
+/* How many grants a version has. count: 8 bytes. It is the sum of the two counts in the root's record, 1 where that is a leaf, 0 where the version has no
+   root; no other record is looked at. Of a sound store that is the number of its grants; of one that isn't it may be anything up to 8,589,934,590.
+   Refused: 1, 2, 8, 3 (with its slot, the root's record is spoilt). */
+uint64_t grants_count(const uint8_t *store, size_t store_len, uint32_t version, uint8_t count[8]);
+
+/* The grant at a position of a version, 0 the one with the least key. grant: key 32, value 32. It goes down by the counts in the records and tests what it
+   meets, not soundness. A position that isn't below grants_count is refused with 20, before anything below the root is looked at; then the first trouble
+   met is given as in grants_get, and 3 alone also for a child that isn't there and for a leaf with positions left over, which wrong counts lead
+   to. Refused: 1, 2, 8, 3 (of the root), 20, 3 or 17. */
+uint64_t grants_at(const uint8_t *store, size_t store_len, uint32_t version, uint64_t position, uint8_t grant[64]);
 
 /* Writes the proof that a key is in a version, or that it isn't, to the front of room; the rest of room stays. length: of the proof, 4 bytes.
    No proof is longer than 17,080 bytes; the shortest has 72, of absence 112. A version without a grant has no proof (14): its root of 32 zero

@@ -22,13 +22,15 @@ export interface Applied {
 
 /** A call was refused; it changed nothing. */
 export class Refused extends Error {
-  constructor(number: number, slot?: number | null);
+  constructor(number: number, slot?: number | null, oldForm?: boolean);
   /** The number of refusal. */
   readonly number: number;
   /** Its sentence. */
   readonly sentence: string;
   /** The slot of the spoilt record that a read was refused for (3); null for all else. */
   readonly slot: number | null;
+  /** The store is one of the old form, with slots of 120 bytes: `grants move` of the command line tool brings it over. */
+  readonly oldForm: boolean;
 }
 
 /** A store in memory of its own. Its calls run one after the other, and throw `Refused` where the library refuses. */
@@ -40,6 +42,8 @@ export class Store {
   readonly capacity: number;
   readonly oldest: number;
   readonly latest: number;
+  /** Whether this is a store of the old form, with slots of 120 bytes, by size and header: every call refuses it, and says so. */
+  readonly oldForm: boolean;
   /** Makes the store fresh and empty again, whatever it holds. Refused: 1. */
   format(): void;
   /** Nothing where the store is sound. Refused: 1, 2, 3. */
@@ -55,6 +59,11 @@ export class Store {
   root(version: number): Uint8Array;
   /** A key in a version; a read trusts the store. A record on the way may be spoilt (3, with `slot`) or lost (17). Refused: 12, 1, 2, 8, 3 or 17. */
   get(version: number, key: Bytes): Found;
+  /** How many grants a version has. The library's answer has 64 bits and is at most 8,589,934,590, which a number says exactly. Refused: 1, 2, 8, 3. */
+  count(version: number): number;
+  /** The grant at a position of a version, 0 the one with the least key. A position has 64 bits: a number where that is exact, else a BigInt. Where it
+   * isn't below `count` it is refused with 20. Refused: 1, 2, 8, 3 (of the root), 20, 3 or 17. */
+  at(version: number, position: number | bigint): Grant;
   /** The proof that a key is in a version, or that it isn't, in at most so many bytes. Refused: 12, 1, 2, 8, 14, 3 or 17, 9. */
   prove(version: number, key: Bytes, most?: number): Uint8Array;
   /** The proofs for up to 256 keys, in the order asked, in at most so many bytes together. Refused: 12, 1, 2, 8, then of the first key refused 14, 3 or 17;
@@ -63,6 +72,12 @@ export class Store {
   /** What changed from one kept version to another, in the order of keys, with at most so many visits (32,769 are always enough) and bytes of
    * the library's list (all that it can take). Refused: 1, 2, 3, 8, 13, 9. */
   changes(first: number, second: number, limit?: number, most?: number): Changed[];
+}
+
+/** A key with its value. */
+export interface Grant {
+  key: Uint8Array;
+  value: Uint8Array;
 }
 
 /** A key that was added (`before` is null), removed (`after` is null) or given another value. */

@@ -1,15 +1,18 @@
 // The calls of the grant store for Node, browsers and workers. What a store, a batch or a proof is worth is always the WebAssembly's word.
+import { AT, DELETE_KIND, DELETE_LENGTH, HEADER_BYTES, INSERT_KIND, LONGEST_PROOF, MOST_SLOTS, OLD_FORM, RECORD_BYTES, SLOT_BYTES, isOldForm, storeBytes, u16, u32 } from './form.js';
 import { REFUSALS } from './refusals.js';
 
-// A call was refused, and changed nothing. Where a read was refused for a spoilt record, `slot` is the slot that has it, else null.
+// A call was refused, and changed nothing. Where a read was refused for a spoilt record, `slot` is the slot that has it, else null. `oldForm` says that
+// the store is one of the old form.
 export class Refused extends Error {
-  constructor(number, slot = null) {
+  constructor(number, slot = null, oldForm = false) {
     const sentence = REFUSALS[number] ?? 'a number without a sentence here';
-    super(`refused with ${number}: ${sentence}${slot === null ? '' : `; the record in slot ${slot} is spoilt`}`);
+    super(`refused with ${number}: ${sentence}${slot === null ? '' : `; the record in slot ${slot} is spoilt`}${oldForm ? `; ${OLD_FORM}` : ''}`);
     this.name = 'Refused';
     this.number = number;
     this.sentence = sentence;
     this.slot = slot;
+    this.oldForm = oldForm;
   }
 }
 
@@ -38,7 +41,12 @@ function versionOf(given) {
   return given;
 }
 
-const u32 = (bytes, at) => new DataView(bytes.buffer, bytes.byteOffset, bytes.byteLength).getUint32(at, true);
+// A position as the calls take it: 64 bits, so a BigInt says every one; a number does where it is exact.
+function positionOf(given) {
+  const exact = typeof given === 'bigint' || Number.isSafeInteger(given);
+  if (!exact || given < 0 || given > 0xffff_ffff_ffff_ffffn) throw new RangeError('a position is a whole number from 0 to 18,446,744,073,709,551,615; above 9,007,199,254,740,991 as a BigInt');
+  return BigInt(given);
+}
 
 // The number of refusal that a call returned, and the slot that a read named: its 64 bits have the number in the low half, the slot + 1 in the high.
 function parted(said) {
@@ -91,7 +99,7 @@ class Machine {
     return [this.#start, BigInt(this.#kept)];
   }
 
-  // One call. Given: 'store', a number, bytes, an answer or room. What it wrote to answer and room, in their order.
+  // One call. Given: 'store', a number (of 64 bits a BigInt), bytes, an answer or room. What it wrote to answer and room, in their order.
   call(name, ...given) {
     if (this.#stopped) throw new Error('an earlier call was stopped by the engine; make this anew');
     const words = [];
@@ -99,7 +107,7 @@ class Machine {
     let end = this.#start + this.#kept;
     for (const it of given) {
       if (it === 'store') words.push(...this.#lentStore());
-      else if (typeof it === 'number') words.push(it);
+      else if (typeof it === 'number' || typeof it === 'bigint') words.push(it);
       else {
         // No two overlap, and none is empty, so that each has a place of its own.
         const at = aligned(end);
@@ -124,7 +132,8 @@ class Machine {
       memory.fill(0, this.#start + this.#kept, end);
     }
     const [number, slot] = parted(said);
-    if (number !== 0) throw new Refused(number, slot);
+    // A store of the old form is refused for its size or its header; a rescue may find no version in it.
+    if (number !== 0) throw new Refused(number, slot, number <= 3 && given.includes('store') && isOldForm(this.kept()));
     return wrote;
   }
 }
@@ -133,7 +142,6 @@ function found([flag, ...value]) {
   return flag === 1 ? { present: true, value: Uint8Array.from(value) } : { present: false };
 }
 
-const LONGEST_PROOF = 17080;
 // No comparison of two versions takes more visits.
 const MOST_VISITS = 32769;
 
@@ -141,9 +149,9 @@ const MOST_VISITS = 32769;
 export function batch(changes) {
   if (typeof changes === 'string' || changes instanceof ArrayBuffer || ArrayBuffer.isView(changes)) return bytesOf(changes);
   const records = Array.from(changes, ({ key, value }) => {
-    const record = new Uint8Array(72);
-    record.set(value === null ? [40, 0, 0, 0, 2] : [72, 0, 0, 0, 1]);
-    for (const [at, it] of value === null ? [[8, key]] : [[8, key], [40, value]]) {
+    const record = new Uint8Array(RECORD_BYTES);
+    record.set(value === null ? [DELETE_LENGTH, 0, 0, 0, DELETE_KIND] : [RECORD_BYTES, 0, 0, 0, INSERT_KIND]);
+    for (const [at, it] of value === null ? [[AT.recordKey, key]] : [[AT.recordKey, key], [AT.recordValue, value]]) {
       const bytes = bytesOf(it);
       if (bytes.length !== 32) throw new TypeError('a key and a value are 32 bytes');
       record.set(bytes, at);
@@ -151,11 +159,11 @@ export function batch(changes) {
     return record;
   });
   const order = (a, b) => {
-    const at = a.findIndex((byte, i) => i >= 8 && i < 40 && byte !== b[i]);
+    const at = a.findIndex((byte, i) => i >= AT.recordKey && i < AT.recordValue && byte !== b[i]);
     return at < 0 ? 0 : a[at] - b[at];
   };
-  const all = new Uint8Array(72 * records.length);
-  records.sort(order).forEach((record, i) => all.set(record, 72 * i));
+  const all = new Uint8Array(RECORD_BYTES * records.length);
+  records.sort(order).forEach((record, i) => all.set(record, RECORD_BYTES * i));
   return all;
 }
 
@@ -174,15 +182,20 @@ export class Store {
 
   // What the header says; only `check` says whether the store is sound.
   get capacity() {
-    return u32(this.bytes(), 8);
+    return u32(this.bytes(), AT.capacity);
   }
 
   get oldest() {
-    return u32(this.bytes(), 12);
+    return u32(this.bytes(), AT.oldest);
   }
 
   get latest() {
-    return u32(this.bytes(), 16);
+    return u32(this.bytes(), AT.latest);
+  }
+
+  // Whether this is a store of the old form, which every call refuses.
+  get oldForm() {
+    return isOldForm(this.bytes());
   }
 
   format() {
@@ -202,7 +215,7 @@ export class Store {
   // Under the number after latest. Where there is none it is 0, which is never above latest; where there is no header, the call says so first.
   applyNext(changes) {
     const bytes = this.bytes();
-    return this.apply(bytes.length < 24 ? 0 : (u32(bytes, 16) + 1) % 2 ** 32, changes);
+    return this.apply(bytes.length < HEADER_BYTES ? 0 : (u32(bytes, AT.latest) + 1) % 2 ** 32, changes);
   }
 
   prune(version) {
@@ -215,6 +228,18 @@ export class Store {
 
   get(version, key) {
     return found(this.#machine.call('get', 'store', versionOf(version), bytesOf(key), answer(33))[0]);
+  }
+
+  // How many grants a version has: two counts of 32 bits summed, so a number says it exactly.
+  count(version) {
+    const [wrote] = this.#machine.call('count', 'store', versionOf(version), answer(8));
+    return u32(wrote, 0) + 2 ** 32 * u32(wrote, 4);
+  }
+
+  // The grant at a position of a version, 0 the least key.
+  at(version, position) {
+    const [wrote] = this.#machine.call('at', 'store', versionOf(version), positionOf(position), answer(64));
+    return { key: wrote.slice(0, 32), value: wrote.slice(32) };
   }
 
   prove(version, key, most = LONGEST_PROOF) {
@@ -240,13 +265,13 @@ export class Store {
   changes(first, second, limit = MOST_VISITS, most = Infinity) {
     if (most !== Infinity && (!Number.isInteger(most) || most < 0)) throw new RangeError('room is a whole number of bytes');
     // Each record of the list is another leaf of the store.
-    const longest = 72 * 2 * Math.max(Math.floor((this.bytes().length - 24) / 120), 0);
+    const longest = RECORD_BYTES * 2 * Math.max(Math.floor((this.bytes().length - HEADER_BYTES) / SLOT_BYTES), 0);
     const [list, records] = this.#machine.call('changes', 'store', versionOf(first), versionOf(second), versionOf(limit), room(Math.min(most, longest)), answer(4));
     const changed = [];
-    for (let at = 0; at < 72 * u32(records, 0); at += 72) {
-      const [key, value] = [list.slice(at + 8, at + 40), list.slice(at + 40, at + 72)];
+    for (let at = 0; at < RECORD_BYTES * u32(records, 0); at += RECORD_BYTES) {
+      const [key, value] = [list.slice(at + AT.recordKey, at + AT.recordValue), list.slice(at + AT.recordValue, at + RECORD_BYTES)];
       const last = changed.at(-1);
-      if (list[at + 4] === 2) changed.push({ key, before: value, after: null });
+      if (u16(list, at + AT.kind) === DELETE_KIND) changed.push({ key, before: value, after: null });
       else if (last && last.after === null && last.key.every((byte, i) => byte === key[i])) last.after = value;
       else changed.push({ key, before: null, after: value });
     }
@@ -279,7 +304,7 @@ export class Grants {
   // A fresh store. No capacity above 16,384 is accepted, so none needs more memory than 16,385 would.
   async format(capacity) {
     if (!Number.isInteger(capacity) || capacity < 0) throw new RangeError('a capacity is a whole number');
-    const store = await this.open(new Uint8Array(24 + 120 * Math.min(capacity, 16385)));
+    const store = await this.open(new Uint8Array(storeBytes(Math.min(capacity, MOST_SLOTS + 1))));
     store.format();
     return store;
   }

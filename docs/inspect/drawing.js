@@ -1,6 +1,6 @@
 // What is drawn of a proof and of a store. Nothing here is a verdict: bytes are read for the eye alone.
+import { ABSENCE_BYTES, ABSENCE_KIND, AT, INNER_KIND, LEAF_KIND, PRESENCE_BYTES, PRESENCE_KIND, SLOT_BYTES, STEP_BYTES, storeBytes, u16, u32 } from '../../js/form.js';
 
-const numberAt = (bytes, at, size) => bytes.slice(at, at + size).reduceRight((n, byte) => 256 * n + byte, 0);
 const sameBytes = (a, b) => a.length === b.length && a.every((byte, i) => byte === b[i]);
 const noHash = (hash) => hash.every((byte) => byte === 0);
 const compareBytes = (a, b) => {
@@ -10,22 +10,23 @@ const compareBytes = (a, b) => {
 
 // A presence proof at the front of some bytes, none where they are too few.
 export function presenceOf(bytes) {
-  const steps = numberAt(bytes, 6, 2);
-  if (bytes.length < 72 + 33 * steps || numberAt(bytes, 4, 2) !== 16) return undefined;
-  const step = (i) => ({ side: bytes[72 + 33 * i], sibling: bytes.slice(73 + 33 * i, 105 + 33 * i) });
-  return { key: bytes.slice(8, 40), value: bytes.slice(40, 72), steps: Array.from({ length: steps }, (_, i) => step(i)), length: 72 + 33 * steps };
+  const steps = u16(bytes, AT.steps);
+  const end = (i) => PRESENCE_BYTES + STEP_BYTES * i;
+  if (bytes.length < end(steps) || u16(bytes, AT.kind) !== PRESENCE_KIND) return undefined;
+  const step = (i) => ({ side: bytes[end(i)], sibling: bytes.slice(end(i) + 1, end(i + 1)) });
+  return { key: bytes.slice(AT.proofKey, AT.proofValue), value: bytes.slice(AT.proofValue, end(0)), steps: Array.from({ length: steps }, (_, i) => step(i)), length: end(steps) };
 }
 
 // A proof: its key, and the paths that it shows.
 export function proofOf(bytes) {
-  if (numberAt(bytes, 4, 2) === 16) {
+  if (u16(bytes, AT.kind) === PRESENCE_KIND) {
     const leaf = presenceOf(bytes);
     return leaf && { key: leaf.key, paths: [{ ...leaf, what: 'The leaf of the key' }] };
   }
-  if (numberAt(bytes, 4, 2) !== 17) return undefined;
-  const flags = numberAt(bytes, 6, 2);
+  if (u16(bytes, AT.kind) !== ABSENCE_KIND) return undefined;
+  const flags = u16(bytes, AT.flags);
   const paths = [];
-  let rest = bytes.slice(40);
+  let rest = bytes.slice(ABSENCE_BYTES);
   for (const [flag, side] of [[1, 'left'], [2, 'right']]) {
     if (!(flags & flag)) continue;
     const leaf = presenceOf(rest);
@@ -33,7 +34,7 @@ export function proofOf(bytes) {
     paths.push({ ...leaf, neighbour: side, what: `The ${side} neighbour` });
     rest = rest.slice(leaf.length);
   }
-  return { key: bytes.slice(8, 40), absence: true, paths };
+  return { key: bytes.slice(AT.proofKey, ABSENCE_BYTES), absence: true, paths };
 }
 
 // The hashes on a path: the leaf's, and the one after each step.
@@ -85,15 +86,14 @@ export function faultsOf(proof, root, key, tops) {
 // The records of a store by version and place, the lowest slot of each.
 export function recordsOf(bytes) {
   const records = new Map();
-  for (let slot = 0; 144 + 120 * slot <= bytes.length; slot += 1) {
-    const it = bytes.slice(24 + 120 * slot, 144 + 120 * slot);
-    const kind = numberAt(it, 4, 2);
-    if (kind !== 2 && kind !== 3) continue;
-    const count = numberAt(it, 6, 2);
-    const place = Array.from({ length: count }, (_, b) => (it[8 + (b >> 3)] >> (7 - (b & 7))) & 1).join('');
-    const record = { slot, place, version: numberAt(it, 40, 4), retired: numberAt(it, 44, 4) };
-    if (kind === 2) Object.assign(record, { key: it.slice(48, 80), value: it.slice(80, 112) });
-    else record.children = [numberAt(it, 48, 4), numberAt(it, 84, 4)];
+  for (let slot = 0; storeBytes(slot + 1) <= bytes.length; slot += 1) {
+    const it = bytes.slice(storeBytes(slot), storeBytes(slot) + SLOT_BYTES);
+    const kind = u16(it, AT.kind);
+    if (kind !== LEAF_KIND && kind !== INNER_KIND) continue;
+    const place = Array.from({ length: u16(it, AT.bitCount) }, (_, b) => (it[AT.bits + (b >> 3)] >> (7 - (b & 7))) & 1).join('');
+    const record = { slot, place, version: u32(it, AT.version), retired: u32(it, AT.retiredSince) };
+    if (kind === LEAF_KIND) Object.assign(record, { key: it.slice(AT.key, AT.key + 32), value: it.slice(AT.value, AT.value + 32) });
+    else for (const part of ['children', 'counts']) record[part] = AT[part].map((at) => u32(it, at));
     const name = `${record.version}:${place}`;
     if (!records.has(name)) records.set(name, record);
   }

@@ -1,4 +1,5 @@
 // The page: what is dropped, typed and clicked, the checker's verdicts, and the drawings.
+import { OLD_FORM, isHeader } from '../../js/form.js';
 import { Refused, fromHex, load, toHex } from '../../js/grants.js';
 import { faultsOf, hashesOf, leavesOf, proofOf, recordsOf, spansOf, treeOf } from './drawing.js';
 
@@ -114,7 +115,7 @@ function node(tree, version, made) {
   const names = tree.version === made ? 'new' : '';
   if (tree.below) {
     const below = tree.below.map((child, bit) => child && element('li', {}, `${bit} `, node(child, version, made)));
-    return element('span', {}, element('span', { class: names }, `inner node ${place}, version ${tree.version}, slot ${tree.slot}`), element('ul', {}, ...below));
+    return element('span', {}, element('span', { class: names }, `inner node ${place}, ${tree.counts.join(' + ')} grants below, version ${tree.version}, slot ${tree.slot}`), element('ul', {}, ...below));
   }
   const button = element('button', { type: 'button', class: 'hex', title: toHex(tree.key) }, `prove ${short(tree.key)}`);
   button.addEventListener('click', () => prove(version, tree.key));
@@ -168,7 +169,8 @@ async function openStore(name, bytes) {
   } catch (refused) {
     if (!(refused instanceof Refused)) throw refused;
     at('sound').className = 'bad';
-    at('sound').textContent = `This store is not to be used. Refused with ${refused.number}: ${refused.sentence}.${refused.number === 3 ? met() : ''}`;
+    const why = refused.oldForm ? ` By its size and its header ${OLD_FORM}.` : refused.number === 3 ? met() : '';
+    at('sound').textContent = `This store is not to be used. Refused with ${refused.number}: ${refused.sentence}.${why}`;
     return;
   }
   records = recordsOf(bytes);
@@ -180,8 +182,7 @@ async function openStore(name, bytes) {
   for (const { first, last } of spans.slice(-MOST_ROWS).reverse()) {
     const button = element('button', { type: 'button' }, first === last ? `version ${first}` : `version ${first} to ${last}`);
     button.addEventListener('click', () => show(first));
-    const leaves = leavesOf(treeOf(records, first)).length;
-    body.append(element('tr', {}, element('td', {}, button), element('td', {}, `${leaves}`), element('td', { class: 'hex' }, toHex(store.root(first)))));
+    body.append(element('tr', {}, element('td', {}, button), element('td', {}, `${store.count(first)}`), element('td', { class: 'hex' }, toHex(store.root(first)))));
   }
   const head = element('tr', {}, ...['Version', 'Grants', 'Root'].map((text) => element('th', { scope: 'col' }, text)));
   at('versions').replaceChildren(element('div', { class: 'wide' }, element('table', {}, element('thead', {}, head), body)));
@@ -195,7 +196,7 @@ async function taken(file) {
   const text = new TextDecoder().decode(bytes).trim();
   if (/^([0-9a-f]{2})+$/i.test(text)) bytes = fromHex(text);
   if (bytes.length === 32) at('root').value = toHex(bytes);
-  else if (bytes.length >= 144 && bytes[0] === 24 && bytes[4] === 1) await openStore(file.name, bytes);
+  else if (isHeader(bytes)) await openStore(file.name, bytes);
   else at('proof').value = toHex(bytes);
 }
 

@@ -1,11 +1,10 @@
+use crate::form::{DELETE_KIND, DELETE_LENGTH, INSERT_KIND, RECORD_BYTES};
 use crate::{Key, Value};
 use std::collections::btree_map::{BTreeMap, Entry};
 use std::fmt;
 
 /// The most records that one batch may have.
 pub const BATCH_RECORDS: usize = 1_024;
-
-const RECORD: usize = 72;
 
 /// What to publish next: keys to insert and keys to delete. It sorts as it is built, and takes no key twice.
 ///
@@ -70,11 +69,11 @@ impl Batch {
 
     /// The batch as records of 72 bytes (docs/FORMAT.md).
     pub fn to_bytes(&self) -> Vec<u8> {
-        let mut bytes = Vec::with_capacity(self.len() * RECORD);
+        let mut bytes = Vec::with_capacity(self.len() * RECORD_BYTES);
         for (key, value) in self.iter() {
             let (length, kind) = match value {
-                Some(_) => (72u32, 1u16),
-                None => (40, 2),
+                Some(_) => (RECORD_BYTES as u32, INSERT_KIND),
+                None => (DELETE_LENGTH as u32, DELETE_KIND),
             };
             bytes.extend_from_slice(&length.to_le_bytes());
             bytes.extend_from_slice(&kind.to_le_bytes());

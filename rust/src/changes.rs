@@ -1,12 +1,12 @@
-use crate::{Batch, Key, Value, MOST_SLOTS};
+use crate::form::{at, INSERT_KIND, MOST_SLOTS, RECORD_BYTES};
+use crate::records::u16_at;
+use crate::{Batch, Key, Value};
 
 /// A limit that no comparison passes: a store of 16,384 slots has at most so many visits.
 pub const MOST_VISITS: u32 = 32_769;
 
 /// Room for every list: it has at most one record for each slot of a store.
-pub(crate) const LIST_BYTES: usize = MOST_SLOTS as usize * RECORD;
-
-const RECORD: usize = 72;
+pub(crate) const LIST_BYTES: usize = MOST_SLOTS as usize * RECORD_BYTES;
 
 /// What became of a key from one version to another.
 #[derive(Clone, Copy, Debug, PartialEq, Eq)]
@@ -67,7 +67,7 @@ impl Changes {
 
     /// The number of records; a key given another value has two.
     pub fn records(&self) -> usize {
-        self.bytes.len() / RECORD
+        self.bytes.len() / RECORD_BYTES
     }
 
     pub fn is_empty(&self) -> bool {
@@ -75,7 +75,7 @@ impl Changes {
     }
 
     pub fn iter(&self) -> impl Iterator<Item = Change> + '_ {
-        let mut records = self.bytes.chunks_exact(RECORD).map(record).peekable();
+        let mut records = self.bytes.chunks_exact(RECORD_BYTES).map(record).peekable();
         std::iter::from_fn(move || {
             let (inserts, key, value) = records.next()?;
             if inserts {
@@ -111,7 +111,11 @@ impl Changes {
 /// Whether a record inserts, its key and its value.
 fn record(bytes: &[u8]) -> (bool, Key, Value) {
     let (mut key, mut value) = ([0; 32], [0; 32]);
-    key.copy_from_slice(&bytes[8..40]);
-    value.copy_from_slice(&bytes[40..72]);
-    (bytes[4] == 1, key.into(), value.into())
+    key.copy_from_slice(&bytes[at::RECORD_KEY]);
+    value.copy_from_slice(&bytes[at::RECORD_VALUE]);
+    (
+        u16_at(bytes, at::KIND) == INSERT_KIND,
+        key.into(),
+        value.into(),
+    )
 }

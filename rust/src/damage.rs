@@ -1,7 +1,7 @@
 //! Which records a damaged store misses, to tell a person. What a store is worth is the library's word: check, and the refusals of the reads. Here the
 //! slots are looked at once more for their places and versions, which a refusal doesn't carry; nothing is promised of it.
 
-use crate::records::{self, Body, Child, Header, Place, Record};
+use crate::records::{self, in_form, zero, Body, Header, Place, Record};
 use crate::{Key, Store};
 use std::collections::{BTreeMap, BTreeSet, HashMap, HashSet};
 
@@ -15,6 +15,19 @@ pub struct Missing {
     pub slot: Option<u32>,
     /// The newest kept version that wants it.
     pub wanted_in: u32,
+}
+
+/// What the way to a position met that can't be.
+#[derive(Clone, Copy, Debug, PartialEq, Eq)]
+pub enum Met {
+    /// A record that is lost or spoilt.
+    Missing(Missing),
+    /// The counts lead to a child at this place, and the record above it has none.
+    NoChild { place: Place },
+    /// The counts lead to the leaf at this place with so many positions left over.
+    LeftOver { place: Place, positions: u64 },
+    /// The leaf at this place has a key that doesn't begin with it.
+    Stray { place: Place },
 }
 
 /// What finding a node tells apart.
@@ -33,31 +46,6 @@ struct Slots {
     spoilt: Vec<(u32, Record)>,
 }
 
-fn zero(bytes: &[u8]) -> bool {
-    bytes.iter().all(|b| *b == 0)
-}
-
-fn in_form(slot: &[u8], record: &Record) -> bool {
-    let most = match (records::u32_at(slot, 0), &slot[4..6]) {
-        (112, [2, 0]) => 256,
-        (120, [3, 0]) => 255,
-        _ => return false,
-    };
-    let body = match record.body {
-        Body::Leaf { .. } => zero(&slot[112..]),
-        Body::Inner { left, right } => {
-            let child = |child: Option<Child>, hash: &[u8]| child.is_some() || zero(hash);
-            child(left, &slot[52..84])
-                && child(right, &slot[88..120])
-                && (left.is_some() || right.is_some())
-        }
-    };
-    let place = record.place;
-    body && record.version != 0
-        && place.count() <= most
-        && (place.count()..256).all(|i| !place.bit(i))
-}
-
 impl Slots {
     fn of(store: &[u8]) -> Slots {
         let mut slots = Slots {
@@ -66,7 +54,7 @@ impl Slots {
             roots: vec![],
             spoilt: vec![],
         };
-        for (i, slot) in store[24..].chunks_exact(120).enumerate() {
+        for (i, slot) in records::chunks(store).enumerate() {
             let record = records::fields(slot);
             let good = in_form(slot, &record);
             slots.records.push(good.then_some(record));
@@ -116,7 +104,9 @@ impl Slots {
     fn child(record: &Record, right: bool) -> Option<(u32, Place)> {
         let child = match record.body {
             Body::Leaf { .. } => None,
-            Body::Inner { left, right: other } => {
+            Body::Inner {
+                left, right: other, ..
+            } => {
                 if right {
                     other
                 } else {
@@ -234,6 +224,52 @@ pub(crate) fn missing(store: &[u8], header: Header) -> Vec<Missing> {
     missing
 }
 
+/// What the way to a position meets first: at an inner record it goes left if the position is below the left count, else right with the rest.
+pub(crate) fn met_at(store: &[u8], version: u32, position: u64) -> Option<Met> {
+    let slots = Slots::of(store);
+    let mut record = match slots.root(version) {
+        Sight::Matches(i) => slots.record(i),
+        Sight::Spoilt(slot) => {
+            return Some(Met::Missing(Missing {
+                place: Place::EMPTY,
+                version: None,
+                slot: Some(slot),
+                wanted_in: version,
+            }))
+        }
+        Sight::Nothing => return None,
+    };
+    let mut rest = position;
+    if rest >= record.counted() {
+        return None;
+    }
+    loop {
+        let place = record.place;
+        let left = match record.body {
+            Body::Leaf { .. } if rest > 0 => {
+                let positions = rest;
+                return Some(Met::LeftOver { place, positions });
+            }
+            Body::Leaf { key, .. } => {
+                return (!place.begins(key)).then_some(Met::Stray { place });
+            }
+            Body::Inner { counts, .. } => u64::from(counts[0]),
+        };
+        let right = rest >= left;
+        if right {
+            rest -= left;
+        }
+        let Some(child) = Slots::child(&record, right) else {
+            let place = place.longer(right)?;
+            return Some(Met::NoChild { place });
+        };
+        match slots.step(child, version) {
+            Ok(below) => record = below,
+            Err(missing) => return Some(Met::Missing(missing)),
+        }
+    }
+}
+
 /// The first that proving a key meets: on the way to it, to its left neighbour, to its right one.
 pub(crate) fn missing_for(store: &[u8], version: u32, key: Key) -> Option<Missing> {
     let slots = Slots::of(store);
@@ -299,7 +335,7 @@ impl<B: AsRef<[u8]>> Store<B> {
     /// version without a root is told where records live in it. Nothing is promised: a store may miss none and not be sound all the same. Refused: 1, 2.
     ///
     /// ```
-    /// use grants::{Batch, Error, Store};
+    /// use grants::{Batch, Error, Store, HEADER_BYTES};
     ///
     /// let mut store = Store::with_capacity(4)?;
     /// let mut batch = Batch::new();
@@ -307,7 +343,7 @@ impl<B: AsRef<[u8]>> Store<B> {
     /// store.apply(3, &batch)?;
     /// assert_eq!(store.missing()?, []);
     /// let mut bytes = store.into_bytes();
-    /// bytes[24] = 0;  // slot 0, the first leaf: its length
+    /// bytes[HEADER_BYTES] = 0;  // slot 0, the first leaf: its length
     /// let missing = Store::over(bytes).missing()?;
     /// assert_eq!(missing.len(), 1);
     /// assert_eq!(missing[0].place.to_string(), "0");
@@ -325,5 +361,30 @@ impl<B: AsRef<[u8]>> Store<B> {
         let header = self.header().ok()?;
         let kept = header.oldest <= version && version <= header.latest;
         kept.then(|| missing_for(self.as_bytes(), version, key.into()))?
+    }
+
+    /// What the way to a position of a kept version meets first that can't be: what [`Store::at`] was refused for with 17 or 3. None where it meets
+    /// nothing such, so also where the position isn't below the number.
+    ///
+    /// ```
+    /// use grants::{Batch, Error, Met, Store, HEADER_BYTES, SLOT_BYTES};
+    ///
+    /// let mut store = Store::with_capacity(3)?;
+    /// let mut batch = Batch::new();
+    /// batch.insert([0x00; 32], [7; 32]).unwrap().insert([0x80; 32], [8; 32]).unwrap();
+    /// store.apply(1, &batch)?;
+    /// assert_eq!(store.met_at(1, 1), None);
+    /// let mut bytes = store.into_bytes();
+    /// bytes[HEADER_BYTES + 2 * SLOT_BYTES + 124] = 2;  // slot 2, the root: its right count
+    /// let store = Store::over(bytes);
+    /// assert_eq!((store.count(1)?, store.at(1, 2)), (3, Err(Error::Unsound)));
+    /// let Some(Met::LeftOver { place, positions: 1 }) = store.met_at(1, 2) else { panic!() };
+    /// assert_eq!(place.to_string(), "1");
+    /// # Ok::<(), Error>(())
+    /// ```
+    pub fn met_at(&self, version: u32, position: u64) -> Option<Met> {
+        let header = self.header().ok()?;
+        let kept = header.oldest <= version && version <= header.latest;
+        kept.then(|| met_at(self.as_bytes(), version, position))?
     }
 }

@@ -8,17 +8,18 @@ use std::fmt;
 /// let refused = Store::over([0u8; 100]).check().unwrap_err();
 /// assert_eq!(refused, Error::Size);
 /// assert_eq!(refused.number(), 1);
-/// assert_eq!(refused.to_string(), "the store's length isn't 24 + 120n, n in 1 to 16,384");
+/// assert_eq!(refused.to_string(), "the store's length isn't 24 + 128n, n in 1 to 16,384");
 /// ```
 #[derive(Clone, Copy, Debug, PartialEq, Eq, Hash)]
 #[non_exhaustive]
 pub enum Error {
-    /// 1: the store's length isn't 24 + 120n, n in 1 to 16,384.
+    /// 1: the store's length isn't 24 + 128n, n in 1 to 16,384.
     Size,
     /// 2: a header field isn't right, its capacity isn't n, or oldest is above latest.
     Header,
-    /// 3: the store isn't sound (check, apply, prune, changes), or a read met a leaf whose key doesn't begin with its place; rescue: no version
-    /// can be rescued.
+    /// 3: the store isn't sound (check, apply, prune, changes), or a read met what can't be: a leaf whose key doesn't begin with its place, or, going by
+    /// counts to a position, a child that isn't there or a leaf with positions left over ([`Store::met_at`](crate::Store::met_at) tells which);
+    /// rescue: no version can be rescued.
     Unsound,
     /// 3 with a slot (reads): a record is spoilt. The slot, the lowest such, is used and not in form, but its fields say that it was the record
     /// wanted.
@@ -47,14 +48,16 @@ pub enum Error {
     Lost,
     /// 18: the number to publish under isn't above latest.
     NotAboveLatest,
+    /// 20: the position isn't below the number of grants.
+    NoSuchPosition,
 }
 
 /// The table of the rules, number 1 first, in the words of include/grants.h.
-const TABLE: [(u32, Error, &str); 15] = [
+const TABLE: [(u32, Error, &str); 16] = [
     (
         1,
         Error::Size,
-        "the store's length isn't 24 + 120n, n in 1 to 16,384",
+        "the store's length isn't 24 + 128n, n in 1 to 16,384",
     ),
     (
         2,
@@ -118,6 +121,11 @@ const TABLE: [(u32, Error, &str); 15] = [
         "a record is lost: a child that is wanted stands in no slot (reads)",
     ),
     (18, Error::NotAboveLatest, "the number isn't above latest"),
+    (
+        20,
+        Error::NoSuchPosition,
+        "the position isn't below the number of grants",
+    ),
 ];
 
 impl Error {
@@ -172,9 +180,9 @@ mod tests {
         let numbers: Vec<u32> = TABLE.iter().map(|(_, error, _)| error.number()).collect();
         assert_eq!(
             numbers,
-            [1, 2, 3, 4, 5, 7, 8, 9, 10, 11, 12, 13, 14, 17, 18]
+            [1, 2, 3, 4, 5, 7, 8, 9, 10, 11, 12, 13, 14, 17, 18, 20]
         );
-        for number in 0..=20 {
+        for number in 0..=25 {
             let listed = numbers.contains(&number).then_some(number);
             assert_eq!(Error::from_number(number).map(Error::number), listed);
         }

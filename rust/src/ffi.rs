@@ -28,6 +28,14 @@ extern "C" {
         key_len: usize,
         found: *mut [u8; 33],
     ) -> u64;
+    fn grants_count(store: *const u8, store_len: usize, version: u32, count: *mut [u8; 8]) -> u64;
+    fn grants_at(
+        store: *const u8,
+        store_len: usize,
+        version: u32,
+        position: u64,
+        grant: *mut [u8; 64],
+    ) -> u64;
     fn grants_prove(
         store: *const u8,
         store_len: usize,
@@ -148,6 +156,18 @@ pub fn get(store: &[u8], version: u32, key: &[u8]) -> Result<[u8; 33], Error> {
         )
     })?;
     Ok(found)
+}
+
+pub fn count(store: &[u8], version: u32) -> Result<[u8; 8], Error> {
+    let mut count = [0; 8];
+    read(unsafe { grants_count(store.as_ptr(), store.len(), version, &mut count) })?;
+    Ok(count)
+}
+
+pub fn at(store: &[u8], version: u32, position: u64) -> Result<[u8; 64], Error> {
+    let mut grant = [0; 64];
+    read(unsafe { grants_at(store.as_ptr(), store.len(), version, position, &mut grant) })?;
+    Ok(grant)
 }
 
 pub fn prove(store: &[u8], version: u32, key: &[u8], room: &mut [u8]) -> Result<[u8; 4], Error> {

@@ -19,6 +19,10 @@
 //! batch.delete([0x40; 32]).unwrap();
 //! let second = store.apply(5, &batch)?;
 //!
+//! // How many grants each has, and which is first in key order.
+//! assert_eq!((store.count(1)?, store.count(5)?), (2, 1));
+//! assert_eq!(store.at(1, 0)?.0, [0x40; 32].into());
+//!
 //! // The grant stood in version 1, and doesn't stand in version 5.
 //! let then = store.prove(first.version, [0x40; 32])?;
 //! let now = store.prove(second.version, [0x40; 32])?;
@@ -37,9 +41,11 @@
 
 mod batch;
 mod changes;
+mod counts;
 mod damage;
 mod error;
 mod ffi;
+mod form;
 mod hex;
 mod palette;
 mod proof;
@@ -50,14 +56,19 @@ mod words;
 
 pub use batch::{Batch, DoubledKey, BATCH_RECORDS};
 pub use changes::{Change, Changes, MOST_VISITS};
-pub use damage::Missing;
+pub use counts::Positions;
+pub use damage::{Met, Missing};
 pub use error::Error;
+pub use form::{
+    old_store_bytes, store_bytes, HEADER_BYTES, MOST_SLOTS, OLD_SLOT_BYTES, RECORD_BYTES,
+    SLOT_BYTES,
+};
 pub use hex::{from_hex, to_hex, HexError};
 pub use palette::{Palette, RefusedAt, PALETTE_KEYS};
 pub use proof::{verify, Proof, PROOF_BYTES};
 pub use records::{Body, Child, Place, Record};
 pub use rescue::{Rescued, Slot};
-pub use store::{store_bytes, Applied, Header, Store, MOST_SLOTS};
+pub use store::{Applied, Header, Store};
 pub use words::{Key, Root, Value};
 
 /// SHA-256 of any bytes, by the library's own proved code.

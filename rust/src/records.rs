@@ -1,6 +1,7 @@
 //! Reading the records of a sound store, to list or draw them. Nothing is judged here: the library has said before that every slot is free or
 //! in form, and which records stand in a version follows from their lifetimes, by the last rule of 'Sound' in docs/RULES.md.
 
+use crate::form::{self, at};
 pub(crate) use crate::Header;
 use crate::{Key, Value};
 use std::fmt;
@@ -44,6 +45,12 @@ impl Place {
         self.bits[i / 8] >> (7 - i % 8) & 1 == 1
     }
 
+    /// Whether a key begins with it.
+    pub fn begins(&self, key: Key) -> bool {
+        let key = key.as_bytes();
+        (0..self.count()).all(|i| self.bit(i) == (key[i / 8] >> (7 - i % 8) & 1 == 1))
+    }
+
     /// The place one bit longer, to the left or to the right. A place of 256 bits is the longest.
     pub fn longer(&self, right: bool) -> Option<Place> {
         let (byte, mask) = (self.count() / 8, 0x80 >> (self.count % 8));
@@ -81,6 +88,8 @@ pub enum Body {
     Inner {
         left: Option<Child>,
         right: Option<Child>,
+        /// How many grants are below the left and below the right child, as the record says.
+        counts: [u32; 2],
     },
 }
 
@@ -100,6 +109,14 @@ impl Record {
         self.version <= version && self.retired_since.is_none_or(|since| version < since)
     }
 
+    /// How many grants are at or below the record, as it says: 1 for a leaf, the sum of its counts for an inner record.
+    pub fn counted(&self) -> u64 {
+        match self.body {
+            Body::Leaf { .. } => 1,
+            Body::Inner { counts, .. } => counts.iter().copied().map(u64::from).sum(),
+        }
+    }
+
     /// The grant of a leaf.
     pub fn grant(&self) -> Option<(Key, Value)> {
         match self.body {
@@ -111,39 +128,45 @@ impl Record {
 
 pub(crate) fn header(store: &[u8]) -> Header {
     Header {
-        capacity: u32_at(store, 8),
-        oldest: u32_at(store, 12),
-        latest: u32_at(store, 16),
+        capacity: u32_at(store, at::CAPACITY),
+        oldest: u32_at(store, at::OLDEST),
+        latest: u32_at(store, at::LATEST),
     }
 }
 
+/// The bytes of each slot.
+pub(crate) fn chunks(store: &[u8]) -> impl Iterator<Item = &[u8]> {
+    store[form::HEADER_BYTES..].chunks_exact(form::SLOT_BYTES)
+}
+
 pub(crate) fn slots(store: &[u8]) -> Vec<Option<Record>> {
-    store[24..].chunks_exact(120).map(slot).collect()
+    chunks(store).map(slot).collect()
 }
 
 pub(crate) fn slot(slot: &[u8]) -> Option<Record> {
-    (u16_at(slot, 4) != 0).then(|| fields(slot))
+    (u16_at(slot, at::KIND) != 0).then(|| fields(slot))
 }
 
 /// The fields of a slot as they stand, whatever they are.
 pub(crate) fn fields(slot: &[u8]) -> Record {
-    let body = match u16_at(slot, 4) {
-        2 => Body::Leaf {
-            key: Key::from(word_at(slot, 48)),
-            value: Value::from(word_at(slot, 80)),
+    let body = match u16_at(slot, at::KIND) {
+        form::LEAF_KIND => Body::Leaf {
+            key: Key::from(word_at(slot, at::KEY)),
+            value: Value::from(word_at(slot, at::VALUE)),
         },
         _ => Body::Inner {
-            left: child(slot, 48),
-            right: child(slot, 84),
+            left: child(slot, at::CHILDREN[0]),
+            right: child(slot, at::CHILDREN[1]),
+            counts: at::COUNTS.map(|at| u32_at(slot, at)),
         },
     };
     Record {
         place: Place {
-            bits: word_at(slot, 8),
-            count: u16_at(slot, 6),
+            bits: word_at(slot, at::BITS),
+            count: u16_at(slot, at::BIT_COUNT),
         },
-        version: u32_at(slot, 40),
-        retired_since: Some(u32_at(slot, 44)).filter(|since| *since != 0),
+        version: u32_at(slot, at::VERSION),
+        retired_since: Some(u32_at(slot, at::RETIRED_SINCE)).filter(|since| *since != 0),
         body,
     }
 }
@@ -151,7 +174,34 @@ pub(crate) fn fields(slot: &[u8]) -> Record {
 fn child(slot: &[u8], at: usize) -> Option<Child> {
     Some(Child {
         version: u32_at(slot, at),
-        hash: word_at(slot, at + 4),
+        hash: word_at(slot, at + at::CHILD_HASH.start),
     })
     .filter(|child| child.version != 0)
+}
+
+pub(crate) fn zero(bytes: &[u8]) -> bool {
+    bytes.iter().all(|b| *b == 0)
+}
+
+/// Whether a slot is a record in form ('Records' of docs/RULES.md), of which these are the fields. Counts are free in form.
+pub(crate) fn in_form(slot: &[u8], record: &Record) -> bool {
+    let (length, kind) = (u32_at(slot, at::LENGTH) as usize, u16_at(slot, at::KIND));
+    let most = match (length, kind) {
+        (form::LEAF_LENGTH, form::LEAF_KIND) => form::LEAF_BITS,
+        (form::INNER_LENGTH, form::INNER_KIND) => form::INNER_BITS,
+        _ => return false,
+    };
+    let body = match record.body {
+        Body::Leaf { .. } => zero(&slot[form::LEAF_LENGTH..]),
+        Body::Inner { left, right, .. } => {
+            let mut children = [left, right].into_iter().zip(at::CHILDREN);
+            (left.is_some() || right.is_some())
+                && children
+                    .all(|(child, at)| child.is_some() || zero(&slot[at..at + at::CHILD_HASH.end]))
+        }
+    };
+    let place = record.place;
+    body && record.version != 0
+        && place.count() <= most
+        && (place.count()..form::LEAF_BITS).all(|i| !place.bit(i))
 }

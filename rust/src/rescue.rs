@@ -1,7 +1,8 @@
 //! Rescue from a damaged store, and its slots one by one.
 
-use crate::records::{self, u16_at, u32_at};
-use crate::{ffi, store_bytes, Body, Error, Record, Store, MOST_SLOTS};
+use crate::form::{store_bytes, MOST_SLOTS};
+use crate::records::{self, u32_at};
+use crate::{ffi, Error, Record, Store};
 
 /// What a rescue gave back: versions `first` to the `latest` that was asked for. The three numbers are those of the two buffers compared.
 #[derive(Clone, Copy, Debug, PartialEq, Eq)]
@@ -35,7 +36,7 @@ impl<B: AsRef<[u8]>> Store<B> {
     /// versions too, and makes withdrawn grants seem in force there; nothing but `latest` and the signed root guards against it.
     ///
     /// ```
-    /// use grants::{Batch, Error, Store};
+    /// use grants::{store_bytes, Batch, Error, Store};
     ///
     /// let mut store = Store::with_capacity(4)?;
     /// let mut batch = Batch::new();
@@ -45,7 +46,7 @@ impl<B: AsRef<[u8]>> Store<B> {
     ///
     /// // The header is lost, and the record of version 1.
     /// let mut bytes = store.into_bytes();
-    /// bytes[..24 + 120].fill(0xff);
+    /// bytes[..store_bytes(1)].fill(0xff);
     /// let damaged = Store::over(bytes);
     /// assert_eq!(damaged.check(), Err(Error::Header));
     ///
@@ -85,41 +86,17 @@ impl<B: AsRef<[u8]>> Store<B> {
         // A root read tests the size first.
         match ffi::root(bytes, 0) {
             Err(Error::Size) => Err(Error::Size),
-            _ => Ok(bytes[24..].chunks_exact(120).map(found).collect()),
+            _ => Ok(records::chunks(bytes).map(found).collect()),
         }
     }
 }
 
 fn found(slot: &[u8]) -> Slot {
-    if slot.iter().all(|b| *b == 0) {
+    if records::zero(slot) {
         return Slot::Free;
     }
-    match records::slot(slot).filter(|record| in_form(slot, record)) {
+    match records::slot(slot).filter(|record| records::in_form(slot, record)) {
         Some(record) => Slot::Record(record),
         None => Slot::OffForm,
-    }
-}
-
-/// 'Form' of docs/RULES.md.
-fn in_form(slot: &[u8], record: &Record) -> bool {
-    let most = match (u32_at(slot, 0), u16_at(slot, 4)) {
-        (112, 2) => 256,
-        (120, 3) => 255,
-        _ => return false,
-    };
-    let count = record.place.count();
-    if count > most || (count..256).any(|i| record.place.bit(i)) || record.version == 0 {
-        return false;
-    }
-    match record.body {
-        Body::Leaf { .. } => slot[112..120].iter().all(|b| *b == 0),
-        Body::Inner { left, right } => {
-            let zero_where_none = |child: Option<_>, at: usize| {
-                child.is_some() || slot[at..at + 36].iter().all(|b| *b == 0)
-            };
-            (left.is_some() || right.is_some())
-                && zero_where_none(left, 48)
-                && zero_where_none(right, 84)
-        }
     }
 }

@@ -1,19 +1,13 @@
 use crate::changes::{Changes, LIST_BYTES};
+use crate::form::{
+    at, store_bytes, HEADER_BYTES, MOST_SLOTS, OLD_HEADER_KIND, OLD_SLOT_BYTES, RECORD_BYTES,
+    SLOT_BYTES,
+};
 use crate::palette::{Palette, PALETTE_KEYS};
 use crate::records::{self, Record};
 use crate::{ffi, proof, Batch, Error, Key, Proof, Root, Value, PROOF_BYTES};
 
-/// The most slots that a store may have.
-pub const MOST_SLOTS: u32 = 16_384;
-
-/// The bytes of a store with this many slots.
-///
-/// ```
-/// assert_eq!(grants::store_bytes(20), 2_424);
-/// ```
-pub const fn store_bytes(capacity: u32) -> usize {
-    24 + 120 * capacity as usize
-}
+const MOST_OLD: usize = MOST_SLOTS as usize;
 
 fn list(keys: &[Key]) -> Vec<u8> {
     keys.iter().flat_map(|key| *key.as_bytes()).collect()
@@ -112,18 +106,19 @@ impl<B: AsRef<[u8]>> Store<B> {
     /// spoilt, and in which slot; [`Store::missing_for`] says which record it is. Refused: 12, 1, 2, 8, 3 or 17.
     ///
     /// ```
-    /// use grants::{Batch, Error, Store};
+    /// use grants::{store_bytes, Batch, Error, Store};
     ///
     /// let mut store = Store::with_capacity(4)?;
     /// let mut batch = Batch::new();
     /// batch.insert([0x00; 32], [7; 32]).unwrap().insert([0x80; 32], [8; 32]).unwrap();
     /// store.apply(1, &batch)?;
     /// let mut bytes = store.into_bytes();
-    /// bytes[24 + 120] = 0;  // slot 1, the second leaf: its length
+    /// let second = store_bytes(1)..store_bytes(2);  // slot 1, the second leaf
+    /// bytes[second.start] = 0;  // its length
     /// let store = Store::over(bytes);
     /// assert_eq!(store.get(1, [0x80; 32]), Err(Error::Spoilt { slot: 1 }));
     /// let mut bytes = store.into_bytes();
-    /// bytes[24 + 120..24 + 240].fill(0);
+    /// bytes[second].fill(0);
     /// let store = Store::over(bytes);
     /// assert_eq!(store.get(1, [0x80; 32]), Err(Error::Lost));
     /// assert_eq!(store.missing_for(1, [0x80; 32]).unwrap().place.to_string(), "1");
@@ -204,7 +199,7 @@ impl<B: AsRef<[u8]>> Store<B> {
     pub fn changes(&self, first: u32, second: u32, limit: u32) -> Result<Changes, Error> {
         let mut room = vec![0; LIST_BYTES];
         let records = ffi::changes(self.as_bytes(), first, second, limit, &mut room)?;
-        room.truncate(72 * u32::from_le_bytes(records) as usize);
+        room.truncate(RECORD_BYTES * u32::from_le_bytes(records) as usize);
         room.shrink_to_fit();
         Ok(Changes::of(room))
     }
@@ -217,6 +212,38 @@ impl<B: AsRef<[u8]>> Store<B> {
             Ok(_) | Err(Error::VersionNotKept | Error::Spoilt { .. }) => Ok(records::header(bytes)),
             Err(refused) => Err(refused),
         }
+    }
+
+    /// Whether this is a store of the old form, which had slots of 120 bytes and no counts: by its size and by the kind in its header, and by the capacity
+    /// too where a store of today may have that size. Every call refuses one, with 1 or with 2; `grants move` of the command line tool brings it over.
+    ///
+    /// ```
+    /// use grants::{old_store_bytes, store_bytes, Error, Store};
+    ///
+    /// let mut old = vec![0; old_store_bytes(16)];
+    /// old[..12].copy_from_slice(&[24, 0, 0, 0, 1, 0, 0, 0, 16, 0, 0, 0]);
+    /// let old = Store::over(old);
+    /// assert!(old.is_old_form());
+    /// // A store of 15 slots has as many bytes today.
+    /// assert_eq!((old.as_bytes().len(), old.check()), (store_bytes(15), Err(Error::Header)));
+    /// assert!(!Store::with_capacity(15)?.is_old_form());
+    /// # Ok::<(), Error>(())
+    /// ```
+    pub fn is_old_form(&self) -> bool {
+        let bytes = self.as_bytes();
+        let slots = |each: usize| {
+            bytes
+                .len()
+                .checked_sub(HEADER_BYTES)
+                .map(|n| (n / each, n % each))
+        };
+        let Some((old @ 1..=MOST_OLD, 0)) = slots(OLD_SLOT_BYTES) else {
+            return false;
+        };
+        let either = slots(SLOT_BYTES).is_some_and(|(_, over)| over == 0);
+        records::u32_at(bytes, at::LENGTH) as usize == HEADER_BYTES
+            && records::u16_at(bytes, at::KIND) == OLD_HEADER_KIND
+            && (!either || records::u32_at(bytes, at::CAPACITY) as usize == old)
     }
 
     /// The slots in order: the record that is in each, none where it is free. For a sound store only, so that there is nothing to judge: each

@@ -1,6 +1,9 @@
 //! The example of docs/RULES.md through the safe calls: what the wrapper hands on is what the library answers.
 
-use grants::{Applied, Batch, Error, Key, Root, Store, Value, MOST_VISITS};
+use grants::{
+    old_store_bytes, store_bytes, Applied, Batch, Error, Key, Root, Store, Value, HEADER_BYTES,
+    MOST_VISITS, OLD_SLOT_BYTES, SLOT_BYTES,
+};
 
 fn key(first: u8, last: u8) -> Key {
     let mut bytes = [0; 32];
@@ -103,7 +106,7 @@ fn refused_calls_change_no_byte() {
     let mut damaged = Store::over(before.clone());
     damaged.apply(2, &Batch::new()).unwrap();
     let mut bytes = damaged.into_bytes();
-    bytes[24 + 115] ^= 1;
+    bytes[store_bytes(0) + 115] ^= 1;
     let mut damaged = Store::over(bytes.as_mut_slice());
     assert_eq!(damaged.check(), Err(Error::Unsound));
     assert_eq!(damaged.apply(0, &Batch::new()), Err(Error::Unsound));
@@ -130,11 +133,24 @@ fn the_most_records_and_one_more() {
 #[test]
 fn sentences_are_those_of_the_header() {
     let header = include_str!("../../include/grants.h");
-    for number in [1, 2, 3, 4, 5, 7, 8, 9, 10, 11, 12, 13, 18] {
+    for number in [1, 2, 3, 4, 5, 7, 8, 9, 10, 11, 12, 13, 14, 17, 18, 20] {
         let error = Error::from_number(number).unwrap();
         let row = format!("\n * {number:>3}  {error}\n");
         assert!(header.contains(&row), "{row}");
     }
+}
+
+#[test]
+fn sizes_are_those_of_the_header() {
+    let header = include_str!("../../include/grants.h");
+    for (name, bytes) in [
+        ("GRANTS_SIZE", SLOT_BYTES),
+        ("GRANTS_OLD_SIZE", OLD_SLOT_BYTES),
+    ] {
+        let row = format!("\n#define {name}(n) ({HEADER_BYTES} + {bytes} * (size_t)(n))\n");
+        assert!(header.contains(&row), "{row}");
+    }
+    assert_eq!(store_bytes(15), old_store_bytes(16));
 }
 
 #[test]

@@ -68,7 +68,7 @@ class Names:
         head = f'{place_term(r.place)} {r.version} {r.retired}'
         if r.leaf is not None:
             return f'leafSlot {head} {key_term(r.leaf[0])} {value_term(r.leaf[1])}'
-        return f'innerSlot {head} {r.left[0]} {self.term(r.left[1])} {r.right[0]} {self.term(r.right[1])}'
+        return f'innerSlot {head} {r.left[0]} {self.term(r.left[1])} {r.right[0]} {self.term(r.right[1])} {r.counts[0]} {r.counts[1]}'
 
     def store(self, s):
         slots = '\n      ∷ '.join([self.slot(r) for r in s.slots] + ['[]'])
@@ -162,7 +162,7 @@ def verdict_term(a):
     return 'absent' if a is None else f'(present {value_term(a)})'
 
 
-def damaged(rng, s):
+def damaged(rng, s, counts=False):
     """The store with one thing changed that a read may meet."""
     used = [i for i, r in enumerate(s.slots) if r is not None]
     if not used:
@@ -172,7 +172,7 @@ def damaged(rng, s):
     r = slots[i]
     if isinstance(r, Spoilt):
         return s
-    how = rng.randrange(11)
+    how = rng.randrange(11) if counts is False else rng.choice([0, 1, 2, 3, 4, 7, 9, 11, 11, 11, 11])
     if how == 0:
         slots[i] = None
     elif how == 1 and r.leaf is not None:
@@ -182,7 +182,7 @@ def damaged(rng, s):
     elif how == 3 and r.leaf is None and r.right[0] != 0:
         slots[i] = replace(r, left=(0, ZEROS))
     elif how == 4 and None in slots:
-        slots[slots.index(None)] = replace(r, leaf=(key(rng.choice(KEYS)), value(9)), left=None, right=None)
+        slots[slots.index(None)] = replace(r, leaf=(key(rng.choice(KEYS)), value(9)), left=None, right=None, counts=(0, 0))
     elif how in (7, 8):  # 2026-07: off form, the fields as they were, or one of them changed
         field = rng.choice(['', '', '', 'count', 'place', 'version', 'retired'])
         slots[i] = Spoilt(len(r.place) + (field == 'count'), r.place + ('001' if field == 'place' else ''), (r.version + (field == 'version')) % 2**32,
@@ -191,6 +191,8 @@ def damaged(rng, s):
         slots[slots.index(None)] = Spoilt(len(r.place), r.place, r.version, r.retired)
     elif how == 10 and None in slots:  # two spoilt ones
         slots[slots.index(None)] = slots[i] = Spoilt(len(r.place), r.place, r.version, r.retired)
+    elif how == 11 and r.leaf is None:  # 2026-09: another count
+        slots[i] = replace(r, counts=rng.choice([r.counts[::-1], (r.counts[0] + 1, r.counts[1]), (r.counts[0], r.counts[1] + 1), (0, 4294967295)]))
     elif how == 5:
         slots[i] = replace(r, retired=rng.choice([0, r.version + 1, s.latest + 1]))
     else:
@@ -219,7 +221,7 @@ def proof_of(n, row):
     return 'tt' if n == 0 else f'({row}, {proof_of(n - 1, row)})'
 
 
-ROW = {'Game': '(refl, refl)', 'Look': '(refl, refl, refl)', 'Try': 'refl', 'Comparison': '(refl, refl)'}
+ROW = {'Game': '(refl, refl)', 'Look': '(refl, refl, refl)', 'Try': 'refl', 'Comparison': '(refl, refl)', 'Position': '(refl, refl)'}
 
 
 def histories(rng, number, count):
@@ -263,6 +265,26 @@ def looks(rng, number, count):
             )
     text = HEAD.format(title=f'Proofs and reads of whole and damaged stores, part {number}.', names='Look, look, LookHolds, leafSlot, innerSlot, spoiltSlot, storeOf, freeSlots, valueOf')
     return text, names, decls, rows, 'Look', 'LookHolds'
+
+
+def positions(rng, number, count):
+    names, decls, rows = Names(), [], []
+    for i in range(count):
+        _, _, _, _, s, _ = random_history(rng)
+        if i % 2:
+            s = damaged(rng, s, True)
+            if rng.random() < 0.5:
+                s = damaged(rng, s, True)
+        decls += [f'  abbrev at{i} : Store', f'  at{i} =', f'    {names.store(s)}', '']
+        for _ in range(5):
+            v = max(0, rng.choice([s.latest] * 6 + [rng.randrange(s.oldest, s.latest + 1)] * 5 + [rng.choice([s.oldest - 1, s.latest + 1])]))
+            n = model.answer(model.read_number, s, v)
+            j = rng.randrange(min(n.value, 6) + 1) if isinstance(n, model.Number) else rng.randrange(3)
+            g = model.answer(model.read_position, s, v, j)
+            rows.append(f'position at{i} {v} {j} ' + refused_or(n, lambda x: str(x.value)) + ' ' + refused_or(g, lambda x: f'(grant {key_term(x[0])} {value_term(x[1])})'))
+    text = HEAD.format(title=f'Numbers and positions in whole and damaged stores, part {number}.', names='Position, position, PositionHolds, leafSlot, innerSlot, spoiltSlot, storeOf, freeSlots, valueOf')
+    text = text.rstrip('\n').replace('2026-07 and 2026-13.', '2026-07, 2026-09 and 2026-13.') + '\nuse Rattle.terms.specs.Records.{grant}\n\n'
+    return text, names, decls, rows, 'Position', 'PositionHolds'
 
 
 def item_term(i):
@@ -387,7 +409,7 @@ def lay_out(name, made):
         out += ['module _ (leafHash innerHash : Bytes → Bytes → Bytes) where', '']
         out += names.lines + decls
     pad = '' if toy else '  '
-    arguments = '' if kind in ('Try', 'Comparison') else ' leafHash innerHash'
+    arguments = '' if kind in ('Try', 'Comparison', 'Position') else ' leafHash innerHash'
     body = f'\n{pad}    ∷ '.join(rows + ['[]'])
     out += [f'{pad}abbrev rows : List {kind}', f'{pad}rows =', f'{pad}    {body}', '']
     opened = {'Try': 'computed toyHash', 'Comparison': 'computed compared'}.get(kind, 'computed')
@@ -406,6 +428,8 @@ def files():
     for n in range(1, 4):
         made[f'Tries{n}'] = lay_out(f'tries{n}', checks(rng, n, 250))
     made['Comparisons'] = lay_out('comparisons', comparisons(rng, 1, 40))
+    for n in range(1, 3):
+        made[f'Positions{n}'] = lay_out(f'positions{n}', positions(rng, n, 30))
     made['Lib'] = ''.join(f'pub mod {name}\n' for name in ['Desk', *made])
     return made
 

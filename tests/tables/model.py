@@ -1,4 +1,4 @@
-"""Document 01 read a second time, with 2026-01, 2026-03, 2026-07 and 2026-13 of document 02, by their words, on records without bytes. Hashes are symbols:
+"""Document 01 read a second time, with 2026-01, 2026-03, 2026-07, 2026-09 and 2026-13 of document 02, by their words, on records without bytes. Hashes are symbols:
 ('leaf', key, value), ('inner', left, right) or ZEROS. Nothing here was made from the project's definitions; generate.py compares the two.
 """
 from dataclasses import dataclass, replace
@@ -15,6 +15,7 @@ class Record:
     leaf: tuple = None   # (key, value)
     left: tuple = None   # (version, hash); version 0: no child
     right: tuple = None
+    counts: tuple = (0, 0)  # 2026-09: of an inner record, the leaves below its left and its right child
 
 
 @dataclass(frozen=True)
@@ -140,7 +141,8 @@ def apply(store, batch, new):
         else:
             l = build(place + '0')
             right = build(place + '1')
-            r = Record(place, version, 0, left=l, right=right)
+            counts = tuple(sum(1 for k in here if bits(k).startswith(place + b)) for b in '01')
+            r = Record(place, version, 0, left=l, right=right, counts=counts)
         now[place] = r
         return (version, record_hash(r))
 
@@ -270,6 +272,42 @@ def read_root(store, version):
     kept(store, version)
     r = seen_root(store, version)
     return ZEROS if r is None else record_hash(r)
+
+
+def number_of(r):
+    """2026-09: the root's counts summed, 1 for a leaf, 0 for no root."""
+    return 0 if r is None else 1 if r.leaf is not None else sum(r.counts)
+
+
+def read_number(store, version):
+    kept(store, version)
+    return Number(number_of(seen_root(store, version)))
+
+
+def read_position(store, version, i):
+    """2026-09: a position not below the number gives 20, after 8 and the root lookup. A descent by counts gives 3 also where it meets a missing
+    child, or a leaf with a position left over."""
+    kept(store, version)
+    r = seen_root(store, version)
+    if not i < number_of(r):
+        raise Refused(20)
+    while r.leaf is None:
+        b = '0' if i < r.counts[0] else '1'
+        if b == '1':
+            i -= r.counts[0]
+        child = on(r, b)
+        if child[0] == 0:
+            raise Refused(3)
+        r = child_record(store, child, r.place + b)
+    if i != 0:
+        raise Refused(3)
+    return r.leaf
+
+
+@dataclass(frozen=True)
+class Number:
+    """A number that is an answer, not a refusal."""
+    value: int
 
 
 def answer(f, *args):

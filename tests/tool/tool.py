@@ -24,6 +24,8 @@ os.environ["GRANTS_AUTHOR"] = "mira"
 
 ZERO = "00" * 32
 LARGEST = 16384
+# The bytes of a header, of a slot, and of a slot of the old form.
+HEADER, SLOT, OLD_SLOT = 24, 128, 120
 A, B, C, D = ["%02x" % first + "00" * 31 for first in (0x00, 0x40, 0x60, 0x80)]
 
 
@@ -112,9 +114,13 @@ def record(key, insert=None):
     return number(72, 4) + number(1, 2) + bytes(2) + bytes.fromhex(key) + bytes.fromhex(insert)
 
 
+def size(capacity):
+    return HEADER + SLOT * capacity
+
+
 def store_bytes(capacity, latest=0):
-    head = number(24, 4) + number(1, 2) + bytes(2) + number(capacity, 4) + number(0, 4) + number(latest, 4) + bytes(4)
-    return head + bytes(120 * capacity)
+    head = number(HEADER, 4) + number(4, 2) + bytes(2) + number(capacity, 4) + number(0, 4) + number(latest, 4) + bytes(4)
+    return head + bytes(SLOT * capacity)
 
 
 def many(count, seed=1):
@@ -376,10 +382,10 @@ def show_draws_a_tree():
     s = desk()
     out = answered(0, "show", s, 1)
     assert out.split("\n")[1:] == [
-        "  inner  (version 1, slot 6)",
-        "  ├─0 inner  (version 1, slot 4)",
+        "  inner 3 + 1  (version 1, slot 6)",
+        "  ├─0 inner 1 + 2  (version 1, slot 4)",
         "  │   ├─0 leaf 00000000..0000 = 01010101..0101  (version 1, slot 2)",
-        "  │   └─1 inner  (version 1, slot 3)",
+        "  │   └─1 inner 1 + 1  (version 1, slot 3)",
         "  │       ├─0 leaf 40000000..0000 = 02020202..0202  (version 1, slot 0)",
         "  │       └─1 leaf 60000000..0000 = 03030303..0303  (version 1, slot 1)",
         "  └─1 leaf 80000000..0000 = 04040404..0404  (version 1, slot 5)",
@@ -413,11 +419,11 @@ def show_draws_a_picture_where_dot_is():
 def stat_tells_sizes():
     s = desk()
     told = json.loads(answered(0, "stat", s, "--json"))
-    assert told == {"capacity": 20, "used": 10, "free": 10, "oldest": 0, "latest": 2, "kept": 3, "publishings": 3, "bytes": 2424, "publishings_left": 2}
+    assert told == {"capacity": 20, "used": 10, "free": 10, "oldest": 0, "latest": 2, "kept": 3, "publishings": 3, "grants": 3, "bytes": size(20), "publishings_left": 2}
     out = answered(0, "stat", s)
-    assert out.startswith("capacity  20 slots\nused      10\nfree      10\nkept      0 to 2, 3 versions\nbytes     2424\nleft      about 2 publishings, "), out
+    assert out.startswith("capacity  20 slots\nused      10\nfree      10\nkept      0 to 2, 3 versions\ngrants    3 in version 2\nbytes     2584\nleft      about 2 publishings, "), out
     answered(0, "format", "one", 1)
-    assert answered(0, "stat", "one") == "capacity  1 slot\nused      0\nfree      1\nkept      0 to 0, 1 version\nbytes     144\n"
+    assert answered(0, "stat", "one") == "capacity  1 slot\nused      0\nfree      1\nkept      0 to 0, 1 version\ngrants    0 in version 0\nbytes     152\n"
     # All versions there can be, in a store that is sound: no loop over them.
     write("wide", store_bytes(50, 2**32 - 1))
     assert json.loads(answered(0, "stat", "wide", "--json"))["kept"] == 2**32
@@ -486,11 +492,11 @@ def bad_files():
     good = read(desk())
     for name, content, status, sentence in (
         ("empty", b"", 11, "empty has 0 bytes"),
-        ("short", good[:-1], 11, "short has 2423 bytes"),
+        ("short", good[:-1], 11, "short has 2583 bytes"),
         ("long", good + b"\0", 11, "is it the right file, and whole?"),
-        ("huge", bytes(24 + 120 * (LARGEST + 1)), 11, "more than 1966104 bytes"),
-        ("noise", bytes((i * 7 + 3) % 256 for i in range(2424)), 12, "no grant store"),
-        ("zeros", bytes(2424), 12, "refused with 2"),
+        ("huge", bytes(size(LARGEST + 1)), 11, "more than 2097176 bytes"),
+        ("noise", bytes((i * 7 + 3) % 256 for i in range(size(20))), 12, "no grant store"),
+        ("zeros", bytes(size(20)), 12, "refused with 2"),
         ("text", b"hello\n", 11, "text has 6 bytes"),
     ):
         write(name, content)
@@ -498,6 +504,9 @@ def bad_files():
             ("check", name),
             ("root", name),
             ("get", name, A),
+            ("count", name),
+            ("at", name, 0),
+            ("list", name, "--from", 0),
             ("prove", name, A),
             ("log", name),
             ("show", name),
@@ -513,7 +522,7 @@ def bad_files():
 @test
 def damaged_stores():
     good = bytearray(read(desk()))
-    for at in (24 + 8, 24 + 44, 24 + 90, 24 + 6 * 120 + 60, 24 + 9 * 120 + 48, 24 + 15 * 120):
+    for at in (HEADER + 8, HEADER + 44, HEADER + 90, size(6) + 60, size(9) + 48, size(9) + 120, size(9) + 127, size(15)):
         bad = bytearray(good)
         bad[at] ^= 1
         write("bad", bytes(bad))
@@ -530,9 +539,9 @@ def which_record_is_missing():
     def harmed(*harms):
         bad = bytearray(good)
         for slot, at, byte in harms:
-            start = 24 + 120 * slot
+            start = size(slot)
             if at is None:
-                bad[start : start + 120] = bytes(120)
+                bad[start : start + SLOT] = bytes(SLOT)
             else:
                 bad[start + at] = byte
         write("bad", bytes(bad))
@@ -587,11 +596,11 @@ def which_record_is_missing():
     # Nothing is missing, and the store isn't sound all the same.
     harmed((5, 80, 9))
     assert answered(13, "check", "bad") == ""
-    refused(13, "No record is missing, but a hash, a key or a lifetime is wrong", "check", "bad")
+    refused(13, "No record is missing, but a hash, a count, a key or a lifetime is wrong", "check", "bad")
     # Versions are not counted through: thousands of millions lie between these.
     answered(0, "apply", "desk.grants", "-", "--number", 2**32 - 1, input="- %s\n" % A)
     bad = bytearray(read("desk.grants"))
-    bad[24 + 9 * 120 + 4] = 9
+    bad[size(9) + 4] = 9
     write("bad", bytes(bad))
     assert answered(13, "check", "bad") == "the root of version 4294967294 is spoilt, in slot 9\n"
     untouched("bad", 13, "Version 4000000000 of bad wants the root of version 4000000000, which is spoilt, in slot 9", "root", "bad", 4000000000)
@@ -611,7 +620,7 @@ def other_things_than_files():
     refused(3, "cannot write", "format", "none/s", 5)
     write("plain", "x")
     refused(3, "cannot", "check", "plain/s")
-    refused(11, "more than 1966104 bytes", "check", "/dev/zero")
+    refused(11, "more than 2097176 bytes", "check", "/dev/zero")
     assert sorted(os.listdir(".")) == ["folder", "plain"]
 
 
@@ -625,7 +634,7 @@ def format_loses_nothing():
     assert not os.path.exists("t")
     answered(0, "format", s, 1, "--force")
     assert read(s) == store_bytes(1)
-    assert json.loads(answered(0, "format", "t", LARGEST, "--json")) == {"capacity": LARGEST, "bytes": 24 + 120 * LARGEST}
+    assert json.loads(answered(0, "format", "t", LARGEST, "--json")) == {"capacity": LARGEST, "bytes": size(LARGEST)}
     untouched(s, 17, "grants grow", "apply", s, write("b", FOUR))
 
 
@@ -697,7 +706,7 @@ def the_answer_can_not_be_written():
 def help_is_there():
     out = answered(0, "--help")
     names = [line.split()[0] for line in out.splitlines() if line.startswith("  ")]
-    assert set("format check apply prune root get prove verify log show stat list history export import grow name".split()) <= set(names), names
+    assert set("format check apply prune root get count at prove verify log show stat list history export import grow name".split()) <= set(names), names
     assert answered(0, "help") == answered(0, "-h") == out
     for name in names:
         told = answered(0, name, "--help")
@@ -745,6 +754,9 @@ def any_bytes_and_words():
                 ["root", "s", version],
                 ["get", "s", key, version],
                 ["get", "s", key, "--at", "2026-05-03"],
+                ["count", "s", version],
+                ["at", "s", rng.choice(("0", "2", "3", "18446744073709551615", "x", ""))],
+                ["list", "s", "--from", "1", "--most", "2"],
                 ["prove", "s", key],
                 ["verify", root, key, "p"],
                 ["verify", "p", key, "p"],
@@ -761,7 +773,7 @@ def any_bytes_and_words():
             )
         )
         done = subprocess.run([TOOL] + words, capture_output=True, timeout=60)
-        assert done.returncode in (0, 1, 2, 3, 4, *range(11, 25), 27, 28), (words, done)
+        assert done.returncode in (0, 1, 2, 3, 4, *range(11, 25), 27, 28, 30), (words, done)
         silent = all(line.startswith(b"grants: by s.book") for line in done.stderr.splitlines())
         assert b"panicked" not in done.stderr and (done.returncode in (0, 1)) == silent, (words, done)
         if done.returncode != 0 or words[0] not in ("apply", "import", "prune", "grow"):
@@ -784,12 +796,12 @@ def limited(bytes_, ignored):
 @test
 def a_file_may_not_grow():
     s = desk()
-    for bytes_ in (0, 1, 24, 1000, 2423):
+    for bytes_ in (0, 1, HEADER, 1000, size(20) - 1):
         untouched(s, 3, "is as it was", "apply", s, "/dev/null", **limited(bytes_, True))
         refused(3, "was not made", "format", "t", 20, **limited(bytes_, True))
         # The tool doesn't leave it to its caller to ignore the signal.
         untouched(s, 3, "it would be larger than files may be here; it is as it was", "apply", s, "/dev/null", **limited(bytes_, False))
-    answered(0, "apply", s, "/dev/null", **limited(2424, False))
+    answered(0, "apply", s, "/dev/null", **limited(size(20), False))
     assert sorted(os.listdir(".")) == [s, s + ".book"]
 
 
@@ -922,7 +934,7 @@ def a_leftover_is_written_over():
     beside = ".desk.grants.grants-new"
     write(beside, b"x" * 5000)
     answered(0, "apply", s, "/dev/null")
-    assert os.path.getsize(s) == 2424 and sorted(os.listdir(".")) == [s, s + ".book"]
+    assert os.path.getsize(s) == size(20) and sorted(os.listdir(".")) == [s, s + ".book"]
     answered(0, "check", s)
     # What else may stand there is not touched.
     write("mine", "dear")
@@ -988,7 +1000,7 @@ def a_closed_pipe_makes_no_status_0():
     root = answered(0, "root", s).strip()
     answered(0, "prove", s, B, "--out", "absent")
     answered(0, "prove", s, A, "--out", "present")
-    write("bad", bytes(2424))
+    write("bad", bytes(size(20)))
     cases = (
         (21, "verify %s %s present --json" % (ZERO, A)),
         (21, "verify %s %s present" % (ZERO, A)),
@@ -1180,7 +1192,7 @@ def names_of_stores():
     assert sorted(os.listdir(".")) == [longest]
     # What a terminal would obey is shown, and paths are as they were given.
     odd = "red\x1b[31m\nnew\u202e"
-    assert answered(0, "format", odd, 5) == "red\\u{1b}[31m\\nnew\\u{202e}: 5 free slots, 624 bytes\n"
+    assert answered(0, "format", odd, 5) == "red\\u{1b}[31m\\nnew\\u{202e}: 5 free slots, 664 bytes\n"
     refused(3, "red\\u{1b}[31m\\nnew\\u{202e} is there already", "format", odd, 5)
     refused(2, "there is no command", "\x1b[31m")
     refused(2, "one word too many", "check", odd, "\x1b]0;x\x07")
@@ -1196,7 +1208,7 @@ def names_of_stores():
 
 @test
 def small_words():
-    assert answered(0, "format", "one", 1) == "one: 1 free slot, 144 bytes\n"
+    assert answered(0, "format", "one", 1) == "one: 1 free slot, 152 bytes\n"
     s = desk()
     refused(2, "VERSION is a number", "get", s, A, "+1")
     refused(2, "CAPACITY is a number", "format", "t", "+5")
@@ -1428,6 +1440,177 @@ def list_in_its_forms():
 
 
 @test
+def how_many_and_which():
+    s = desk()
+    for version, keys in ((0, []), (1, [A, B, C, D]), (2, [A, C, D])):
+        assert answered(0, "count", s, version) == "%d\n" % len(keys)
+        assert json.loads(answered(0, "count", s, version, "--json")) == {"version": version, "count": len(keys)}
+        for position, key in enumerate(keys):
+            held = answered(0, "get", s, key, version).strip()
+            assert answered(0, "at", s, position, version) == "%s %s\n" % (key, held)
+            told = json.loads(answered(0, "at", s, position, version, "--json"))
+            assert told == {"version": version, "position": position, "key": key, "value": held, "key_name": None, "value_name": None}
+        has = "has %d grants: their positions are 0 to %d." % (len(keys), len(keys) - 1) if keys else "holds no grant."
+        for position in (len(keys), 2**32, 2**64 - 1):
+            refused(30, "refused with 20: the position isn't below the number of grants. Version %d of %s %s" % (version, s, has), "at", s, position, version)
+    assert answered(0, "count", s) == "3\n" and answered(0, "at", s, 2).startswith(D)
+    told = json.loads(answered(30, "at", s, 9, "--json"))
+    assert (told["refused"], told["status"]) == (20, 30) and "positions are 0 to 2" in told["message"], told
+    for wrong in ("-1", "x", "", "1.0", "+1", "0x1", 2**64, "1e3", "½"):
+        refused(2, "POSITION is a number from 0 to 18446744073709551615", "at", s, "--", wrong)
+    refused(2, "there is no option -1", "at", s, -1)
+    refused(2, "POSITION is missing", "at", s)
+    refused(2, "one word too many", "at", s, 0, 1, 2)
+    refused(2, "VERSION is a number", "count", s, "x")
+    refused(18, "keeps versions 0 to 2", "count", s, 3)
+    refused(18, "keeps versions 0 to 2", "at", s, 0, 3)
+    assert answered(0, "count", "-", input=read(s)) == b"3\n"
+    # Names are the book's; --at takes its dates.
+    m = market()
+    told = json.loads(answered(0, "at", m, 1, 2, "--json"))
+    assert (told["key"], told["key_name"], told["value_name"]) == (digest("chords sonata"), "chords sonata", "write"), told
+    assert answered(0, "at", m, 1, 2) == '%s %s  "chords sonata" = "write"\n' % (digest("chords sonata"), digest("write"))
+    assert answered(0, "count", m, "--at", "2026-05-05") == "4\n"
+    refused(2, "both say which version", "count", m, 1, "--at", "2026-05-05")
+
+
+@test
+def a_page_of_a_long_list():
+    answered(0, "format", "s", 4000)
+    answered(0, "apply", "s", "-", input=many(300))
+    whole = json.loads(answered(0, "list", "s", "--json"))
+    assert whole["count"] == 300 and [g["position"] for g in whole["grants"]] == list(range(300))
+    pages = []
+    for first in range(0, 300, 70):
+        page = json.loads(answered(0, "list", "s", "--from", first, "--most", 70, "--json"))
+        assert page["count"] == 300 and page["root"] == whole["root"]
+        pages += page["grants"]
+    assert pages == whole["grants"]
+    lines = answered(0, "list", "s", "--from", 98, "--most", 3).splitlines()
+    assert lines[0].startswith("version 1 (") and "): positions 98 to 100 of 300 grants, root %s" % whole["root"] in lines[0], lines
+    assert [line.split()[0] for line in lines[1:]] == ["98", "99", "100"] and lines[1].startswith("   98  %s.." % whole["grants"][98]["key"][:8]), lines
+    assert "): position 299 of 300 grants, root " in answered(0, "list", "s", "--from", 299)
+    assert answered(0, "list", "s", "--most=2", "--csv").splitlines()[1:] == ["%s,%s,," % (g["key"], g["value"]) for g in whole["grants"][:2]]
+    for past in (300, 2**64 - 1):
+        assert "): no position from %d on, 300 grants, root " % past in answered(1, "list", "s", "--from", past, "--most", 5)
+        assert json.loads(answered(1, "list", "s", "--from", past, "--json"))["grants"] == []
+    assert answered(1, "list", "s", 0, "--from", 0) == "version 0: no position from 0 on, 0 grants, root %s\n" % ZERO
+    for words, sentence in (
+        (("--most", 0), "--most wants 1 or more"),
+        (("--from", "x"), "--from is a number from 0"),
+        (("--from", -1), "--from is a number from 0"),
+        (("--most", 2**64), "--most is a number from 0"),
+        (("--from", 1, "--match", "a"), "choose one"),
+        (("--from",), "--from wants N after it"),
+    ):
+        refused(2, sentence, "list", "s", *words)
+    refused(18, "keeps versions 0 to 1", "list", "s", 2, "--from", 0)
+    # A page is read where the rest of the store is lost: position 0 can't be, the others can.
+    s = desk("t")
+    bad = bytearray(read(s))
+    bad[slot(2)] = bytes(SLOT)
+    write("bad", bytes(bad))
+    refused(13, "bad is damaged", "list", "bad")
+    assert answered(0, "list", "bad", "--from", 1, "--full").splitlines()[1:] == ["  1  %s = %s" % (C, value(5)), "  2  %s = %s" % (D, value(4))]
+    refused(27, "wants the record of version 1 at place 00, which is lost", "list", "bad", "--most", 1)
+
+
+@test
+def wrong_counts():
+    # Version 1's root is in slot 6, with 3 and 1 below it; 1 is in slot 5.
+    good = read(desk())
+
+    def counted(slot_, left, right):
+        bad = bytearray(good)
+        bad[size(slot_) + 120 : size(slot_) + 128] = number(left, 4) + number(right, 4)
+        write("bad", bytes(bad))
+        refused(13, "No record is missing, but a hash, a count, a key or a lifetime is wrong", "check", "bad")
+        untouched("bad", 13, "bad is damaged", "apply", "bad", "/dev/null")
+
+    most = 2**32 - 1
+    counted(6, most, most)
+    assert answered(0, "count", "bad", 1) == "%d\n" % (2 * most)
+    left_over = "On the way to position 8589934589 of version 1 of bad, the counts lead to the leaf at place 1 with 4294967294 positions left over: take another copy"
+    untouched("bad", 13, left_over, "at", "bad", 2 * most - 1, 1)
+    refused(30, "positions are 0 to 8589934589.", "at", "bad", 2 * most, 1)
+    assert answered(0, "at", "bad", 0, 1).startswith(A)
+    # No more is read than there is, and nothing waits for thousands of millions of positions.
+    refused(13, "with 1 position left over", "list", "bad", 1, "--from", 0)
+    counted(6, 0, 0)
+    assert answered(0, "count", "bad", 1) == "0\n"
+    refused(30, "holds no grant", "at", "bad", 0, 1)
+    why = "in the tree of 1, the record at the empty place counts 0 below its left child, where there are 3"
+    assert "can't be rescued: " + why in answered(0, "rescue", "bad")
+    untouched("bad", 13, why, "rescue", "bad", "out", "--latest", 1)
+    # A child that isn't there: two keys that begin with 00.
+    answered(0, "format", "t", 20)
+    answered(0, "apply", "t", "-", input="+ %s %s\n+ %s %s\n" % (A, value(1), "20" + A[2:], value(2)))
+    good = read("t")
+    counted(root_slot("t", 1), 1, 1)
+    refused(13, "the counts lead to place 1, where the record above has no child", "at", "bad", 1)
+    assert answered(0, "at", "bad", 0).startswith(A) and answered(0, "count", "bad") == "2\n"
+    assert "counts 1 below its left child, where there are 2" in answered(0, "rescue", "bad")
+    # The root itself, and a leaf in the wrong place.
+    good = read("desk.grants")
+    bad = bytearray(good)
+    bad[size(9) + 4] = 9
+    write("bad", bytes(bad))
+    for words in (("count", "bad"), ("at", "bad", 99), ("list", "bad", "--from", 0)):
+        refused(13, "Version 2 of bad wants the root of version 2, which is spoilt, in slot 9", *words)
+    assert json.loads(answered(0, "stat", "bad", "--json"))["grants"] is None and "grants    -\n" in answered(0, "stat", "bad")
+    bad = bytearray(good)
+    bad[size(5) + 48] = 0
+    write("bad", bytes(bad))
+    refused(13, "the key of the leaf at place 1 doesn't begin with its place", "at", "bad", 2)
+
+
+@test
+def a_store_of_the_old_form():
+    """One of 20 slots, and one of 16, whose size a store of 15 slots has today."""
+
+    def old(capacity):
+        head = number(HEADER, 4) + number(1, 2) + bytes(2) + number(capacity, 4) + bytes(12)
+        return head + bytes(OLD_SLOT * capacity)
+
+    for capacity, status in ((20, 11), (16, 12), (1, 11), (LARGEST, 12)):
+        write("old", old(capacity))
+        sentence = "old is a store of the old form (slots of 120 bytes); `grants move` brings it over."
+        write("batch", FOUR)
+        for words in (
+            ("check", "old"),
+            ("apply", "old", "batch"),
+            ("import", "old", "batch"),
+            ("prune", "old", 0),
+            ("grow", "old", 30),
+            ("rescue", "old"),
+            ("rescue", "old", "out", "--latest", 1),
+            ("root", "old"),
+            ("get", "old", A),
+            ("count", "old"),
+            ("at", "old", 0),
+            ("prove", "old", A),
+            ("prove", "old", A, B, "--version", 0),
+            ("list", "old"),
+            ("list", "old", "--from", 0),
+            ("diff", "old", 0),
+            ("history", "old", A),
+            ("log", "old"),
+            ("export", "old"),
+            ("show", "old"),
+            ("stat", "old"),
+        ):
+            untouched("old", status, sentence, *words)
+    told = json.loads(answered(12, "check", "old", "--json"))
+    assert told["refused"] == 2 and told["message"].endswith(sentence), told
+    # Cut short, or with another kind, it is no such store.
+    write("old", old(20)[:-1])
+    refused(11, "is it the right file, and whole?", "check", "old")
+    write("old", store_bytes(15))
+    answered(0, "check", "old")
+    assert store_bytes(15)[HEADER:] == old(16)[HEADER:]
+
+
+@test
 def export_and_import_go_round():
     m = market()
     answered(0, "apply", m, "-", input="+ %s %s\n" % (D, value(4)))
@@ -1649,7 +1832,7 @@ def a_store_grows():
         untouched("t", 17, "too few for versions %d to 14" % oldest, "grow", "t", used - 1)
     untouched("s", 11, "a store has 1 to 16,384", "grow", "s", LARGEST + 1)
     bad = bytearray(read("s"))
-    bad[24 + 60] ^= 1
+    bad[HEADER + 60] ^= 1
     untouched(write("bad", bytes(bad)), 13, "bad is damaged", "grow", "bad", 900)
     # All versions there can be, none of them with a record: no loop over them.
     write("wide", store_bytes(50, 2**32 - 1))
@@ -1787,7 +1970,7 @@ def built_without_proofs():
 
 
 def slot(i):
-    return slice(24 + 120 * i, 144 + 120 * i)
+    return slice(size(i), size(i + 1))
 
 
 def changed(name, to, *changes):
@@ -1814,7 +1997,7 @@ def fields(i, s):
 
 def root_slot(name, version):
     s = read(name)
-    return next(i for i in range((len(s) - 24) // 120) if fields(i, s)[:2] == [0, version])
+    return next(i for i in range((len(s) - HEADER) // SLOT) if fields(i, s)[:2] == [0, version])
 
 
 @test
@@ -1825,11 +2008,11 @@ def rescue_gives_back_a_sound_store():
     assert "same.grants: versions 1 to 5 came back, 5 publishings" in out and "14 as they were, 0 with another" in out, out
     assert "no earlier: 1 is the oldest asked for" in out and "It is the root that was given." in out, out
     # oldest was 0 there, and version 0 has no root record.
-    assert read("same.grants")[24:] == read(whole)[24:]
+    assert read("same.grants")[HEADER:] == read(whole)[HEADER:]
     # The header lost, a leaf of version 1 that 2 retired lost, a retired-since changed: versions 2 to 5.
     lost = next(i for i in range(7) if fields(i, read(whole))[2] == 2)
     third = root_slot(whole, 3)
-    damaged = changed(whole, "damaged.grants", (slice(0, 24), b"\xff" * 24), (slot(lost), bytes(120)), (slice(68 + 120 * third, 72 + 120 * third), number(5, 4)))
+    damaged = changed(whole, "damaged.grants", (slice(0, HEADER), b"\xff" * HEADER), (slot(lost), bytes(SLOT)), (slice(size(third) + 44, size(third) + 48), number(5, 4)))
     before = read(damaged)
     out = answered(0, "rescue", damaged, "out.grants", "--latest", 5)
     assert "out.grants: versions 2 to 5 came back, 4 publishings" in out, out
@@ -1859,7 +2042,7 @@ def rescue_says_why_slots_were_left_out():
     newer[40:44] = number(9, 4)
     stranger = bytearray(s[slot(fifth)])
     stranger[6:8] = number(3, 2)
-    damaged = changed(whole, "damaged.grants", (slot(second), bytes(120)), (slot(15), b"\x07" * 120), (slot(16), s[slot(fifth)]), (slot(17), bytes(newer)), (slot(18), bytes(stranger)))
+    damaged = changed(whole, "damaged.grants", (slot(second), bytes(SLOT)), (slot(15), b"\x07" * SLOT), (slot(16), s[slot(fifth)]), (slot(17), bytes(newer)), (slot(18), bytes(stranger)))
     out = answered(0, "rescue", damaged, "out.grants", "--latest", 5)
     for line in ("versions 3 to 5 came back, 3 publishings", "the newest root record not above version 2, that of 1, is retired since 2", "off form: slot 15", "a second copy: slot 16", "newer than latest: slot 17", "of no tree: slot 18"):
         assert line in out, (line, out)
@@ -1881,9 +2064,9 @@ def rescue_refuses():
     refused(4, "this is not what was signed, and nothing was written", "rescue", whole, "out.grants", "--latest", 4, "--root", root)
     refused(12, "--oldest 6 is above --latest 5", "rescue", whole, "out.grants", "--latest", 5, "--oldest", 6)
     refused(13, "version 0 can't be rescued: no root record", "rescue", whole, "out.grants", "--latest", 0)
-    damaged = changed(whole, "damaged.grants", (slot(root_slot(whole, 5)), bytes(120)))
+    damaged = changed(whole, "damaged.grants", (slot(root_slot(whole, 5)), bytes(SLOT)))
     refused(13, "that of 4, is retired since 5", "rescue", damaged, "out.grants", "--latest", 5)
-    refused(11, "has 2423 bytes", "rescue", write("short", read(whole)[:-1]), "out.grants", "--latest", 5)
+    refused(11, "has %d bytes" % (size(20) - 1), "rescue", write("short", read(whole)[:-1]), "out.grants", "--latest", 5)
     refused(2, "OUT is missing", "rescue", whole, "--latest", 5)
     refused(2, "must be a file", "rescue", whole, "-", "--latest", 5)
     refused(22, "64 hex digits", "rescue", whole, "out.grants", "--latest", 5, "--root", "00")
@@ -1900,7 +2083,7 @@ def rescue_refuses():
     answered(0, "rescue", whole, "there.grants", "--latest", 5, "--force", "--root", root)
     answered(0, "check", "there.grants")
     # The newer root lost and the retired-since of the older one damaged upwards: withdrawn grants come back, and the signed root shows it.
-    since = 68 + 120 * root_slot(whole, 4)
+    since = size(root_slot(whole, 4)) + 44
     trap = changed(damaged, "trap.grants", (slice(since, since + 4), number(0, 4)))
     out = answered(0, "rescue", trap, "trapped.grants", "--latest", 5)
     assert "Warning: the newest root record is of version 4" in out and "Compare it with the root that was signed" in out, out
@@ -1927,16 +2110,16 @@ def rescue_lists_root_records():
         d = bytearray(s)
         for _ in range(rng.randint(1, 3)):
             i, how = rng.randrange(14), rng.randrange(4)
-            at = 24 + 120 * i
+            at = size(i)
             if how == 0:
-                d[at : at + 120] = bytes(120)
+                d[at : at + SLOT] = bytes(SLOT)
             elif how == 1:
-                d[at + rng.randrange(120)] ^= 1 << rng.randrange(8)
+                d[at + rng.randrange(SLOT)] ^= 1 << rng.randrange(8)
             elif how == 2:
                 d[at + rng.choice((40, 44, 48, 84))] = rng.randrange(7)
             else:
-                j = 24 + 120 * rng.randrange(20)
-                d[j : j + 120] = d[at : at + 120]
+                j = size(rng.randrange(20))
+                d[j : j + SLOT] = d[at : at + SLOT]
         write("d.grants", bytes(d))
         for row in json.loads(answered(0, "rescue", "d.grants", "--json"))["roots"]:
             v = row["version"]

@@ -2,6 +2,7 @@
 import { createHash } from 'node:crypto';
 import { readFileSync } from 'node:fs';
 import { Worker } from 'node:worker_threads';
+import { AT, oldStoreBytes, storeBytes } from '../../js/form.js';
 import { Refused, batch, fromHex, load, toHex } from '../../js/grants.js';
 import { REFUSALS } from '../../js/refusals.js';
 
@@ -75,7 +76,7 @@ async function publishing(tally, grants) {
 // Every call that can be refused, refused: the store stays, and the sentence is the table's.
 async function refusing(tally, grants, { store, lyrics }) {
   const before = toHex(store.bytes());
-  const damaged = await grants.open(store.bytes().fill(255, 400, 401));
+  const damaged = await grants.open(store.bytes().fill(255, storeBytes(1) + AT.key, storeBytes(1) + AT.key + 1));
   const cases = [
     [3, () => damaged.check()],
     [4, () => store.apply(3, new Uint8Array(71))],
@@ -88,6 +89,11 @@ async function refusing(tally, grants, { store, lyrics }) {
     [9, () => store.prove(1, lyrics, 71)],
     [12, () => store.get(1, lyrics.slice(1))],
     [14, () => store.prove(0, lyrics)],
+    [8, () => store.count(3)],
+    [8, () => store.at(3, 0)],
+    [20, () => store.at(1, 2)],
+    [20, () => store.at(1, 2n ** 64n - 1n)],
+    [20, () => store.at(0, 0)],
     [13, () => store.changes(0, 1, 0)],
     [8, () => store.changes(0, 99)],
   ];
@@ -113,15 +119,15 @@ async function refusing(tally, grants, { store, lyrics }) {
     };
     return [told(() => open.root(1)), told(() => open.get(1, '80'.repeat(32))), told(() => open.prove(1, '80'.repeat(32))), told(() => open.get(1, '00'.repeat(32)))];
   };
-  tally.equal('a lost leaf', await missing((bytes) => bytes.fill(0, 144, 264)), ['accepted', [17, null], [17, null], 'accepted']);
-  tally.equal('a spoilt leaf', await missing((bytes) => (bytes[144] = 1)), ['accepted', [3, 1], [3, 1], 'accepted']);
-  tally.equal('a wrong key', await missing((bytes) => (bytes[144 + 48] = 0)), ['accepted', [3, null], [3, null], 'accepted']);
-  tally.equal('a spoilt root', await missing((bytes) => (bytes[264 + 4] = 7)), [[3, 2], [3, 2], [3, 2], [3, 2]]);
-  tally.equal('a lost root', await missing((bytes) => bytes.fill(0, 264, 384)), ['accepted', 'accepted', [14, null], 'accepted']);
+  tally.equal('a lost leaf', await missing((bytes) => bytes.fill(0, storeBytes(1), storeBytes(2))), ['accepted', [17, null], [17, null], 'accepted']);
+  tally.equal('a spoilt leaf', await missing((bytes) => (bytes[storeBytes(1)] = 1)), ['accepted', [3, 1], [3, 1], 'accepted']);
+  tally.equal('a wrong key', await missing((bytes) => (bytes[storeBytes(1) + AT.key] = 0)), ['accepted', [3, null], [3, null], 'accepted']);
+  tally.equal('a spoilt root', await missing((bytes) => (bytes[storeBytes(2) + AT.kind] = 7)), [[3, 2], [3, 2], [3, 2], [3, 2]]);
+  tally.equal('a lost root', await missing((bytes) => bytes.fill(0, storeBytes(2), storeBytes(3))), ['accepted', 'accepted', [14, null], 'accepted']);
   tally.equal('its words', new Refused(3, 5).message.endsWith('; the record in slot 5 is spoilt'), true);
   tally.equal('no slots', await grants.format(0).catch((e) => e.number), 1);
   tally.equal('too many slots', await grants.format(1e9).catch((e) => e.number), 1);
-  const odd = await grants.open(new Uint8Array(144).fill(1));
+  const odd = await grants.open(new Uint8Array(storeBytes(1)).fill(1));
   tally.equal('a wrong header', refused(() => odd.check()), 2);
   for (const [number, sentence] of Object.entries(REFUSALS)) {
     const error = new Refused(Number(number));
@@ -137,7 +143,7 @@ async function rescuing(tally, grants) {
   const key = grants.name('chords sonata');
   for (const name of ['read', 'write', 'print']) store.applyNext([{ key, value: grants.name(name) }]);
   const signed = toHex(store.root(3));
-  const damaged = store.bytes().fill(255, 0, 24 + 8);
+  const damaged = store.bytes().fill(255, 0, storeBytes(0) + 8);
   const { store: rescued, ...numbers } = await grants.rescue(damaged, 0, 3);
   tally.equal('a rescue', numbers, { first: 2, same: 2, other: 0, out: 1 });
   tally.equal('the rescued root', toHex(rescued.root(3)), signed);
@@ -175,11 +181,70 @@ async function memory(tally, grants, { lyrics, then, first }) {
   tally.equal('two stores', [one.latest, other.latest], [1, 0]);
 }
 
+// How many grants and which one, in a store of 40 beside the list of its keys, and in stores with wrong counts.
+async function counting(tally, grants) {
+  const store = await grants.format(400);
+  const names = Array.from({ length: 40 }, (_, i) => toHex(grants.name(`${i}`)));
+  store.apply(1, names.map((key) => ({ key, value: grants.name('read') })));
+  store.apply(9, names.slice(7).map((key) => ({ key, value: null })));
+  for (const [version, held] of [[0, []], [1, names], [8, names], [9, names.slice(0, 7)]]) {
+    const keys = [...held].sort();
+    tally.equal(`how many in ${version}`, store.count(version), keys.length);
+    tally.equal(`which in ${version}`, keys.map((_, i) => toHex(store.at(version, i % 2 ? i : BigInt(i)).key)), keys);
+    tally.equal(`none after in ${version}`, refused(() => store.at(version, keys.length)), 20);
+  }
+  tally.equal('its value', toHex(store.at(9, 0).value), toHex(grants.name('read')));
+  for (const odd of [-1, 1.5, 2 ** 53, NaN, '1', undefined, null, -1n, 2n ** 64n]) tally.equal(`position ${odd}`, refused(() => store.at(1, odd)), 'RangeError');
+  for (const most of [2 ** 53 - 1, 2n ** 53n, 2n ** 64n - 1n]) tally.equal(`position ${most}`, refused(() => store.at(1, most)), 20);
+  // A leaf in slot 0, one in slot 1, the root in slot 2.
+  const two = await grants.format(3);
+  two.apply(1, [{ key: '00'.repeat(32), value: names[0] }, { key: '80'.repeat(32), value: names[1] }]);
+  const counted = (left, right) => {
+    const bytes = two.bytes();
+    [left, right].forEach((count, i) => new DataView(bytes.buffer).setUint32(storeBytes(2) + AT.counts[i], count, true));
+    return grants.open(bytes);
+  };
+  const most = await counted(2 ** 32 - 1, 2 ** 32 - 1);
+  tally.equal('a sum of more than 32 bits', [most.count(1), refused(() => most.check())], [8589934590, 3]);
+  tally.equal('positions left over', [refused(() => most.at(1, 8589934589)), refused(() => most.at(1, 8589934590)), toHex(most.at(1, 0).key)], [3, 20, '00'.repeat(32)]);
+  const none = await counted(0, 0);
+  tally.equal('no counts', [none.count(1), refused(() => none.at(1, 0))], [0, 20]);
+}
+
+// A store of 20 slots, and one of 16, whose size a store of 15 slots has today.
+async function oldForm(tally, grants) {
+  for (const [slots, number, kind, old] of [[20, 1, 1, true], [16, 2, 1, true], [16384, 2, 1, true], [20, 1, 4, false], [16, 2, 9, false]]) {
+    const bytes = new Uint8Array(oldStoreBytes(slots));
+    bytes.set([24, 0, 0, 0, kind, 0, 0, 0, slots & 255, slots >> 8]);
+    const store = await grants.open(bytes);
+    tally.equal(`old form, ${slots} slots, kind ${kind}`, store.oldForm, old);
+    const calls = [() => store.check(), () => store.root(0), () => store.get(0, '00'.repeat(32)), () => store.count(0), () => store.at(0, 0), () => store.apply(1, []), () => store.prune(0), () => store.changes(0, 0)];
+    for (const call of calls) {
+      try {
+        call();
+        tally.fail('an old store was taken');
+      } catch (error) {
+        tally.equal('refused', [error.number, error.oldForm], [number, old]);
+        tally.equal('what it is', error.message.endsWith('this is a store of the old form (slots of 120 bytes); `grants move` of the command line tool brings it over'), old);
+      }
+    }
+  }
+  const empty = (slots) => Uint8Array.from({ length: oldStoreBytes(slots) }, (_, i) => ({ 0: 24, 4: 1, 8: slots })[i] ?? 0);
+  const why = (slots) => grants.rescue(empty(slots), 0, 1).catch((e) => [e.number, e.oldForm]);
+  tally.equal('no rescue of one', [await why(20), await why(16)], [[1, true], [3, true]]);
+  const cut = await grants.open(new Uint8Array(oldStoreBytes(20) - 1).fill(24, 0, 1).fill(1, 4, 5));
+  tally.equal('an old store cut short', [cut.oldForm, refused(() => cut.check())], [false, 1]);
+  tally.equal('a store of today', (await grants.format(15)).oldForm, false);
+  tally.equal('no bytes', (await grants.open(new Uint8Array(0))).oldForm, false);
+}
+
 export async function module(tally, grants) {
   await loading(tally);
   const made = await publishing(tally, grants);
   await refusing(tally, grants, made);
   await rescuing(tally, grants);
+  await counting(tally, grants);
+  await oldForm(tally, grants);
   await memory(tally, grants, made);
   tally.equal('hex', toHex(fromHex('00ffAb')), '00ffab');
   tally.equal('a batch as it is', batch(new Uint8Array([1, 2])), new Uint8Array([1, 2]));

@@ -3,6 +3,7 @@
 import { mkdirSync, readFileSync, rmSync, writeFileSync } from 'node:fs';
 import { resolve } from 'node:path';
 import { pathToFileURL } from 'node:url';
+import { AT, oldStoreBytes, storeBytes } from '../../js/form.js';
 import { load, toHex } from '../../js/grants.js';
 import { Browser } from './browser.mjs';
 import { Tally } from './tally.mjs';
@@ -36,7 +37,12 @@ gaps.prune(7);
 gaps.apply(4000000000, names.map((name) => ({ key: key(name), value: null })));
 gaps.apply(4294967295, [{ key: key('chords sonata'), value: key('read') }]);
 const wide = file('wide', gaps.bytes());
-const tampered = file('tampered', store.bytes().fill(255, 400, 401));
+const tampered = file('tampered', store.bytes().fill(255, storeBytes(3) + 40, storeBytes(3) + 41));
+// One count of the root, in slot 9, is wrong.
+const miscounted = file('miscounted', store.bytes().fill(9, storeBytes(9) + AT.counts[0], storeBytes(9) + AT.counts[0] + 1));
+// An old store of 20 slots, and one of 16, whose size a store of 15 has today.
+const old20 = file('old20', Uint8Array.from({ length: oldStoreBytes(20) }, (_, i) => ({ 0: 24, 4: 1, 8: 20 })[i] ?? 0));
+const old16 = file('old16', Uint8Array.from({ length: oldStoreBytes(16) }, (_, i) => ({ 0: 24, 4: 1, 8: 16 })[i] ?? 0));
 
 const browser = await Browser.start(program, `${folder}/profile`);
 const text = (id) => browser.ask(`document.getElementById('${id}').innerText`);
@@ -95,7 +101,7 @@ async function stores() {
   for (const root of [old, now, '00'.repeat(32)]) tally.holds('a root of the store', versions.includes(root));
   await clicked('version 2');
   const tree = await text('tree');
-  tally.holds('the tree', tree.includes('The tree of version 2') && tree.includes('inner node root, version 2, slot 9'));
+  tally.holds('the tree', tree.includes('The tree of version 2') && tree.includes('inner node root, 2 + 1 grants below, version 2, slot 9') && tree.includes('inner node 0, 1 + 1 grants below, version 2, slot 8'));
   tally.holds('what changed', /Since version 1: changed 7455075c..3f6e, removed 4063e24a..7d73\./.test(tree));
   tally.equal('its new nodes', await browser.ask(`document.querySelectorAll('#tree .new').length`), 3);
   await clicked('prove 2564000e');
@@ -116,6 +122,15 @@ async function stores() {
   await browser.until(`document.getElementById('sound').textContent.startsWith('This store is not')`);
   tally.holds('a tampered store', (await text('sound')).includes("Refused with 3: the store isn't sound"));
   tally.equal('and no tree of it', await browser.ask(`document.querySelectorAll('#tree *, #versions *').length`), 0);
+  for (const [name, number] of [[old20, 1], [old16, 2]]) {
+    await browser.drop(name);
+    await browser.until(`document.getElementById('sound').textContent.includes('Refused with ${number}: ')`);
+    tally.holds('a store of the old form', (await text('sound')).includes('this is a store of the old form (slots of 120 bytes); `grants move` of the command line tool brings it over.'));
+    tally.equal('and no tree of that', await browser.ask(`document.querySelectorAll('#tree *, #versions *').length`), 0);
+  }
+  await browser.drop(miscounted);
+  await browser.until(`document.getElementById('sound').textContent.includes('Refused with 3: ')`);
+  tally.equal('and no tree where a count is wrong', await browser.ask(`document.querySelectorAll('#tree *, #versions *').length`), 0);
 }
 
 async function usable() {
@@ -158,7 +173,7 @@ async function inWorker() {
   await browser.send('Page.setBypassCSP', { enabled: true });
   await browser.send('Page.reload');
   await browser.until(`document.documentElement?.dataset.ready === 'true'`);
-  const source = ['js/refusals.js', 'js/grants.js'].map((name) => readFileSync(name, 'utf8').replace(/^import .*$/m, '')).join('');
+  const source = ['js/form.js', 'js/refusals.js', 'js/grants.js'].map((name) => readFileSync(name, 'utf8').replace(/^import .*$/gm, '')).join('');
   const asks = `onmessage = async ({ data: { module, root, key, proof } }) => postMessage(toHex((await load(module)).verify(root, key, proof).value));`;
   const given = { root: old, key: toHex(key('lyrics sonata')), proof: toHex(proofs.then) };
   const came = await browser.ask(`(async () => {

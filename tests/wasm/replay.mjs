@@ -16,6 +16,7 @@ function* calls(bytes) {
     const name = Buffer.from(some(byte())).toString();
     const given = Array.from({ length: byte() }, () => {
       const letter = String.fromCharCode(byte());
+      if (letter === 'l') return { letter, n: long() };
       const n = number();
       if (letter === 'n') return { letter, n };
       const before = some(n);
@@ -25,13 +26,16 @@ function* calls(bytes) {
   }
 }
 
+// A number, of 32 bits or of 64, and no bytes.
+const plain = (letter) => letter === 'n' || letter === 'l';
+
 const unsigned = (said) => (typeof said === 'bigint' ? said : said >>> 0);
 
 // One call over buffers between marked edges: whether all is as it was with the native library.
 function same(exports, { name, given, answer }) {
   let end = exports.__heap_base.value + EDGE;
   const places = given.map(({ letter, n }) => {
-    if (letter === 'n') return 0;
+    if (plain(letter)) return 0;
     const at = end;
     end += n + EDGE;
     return at;
@@ -42,7 +46,7 @@ function same(exports, { name, given, answer }) {
   memory.fill(MARK, exports.__heap_base.value, end);
   const words = [];
   given.forEach(({ letter, n, before }, i) => {
-    if (letter === 'n') words.push(n);
+    if (plain(letter)) words.push(n);
     else {
       memory.set(before, places[i]);
       words.push(places[i]);
@@ -55,7 +59,7 @@ function same(exports, { name, given, answer }) {
   return (
     came === answer &&
     marked(exports.__heap_base.value, exports.__heap_base.value + EDGE) &&
-    given.every(({ letter, n, after }, i) => letter === 'n' || (memory.compare(after, 0, n, places[i], places[i] + n) === 0 && marked(places[i] + n, places[i] + n + EDGE)))
+    given.every(({ letter, n, after }, i) => plain(letter) || (memory.compare(after, 0, n, places[i], places[i] + n) === 0 && marked(places[i] + n, places[i] + n + EDGE)))
   );
 }
 

@@ -15,6 +15,11 @@ export async function published(): Promise<number> {
   const grants = await load();
   const store: Store = await grants.format(20);
   const { version, newRecords } = store.apply(1, [{ key: '00', value: null }]);
+  const count: number = store.count(version);
+  const grant = store.at(version, BigInt(count) - 1n);
+  const least: Uint8Array = store.at(version, 0).key;
+  // @ts-expect-error a position is a number
+  store.at(version, '0');
   // @ts-expect-error a publishing has a number
   store.apply([{ key: '00', value: null }]);
   // @ts-expect-error a version is a number
@@ -24,5 +29,5 @@ export async function published(): Promise<number> {
   const { store: rescued, first } = await grants.rescue(store.bytes(), 0, version);
   // @ts-expect-error a rescue ends at a version
   await grants.rescue(store.bytes(), 0);
-  return newRecords + first + rescued.latest;
+  return newRecords + first + rescued.latest + least.length + grant.value.length;
 }

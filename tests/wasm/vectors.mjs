@@ -1,6 +1,7 @@
 // The program of vectors once more, through js/: what comes must be the lines that the gate holds the proved program to (crates/vectors/stdout).
 import { createHash } from 'node:crypto';
 import { readFileSync } from 'node:fs';
+import { INNER_KIND, LEAF_KIND, storeBytes } from '../../js/form.js';
 import { Refused, batch, toHex } from '../../js/grants.js';
 
 const [A, B, C, D, F] = [0x00, 0x40, 0x60, 0x80, 0x10];
@@ -68,12 +69,12 @@ class Program {
   slots(store, wanted) {
     const bytes = Buffer.from(store.bytes());
     const found = [];
-    for (let i = 0; 24 + 120 * i < bytes.length; i += 1) {
-      const slot = bytes.subarray(24 + 120 * i);
+    for (let i = 0; storeBytes(i) < bytes.length; i += 1) {
+      const slot = bytes.subarray(storeBytes(i));
       const [kind, count] = [slot.readUInt16LE(4), slot.readUInt16LE(6)];
       const bits = Array.from({ length: count }, (_, b) => (slot[8 + (b >> 3)] >> (7 - (b & 7))) & 1).join('');
       const record = { version: slot.readUInt32LE(40), retired: slot.readUInt32LE(44), count, kind };
-      if (kind !== 0 && wanted(record)) found.push({ ...record, text: `slot ${i} ${kind === 2 ? 'leaf' : 'inner'} ${bits || 'root'}` });
+      if (kind !== 0 && wanted(record)) found.push({ ...record, text: `slot ${i} ${kind === LEAF_KIND ? 'leaf' : 'inner'} ${bits || 'root'}` });
     }
     return found;
   }
@@ -135,7 +136,7 @@ class Program {
 
   // The desk's grants under numbers with gaps.
   async gaps(all, four) {
-    const store = await this.format(2424);
+    const store = await this.format(storeBytes(20));
     const two = inner(leaf(key(A), 1), leaf(key(D), 4));
     const check = () => this.tried('check', store, () => (store.check(), 'sound'));
     this.apply(store, 'insert A, B, C, D', all, four, 5);
@@ -162,7 +163,7 @@ class Program {
     this.apply(store, 'empty batch', [], two, 4294967295);
     this.apply(store, 'empty batch', [], two);
     check();
-    const one = await this.format(144);
+    const one = await this.format(storeBytes(1));
     for (const number of [0, 1]) this.apply(one, 'insert both', [insert(key(A), 1), insert(key(F), 2)], zeros, number);
   }
 
@@ -175,18 +176,18 @@ class Program {
   }
 
   byte(store, slot, at, value) {
-    return this.harmed(store, `slot ${slot}, byte ${at} made ${value}`, (bytes) => (bytes[24 + 120 * slot + at] = value));
+    return this.harmed(store, `slot ${slot}, byte ${at} made ${value}`, (bytes) => (bytes[storeBytes(slot) + at] = value));
   }
 
   lose(store, slot) {
-    return this.harmed(store, `slot ${slot} emptied`, (bytes) => bytes.fill(0, 24 + 120 * slot, 144 + 120 * slot));
+    return this.harmed(store, `slot ${slot} emptied`, (bytes) => bytes.fill(0, storeBytes(slot), storeBytes(slot + 1)));
   }
 
   // A lost record and a spoilt one.
   async missing(all, four) {
     const [under, between] = [key(0x20), key(0x40)];
     const proofs = (store, name, k, ...rooms) => rooms.forEach((most) => this.prove(store, name, k, 1, most));
-    let store = await this.format(2424);
+    let store = await this.format(storeBytes(20));
     this.apply(store, 'insert A, B, C, D', all, four, 1);
     store = await this.lose(store, 0);
     this.tried('check', store, () => (store.check(), 'sound'), '');
@@ -220,7 +221,7 @@ class Program {
     for (const version of [0, 1]) this.root(store, version);
     store = await this.byte(store, 7, 44, 1);
     for (const version of [0, 1]) this.root(store, version);
-    store = await this.format(2424);
+    store = await this.format(storeBytes(20));
     const those = [insert(key(0x00), 1), insert(key(0x20), 2), insert(key(0x80), 3), insert(key(0xc0), 4)];
     const below = inner(leaf(key(0x00), 1), leaf(key(0x20), 2));
     this.apply(store, 'insert the four', those, inner(inner(below, zeros), inner(leaf(key(0x80), 3), leaf(key(0xc0), 4))), 1);
@@ -234,9 +235,80 @@ class Program {
     proofs(store, '000', key(0x00), 171);
   }
 
+  count(store, version) {
+    this.tried(`grants in version ${version}`, store, () => store.count(version), '');
+  }
+
+  at(store, version, ...positions) {
+    for (const position of positions) {
+      this.tried(`position ${position} in version ${version}`, store, () => {
+        const grant = store.at(version, position);
+        return `key ${toHex(grant.key)}, value ${toHex(grant.value)}`;
+      }, '');
+    }
+  }
+
+  async rescue(store, oldest, latest) {
+    const bytes = store.bytes();
+    const { store: target, first, same, other, out } = await this.grants.rescue(bytes, oldest, latest);
+    this.say(`  came  rescue from ${oldest} to ${latest}, target ${bytes.length} bytes: first version ${first}, as they were ${same}, with another retired since ${other}, left out ${out}`);
+    this.shown(this.slots(target, () => true));
+    target.check();
+    this.say(`        sound, root ${toHex(target.root(latest))}`);
+  }
+
+  // The desk's grants by number and position, and with counts that are wrong.
+  async positions(all, four, three, both, alone) {
+    const store = await this.format(storeBytes(20));
+    const check = (it) => this.tried('check', it, () => (it.check(), 'sound'), '');
+    this.apply(store, 'insert A, B, C, D', all, four);
+    this.count(store, 1);
+    this.at(store, 1, 0, 1, 2, 3, 4);
+    this.apply(store, 'delete B, change C', [remove(key(B)), insert(key(C), 5)], three);
+    this.apply(store, 'empty batch', [], three);
+    this.apply(store, 'delete A', [remove(key(A))], inner(leaf(key(C), 5), leaf(key(D), 4)));
+    this.apply(store, 'delete D', [remove(key(D))], leaf(key(C), 5));
+    this.apply(store, 'delete C', [remove(key(C))], zeros);
+    for (const version of [1, 2, 3, 4, 5, 6, 0]) this.count(store, version);
+    for (const [version, ...asked] of [[1, 1], [2, 0, 1, 2, 3], [4, 0], [5, 0, 1], [6, 0], [0, 0]]) this.at(store, version, ...asked);
+    this.count(store, 7);
+    this.at(store, 7, 9);
+    let harmed = await this.byte(store, 6, 120, 9);
+    check(harmed);
+    this.count(harmed, 1);
+    this.at(harmed, 1, 2, 3, 9, 10);
+    await this.rescue(harmed, 0, 5);
+    const bytes = async (...harms) => {
+      for (const [slot, at, made] of harms) harmed = await this.byte(harmed, slot, at, made);
+    };
+    await bytes([6, 120, 3], [6, 123, 255], [6, 127, 255]);
+    this.count(harmed, 1);
+    this.at(harmed, 1, 4278190083, 4278190084n);
+    await bytes([6, 123, 0], [6, 127, 0], [4, 120, 0], [4, 124, 0]);
+    this.at(harmed, 1, 0, 3);
+    await bytes([4, 120, 1], [4, 124, 2]);
+    harmed = await this.lose(harmed, 0);
+    await bytes([1, 4, 9], [2, 48, 128]);
+    this.at(harmed, 1, 1, 2, 0, 4);
+    await bytes([6, 5, 1]);
+    this.count(harmed, 1);
+    this.at(harmed, 1, 4);
+    harmed = await this.lose(harmed, 6);
+    this.count(harmed, 1);
+    this.at(harmed, 1, 0);
+    const lean = await this.format(storeBytes(20));
+    this.apply(lean, 'insert both', both, alone);
+    this.count(lean, 1);
+    this.at(lean, 1, 1, 2);
+    harmed = await this.byte(lean, 5, 124, 1);
+    check(harmed);
+    this.count(harmed, 1);
+    this.at(harmed, 1, 1, 2, 3);
+  }
+
   async run() {
     this.section = "The desk's store";
-    const store = await this.format(2424);
+    const store = await this.format(storeBytes(20));
     const all = [insert(key(A), 1), insert(key(B), 2), insert(key(C), 3), insert(key(D), 4)];
     const four = inner(inner(leaf(key(A), 1), inner(leaf(key(B), 2), leaf(key(C), 3))), leaf(key(D), 4));
     const three = inner(inner(leaf(key(A), 1), leaf(key(C), 5)), leaf(key(D), 4));
@@ -266,13 +338,14 @@ class Program {
     this.apply(store, 'insert E', [insert(key(D, 1), 6)], leaf(key(D, 1), 6));
     this.section = 'M9';
     const both = [insert(key(A), 1), insert(key(F), 2)];
-    for (const bytes of [2424, 624]) this.apply(await this.format(bytes), 'insert both', both, lone(inner(leaf(key(A), 1), leaf(key(F), 2)), 3));
+    const alone = lone(inner(leaf(key(A), 1), leaf(key(F), 2)), 3);
+    for (const bytes of [storeBytes(20), storeBytes(5)]) this.apply(await this.format(bytes), 'insert both', both, alone);
     this.section = 'M10';
-    const deep = await this.format(30984);
+    const deep = await this.format(storeBytes(258));
     this.apply(deep, 'insert both', [insert(key(A), 1), insert(key(A, 1), 2)], lone(inner(leaf(key(A), 1), leaf(key(A, 1), 2)), 255));
     const levels = (wanted) => new Set(this.slots(deep, wanted).map((it) => it.count)).size;
-    const leaves = this.slots(deep, (it) => it.kind === 2 && it.count === 256).length;
-    this.say(`  came  leaves at 256 bits: ${leaves}, levels with an inner node: ${levels((it) => it.kind === 3)}, levels in all: ${levels(() => true)}`);
+    const leaves = this.slots(deep, (it) => it.kind === LEAF_KIND && it.count === 256).length;
+    this.say(`  came  leaves at 256 bits: ${leaves}, levels with an inner node: ${levels((it) => it.kind === INNER_KIND)}, levels in all: ${levels(() => true)}`);
     this.prove(deep, 'the first', key(A), 1, 8520);
     this.prove(deep, 'the second', key(A, 1), 1, 8520);
     this.section = 'M11';
@@ -280,7 +353,7 @@ class Program {
     this.prune(store, 8);
     this.tried('check', store, () => (store.check(), 'sound'));
     this.section = 'M12';
-    const full = await this.format(864);
+    const full = await this.format(storeBytes(7));
     this.apply(full, 'insert A, B, C, D', all, four);
     this.apply(full, 'empty batch', [], four);
     this.apply(full, 'delete A, B, C, D', [A, B, C, D].map((first) => remove(key(first))), zeros);
@@ -288,19 +361,21 @@ class Program {
     await this.gaps(all, four);
     this.section = '2026-07';
     await this.missing(all, four);
+    this.section = '2026-09';
+    await this.positions(all, four, three, both, alone);
     this.section = 'Closing cases';
-    const large = await this.format(245664);
+    const large = await this.format(storeBytes(2047));
     const many = batch(Array.from({ length: 1025 }, (_, i) => insert(numbered(i), 1)));
     this.apply(large, '1,025 records', many, zeros);
     this.apply(large, '1,024 of them', many.subarray(0, 1024 * 72), whole(0, 10));
-    const long = await this.format(31464);
+    const long = await this.format(storeBytes(262));
     const ends = inner(inner(leaf(key(0, 0), 1), leaf(key(0, 1), 2)), zeros);
     const others = inner(zeros, inner(leaf(key(0, 6), 3), leaf(key(0, 7), 4)));
     const fourEnds = [insert(key(0, 0), 1), insert(key(0, 1), 2), insert(key(0, 6), 3), insert(key(0, 7), 4)];
     this.apply(long, 'insert keys that end in 000, 001, 110, 111', fourEnds, lone(inner(ends, others), 253));
     for (const most of [8520, 8519]) this.prove(long, 'the key that ends in 001', key(0, 1), 1, most);
     for (const most of [17080, 17079]) this.prove(long, 'the key that ends in 010', key(0, 2), 1, most);
-    await this.format(2423);
+    await this.format(storeBytes(20) - 1);
   }
 }
 

@@ -58,7 +58,7 @@ fn key(random: &mut Random, shared: u8, i: usize) -> Bytes32 {
 
 /// The library's own proofs of the grants of one store, each of 20 steps.
 fn from_a_store(random: &mut Random, shared: u8, asked: &mut Vec<Asked>, most: usize) {
-    let mut store = vec![0; 24 + 120 * CAPACITY];
+    let mut store = vec![0; 24 + 128 * CAPACITY];
     assert_eq!(unsafe { grants_format(store.as_mut_ptr(), store.len()) }, 0);
     let keys: Vec<Bytes32> = (0..LEAVES).map(|i| key(random, shared, i)).collect();
     let mut version = 0;

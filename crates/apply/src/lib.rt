@@ -6,13 +6,14 @@ use batch::batch_order;
 use check_store::check;
 use refusal_numbers::BAD_BATCH;
 use refusal_numbers::BAD_ORDER;
+use terms::Form;
 ghost use Rattle.apply_publish.specs.Apply.{appliedSays, ApplyDoes};
 
 // Applies a batch to a store as a number, where check accepts it; refused, nothing is written.
 pub fn apply(store: &mut [u8], number: u32, batch: &[u8]) -> Applied
     ensures { λ r. ⌜ ApplyDoes number (now (batch .entry)) (now (store .entry)) (appliedSays r) (now (store .exit)) ⌝ }
 {
-    let refusal = check(store);
+    let refusal = check(Form::Counted, store);
     if refusal != 0 {
         return Applied::Refused(refusal);
     }

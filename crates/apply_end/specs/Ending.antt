@@ -30,11 +30,11 @@ endsSays Unchanged v p = []
 abbrev pub remainsOf : node.Node → node.Node → declared.Remains
 remainsOf N.Nothing N.Nothing = Nothing
 remainsOf N.Nothing (N.Leaf v k x) = Leaf k x
-remainsOf N.Nothing (N.Inner v l r) = More
+remainsOf N.Nothing (N.Inner v l r i j) = More
 remainsOf (N.Leaf v k x) N.Nothing = Leaf k x
 remainsOf (N.Leaf v k x) (N.Leaf w j y) = More
-remainsOf (N.Leaf v k x) (N.Inner w l r) = More
-remainsOf (N.Inner v l r) n = More
+remainsOf (N.Leaf v k x) (N.Inner w l r i j) = More
+remainsOf (N.Inner v l r i j) n = More
 
 -- Two children of the node at a place, each of which is one record at most.
 pub record Ends (s : Bytes) (lv rv : ℕ) (p : place.Place) : Type 0 where

@@ -6,6 +6,7 @@ use hash::Hash;
 use lookup::Found;
 use place::Place;
 use store::put_retired_at;
+use terms::Form;
 ghost use mathlib.Core.Path.{_≡_};
 ghost use mathlib.Core.List.{[], _∷_, _++_};
 ghost use Rattle.terms.specs.Bits.{longer, left, right};
@@ -37,6 +38,8 @@ pub fn remains_of(l: Node, r: Node) -> Remains
                 version: _,
                 left: _,
                 right: _,
+                lefts: _,
+                rights: _,
             } => Remains::More,
         },
         Node::Leaf {
@@ -54,12 +57,16 @@ pub fn remains_of(l: Node, r: Node) -> Remains
                 version: _,
                 left: _,
                 right: _,
+                lefts: _,
+                rights: _,
             } => Remains::More,
         },
         Node::Inner {
             version: _,
             left: _,
             right: _,
+            lefts: _,
+            rights: _,
         } => Remains::More,
     }
 }
@@ -82,7 +89,7 @@ fn mark_node(
     let Found::At(i) = find_near(store, guesses, version, place) else {
         return;
     };
-    put_retired_at(store, i, since);
+    put_retired_at(Form::Counted, store, i, since);
 }
 
 // Marks the child (version, place) unless it is unchanged; version 0 is no child.

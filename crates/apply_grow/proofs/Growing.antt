@@ -12,7 +12,7 @@ use lib.ListN.{length}
 use Rattle.terms.specs.Bits.{Bytes, Side, Place, All, longer, left, right, begins}
 use Rattle.terms.specs.Records.{Grant, grant, Ask}
 use Rattle.terms.specs.Form.{top32, RecordForm}
-use Rattle.meaning.specs.Tree.{Tree, withBatch, VTree, vnone, vleaf}
+use Rattle.meaning.specs.Tree.{Tree, withBatch, VTree, vnone, vleaf, leaves}
 use Rattle.meaning.specs.Runs.{run}
 use Rattle.meaning.proofs.Sides.{treeBy}
 use Rattle.hash.specs.declared.Hash.{Hash}
@@ -22,9 +22,10 @@ use Rattle.layout.specs.Stores.{storeOf}
 use Rattle.place.specs.declared.Place as place
 use Rattle.place.specs.Place.{placeOf, Grown}
 use Rattle.place.proofs.Places.{proper-count}
+use Rattle.batch.specs.Sizes.{mostRecords}
 use Rattle.batch.specs.Batch.{asks}
 use Rattle.batch.specs.Runs.{Run, runOf}
-use Rattle.batch.proofs.Records.{asks-whole}
+use Rattle.batch.proofs.Records.{asks-whole, length-asks}
 use Rattle.batch.proofs.Runs.{asks-of-part, run-at, run-grown}
 use Rattle.steps.specs.Step as step
 use Rattle.steps.specs.Given.{Gives}
@@ -32,6 +33,7 @@ use Rattle.steps.specs.Writing.{written, mark}
 use Rattle.steps.proofs.Inserts.{ascending-rising}
 use Rattle.steps.proofs.Fitting.{Fits, fits-shaped}
 use Rattle.steps.proofs.Growing.{staying, Stays, grows-one, grow-gives}
+use Rattle.steps.proofs.Leaves.{grow-leaves}
 use Rattle.steps.proofs.Writing.{AllNew, AllOlder, given-new, given-older}
 use Rattle.slots.specs.declared.Child as child
 use Rattle.slots.specs.Answer.{childSays}
@@ -45,6 +47,7 @@ use Rattle.apply_place.proofs.Reaching.{reaches-none}
 use Rattle.apply_outcome.specs.declared.Change.the-variants as C
 use Rattle.apply_outcome.specs.declared.Outcome as declared
 use Rattle.apply_outcome.specs.Outcomes.{changeSays, nodeChild, NodeSays, updatedSays, Kept, Did, Forks, Forked}
+use Rattle.apply_outcome.proofs.Saying.{says-few}
 use Rattle.apply_outcome.proofs.Forms.{given-form}
 use Rattle.apply_outcome.proofs.Forking.{mark-nothing, nothing-marked, fork-did}
 use Rattle.apply_grow.specs.declared.Stays as declared-stays
@@ -119,11 +122,17 @@ module _ (new : ℕ) (q : Place) (stays : Option Grant) (as′ : List Ask) where
   unfolding step.grow
   grow-more n e = rw e
 
+-- a run grows no more leaves than it asks for, and the one that stays
+grow-few : (new n : ℕ) (q : Place) (stays : Option Grant) (as′ : List Ask) → length as′ ≤ mostRecords →
+    leaves (step.grow leafHash innerHash new n q stays as′ .node) ≤ suc mostRecords
+grow-few new n q none as′ h = omega (arith, grow-leaves leafHash innerHash new n q none as′)
+grow-few new n q (some g) as′ h = omega (arith, grow-leaves leafHash innerHash new n q (some g) as′)
+
 -- no node is at the top of no tree
 no-top : (w : Bool) (n : node.Node) (t : VTree) → t ≡ vnone → NodeSays w n t → n ≡ N.Nothing
 no-top w N.Nothing t e h = refl
 no-top w (N.Leaf v k x) t e h = let z : _≡_ {A = ℕ} 0 1 = cc in absurd (omega arith)
-no-top w (N.Inner v l r) t e (a, b, i, x, y) = let z : _≡_ {A = ℕ} 0 1 = cc in absurd (omega arith)
+no-top w (N.Inner v l r m n) t e (a, b, i, x, y, j) = let z : _≡_ {A = ℕ} 0 1 = cc in absurd (omega arith)
 
 -- a place where a subtree grows, and the outcome there
 module _ {new : ℕ} {writes : Bool} {from : ℕ} {s : Bytes} {p : place.Place} {leaf : declared-stays.Stays} {part : Bytes}
@@ -155,6 +164,9 @@ module _ {new : ℕ} {writes : Bool} {from : ℕ} {s : Bytes} {p : place.Place} 
 
   grows-older : AllOlder new (grows .retired)
   grows-older = given-older leafHash innerHash new (placeOf p) vnone after grows given (λ v q h. absurd h)
+
+  pub grows-few : leaves (grows .node) ≤ suc mostRecords
+  grows-few = grow-few new (256 - p .count) (placeOf p) here (asks part) (omega (arith, length-asks part, w .run .few))
 
   grows-form : new ≤ top32 → (r : declared.Outcome) → NodeSays writes (r .node) (grows .node) → writes ≡ true → All RecordForm (updatedSays (placeOf p) r)
   grows-form t r h =
@@ -260,6 +272,8 @@ module _ {new : ℕ} {writes : Bool} {from : ℕ} {s : Bytes} {p : place.Place} 
       right-form = λ e. subst (λ q. All RecordForm (updatedSays q r)) (gr .place) (grows-form on-right t r (y .node) e);
       left-kept = grows-kept on-left c l k (x .change) (x .node);
       right-kept = grows-kept on-right c r k (y .change) (y .node);
+      left-few = says-few writes (l .node) _ (x .node);
+      right-few = says-few writes (r .node) _ (y .node);
     }
 
     pub several-did : {s₃ : Bytes} {o : declared.Outcome} → FewSays Several (step.toGrow (here w) (asks part)) →
@@ -274,4 +288,4 @@ module _ {new : ℕ} {writes : Bool} {from : ℕ} {s : Bytes} {p : place.Place} 
         ∙ sym (ap (growing new q (here w) (asks part)) n ∙ grow-more new q (here w) (asks part) (255 - p .count) (f .3)) in
         subst (λ c. Did new writes from s s₃ c o) is
         (fork-did new writes q a b l r o [] x y (nothing-marked writes new (changed-stored (y .bytes))) k (grows-new on-left) (grows-new on-right)
-        (grows-older on-right) (λ v u m. absurd m))
+        (grows-older on-right) (λ v u m. absurd m) (omega (arith, grows-few on-left, grows-few on-right)))

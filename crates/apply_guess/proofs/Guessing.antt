@@ -6,6 +6,7 @@ use mathlib.Core.Bool.{Bool, true, false}
 use mathlib.Core.List.{List, [], _∷_}
 use mathlib.Core.Option.{none}
 use lib.ListN.{length}
+use Rattle.terms.specs.declared.Form.the-variants.{Counted as counted}
 use Rattle.terms.specs.Bits.{Bytes, All, Place}
 use Rattle.terms.specs.Records.{Slot, free, used, spoiled}
 use Rattle.meaning.specs.Store.{find, isNode}
@@ -27,10 +28,10 @@ use Rattle.apply_place.proofs.Marking.{single-finds}
 use Rattle.apply_guess.specs.Guess.{Once}
 
 -- no record has version 0
-none-found : (p : Place) (s : List Slot) → All SlotForm s → find 0 p s ≡ none
+none-found : (p : Place) (s : List Slot) → All (SlotForm counted) s → find 0 p s ≡ none
 none-found p [] f = refl
 none-found p (free ∷ s) f = none-found p s (f .1)
-none-found p (used r ∷ s) f = rw (not-node 0 p r (λ a b. omega (arith, f .0 .versioned))) (none-found p s (f .1))
+none-found p (used r ∷ s) f = rw (not-node 0 p r (λ a b. omega (arith, f .0 .0 .versioned))) (none-found p s (f .1))
 none-found p (spoiled x ∷ s) f = none-found p s (f .1)
 
 module _ {s : Bytes} {v : ℕ} {p : place.Place} (w : Once s v p) where
@@ -45,11 +46,11 @@ module _ {s : Bytes} {v : ℕ} {p : place.Place} (w : Once s v p) where
 -- the bytes of a store of n slots
 pub record Room (s : Bytes) (n : ℕ) : Type 0 where
   pub stored : Stored s
-  pub many : n ≡ roomOf (length s)
+  pub many : n ≡ roomOf counted (length s)
   pub small : n ≤ mostSlots
 
-pub room-of-store : {s : Bytes} {n : ℕ} → Stored s → n ≡ roomOf (length s) → Room s n
-room-of-store {s} h e = record { stored = h; many = e; small = omega (arith, size-says (length s) (stored-size h)) }
+pub room-of-store : {s : Bytes} {n : ℕ} → Stored s → n ≡ roomOf counted (length s) → Room s n
+room-of-store {s} h e = record { stored = h; many = e; small = omega (arith, size-says counted (length s) (stored-size h)) }
 
-pub room-slot : {s : Bytes} {n i : ℕ} → Room s n → i < n → SlotWithin i s
+pub room-slot : {s : Bytes} {n i : ℕ} → Room s n → i < n → SlotWithin counted i s
 room-slot {s} r l = slot-within (slot-has s (stored-size (r .stored)) (r .many) l)

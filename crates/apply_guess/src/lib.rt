@@ -11,6 +11,7 @@ use store::retired_at;
 use store::slot_count;
 use store::slot_of;
 use store::version_at;
+use terms::Form;
 ghost use mathlib.Core.Path.{_≡_};
 ghost use mathlib.Core.Bool.{true};
 ghost use Prim.Native.Nat.{_+_, _≤_, _<_};
@@ -56,15 +57,15 @@ fn keep(guesses: &mut [u16; 8192], b: usize, slot: u16)
 pub fn guess_all(store: &[u8], guesses: &mut [u16; 8192])
     requires { ⌜ Stored (now store) ⌝ }
 {
-    let n = slot_count(store);
+    let n = slot_count(Form::Counted, store);
     let mut i = 0;
     while i < n {
-        let version = version_at(store, i);
-        if version != 0 && retired_at(store, i) == 0 {
-            let count = count_at(store, i) as usize;
+        let version = version_at(Form::Counted, store, i);
+        if version != 0 && retired_at(Form::Counted, store, i) == 0 {
+            let count = count_at(Form::Counted, store, i) as usize;
             keep(
                 guesses,
-                start_of(version, count, bits_of(slot_of(store, i))),
+                start_of(version, count, bits_of(slot_of(Form::Counted, store, i))),
                 i as u16,
             );
         }
@@ -90,5 +91,5 @@ pub fn find_near(store: &[u8], guesses: &[u16; 8192], version: u32, place: Place
         }
         j += 1;
     }
-    find(store, version, place)
+    find(Form::Counted, store, version, place)
 }

@@ -43,14 +43,14 @@ module _ {new since : ℕ} {w : Bool} {s : Bytes} {p : place.Place} {slot : ℕ}
       go : {A : Type 0} (m : node.Node) → OneOf (0 ∷ 1 ∷ []) (tagOf node-type.the-type m) → NodeSays true m tree → A
       go N.Nothing k e = absurd (false≢true (sym (ap isInner e) ∙ h .inner))
       go (N.Leaf v x y) k e = absurd (false≢true (sym (ap isInner e) ∙ h .inner))
-      go (N.Inner v a b) k e = absurd (⊎-elim (λ e. omega arith) (λ e. omega arith) k)
+      go (N.Inner v a b i j) k e = absurd (⊎-elim (λ e. omega arith) (λ e. omega arith) k)
 
   -- the inner node there, with its own version
-  module _ {n : node.Node} (held : NodeHeld s slot n) {v : ℕ} {cl cr : child.Child} (e : n ≡ N.Inner v cl cr) where
-    pub its-inner : NodeSays true (N.Inner (versionIn s slot) cl cr) tree
+  module _ {n : node.Node} (held : NodeHeld s slot n) {v : ℕ} {cl cr : child.Child} {i j : ℕ} (e : n ≡ N.Inner v cl cr i j) where
+    pub its-inner : NodeSays true (N.Inner (versionIn s slot) cl cr i j) tree
     its-inner =
-        let (a, b, t, x, y) = subst (λ m. NodeSays true m tree) e (its-node n held) in
-        (a, b, t ∙ ap (λ u. vinner u a b) (subst (λ z. topVersion z ≡ versionIn s slot) t (h .standing .top)), x, y)
+        let (a, b, t, x, y, z) = subst (λ m. NodeSays true m tree) e (its-node n held) in
+        (a, b, t ∙ ap (λ u. vinner u a b) (subst (λ z. topVersion z ≡ versionIn s slot) t (h .standing .top)), x, y, z)
 
     pub its-version : v ≡ versionIn s slot
     its-version = subst (λ m. NodeHeld s slot m) e held (its-slot .held) (its-slot .slot) .0 ∙ sym (ap versionOf (its-slot .slot))
@@ -86,7 +86,9 @@ module _ {new since : ℕ} {w : Bool} {s : Bytes} {p : place.Place} {slot : ℕ}
         short = h .short;
         left-form = h .left-form;
         right-form = h .right-form;
-        left-kept = h .kept cl cr its-inner .0;
-        right-kept = h .kept cl cr its-inner .1;
+        left-kept = h .kept cl cr i j its-inner .0;
+        right-kept = h .kept cl cr i j its-inner .1;
+        left-few = h .left-few;
+        right-few = h .right-few;
       };
     }

@@ -1,6 +1,6 @@
 -- What becomes of an inner node in lent memory is what the definition makes of it: the cases of the code are those of the definition.
 -- Assumes nothing.
-use Prim.Native.Nat.{ℕ, _+_}
+use Prim.Native.Nat.{ℕ, _+_, _≤_}
 use native.Mathlib.Omega.{arith}
 use mathlib.Core.Path.{_≡_, refl, ap, ap₂, sym, _∙_, subst, subst₂}
 use mathlib.Core.Bool.{Bool, true, false, cond, _&&_}
@@ -9,7 +9,8 @@ use mathlib.Core.Logic.{inl, inr}
 use lib.ListN.{length, length-append}
 use Rattle.terms.specs.Bits.{Bytes, Place, longer, left, right}
 use Rattle.terms.specs.Records.{Child, Grant, grant}
-use Rattle.meaning.specs.Tree.{VTree, vnone, vleaf, vinner}
+use Rattle.terms.specs.Form.{top32}
+use Rattle.meaning.specs.Tree.{VTree, vnone, vleaf, vinner, leaves}
 use Rattle.meaning.specs.Store.{childOf}
 use Rattle.hash.specs.Hash.{hashBytes}
 use Rattle.nodehash.specs.Node.{leafHash, innerHash}
@@ -29,7 +30,7 @@ use Rattle.apply_place.proofs.Reaching.{reaches-then, reaches-none, starts-mark
 use Rattle.apply_outcome.specs.declared.Change as change
 use Rattle.apply_outcome.specs.declared.Change.the-variants.{Updated, Deleted, Unchanged}
 use Rattle.apply_outcome.specs.declared.Outcome as declared
-use Rattle.apply_outcome.specs.Outcomes.{changeSays, NodeSays, Did, Forked}
+use Rattle.apply_outcome.specs.Outcomes.{changeSays, Weighs, NodeSays, Did, Forked}
 use Rattle.apply_outcome.proofs.Saying.{nothing-placed, says-either}
 use Rattle.apply_outcome.proofs.Forms.{Numbered}
 use Rattle.apply_outcome.proofs.Forking.{nothing-marked, above-bytes, fork-did}
@@ -68,11 +69,11 @@ by-says : (w : Bool) (n m : node.Node) (t u : VTree) (nothing : step.Outcome) (o
     NodeSays w m u → step.byChildren t u nothing one both ≡ byRemains (remainsOf n m) nothing one both
 by-says w N.Nothing N.Nothing t u nothing one both e f = rw (e, f)
 by-says w N.Nothing (N.Leaf v k x) t u nothing one both e f = rw (e, f)
-by-says w N.Nothing (N.Inner v l r) t u nothing one both e f = rw (e, f .2)
+by-says w N.Nothing (N.Inner v l r i j) t u nothing one both e f = rw (e, f .2)
 by-says w (N.Leaf v k x) N.Nothing t u nothing one both e f = rw (e, f)
 by-says w (N.Leaf v k x) (N.Leaf x′ j y) t u nothing one both e f = rw (e, f)
-by-says w (N.Leaf v k x) (N.Inner x′ l r) t u nothing one both e f = rw (e, f .2)
-by-says w (N.Inner v l r) m t u nothing one both e f = rw (e .2)
+by-says w (N.Leaf v k x) (N.Inner x′ l r i j) t u nothing one both e f = rw (e, f .2)
+by-says w (N.Inner v l r i j) m t u nothing one both e f = rw (e .2)
 
 older-both : (new : ℕ) (xs ys : List step.Node) → AllOlder new xs → AllOlder new ys → AllOlder new (xs ++ ys)
 older-both new xs ys f g v q h = elim (among-append v q xs ys h) [ inl k ↦ f v q k | inr k ↦ g v q k ]
@@ -81,7 +82,8 @@ module _ (new : ℕ) (w : Bool) {from : ℕ} (p : place.Place) (v : ℕ) (A B : 
     {s s₁ s₂ : Bytes} (sl : childSays cl ≡ childOf leafHash innerHash A)
     (sr : childSays cr ≡ childOf leafHash innerHash B) (na : Numbered A) (nb : Numbered B) (x : Did new w from s s₁ a l) (y : Did new w (l .reach) s₁ s₂ b r)
     (fa : AllNew new (a .fresh)) (fb : AllNew new (b .fresh)) (ob : AllOlder new (b .retired))
-    (oa : AllOlder new (step.nodeAt (longer left (placeOf p)) A)) (oe : AllOlder new (step.nodeAt (longer right (placeOf p)) B)) where
+    (oa : AllOlder new (step.nodeAt (longer left (placeOf p)) A)) (oe : AllOlder new (step.nodeAt (longer right (placeOf p)) B))
+    {m n : ℕ} (ws : Weighs m n A B) (few : leaves (a .node) + leaves (b .node) ≤ top32) where
   abbrev ending : step.Change → step.Change → List step.Node
   ending c d = step.endsAt c (longer left (placeOf p)) A ++ step.endsAt d (longer right (placeOf p)) B
 
@@ -143,19 +145,19 @@ module _ (new : ℕ) (w : Bool) {from : ℕ} (p : place.Place) (v : ℕ) (A B : 
       subst (λ c. Did new w from s s₃ c o) (sym (ap decided i) ∙ by-remains e)
       (fork-did new w (placeOf p) a b l r o (ending (a .change) (b .change)) x y
       (subst (λ ns. Changed (whenWrites w (mark new ns)) s₂ t) (marks-are (l .change) (r .change) ∙ ap₂ ending (x .change) (y .change)) m)
-      d fa fb ob (older-ends (a .change) (b .change)))
+      d fa fb ob (older-ends (a .change) (b .change)) few)
 
   -- what is settled is what the definition says
-  pub settled-did : {s₃ : Bytes} {o : declared.Outcome} → SettledTo (settledSays l r) new w s₂ s₃ p v cl cr l r o → Did new w from s s₃ becomes o
+  pub settled-did : {s₃ : Bytes} {o : declared.Outcome} → SettledTo (settledSays l r) new w s₂ s₃ p v cl cr m n l r o → Did new w from s s₃ becomes o
   unfolding settledSays
   settled-did {s₃} {o} h = by (bothStayed (l .change) (r .change)) refl (remainsOf (l .node) (r .node)) refl h
     where
       by : (c : Bool) → bothStayed (l .change) (r .change) ≡ c → (f : remains.Remains) → remainsOf (l .node) (r .node) ≡ f →
-          SettledTo (cond c Unchanged (remainsChange f)) new w s₂ s₃ p v cl cr l r o → Did new w from s s₃ becomes o
+          SettledTo (cond c Unchanged (remainsChange f)) new w s₂ s₃ p v cl cr m n l r o → Did new w from s s₃ becomes o
       by true e f i (q, j) =
           subst₂ (λ c z. Did new w from s s₃ c z) (by-stayed e) (sym q)
-          (subst (λ u. Did new w from s u (step.above step.unchanged (vinner v A B) a b [] []) (record { change = Unchanged; node = N.Inner v cl cr; reach = r .reach })) (sym j)
-          (plain-did Unchanged (N.Inner v cl cr) (vinner v A B) [] (says-either w (N.Inner v cl cr) (vinner v A B) (A, B, refl, sl, sr)) (λ u q h. absurd h)
+          (subst (λ u. Did new w from s u (step.above step.unchanged (vinner v A B) a b [] []) (record { change = Unchanged; node = N.Inner v cl cr m n; reach = r .reach })) (sym j)
+          (plain-did Unchanged (N.Inner v cl cr m n) (vinner v A B) [] (says-either w (N.Inner v cl cr m n) (vinner v A B) (A, B, refl, sl, sr, ws)) (λ u q h. absurd h)
           (nothing-marked w new (changed-stored (y .bytes)))))
       by false e R.Nothing i (q, m) =
           subst₂ (λ c z. Did new w from s s₃ c z) (sym (ap decided i) ∙ by-remains e) (sym q)

@@ -52,19 +52,19 @@ module _ (l r : declared.Outcome) {b : Bool} (e : b ≡ bothStayed (l .change) (
         go R.More k = refl
 
 -- it stays, or it ends
-module _ (new : ℕ) (w : Bool) (s : Bytes) (p : place.Place) (cl cr : child.Child) (n v : ℕ) (c : change.Change) where
-  pub stays : OneOf (0 ∷ 2 ∷ []) (tagOf change-type.the-type c) → EndsOrStays new w s s p cl cr n v c (record { change = Unchanged; node = N.Inner v cl cr; reach = n })
+module _ (new : ℕ) (w : Bool) (s : Bytes) (p : place.Place) (cl cr : child.Child) (n v i j : ℕ) (c : change.Change) where
+  pub stays : OneOf (0 ∷ 2 ∷ []) (tagOf change-type.the-type c) → EndsOrStays new w s s p cl cr n v i j c (record { change = Unchanged; node = N.Inner v cl cr i j; reach = n })
   stays k = record { by = go c k }
     where
-      go : (d : change.Change) → OneOf (0 ∷ 2 ∷ []) (tagOf change-type.the-type d) → EndsBy new w s s p cl cr n v d (record { change = Unchanged; node = N.Inner v cl cr; reach = n })
+      go : (d : change.Change) → OneOf (0 ∷ 2 ∷ []) (tagOf change-type.the-type d) → EndsBy new w s s p cl cr n v i j d (record { change = Unchanged; node = N.Inner v cl cr i j; reach = n })
       go Updated k = tt
       go Deleted k = absurd (⊎-elim (λ e. omega arith) (λ e. omega arith) k)
       go Unchanged k = (refl, refl)
 
   pub ends : {s′ : Bytes} → c ≡ Deleted → Marked new w s s′ p cl cr Deleted Deleted →
-      EndsOrStays new w s s′ p cl cr n v c (record { change = Deleted; node = N.Nothing; reach = n })
+      EndsOrStays new w s s′ p cl cr n v i j c (record { change = Deleted; node = N.Nothing; reach = n })
   ends {s′} e m = record {
-    by = subst (λ d. EndsBy new w s s′ p cl cr n v d (record { change = Deleted; node = N.Nothing; reach = n })) (sym e) (refl, m);
+    by = subst (λ d. EndsBy new w s s′ p cl cr n v i j d (record { change = Deleted; node = N.Nothing; reach = n })) (sym e) (refl, m);
   }
 
 -- a lone leaf, or a new inner node
@@ -89,13 +89,13 @@ pub marked-new : (w : Bool) {new since : ℕ} (ns : List step.Node) {s s′ : By
 marked-new true ns {s} {s′} e m = subst (λ n. Changed (mark n ns) s s′) (e refl) m
 marked-new false ns e m = m
 
-pub ends-new : (w : Bool) {new since : ℕ} {s s′ : Bytes} {p : place.Place} {cl cr : child.Child} {n v : ℕ} {c : change.Change} {o : declared.Outcome} →
-    (w ≡ true → since ≡ new) → EndsOrStays since w s s′ p cl cr n v c o → EndsOrStays new w s s′ p cl cr n v c o
-ends-new w {new} {since} {s} {s′} {p} {cl} {cr} {n} {v} {c} {o} e h = record { by = go c (h .by) }
+pub ends-new : (w : Bool) {new since : ℕ} {s s′ : Bytes} {p : place.Place} {cl cr : child.Child} {n v i j : ℕ} {c : change.Change} {o : declared.Outcome} →
+    (w ≡ true → since ≡ new) → EndsOrStays since w s s′ p cl cr n v i j c o → EndsOrStays new w s s′ p cl cr n v i j c o
+ends-new w {new} {since} {s} {s′} {p} {cl} {cr} {n} {v} {i} {j} {c} {o} e h = record { by = go c (h .by) }
   where
-    go : (d : change.Change) → EndsBy since w s s′ p cl cr n v d o → EndsBy new w s s′ p cl cr n v d o
+    go : (d : change.Change) → EndsBy since w s s′ p cl cr n v i j d o → EndsBy new w s s′ p cl cr n v i j d o
     go Updated h = tt
-    go Deleted (i, m) = (i, marked-new w _ e m)
+    go Deleted (q, m) = (q, marked-new w _ e m)
     go Unchanged h = h
 
 -- the marks come before the placing
@@ -110,21 +110,23 @@ forks-after w new f m = record {
   right-form = f .right-form;
   left-kept = f .left-kept;
   right-kept = f .right-kept;
+  left-few = f .left-few;
+  right-few = f .right-few;
 }
 
 -- by the change
 module _ (l r : declared.Outcome) {c : change.Change} (e : c ≡ settledSays l r) where
-  pub settled-else : {new : ℕ} {w : Bool} {s s′ : Bytes} {p : place.Place} {v : ℕ} {cl cr : child.Child} {o : declared.Outcome} →
-      OneOf (1 ∷ 2 ∷ []) (tagOf change-type.the-type c) → EndsOrStays new w s s′ p cl cr (r .reach) v c o →
-      SettledTo (settledSays l r) new w s s′ p v cl cr l r o
-  settled-else {new} {w} {s} {s′} {p} {v} {cl} {cr} {o} k h = subst (λ d. SettledTo d new w s s′ p v cl cr l r o) e (go c k (h .by))
+  pub settled-else : {new : ℕ} {w : Bool} {s s′ : Bytes} {p : place.Place} {v : ℕ} {cl cr : child.Child} {i j : ℕ} {o : declared.Outcome} →
+      OneOf (1 ∷ 2 ∷ []) (tagOf change-type.the-type c) → EndsOrStays new w s s′ p cl cr (r .reach) v i j c o →
+      SettledTo (settledSays l r) new w s s′ p v cl cr i j l r o
+  settled-else {new} {w} {s} {s′} {p} {v} {cl} {cr} {i} {j} {o} k h = subst (λ d. SettledTo d new w s s′ p v cl cr i j l r o) e (go c k (h .by))
     where
-      go : (d : change.Change) → OneOf (1 ∷ 2 ∷ []) (tagOf change-type.the-type d) → EndsBy new w s s′ p cl cr (r .reach) v d o →
-          SettledTo d new w s s′ p v cl cr l r o
+      go : (d : change.Change) → OneOf (1 ∷ 2 ∷ []) (tagOf change-type.the-type d) → EndsBy new w s s′ p cl cr (r .reach) v i j d o →
+          SettledTo d new w s s′ p v cl cr i j l r o
       go Updated k h = absurd (⊎-elim (λ e. omega arith) (λ e. omega arith) k)
       go Deleted k h = h
       go Unchanged k h = h
 
-  pub settled-renewed : {new : ℕ} {w : Bool} {s s′ : Bytes} {p : place.Place} (v : ℕ) {cl cr : child.Child} {o : declared.Outcome} → c ≡ Updated →
-      Renewed new w s s′ p cl cr l r o → SettledTo (settledSays l r) new w s s′ p v cl cr l r o
-  settled-renewed {new} {w} {s} {s′} {p} v {cl} {cr} {o} k h = subst (λ d. SettledTo d new w s s′ p v cl cr l r o) (sym k ∙ e) h
+  pub settled-renewed : {new : ℕ} {w : Bool} {s s′ : Bytes} {p : place.Place} (v i j : ℕ) {cl cr : child.Child} {o : declared.Outcome} → c ≡ Updated →
+      Renewed new w s s′ p cl cr l r o → SettledTo (settledSays l r) new w s s′ p v cl cr i j l r o
+  settled-renewed {new} {w} {s} {s′} {p} v i j {cl} {cr} {o} k h = subst (λ d. SettledTo d new w s s′ p v cl cr i j l r o) (sym k ∙ e) h

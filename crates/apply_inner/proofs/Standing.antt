@@ -7,6 +7,7 @@ use mathlib.Core.Logic.{inl}
 use mathlib.Core.Bool.{Bool, true, false}
 use mathlib.Core.List.{List, [], _∷_}
 use lib.ListN.{length, getD}
+use Rattle.terms.specs.declared.Form.the-variants.{Counted as counted}
 use Rattle.terms.specs.Bits.{Bytes, Side, Place, longer}
 use Rattle.terms.specs.Records.{Body, Record, Slot, Store, free, used}
 use Rattle.terms.proofs.Members.{in-getD}
@@ -39,7 +40,7 @@ use Rattle.apply_read.specs.Standing.{treeHere, Standing}
 pub stored-formed : {s : Bytes} → Stored s → Formed (storeOf s .slots)
 stored-formed {s} h r k =
     let i = in-getD (storeOf s .slots) (used r) (used r) k in
-    subst SlotForm (i .2) (all-at SlotForm (storeOf s .slots) (used r) (i .0) (h .form .each) (i .1))
+    subst (SlotForm counted) (i .2) (all-at (SlotForm counted) (storeOf s .slots) (used r) (i .0) (h .form .each) (i .1)) .0
 
 -- a tree that stands has versions of four bytes
 module _ (st : Store) (z : Formed (st .slots)) where

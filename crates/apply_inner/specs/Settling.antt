@@ -5,7 +5,7 @@ use mathlib.Core.Path.{_≡_}
 use mathlib.Core.Bool.{Bool, true, false, cond}
 use mathlib.Core.List.{_++_}
 use Rattle.terms.specs.Bits.{Bytes, Place, All, longer, left, right}
-use Rattle.terms.specs.Form.{RecordForm}
+use Rattle.terms.specs.Form.{RecordForm, top32}
 use Rattle.hash.specs.declared.Hash.{Hash}
 use Rattle.place.specs.declared.Place as place
 use Rattle.place.specs.Place.{placeOf}
@@ -21,7 +21,7 @@ use Rattle.apply_place.specs.Reach.{Starts}
 use Rattle.apply_outcome.specs.declared.Change as change
 use Rattle.apply_outcome.specs.declared.Change.the-variants.{Updated, Deleted, Unchanged}
 use Rattle.apply_outcome.specs.declared.Outcome as declared
-use Rattle.apply_outcome.specs.Outcomes.{NodeSays, updatedSays, Kept, Forks, Forked}
+use Rattle.apply_outcome.specs.Outcomes.{NodeSays, nodeLeaves, updatedSays, Kept, Forks, Forked}
 use Rattle.apply_end.specs.declared.Remains as remains
 use Rattle.apply_end.specs.declared.Remains.the-variants as R
 use Rattle.apply_end.specs.Ending.{endsSays, remainsOf, Ends}
@@ -52,13 +52,13 @@ module _ (new : ℕ) (writes : Bool) (s s′ : Bytes) (p : place.Place) (cl cr :
       Changed (whenWrites writes (mark new (endsSays lc (cl .version) (longer left (placeOf p)) ++ endsSays rc (cr .version) (longer right (placeOf p))))) s s′
 
   -- It stays as it was, or it ends with both its children.
-  abbrev pub EndsBy : ℕ → ℕ → change.Change → declared.Outcome → Type 0
-  EndsBy reach v Deleted o = (o ≡ record { change = Deleted; node = N.Nothing; reach = reach }) × Marked Deleted Deleted
-  EndsBy reach v Updated o = Unit {0}
-  EndsBy reach v Unchanged o = (o ≡ record { change = Unchanged; node = N.Inner v cl cr; reach = reach }) × (s′ ≡ s)
+  abbrev pub EndsBy : ℕ → ℕ → ℕ → ℕ → change.Change → declared.Outcome → Type 0
+  EndsBy reach v i j Deleted o = (o ≡ record { change = Deleted; node = N.Nothing; reach = reach }) × Marked Deleted Deleted
+  EndsBy reach v i j Updated o = Unit {0}
+  EndsBy reach v i j Unchanged o = (o ≡ record { change = Unchanged; node = N.Inner v cl cr i j; reach = reach }) × (s′ ≡ s)
 
-pub record EndsOrStays (new : ℕ) (writes : Bool) (s s′ : Bytes) (p : place.Place) (cl cr : child.Child) (reach v : ℕ) (c : change.Change) (o : declared.Outcome) : Type 0 where
-  pub by : EndsBy new writes s s′ p cl cr reach v c o
+pub record EndsOrStays (new : ℕ) (writes : Bool) (s s′ : Bytes) (p : place.Place) (cl cr : child.Child) (reach v i j : ℕ) (c : change.Change) (o : declared.Outcome) : Type 0 where
+  pub by : EndsBy new writes s s′ p cl cr reach v i j c o
 
 -- The children as their parent's record says them, and the outcomes there.
 pub record Renews (new since : ℕ) (writes : Bool) (s : Bytes) (p : place.Place) (cl cr : child.Child) (l r : declared.Outcome) : Type 0 where
@@ -74,11 +74,11 @@ pub data Renewed (new : ℕ) (writes : Bool) (s s′ : Bytes) (p : place.Place) 
       Forked new writes s₂ s′ (placeOf p) l r o → Renewed new writes s s′ p cl cr l r o
 
 -- By what it is settled to be.
-abbrev pub SettledTo : change.Change → ℕ → Bool → Bytes → Bytes → place.Place → ℕ → child.Child → child.Child → declared.Outcome → declared.Outcome →
+abbrev pub SettledTo : change.Change → ℕ → Bool → Bytes → Bytes → place.Place → ℕ → child.Child → child.Child → ℕ → ℕ → declared.Outcome → declared.Outcome →
     declared.Outcome → Type 0
-SettledTo Updated new writes s s′ p v cl cr l r o = Renewed new writes s s′ p cl cr l r o
-SettledTo Deleted new writes s s′ p v cl cr l r o = EndsBy new writes s s′ p cl cr (r .reach) v Deleted o
-SettledTo Unchanged new writes s s′ p v cl cr l r o = EndsBy new writes s s′ p cl cr (r .reach) v Unchanged o
+SettledTo Updated new writes s s′ p v cl cr i j l r o = Renewed new writes s s′ p cl cr l r o
+SettledTo Deleted new writes s s′ p v cl cr i j l r o = EndsBy new writes s s′ p cl cr (r .reach) v i j Deleted o
+SettledTo Unchanged new writes s s′ p v cl cr i j l r o = EndsBy new writes s s′ p cl cr (r .reach) v i j Unchanged o
 
 -- An older tree with an inner node at its top stands at the place, its record is in a slot, each older node is there once, and the outcomes at
 -- the children are in form; what ends is marked since the new version; of an unchanged one the record says what is still true.
@@ -94,11 +94,15 @@ pub record Settles (new since : ℕ) (writes : Bool) (s : Bytes) (p : place.Plac
   pub starts : Starts writes (storeOf s .slots) (r .reach)
   pub left-form : writes ≡ true → All RecordForm (updatedSays (longer left (placeOf p)) l)
   pub right-form : writes ≡ true → All RecordForm (updatedSays (longer right (placeOf p)) r)
-  pub kept : (cl cr : child.Child) → NodeSays true (N.Inner (versionIn s slot) cl cr) (treeHere s p (versionIn s slot)) → Kept writes cl l × Kept writes cr r
+  pub left-few : nodeLeaves (l .node) ≤ top32
+  pub right-few : nodeLeaves (r .node) ≤ top32
+  pub kept : (cl cr : child.Child) (i j : ℕ) → NodeSays true (N.Inner (versionIn s slot) cl cr i j) (treeHere s p (versionIn s slot)) → Kept writes cl l × Kept writes cr r
 
 -- What becomes of that inner node.
 pub record Settled (new : ℕ) (writes : Bool) (s s′ : Bytes) (p : place.Place) (slot : ℕ) (l r o : declared.Outcome) : Type 0 where
   pub left-child : child.Child
   pub right-child : child.Child
-  pub node : NodeSays true (N.Inner (versionIn s slot) left-child right-child) (treeHere s p (versionIn s slot))
-  pub settled : SettledTo (settledSays l r) new writes s s′ p (versionIn s slot) left-child right-child l r o
+  pub lefts : ℕ
+  pub rights : ℕ
+  pub node : NodeSays true (N.Inner (versionIn s slot) left-child right-child lefts rights) (treeHere s p (versionIn s slot))
+  pub settled : SettledTo (settledSays l r) new writes s s′ p (versionIn s slot) left-child right-child lefts rights l r o

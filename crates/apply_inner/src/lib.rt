@@ -58,15 +58,19 @@ fn end_or_stay(
     version: u32,
     cl: Child,
     cr: Child,
+    lefts: u32,
+    rights: u32,
 ) -> Outcome
     requires { ⌜ Ends (now store) (cl .version) (cr .version) place ⌝ }
-    ensures { λ o. ⌜ EndsOrStays since writes (now (store .entry)) (now (store .exit)) place cl cr reach version change o ⌝ }
+    ensures { λ o. ⌜ EndsOrStays since writes (now (store .entry)) (now (store .exit)) place cl cr reach version lefts rights change o ⌝ }
 {
     let Change::Deleted = change else {
         let node = Node::Inner {
             version,
             left: cl,
             right: cr,
+            lefts,
+            rights,
         };
         return Outcome {
             change: Change::Unchanged,
@@ -163,6 +167,8 @@ pub fn settle_in(
         version,
         left,
         right,
+        lefts,
+        rights,
     } = node
     else {
         return l;
@@ -181,6 +187,8 @@ pub fn settle_in(
             version,
             left,
             right,
+            lefts,
+            rights,
         );
     };
     renew(store, guesses, writes, new, since, place, left, right, l, r)

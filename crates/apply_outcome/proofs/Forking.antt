@@ -1,13 +1,15 @@
 -- An inner node above two outcomes: what was written for the children, then the marks, then the placing, is what is written for the whole.
 -- Assumes nothing.
-use Prim.Native.Nat.{ℕ, _+_}
+use Prim.Native.Nat.{ℕ, _+_, _≤_}
+use native.Mathlib.Omega.{arith}
 use mathlib.Core.Path.{_≡_, refl, ap, ap₂, sym, _∙_, subst}
 use mathlib.Core.Bool.{Bool, true, false}
 use mathlib.Core.List.{List, [], _∷_, _++_}
 use lib.ListN.{length, length-append}
 use Rattle.terms.specs.Bits.{Bytes, Place, longer, left, right}
 use Rattle.terms.specs.Records.{Record, Slot, free, used, spoiled}
-use Rattle.meaning.specs.Tree.{VTree, vinner}
+use Rattle.terms.specs.Form.{top32}
+use Rattle.meaning.specs.Tree.{VTree, vinner, leaves}
 use Rattle.meaning.specs.Store.{placed}
 use Rattle.nodehash.specs.Node.{leafHash, innerHash}
 use Rattle.slots.specs.declared.Child as child
@@ -20,8 +22,8 @@ use Rattle.apply_place.specs.declared.Node as node
 use Rattle.apply_place.proofs.Changing.{unchanged, changed-as, changed-then}
 use Rattle.apply_place.proofs.Reaching.{reaches-then, reaches-as}
 use Rattle.apply_outcome.specs.declared.Outcome as declared
-use Rattle.apply_outcome.specs.Outcomes.{changeSays, nodeChild, ChildSays, NodeSays, updatedSays, Did, Forked}
-use Rattle.apply_outcome.proofs.Saying.{says-child, says-updated, says-many, placed-as}
+use Rattle.apply_outcome.specs.Outcomes.{changeSays, nodeChild, nodeLeaves, Weighs, ChildSays, NodeSays, updatedSays, Did, Forked}
+use Rattle.apply_outcome.proofs.Saying.{says-child, says-leaves, says-updated, says-many, placed-as}
 
 -- no node, no mark
 pub mark-nothing : (new : ℕ) (s : List Slot) → mark new [] s ≡ s
@@ -54,7 +56,8 @@ above-bytes w new c t a b placing ending fa fb ob oe x y m z =
 module _ (new : ℕ) (w : Bool) (p : Place) (a b : step.Outcome) (l r o : declared.Outcome) (ending : List step.Node) {from : ℕ} {s s₁ s₂ s₃ s₄ : Bytes}
     (x : Did new w from s s₁ a l) (y : Did new w (l .reach) s₁ s₂ b r) (m : Changed (whenWrites w (mark new ending)) s₂ s₃)
     (f : Forked new w s₃ s₄ p l r o)
-    (fa : AllNew new (a .fresh)) (fb : AllNew new (b .fresh)) (ob : AllOlder new (b .retired)) (oe : AllOlder new ending) where
+    (fa : AllNew new (a .fresh)) (fb : AllNew new (b .fresh)) (ob : AllOlder new (b .retired)) (oe : AllOlder new ending)
+    (few : leaves (a .node) + leaves (b .node) ≤ top32) where
   abbrev on-left : List Record
   on-left = step.placesAt leafHash innerHash (a .change) (longer left p) (a .node)
 
@@ -77,6 +80,12 @@ module _ (new : ℕ) (w : Bool) (p : Place) (a b : step.Outcome) (l r o : declar
   child-says true n t c e h k = k e ∙ says-child w n t e h
   child-says false n t c e h k = tt
 
+  weighs : Weighs (nodeLeaves (l .node)) (nodeLeaves (r .node)) (a .node) (b .node)
+  weighs =
+      let i = says-leaves w (l .node) (a .node) (x .node) in
+      let j = says-leaves w (r .node) (b .node) (y .node) in
+      record { left-is = i; right-is = j; few = omega (arith, i, j, few) }
+
   pub fork-did : Did new w from s s₄ (step.fork leafHash innerHash new p a b ending) o
   fork-did = record {
     change = ap changeSays (f .change);
@@ -87,6 +96,7 @@ module _ (new : ℕ) (w : Bool) (p : Place) (a b : step.Outcome) (l r o : declar
           refl,
           child-says w (l .node) (a .node) (f .left-child) refl (x .node) (f .left-is),
           child-says w (r .node) (b .node) (f .right-child) refl (y .node) (f .right-is),
+          weighs,
         );
     reach =
         let e = length-append (a .fresh ++ b .fresh) (on-left ++ on-right) in

@@ -71,10 +71,11 @@ says-form (Leaf v k x) t p e s m =
         versioned = m′;
         number = omega arith;
         body = (hash-whole k, hash-whole x);
+        counts = refl;
       },
       tt,
     )
-says-form (Inner v l r) t p (a, b, e, x, y) s m =
+says-form (Inner v l r i j) t p (a, b, e, x, y, z) s m =
     let s′ = subst (λ u. Shaped p (unversioned u)) e s in
     let m′ = subst Numbered e m in (
       record {
@@ -86,6 +87,7 @@ says-form (Inner v l r) t p (a, b, e, x, y) s m =
           child-form r b (m′ .2) y,
           λ i j. two-missing a b (child-missing l a (m′ .1) x i) (child-missing r b (m′ .2) y j) (s′ .1),
         );
+        counts = let f = z .few in (omega arith, omega arith);
       },
       tt,
     )

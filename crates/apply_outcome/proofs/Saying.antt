@@ -1,7 +1,7 @@
 -- What a node by value says: its record and what its parent says of it are those of the tree it is the top of. Assumes nothing.
-use Prim.Native.Nat.{ℕ, _≤_}
+use Prim.Native.Nat.{ℕ, _+_, _≤_}
 use native.Mathlib.Omega.{arith}
-use mathlib.Core.Path.{_≡_, refl, ap, ap₂, sym, subst, subst₂}
+use mathlib.Core.Path.{_≡_, refl, ap, ap₂, sym, _∙_, subst, subst₂}
 use mathlib.Core.Logic.{⊎-elim}
 use mathlib.Core.Bool.{Bool, true, false, false≢true}
 use mathlib.Core.List.{List, [], _∷_, _++_}
@@ -9,9 +9,9 @@ use lib.ListN.{length, length-append}
 use types.Run.{OneOf}
 use denote.Enum.Declared.{tagOf}
 use Rattle.terms.specs.Bits.{Bytes, Side, Place, All, longer, left, right}
-use Rattle.terms.specs.Form.{RecordForm}
-use Rattle.terms.specs.Records.{Child, child, innerBody, Record, Slot, zeros}
-use Rattle.meaning.specs.Tree.{VTree}
+use Rattle.terms.specs.Form.{RecordForm, top32}
+use Rattle.terms.specs.Records.{Child, child, innerBody, tally, Record, Slot, zeros}
+use Rattle.meaning.specs.Tree.{VTree, leaves}
 use Rattle.meaning.specs.Store.{placed, recordAt, childOf}
 use Rattle.hash.specs.declared.Hash.{Hash}
 use Rattle.hash.specs.Hash.{hashBytes}
@@ -34,7 +34,7 @@ use Rattle.apply_place.proofs.Reaching.{reaches-none, reaches-then}
 use Rattle.apply_outcome.specs.declared.Change as declared-change
 use Rattle.apply_outcome.specs.declared.Change.the-variants.{Updated, Deleted, Unchanged}
 use Rattle.apply_outcome.specs.declared.Outcome as declared
-use Rattle.apply_outcome.specs.Outcomes.{NodeSays, nodeChild, changeSays, changedRecord, updatedSays}
+use Rattle.apply_outcome.specs.Outcomes.{NodeSays, nodeChild, nodeLeaves, changeSays, changedRecord, updatedSays}
 use Rattle.apply_outcome.proofs.Change as change
 
 -- what the parent says of a node, by its case
@@ -47,10 +47,17 @@ pub child-leaf : (n : node.Node) (h : Hash) {v : ℕ} {k x : Hash} → n ≡ Lea
 unfolding childSays
 child-leaf n h {v} e k = rw e (ap (child v) k)
 
-pub child-inner : (n : node.Node) (h : Hash) {v : ℕ} {l r : declared-child.Child} → n ≡ Inner v l r →
+pub child-inner : (n : node.Node) (h : Hash) {v : ℕ} {l r : declared-child.Child} {a b : ℕ} → n ≡ Inner v l r a b →
     hashBytes h ≡ innerHash (hashBytes (l .hash)) (hashBytes (r .hash)) → childSays (record { version = v; hash = h }) ≡ nodeChild n
 unfolding childSays
 child-inner n h {v} e k = rw e (ap (child v) k)
+
+-- the counts of an inner node
+pub inner-few : (n : node.Node) {v : ℕ} {l r : declared-child.Child} {a b : ℕ} → n ≡ Inner v l r a b → nodeLeaves n ≤ top32 → a + b ≤ top32
+inner-few n e h = subst (λ x. nodeLeaves x ≤ top32) e h
+
+pub inner-leaves : (n : node.Node) {v : ℕ} {l r : declared-child.Child} {a b : ℕ} → n ≡ Inner v l r a b → a + b ≡ nodeLeaves n
+inner-leaves n e = sym (ap nodeLeaves e)
 
 -- only what was updated is placed
 pub is-updated : (p : Place) (o : declared.Outcome) → o .change ≡ Updated → updatedSays p o ≡ recordSays p (o .node)
@@ -126,14 +133,15 @@ pub says-record : (w : Bool) (n : node.Node) (t : VTree) → w ≡ true → Node
 says-record false n t e h p = absurd (false≢true e)
 says-record true Nothing t e h p = rw h
 says-record true (Leaf v k x) t e h p = rw h
-says-record true (Inner v l r) t e (a, b, i, x, y) p = rw i (ap₂ (λ c d. recordOf p v 0 (innerBody c d) ∷ []) x y)
+says-record true (Inner v l r m n) t e (a, b, i, x, y, z) p =
+    rw i (ap₂ (λ c d. recordOf p v 0 (innerBody c d) (tally m n) ∷ []) x y ∙ ap₂ (λ c d. recordOf p v 0 (innerBody (childOf leafHash innerHash a) (childOf leafHash innerHash b)) (tally c d) ∷ []) (z .left-is) (z .right-is))
 
 pub says-child : (w : Bool) (n : node.Node) (t : VTree) → w ≡ true → NodeSays w n t → nodeChild n ≡ childOf leafHash innerHash t
 unfolding childOf childSays
 says-child false n t e h = absurd (false≢true e)
 says-child true Nothing t e h = rw h
 says-child true (Leaf v k x) t e h = rw h
-says-child true (Inner v l r) t e (a, b, i, x, y) =
+says-child true (Inner v l r m n) t e (a, b, i, x, y, z) =
     rw i (ap₂ (λ g h. child v (innerHash g h)) (ap (λ (c : Child). c .hash) x) (ap (λ (c : Child). c .hash) y))
 
 pub says-updated : (w : Bool) (o : declared.Outcome) (t : VTree) → w ≡ true → NodeSays w (o .node) t → (p : Place) →
@@ -155,7 +163,7 @@ says-many w o t h p = go (o .change)
     one : (n : node.Node) → NodeSays w n t → length (recordSays p n) ≡ length (recordAt leafHash innerHash p t)
     one Nothing e = rw e
     one (Leaf v k x) e = rw e
-    one (Inner v l r) (a, b, e, x, y) = rw e
+    one (Inner v l r m n) (a, b, e, x, y, z) = rw e
 
     go : (c : declared-change.Change) → length (changedRecord c (recordSays p (o .node))) ≡ length (placesAt leafHash innerHash (changeSays c) p t)
     go Updated = one (o .node) h
@@ -167,4 +175,15 @@ pub says-either : (w : Bool) (n : node.Node) (t : VTree) → NodeSays true n t �
 says-either true n t h = h
 says-either false Nothing t h = h
 says-either false (Leaf v k x) t h = h
-says-either false (Inner v l r) t (a, b, e, x, y) = (a, b, e, tt, tt)
+says-either false (Inner v l r m n) t (a, b, e, x, y, z) = (a, b, e, tt, tt, z)
+
+-- how many leaves a node says there are is how many its tree has, and four bytes hold it
+pub says-leaves : (w : Bool) (n : node.Node) (t : VTree) → NodeSays w n t → nodeLeaves n ≡ leaves t
+says-leaves w Nothing t h = rw h
+says-leaves w (Leaf v k x) t h = rw h
+says-leaves w (Inner v l r m n) t (a, b, e, x, y, z) = rw e (ap₂ _+_ (z .left-is) (z .right-is))
+
+pub says-few : (w : Bool) (n : node.Node) (t : VTree) → NodeSays w n t → nodeLeaves n ≤ top32
+says-few w Nothing t h = omega arith
+says-few w (Leaf v k x) t h = omega arith
+says-few w (Inner v l r m n) t (a, b, e, x, y, z) = z .few

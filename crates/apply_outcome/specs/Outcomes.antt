@@ -1,13 +1,13 @@
 -- Document 01, 'The tree of a set of grants': what the outcome of a step says, case by case. Assumes nothing.
-use Prim.Native.Nat.{ℕ, _<_}
+use Prim.Native.Nat.{ℕ, _+_, _<_, _≤_}
 use mathlib.Core.Path.{_≡_}
 use mathlib.Core.Bool.{Bool, true, false}
 use mathlib.Core.List.{List, [], _++_}
 use lib.ListN.{length}
 use Rattle.terms.specs.Bits.{Bytes, Place, All, longer, left, right}
 use Rattle.terms.specs.Records.{Child, child, Record, zeros, grant}
-use Rattle.terms.specs.Form.{RecordForm}
-use Rattle.meaning.specs.Tree.{VTree, vnone, vleaf, vinner}
+use Rattle.terms.specs.Form.{RecordForm, top32}
+use Rattle.meaning.specs.Tree.{VTree, vnone, vleaf, vinner, leaves}
 use Rattle.meaning.specs.Store.{childOf}
 use Rattle.hash.specs.Hash.{hashBytes}
 use Rattle.nodehash.specs.Node.{leafHash, innerHash}
@@ -36,17 +36,29 @@ abbrev pub ChildSays : Bool → declared-child.Child → VTree → Type 0
 ChildSays true c t = childSays c ≡ childOf leafHash innerHash t
 ChildSays false c t = Unit {0}
 
+-- Two counts are the numbers of leaves of two trees, and four bytes hold their sum.
+pub record Weighs (m n : ℕ) (a b : VTree) : Type 0 where
+  pub left-is : m ≡ leaves a
+  pub right-is : n ≡ leaves b
+  pub few : m + n ≤ top32
+
 -- A node is the top of a tree: a leaf with its grant, an inner node with what it says of the trees at its children.
 abbrev pub NodeSays : Bool → node.Node → VTree → Type 0
 NodeSays w Nothing t = t ≡ vnone
 NodeSays w (Leaf v k x) t = t ≡ vleaf v (grant (hashBytes k) (hashBytes x))
-NodeSays w (Inner v l r) t = (a : VTree) × (b : VTree) × (t ≡ vinner v a b) × ChildSays w l a × ChildSays w r b
+NodeSays w (Inner v l r m n) t = (a : VTree) × (b : VTree) × (t ≡ vinner v a b) × ChildSays w l a × ChildSays w r b × Weighs m n a b
 
 -- What the parent's record says of a node: its version and hash.
 abbrev pub nodeChild : node.Node → Child
 nodeChild Nothing = child 0 zeros
 nodeChild (Leaf v k x) = child v (leafHash (hashBytes k) (hashBytes x))
-nodeChild (Inner v l r) = child v (innerHash (hashBytes (l .hash)) (hashBytes (r .hash)))
+nodeChild (Inner v l r m n) = child v (innerHash (hashBytes (l .hash)) (hashBytes (r .hash)))
+
+-- How many leaves a node says there are.
+abbrev pub nodeLeaves : node.Node → ℕ
+nodeLeaves Nothing = 0
+nodeLeaves (Leaf v k x) = 1
+nodeLeaves (Inner v l r m n) = m + n
 
 abbrev pub changedRecord : declared-change.Change → List Record → List Record
 changedRecord Updated rs = rs
@@ -82,13 +94,15 @@ pub record Forks (writes : Bool) (s : Bytes) (p : place.Place) (cl cr : declared
   pub right-form : writes ≡ true → All RecordForm (updatedSays (longer right (placeOf p)) r)
   pub left-kept : Kept writes cl l
   pub right-kept : Kept writes cr r
+  pub left-few : nodeLeaves (l .node) ≤ top32
+  pub right-few : nodeLeaves (r .node) ≤ top32
 
 -- The inner node above them.
 pub record Forked (new : ℕ) (writes : Bool) (s s′ : Bytes) (p : Place) (l r o : declared.Outcome) : Type 0 where
   pub left-child : declared-child.Child
   pub right-child : declared-child.Child
   pub change : o .change ≡ Updated
-  pub node : o .node ≡ Inner new left-child right-child
+  pub node : o .node ≡ Inner new left-child right-child (nodeLeaves (l .node)) (nodeLeaves (r .node))
   pub left-is : ChildAfter writes l left-child
   pub right-is : ChildAfter writes r right-child
   pub placed : Placed writes (r .reach) (updatedSays (longer left p) l ++ updatedSays (longer right p) r) s s′ (o .reach)

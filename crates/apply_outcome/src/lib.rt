@@ -8,10 +8,12 @@ use nodehash::inner_hash;
 use place::Place;
 use slots::Child;
 ghost use mathlib.Core.Path.{_≡_};
+ghost use Prim.Native.Nat.{_≤_};
+ghost use Rattle.terms.specs.Form.{top32};
 ghost use Rattle.place.specs.Place.{placeOf};
 ghost use Rattle.slots.specs.Answer.{childSays};
 ghost use Rattle.apply_place.specs.Reach.{Places, Placed};
-ghost use Rattle.apply_outcome.specs.Outcomes.{nodeChild, updatedSays, Kept, ChildAfter, Forks, Forked};
+ghost use Rattle.apply_outcome.specs.Outcomes.{nodeChild, nodeLeaves, updatedSays, Kept, ChildAfter, Forks, Forked};
 
 pub enum Change {
     Updated,
@@ -47,10 +49,34 @@ pub fn child_of(node: Node) -> Child
             version,
             left,
             right,
+            lefts: _,
+            rights: _,
         } => {
             let hash = inner_hash(left.hash, right.hash);
             Child { version, hash }
         }
+    }
+}
+
+// How many leaves there are below a node, or at it.
+fn leaves_of(node: Node) -> u32
+    requires { ⌜ nodeLeaves node ≤ top32 ⌝ }
+    ensures { λ r. ⌜ r ≡ nodeLeaves node ⌝ }
+{
+    match node {
+        Node::Nothing => 0,
+        Node::Leaf {
+            version: _,
+            key: _,
+            value: _,
+        } => 1,
+        Node::Inner {
+            version: _,
+            left: _,
+            right: _,
+            lefts,
+            rights,
+        } => lefts + rights,
     }
 }
 
@@ -103,12 +129,18 @@ pub fn fork(
     let reach = place_updated(store, writes, half, place.right(), r);
     let left = child_after(writes, cl, l);
     let right = child_after(writes, cr, r);
+    let ln = l.node;
+    let rn = r.node;
+    let lefts = leaves_of(ln);
+    let rights = leaves_of(rn);
     Outcome {
         change: Change::Updated,
         node: Node::Inner {
             version: new,
             left,
             right,
+            lefts,
+            rights,
         },
         reach,
     }

@@ -41,7 +41,7 @@ module _ (leafHash innerHash : Bytes → Bytes → Bytes) (new : ℕ) (o : Outco
       Stands leafHash innerHash (putSlots (written new o (st .slots)) st) q t
   unfolding Alike putSlots
   stands-written st q t old s =
-      stands-alike leafHash innerHash st (putSlots (written new o (st .slots)) st) q t
+      stands-alike leafHash innerHash st (putSlots (written new o (st .slots)) st) refl q t
       (λ w p n. find-written new w p o (st .slots) (old w p n) fresh) s
 
 -- a slot that holds a node holds it after writes

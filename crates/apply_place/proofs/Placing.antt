@@ -6,9 +6,10 @@ use mathlib.Core.Bool.{true, false, true≢false}
 use mathlib.Core.List.{List, [], _∷_, _++_, append-nil}
 use lib.ListN.{length, getD, set, take, drop, length-take, length-drop, drop-of-length-le}
 use lib.Seq.{take-at, drop-at, take-all}
+use Rattle.terms.specs.declared.Form.the-variants.{Counted as counted}
 use Rattle.terms.specs.Bits.{Bytes, Place, All}
 use Rattle.terms.specs.Fields.{allZero, slice}
-use Rattle.terms.specs.Records.{leafBody, innerBody, Record, Slot, free, used, spoiled}
+use Rattle.terms.specs.Records.{leafBody, innerBody, tally, noTally, Record, Slot, free, used, spoiled}
 use Rattle.terms.specs.Form.{RecordForm}
 use Rattle.meaning.specs.Store.{placed}
 use Rattle.meaning.proofs.Finding.{free-used}
@@ -65,26 +66,26 @@ abbrev NotFree : Slot → Type 0
 NotFree x = x ≡ free → ⊥
 
 abbrev pub Passed : Bytes → ℕ → ℕ → Type 0
-Passed s n i = Scan s (Each s NotFree) n i
+Passed s n i = Scan counted s (Each counted s NotFree) n i
 
-pub search-from : {s : Bytes} {n i : ℕ} → Stored s → n ≡ roomOf (length s) → NoneFree (storeOf s .slots) i → Passed s n i
+pub search-from : {s : Bytes} {n i : ℕ} → Stored s → n ≡ roomOf counted (length s) → NoneFree (storeOf s .slots) i → Passed s n i
 search-from {s} {n} {i} h e f =
     each-from s NotFree (stored-size h) e (omega (arith, none-few (storeOf s .slots) i f, stored-room h)) f
 
 module _ {s : Bytes} {n i : ℕ} (w : Passed s n i) where
   module _ (l : i < n) where
-    slot-here : slotNo i s ≡ slotOf (slotIn i s)
+    slot-here : slotNo counted i s ≡ slotOf (slotIn counted i s)
     slot-here = slot-is (scan-slot w l)
 
-    pub one-more : allZero (slotIn i s) ≡ false → Passed s n (i + 1)
-    one-more e = each-next NotFree w l (λ k. true≢false (sym (free-zero (slotIn i s) (sym slot-here ∙ k)) ∙ e))
+    pub one-more : allZero (slotIn counted i s) ≡ false → Passed s n (i + 1)
+    one-more e = each-next NotFree w l (λ k. true≢false (sym (free-zero (slotIn counted i s) (sym slot-here ∙ k)) ∙ e))
 
-    pub free-here : allZero (slotIn i s) ≡ true → FreeIn (storeOf s .slots) (At i)
+    pub free-here : allZero (slotIn counted i s) ≡ true → FreeIn (storeOf s .slots) (At i)
     free-here e =
         record {
           within = scan-inside w l;
           none = each-passed NotFree w;
-          placing = λ r. placed-here r (storeOf s .slots) i (scan-inside w l) (each-passed NotFree w) (slot-here ∙ zero-free (slotIn i s) e);
+          placing = λ r. placed-here r (storeOf s .slots) i (scan-inside w l) (each-passed NotFree w) (slot-here ∙ zero-free (slotIn counted i s) e);
         }
 
   pub none-free : n ≤ i → FreeIn (storeOf s .slots) Nothing
@@ -120,7 +121,7 @@ free-at s e f = subst (FreeIn s) e f
 pub placed-full : (p : Place) (n : declared.Node) {s : List Slot} {o : found.Found} → o ≡ Nothing → FreeIn s o → placed (recordSays p n) s ≡ s
 placed-full p none {s} e f = placed-nothing s
 placed-full p (Leaf v k x) {s} e f = subst (FreeIn s) e f _
-placed-full p (Inner v l r) {s} e f = subst (FreeIn s) e f _
+placed-full p (Inner v l r m n) {s} e f = subst (FreeIn s) e f _
 
 -- where no node is, there is nothing to place
 pub placed-gone : (p : Place) (n : declared.Node) → n ≡ none → (s : List Slot) → placed (recordSays p n) s ≡ s
@@ -129,17 +130,17 @@ placed-gone p n e s = ap (λ m. placed (recordSays p m) s) e ∙ placed-nothing 
 -- one record in a free slot
 placed-one : {s s′ : Bytes} {i : ℕ} (rs : List Record) (r : Record) → Stored s → rs ≡ r ∷ [] → All RecordForm rs →
     Lowest (storeOf s .slots) i →
-    s′ ≡ withSlot i (used r) s → Changed (placed rs) s s′
+    s′ ≡ withSlot counted i (used r) s → Changed (placed rs) s s′
 placed-one {s} {i = i} rs r h e k f w =
-    slot-changed h i (f .within) (placed rs) (used r) (subst (All RecordForm) e k .0) (ap (λ q. placed q (storeOf s .slots)) e ∙ f .placing r) w
+    slot-changed h i (f .within) (placed rs) (used r) (subst (All RecordForm) e k .0, tt) (ap (λ q. placed q (storeOf s .slots)) e ∙ f .placing r) w
 
 module _ (p : Place) (n : declared.Node) {s s′ : Bytes} {i : ℕ} (h : Stored s) where
   pub placed-leaf : {v : ℕ} {k x : Hash} → n ≡ Leaf v k x → All RecordForm (recordSays p n) →
       Lowest (storeOf s .slots) i →
-      s′ ≡ withSlot i (used (recordOf p v 0 (leafBody (hashBytes k) (hashBytes x)))) s → Changed (placed (recordSays p n)) s s′
+      s′ ≡ withSlot counted i (used (recordOf p v 0 (leafBody (hashBytes k) (hashBytes x)) noTally)) s → Changed (placed (recordSays p n)) s s′
   placed-leaf e k f w = placed-one (recordSays p n) _ h (ap (recordSays p) e) k f w
 
-  pub placed-inner : {v : ℕ} {l r : child.Child} → n ≡ Inner v l r → All RecordForm (recordSays p n) →
+  pub placed-inner : {v : ℕ} {l r : child.Child} {a b : ℕ} → n ≡ Inner v l r a b → All RecordForm (recordSays p n) →
       Lowest (storeOf s .slots) i →
-      s′ ≡ withSlot i (used (recordOf p v 0 (innerBody (childSays l) (childSays r)))) s → Changed (placed (recordSays p n)) s s′
+      s′ ≡ withSlot counted i (used (recordOf p v 0 (innerBody (childSays l) (childSays r)) (tally a b))) s → Changed (placed (recordSays p n)) s s′
   placed-inner e k f w = placed-one (recordSays p n) _ h (ap (recordSays p) e) k f w

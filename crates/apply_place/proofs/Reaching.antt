@@ -37,12 +37,12 @@ none-after s i r l f =
 pub node-size : (p : Place) (n : declared.Node) → nodeSize n ≡ length (recordSays p n)
 node-size p Nothing = refl
 node-size p (Leaf v k x) = refl
-node-size p (Inner v l r) = refl
+node-size p (Inner v l r m n) = refl
 
 none-put : (p : Place) (n : declared.Node) (s : List Slot) (i : ℕ) → Lowest s i → NoneFree (placed (recordSays p n) s) (i + nodeSize n)
 none-put p Nothing s i h = rw (placed-nothing s) (λ j k. h .none j (omega arith))
 none-put p (Leaf v k x) s i h = rw (h .placing _) (none-after s i _ (h .within) (h .none))
-none-put p (Inner v l r) s i h = rw (h .placing _) (none-after s i _ (h .within) (h .none))
+none-put p (Inner v l r m n) s i h = rw (h .placing _) (none-after s i _ (h .within) (h .none))
 
 -- a mark frees no slot
 none-marked : (new : ℕ) (ns : List step.Node) (s : List Slot) (j : ℕ) → getD (mark new ns s) j free ≡ free → getD s j free ≡ free
@@ -77,7 +77,7 @@ reaches-as w e a = rw (← e) a
 pub size-small : (n : declared.Node) → nodeSize n ≤ 1
 size-small Nothing = omega arith
 size-small (Leaf v k x) = omega arith
-size-small (Inner v l r) = omega arith
+size-small (Inner v l r m n) = omega arith
 
 pub clear-when : (w : Bool) {s : List Slot} {k : ℕ} → w ≡ true → Starts w s k → NoneFree s k
 clear-when true e h = h .clear

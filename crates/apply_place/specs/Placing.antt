@@ -6,7 +6,7 @@ use mathlib.Core.List.{List, [], _∷_}
 use mathlib.Core.Option.{none}
 use lib.ListN.{length, getD, set}
 use Rattle.terms.specs.Bits.{Bytes, Place}
-use Rattle.terms.specs.Records.{leafBody, innerBody, Record, Slot, free, used, spoiled, Store}
+use Rattle.terms.specs.Records.{leafBody, innerBody, tally, noTally, Record, Slot, free, used, spoiled, Store}
 use Rattle.meaning.specs.Store.{find, isNode, placed}
 use Rattle.hash.specs.Hash.{hashBytes}
 use Rattle.layout.specs.Slots.{recordOf}
@@ -25,7 +25,7 @@ pub record Stored (s : Bytes) : Type 0 where
 
 -- The store with other slots.
 unfoldable pub putSlots : List Slot → Store → Store
-putSlots xs st = record { oldest = st .oldest; latest = st .latest; slots = xs }
+putSlots xs st = record { oldest = st .oldest; latest = st .latest; slots = xs; form = st .form }
 
 -- The bytes s with their slots changed by f, and nothing else, are the bytes s′; they are in form again.
 pub record Changed (f : List Slot → List Slot) (s s′ : Bytes) : Type 0 where
@@ -62,8 +62,8 @@ Single v p (spoiled x ∷ s) = Single v p s
 -- The record of the node at a place, not retired.
 abbrev pub recordSays : Place → declared.Node → List Record
 recordSays p Nothing = []
-recordSays p (Leaf v k x) = recordOf p v 0 (leafBody (hashBytes k) (hashBytes x)) ∷ []
-recordSays p (Inner v l r) = recordOf p v 0 (innerBody (childSays l) (childSays r)) ∷ []
+recordSays p (Leaf v k x) = recordOf p v 0 (leafBody (hashBytes k) (hashBytes x)) noTally ∷ []
+recordSays p (Inner v l r m n) = recordOf p v 0 (innerBody (childSays l) (childSays r)) (tally m n) ∷ []
 
 -- The node (version, place).
 abbrev pub nodeAt : ℕ → Place → step.Node

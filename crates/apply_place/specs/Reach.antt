@@ -27,7 +27,7 @@ capped n = min n overMost
 abbrev pub nodeSize : declared.Node → ℕ
 nodeSize Nothing = 0
 nodeSize (Leaf v k x) = 1
-nodeSize (Inner v l r) = 1
+nodeSize (Inner v l r m n) = 1
 
 -- Where records are written, no slot below k is free.
 abbrev pub Clear : Bool → List Slot → ℕ → Type 0

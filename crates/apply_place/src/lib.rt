@@ -10,11 +10,12 @@ use store::put_inner_at;
 use store::put_leaf_at;
 use store::slot_count;
 use store::slot_of;
+use terms::Form;
 ghost use mathlib.Core.Path.{_≡_};
 ghost use mathlib.Core.List.{_++_};
 ghost use Prim.Native.Nat.{_+_, _≤_};
 ghost use lib.ListN.{length};
-ghost use Rattle.terms.specs.Records.{used, leafBody};
+ghost use Rattle.terms.specs.Records.{used, leafBody, noTally};
 ghost use Rattle.meaning.specs.Store.{placed};
 ghost use Rattle.hash.specs.Hash.{hashBytes};
 ghost use Rattle.place.specs.Place.{placeOf, Proper};
@@ -23,7 +24,7 @@ ghost use Rattle.layout.specs.Stores.{storeOf, SlotWithin, withSlot};
 ghost use Rattle.apply_place.specs.Placing.{Stored, Changed, NoneFree, FreeIn, recordSays};
 ghost use Rattle.apply_place.specs.Reach.{overMost, capped, nodeSize, Puts, Places, Placed};
 
-// The node that stands at a place: a leaf with its grant, an inner node with its children.
+// The node that stands at a place: a leaf with its grant, an inner node with its children and how many leaves are below each.
 pub enum Node {
     Nothing,
     Leaf {
@@ -35,6 +36,8 @@ pub enum Node {
         version: u32,
         left: Child,
         right: Child,
+        lefts: u32,
+        rights: u32,
     },
 }
 
@@ -65,6 +68,8 @@ fn size(node: Node) -> usize
             version: _,
             left: _,
             right: _,
+            lefts: _,
+            rights: _,
         } => 1,
     }
 }
@@ -74,13 +79,13 @@ fn find_free(store: &[u8], from: usize) -> Found
     requires { ⌜ Stored (now store) × NoneFree (storeOf (now store) .slots) from ⌝ }
     ensures { λ r. ⌜ FreeIn (storeOf (now (store .entry)) .slots) r ⌝ }
 {
-    let n = slot_count(store);
+    let n = slot_count(Form::Counted, store);
     let mut i = from;
     loop {
         if n <= i {
             break Found::Nothing;
         }
-        if all_zero(slot_of(store, i)) {
+        if all_zero(slot_of(Form::Counted, store, i)) {
             break Found::At(i);
         }
         i += 1;
@@ -98,12 +103,12 @@ fn put_grant(grant: &mut [u8], key: Hash, value: Hash)
 
 // Writes a leaf that isn't retired over slot i.
 fn put_leaf_new(store: &mut [u8], i: usize, place: Place, version: u32, key: Hash, value: Hash)
-    requires { ⌜ SlotWithin i (now store) × Proper place ⌝ }
-    ensures { λ _. ⌜ now (store .exit) ≡ withSlot i (used (recordOf (placeOf place) version 0 (leafBody (hashBytes key) (hashBytes value)))) (now (store .entry)) ⌝ }
+    requires { ⌜ SlotWithin Form.Counted i (now store) × Proper place ⌝ }
+    ensures { λ _. ⌜ now (store .exit) ≡ withSlot Form.Counted i (used (recordOf (placeOf place) version 0 (leafBody (hashBytes key) (hashBytes value)) noTally)) (now (store .entry)) ⌝ }
 {
     let mut grant = [0u8; 64];
     put_grant(&mut grant, key, value);
-    put_leaf_at(store, i, place, version, 0, &grant);
+    put_leaf_at(Form::Counted, store, i, place, version, 0, &grant);
 }
 
 // Writes the record of the node at a place over the lowest free slot, i.
@@ -122,7 +127,20 @@ fn put_node(store: &mut [u8], i: usize, place: Place, node: Node)
             version,
             left,
             right,
-        } => put_inner_at(store, i, place, version, 0, left, right),
+            lefts,
+            rights,
+        } => put_inner_at(
+            Form::Counted,
+            store,
+            i,
+            place,
+            version,
+            0,
+            left,
+            right,
+            lefts,
+            rights,
+        ),
     }
 }
 

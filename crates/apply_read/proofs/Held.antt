@@ -3,11 +3,12 @@ use Prim.Native.Nat.{ℕ}
 use mathlib.Core.Path.{_≡_, refl, ap, ap₂, sym, _∙_, subst}
 use mathlib.Core.Bool.{Bool, true, false}
 use lib.ListN.{getD}
+use Rattle.terms.specs.declared.Form.the-variants.{Counted as counted}
 use Rattle.terms.specs.Bits.{Bytes}
-use Rattle.terms.specs.Records.{Child, leafBody, innerBody, Record, free, used}
+use Rattle.terms.specs.Records.{Child, leafBody, innerBody, tally, Record, free, used}
 use Rattle.hash.specs.declared.Hash.{Hash}
 use Rattle.hash.specs.Hash.{hashBytes}
-use Rattle.layout.specs.Slots.{isLeaf, versionIn, keyIn, valueIn, leftIn, rightIn, leafIn, innerIn, recordIn, slotOf}
+use Rattle.layout.specs.Slots.{isLeaf, versionIn, keyIn, valueIn, leftIn, rightIn, countsIn, leafIn, innerIn, recordIn, slotOf}
 use Rattle.layout.specs.Stores.{slotIn, storeOf, SlotWithin}
 use Rattle.layout.proofs.Slots.{record-is}
 use Rattle.layout.proofs.Stores.{slot-at}
@@ -27,12 +28,12 @@ inner-record : (x : Bytes) (r : Record) → slotOf x ≡ used r → isLeaf x ≡
 inner-record x r e l = sym (rw l at (record-is x r e))
 
 module _ {s : Bytes} {i : ℕ} (w : Used s i) where
-  pub slot-there : SlotWithin i s
+  pub slot-there : SlotWithin counted i s
   slot-there = slot-within (w .stored) i (w .within)
 
-  module _ {x : Bytes} (d : x ≡ slotIn i s) where
+  module _ {x : Bytes} (d : x ≡ slotIn counted i s) where
     its-slot : (r : Record) → getD (storeOf s .slots) i free ≡ used r → slotOf x ≡ used r
-    its-slot r u = ap slotOf d ∙ sym (slot-at s i (rw (stored-room (w .stored)) (w .within))) ∙ u
+    its-slot r u = ap slotOf d ∙ sym (slot-at counted s i (rw (stored-room (w .stored)) (w .within))) ∙ u
 
     pub leaf-held : {v : ℕ} (k y : Hash) {t : Bool} → t ≡ isLeaf x → t ≡ true → v ≡ versionIn x → hashBytes k ≡ keyIn x →
         hashBytes y ≡ valueIn x → NodeHeld s i (N.Leaf v k y)
@@ -42,11 +43,14 @@ module _ {s : Bytes} {i : ℕ} (w : Used s i) where
         (v ∙ sym (ap (λ (q : Record). q .version) h), ap (λ (q : Record). q .body) h ∙ sym (ap₂ leafBody a b))
 
     pub inner-held : {v : ℕ} (cl cr : child.Child) {t : Bool} → t ≡ isLeaf x → t ≡ false → v ≡ versionIn x → childSays cl ≡ leftIn x →
-        childSays cr ≡ rightIn x → NodeHeld s i (N.Inner v cl cr)
+        childSays cr ≡ rightIn x → {m n : ℕ} → m ≡ countsIn x .leftward → n ≡ countsIn x .rightward → NodeHeld s i (N.Inner v cl cr m n)
     unfolding recordIn innerIn
-    inner-held cl cr l e v a b r u =
-        let h = inner-record x r (its-slot r u) (sym l ∙ e) in
-        (v ∙ sym (ap (λ (q : Record). q .version) h), ap (λ (q : Record). q .body) h ∙ sym (ap₂ innerBody a b))
+    inner-held cl cr l e v a b f g r u =
+        let h = inner-record x r (its-slot r u) (sym l ∙ e) in (
+          v ∙ sym (ap (λ (q : Record). q .version) h),
+          ap (λ (q : Record). q .body) h ∙ sym (ap₂ innerBody a b),
+          ap (λ (q : Record). q .counts) h ∙ sym (ap₂ tally f g),
+        )
 
     pub ends-held : {f : found.Found} {t : Bool} → f ≡ F.At i → t ≡ isLeaf x → t ≡ true → GoesOn s f End
     unfolding recordIn leafIn

@@ -1,17 +1,20 @@
 -- A node that is found in a tree that stands is the top of the tree: its record is the one that the tree has there. Assumes nothing.
-use Prim.Native.Nat.{ℕ, _<_}
+use Prim.Native.Nat.{ℕ, _+_, _<_, _≤_}
 use native.Mathlib.Omega.{arith}
 use mathlib.Core.Path.{_≡_, refl, ap, sym, _∙_, subst}
 use mathlib.Core.Bool.{true, false}
 use mathlib.Core.Option.{none, some, Option·none-ne-some, Option·some-injective}
 use lib.ListN.{length, getD}
+use Rattle.terms.specs.declared.Form.the-variants.{Counted as counted}
 use Rattle.terms.specs.Bits.{Bytes, Place, left, right}
-use Rattle.terms.specs.Records.{grant, Child, leafBody, innerBody, Record, free, used, Store}
+use Rattle.terms.specs.Records.{grant, Child, leafBody, innerBody, Tally, tally, Record, free, used, Store}
 use Rattle.terms.specs.Form.{RecordForm}
 use Rattle.terms.proofs.Lists.{all-at}
-use Rattle.meaning.specs.Tree.{VTree, vnone, vleaf, vinner, topVersion, kid}
+use Rattle.meaning.specs.Tree.{VTree, vnone, vleaf, vinner, topVersion, kid, leaves}
 use Rattle.meaning.specs.Store.{find, childOf}
-use Rattle.meaning.specs.Sound.{Found, Stands}
+use Rattle.meaning.specs.Sound.{Found, Tallied, Stands}
+use Rattle.meaning.proofs.Counts.{counts-told}
+use Rattle.meaning.proofs.Leaves.{few-leaves}
 use Rattle.meaning.proofs.Finding.{isNode-eq}
 use Rattle.hash.specs.Hash.{hashBytes}
 use Rattle.nodehash.specs.Node.{leafHash, innerHash}
@@ -24,6 +27,7 @@ use Rattle.lookup.specs.declared.Found.the-variants as F
 use Rattle.lookup.specs.Lookup.{FoundIn}
 use Rattle.apply_place.specs.declared.Node as node
 use Rattle.apply_place.specs.declared.Node.the-variants as N
+use Rattle.apply_place.proofs.Changing.{stored-accepted}
 use Rattle.apply_place.proofs.Marking.{found-none, found-at, found-node}
 use Rattle.apply_outcome.specs.Outcomes.{NodeSays}
 use Rattle.apply_read.specs.declared.Onward as onward
@@ -39,6 +43,10 @@ leaf-same e = cc
 
 inner-same : {l r l′ r′ : Child} → innerBody l r ≡ innerBody l′ r′ → (l ≡ l′) × (r ≡ r′)
 inner-same e = (cc, cc)
+
+-- the counts of a record are the numbers of leaves, which are not more than the slots
+abbrev Numbers : Store → Tally → VTree → VTree → Type 0
+Numbers st c a b = (c ≡ tally (leaves a) (leaves b)) × (leaves a + leaves b ≤ length (st .slots))
 
 module _ (st : Store) (q : Place) (v : ℕ) (t : VTree) (stands : Stands leafHash innerHash st q t) (top : topVersion t ≡ v) where
   -- no record, no tree
@@ -69,13 +77,15 @@ module _ (st : Store) (q : Place) (v : ℕ) (t : VTree) (stands : Stands leafHas
             let m : s .0 .0 ≡ r = Option·some-injective (s .0 .0) r (sym (s .0 .1) ∙ ap (λ y. find y q (st .slots)) f ∙ e) in
             leaf-inner (sym h ∙ ap (λ (y : Record). y .body) (sym m) ∙ s .0 .2)
 
-    top-inner : (l c : Child) → r .body ≡ innerBody l c →
-        (a : VTree) × (b : VTree) × (t ≡ vinner v a b) × (l ≡ childOf leafHash innerHash a) × (c ≡ childOf leafHash innerHash b)
-    unfolding Found
-    top-inner l c h = go t stands top
+    top-inner : st .form ≡ counted → (l c : Child) → r .body ≡ innerBody l c →
+        (a : VTree) × (b : VTree) × (t ≡ vinner v a b) × (l ≡ childOf leafHash innerHash a) × (c ≡ childOf leafHash innerHash b) ×
+        Numbers st (r .counts) a b
+    unfolding Found Tallied
+    top-inner counts l c h = go t stands top
       where
         go : (u : VTree) → Stands leafHash innerHash st q u → topVersion u ≡ v →
-            (a : VTree) × (b : VTree) × (u ≡ vinner v a b) × (l ≡ childOf leafHash innerHash a) × (c ≡ childOf leafHash innerHash b)
+            (a : VTree) × (b : VTree) × (u ≡ vinner v a b) × (l ≡ childOf leafHash innerHash a) × (c ≡ childOf leafHash innerHash b) ×
+            Numbers st (r .counts) a b
         go vnone s f = absurd (omega (arith, form .versioned, its-own))
         go (vleaf w g) s f =
             let m : s .0 .0 ≡ r = Option·some-injective (s .0 .0) r (sym (s .0 .1) ∙ ap (λ y. find y q (st .slots)) f ∙ e) in
@@ -83,7 +93,10 @@ module _ (st : Store) (q : Place) (v : ℕ) (t : VTree) (stands : Stands leafHas
         go (vinner w a b) s f =
             let m : s .0 .0 ≡ r = Option·some-injective (s .0 .0) r (sym (s .0 .1) ∙ ap (λ y. find y q (st .slots)) f ∙ e) in
             let n = inner-same (sym h ∙ ap (λ (y : Record). y .body) (sym m) ∙ s .0 .2) in
-            (a, b, ap (λ y. vinner y a b) f, n .0, n .1)
+            let (k, i, j) = s .4 in
+            let o : k ≡ r = Option·some-injective k r (sym i ∙ ap (λ y. find y q (st .slots)) f ∙ e) in
+            let few = few-leaves leafHash innerHash st q (vinner w a b) s in
+            (a, b, ap (λ y. vinner y a b) f, n .0, n .1, (sym (ap (λ (y : Record). y .counts) o) ∙ counts-told (st .form) counts j, few))
 
 -- over the bytes
 module _ {s : Bytes} {p : place.Place} {v : ℕ} (w : Standing s p v) {o : found.Found} (f : FoundIn (storeOf s .slots) v (placeOf p) o) where
@@ -99,7 +112,7 @@ module _ {s : Bytes} {p : place.Place} {v : ℕ} (w : Standing s p v) {o : found
     slot-used = record { stored = w .stored; within = hit .0; held = hit .1 .0; slot = hit .1 .1 }
 
     its-form : RecordForm (hit .1 .0)
-    its-form = subst SlotForm (hit .1 .1) (all-at SlotForm (storeOf s .slots) free i (w .stored .form .each) (hit .0))
+    its-form = subst (SlotForm counted) (hit .1 .1) (all-at (SlotForm counted) (storeOf s .slots) free i (w .stored .form .each) (hit .0)) .0
 
     its-version : hit .1 .0 .version ≡ v
     its-version = isNode-eq v (placeOf p) (hit .1 .0) (found-node 0 v (placeOf p) (storeOf s .slots) (hit .1 .0) (hit .1 .2)) .0
@@ -113,9 +126,10 @@ module _ {s : Bytes} {p : place.Place} {v : ℕ} (w : Standing s p v) {o : found
         top-leaf (storeOf s) (placeOf p) v (treeHere s p v) (w .stands) (w .top) (hit .1 .0) (hit .1 .2) its-form k x b
 
     pub inner-there : {l r : Child} → hit .1 .0 .body ≡ innerBody l r →
-        (a : VTree) × (b : VTree) × (treeHere s p v ≡ vinner v a b) × (l ≡ childOf leafHash innerHash a) × (r ≡ childOf leafHash innerHash b)
+        (a : VTree) × (b : VTree) × (treeHere s p v ≡ vinner v a b) × (l ≡ childOf leafHash innerHash a) × (r ≡ childOf leafHash innerHash b) ×
+        Numbers (storeOf s) (hit .1 .0 .counts) a b
     inner-there {l} {r} b =
-        top-inner (storeOf s) (placeOf p) v (treeHere s p v) (w .stands) (w .top) (hit .1 .0) (hit .1 .2) its-form l r b
+        top-inner (storeOf s) (placeOf p) v (treeHere s p v) (w .stands) (w .top) (hit .1 .0) (hit .1 .2) its-form refl l r b
 
     pub node-there : (n : node.Node) → NodeHeld s i n → NodeSays true n (treeHere s p v)
     node-there n h = go n (h (hit .1 .0) (hit .1 .1))
@@ -123,9 +137,13 @@ module _ {s : Bytes} {p : place.Place} {v : ℕ} (w : Standing s p v) {o : found
         go : (m : node.Node) → HoldsNode m (hit .1 .0) → NodeSays true m (treeHere s p v)
         go N.Nothing b = absurd b
         go (N.Leaf u k x) b = leaf-there (b .1) ∙ ap (λ z. vleaf z (grant (hashBytes k) (hashBytes x))) (sym (b .0 ∙ its-version))
-        go (N.Inner u l r) b =
-            let (x, y, t, g, d) = inner-there (b .1) in
-            (x, y, t ∙ ap (λ z. vinner z x y) (sym (b .0 ∙ its-version)), g, d)
+        go (N.Inner u l r m n) b =
+            let (x, y, t, g, d, ns) = inner-there (b .1) in
+            let e : tally m n ≡ tally (leaves x) (leaves y) = sym (b .2) ∙ ns .0 in
+            let i = ap (λ (c : Tally). c .leftward) e in
+            let o = ap (λ (c : Tally). c .rightward) e in
+            let a = stored-accepted (w .stored) .fits in
+            (x, y, t ∙ ap (λ z. vinner z x y) (sym (b .0 ∙ its-version)), g, d, (record { left-is = i; right-is = o; few = omega (arith, i, o, a, ns .1) }))
 
     -- an inner node stands there exactly if the steps go on
     pub ends-there : {d : onward.Onward} → d ≡ End → GoesOn s (F.At i) d → isInner (treeHere s p v) ≡ false
@@ -137,7 +155,7 @@ module _ {s : Bytes} {p : place.Place} {v : ℕ} (w : Standing s p v) {o : found
     goes-there z g =
         let (j, h) = subst (GoesOn s (F.At i)) z g in
         let (cl, cr, b, k, m) = h (hit .1 .0) (hit .1 .1) in
-        let (x, y, t, q, u) = inner-there b in (
+        let (x, y, t, q, u, ns) = inner-there b in (
           j,
           ap isInner t,
           k ∙ ap (λ (c : Child). c .version) q ∙ sym (ap (λ z. topVersion (kid left z)) t),

@@ -3,7 +3,7 @@ use Prim.Native.Nat.{ℕ, _<_}
 use mathlib.Core.Path.{_≡_}
 use lib.ListN.{length, getD}
 use Rattle.terms.specs.Bits.{Bytes}
-use Rattle.terms.specs.Records.{Child, leafBody, innerBody, Record, Slot, free, used, spoiled}
+use Rattle.terms.specs.Records.{Child, leafBody, innerBody, tally, Record, Slot, free, used, spoiled}
 use Rattle.hash.specs.Hash.{hashBytes}
 use Rattle.layout.specs.Stores.{storeOf}
 use Rattle.slots.specs.Answer.{childSays}
@@ -35,7 +35,7 @@ versionIn s i = versionOf (getD (storeOf s .slots) i free)
 abbrev pub HoldsNode : node.Node → Record → Type 0
 HoldsNode N.Nothing r = ⊥
 HoldsNode (N.Leaf v k x) r = (v ≡ r .version) × (r .body ≡ leafBody (hashBytes k) (hashBytes x))
-HoldsNode (N.Inner v a b) r = (v ≡ r .version) × (r .body ≡ innerBody (childSays a) (childSays b))
+HoldsNode (N.Inner v a b m n) r = (v ≡ r .version) × (r .body ≡ innerBody (childSays a) (childSays b)) × (r .counts ≡ tally m n)
 
 -- The node that slot i holds.
 abbrev pub NodeHeld : Bytes → ℕ → node.Node → Type 0

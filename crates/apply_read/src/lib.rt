@@ -11,9 +11,11 @@ use slots::child_hash;
 use slots::is_leaf;
 use slots::key_of;
 use slots::value_of;
+use store::child_count_at;
 use store::child_version_at;
 use store::slot_of;
 use store::version_at;
+use terms::Form;
 ghost use mathlib.Core.Path.{_≡_};
 ghost use Rattle.layout.specs.Slots.{kidOn};
 ghost use Rattle.layout.specs.Stores.{slotIn, SlotWithin};
@@ -24,11 +26,11 @@ ghost use Rattle.apply_read.specs.Standing.{treeHere, Standing, Unchange
 
 // What the inner record in slot i says of the child on a side.
 fn child_on(store: &[u8], i: usize, right: bool) -> Child
-    requires { ⌜ SlotWithin i (now store) ⌝ }
-    ensures { λ r. ⌜ childSays r ≡ kidOn right (slotIn i (now (store .entry))) ⌝ }
+    requires { ⌜ SlotWithin Form.Counted i (now store) ⌝ }
+    ensures { λ r. ⌜ childSays r ≡ kidOn right (slotIn Form.Counted i (now (store .entry))) ⌝ }
 {
-    let version = child_version_at(store, i, right);
-    let hash = hash_at(child_hash(slot_of(store, i), right), 0);
+    let version = child_version_at(Form::Counted, store, i, right);
+    let hash = hash_at(child_hash(slot_of(Form::Counted, store, i), right), 0);
     Child { version, hash }
 }
 
@@ -37,8 +39,8 @@ pub fn node_in(store: &[u8], i: usize) -> Node
     requires { ⌜ Used (now store) i ⌝ }
     ensures { λ r. ⌜ NodeHeld (now (store .entry)) i r ⌝ }
 {
-    let s = slot_of(store, i);
-    let version = version_at(store, i);
+    let s = slot_of(Form::Counted, store, i);
+    let version = version_at(Form::Counted, store, i);
     if is_leaf(s) {
         let key = hash_at(key_of(s), 0);
         let value = hash_at(value_of(s), 0);
@@ -50,10 +52,14 @@ pub fn node_in(store: &[u8], i: usize) -> Node
     }
     let left = child_on(store, i, false);
     let right = child_on(store, i, true);
+    let lefts = child_count_at(Form::Counted, store, i, false);
+    let rights = child_count_at(Form::Counted, store, i, true);
     Node::Inner {
         version,
         left,
         right,
+        lefts,
+        rights,
     }
 }
 
@@ -70,12 +76,12 @@ pub fn onward_from(store: &[u8], found: Found) -> Onward
     let Found::At(slot) = found else {
         return Onward::End;
     };
-    let s = slot_of(store, slot);
+    let s = slot_of(Form::Counted, store, slot);
     if is_leaf(s) {
         return Onward::End;
     }
-    let left = child_version_at(store, slot, false);
-    let right = child_version_at(store, slot, true);
+    let left = child_version_at(Form::Counted, store, slot, false);
+    let right = child_version_at(Form::Counted, store, slot, true);
     Onward::Inner { slot, left, right }
 }
 

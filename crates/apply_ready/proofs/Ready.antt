@@ -7,6 +7,7 @@ use mathlib.Core.Logic.{inl, inr}
 use mathlib.Core.Bool.{Bool, true, false}
 use mathlib.Core.List.{List, []}
 use mathlib.Core.Option.{Option, none, some}
+use Rattle.terms.specs.declared.Form.the-variants.{Counted as counted}
 use Rattle.terms.specs.Bits.{Bytes, Byte, All, Place, longer}
 use Rattle.terms.specs.Records.{Body, Record, Slot, Store}
 use Rattle.meaning.specs.Tree.{VTree, vnone, vleaf, vinner, unversioned, topVersion}
@@ -41,10 +42,10 @@ use Rattle.apply_ready.specs.Ready.{Ready, rootVersion}
 
 -- the version in the slot of a record found is the record's
 pub found-version : {s : Bytes} → Stored s → All Byte s → (o : Option Record) (i : ℕ) → Located (storeOf s .slots) o (At i) →
-    versionIn (slotIn i s) ≡ rootVersion o
+    versionIn (slotIn counted i s) ≡ rootVersion o
 found-version {s} h bytes o i (l, (r, e, f)) =
-    let here = sym (slot-at s i (rw (stored-room h) l)) ∙ e in
-    version-is (slotIn i s) (slot-long i s (slot-within h i l)) (slot-bytes i s bytes) r here ∙ ap rootVersion (sym f)
+    let here = sym (slot-at counted s i (rw (stored-room h) l)) ∙ e in
+    version-is counted (slotIn counted i s) (slot-long counted i s (slot-within h i l)) (slot-bytes counted i s bytes) r here ∙ ap rootVersion (sym f)
 
 -- a tree of records that are older is older
 module _ (st : Store) (m : ℕ) (below : (r : Record) → Has r (st .slots) → r .version < m) where
@@ -77,7 +78,7 @@ module _ {s batch : Bytes} (w : Ready s batch) (bytes : All Byte s) where
   kept = (whole .header .0, omega arith)
 
   pub stored : Stored s
-  stored = record { bytes = sym (sound-back (w .sound) bytes); form = sound-form st (w .sound .sound) }
+  stored = record { bytes = sym (sound-back (w .sound) bytes); form = sound-form st refl (w .sound .sound) }
 
   pub shaped : Shaped [] (unversioned latestTree)
   shaped = kept-shaped leafHash innerHash st whole (st .latest) kept

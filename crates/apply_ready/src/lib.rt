@@ -5,6 +5,7 @@ use lookup::find_root;
 use store::slot_count;
 use store::slot_of;
 use store::version_at;
+use terms::Form;
 ghost use mathlib.Core.Path.{_≡_};
 ghost use Rattle.meaning.specs.Store.{rootOf};
 ghost use Rattle.layout.specs.Stores.{storeOf};
@@ -16,11 +17,11 @@ pub fn count_free(store: &[u8]) -> usize
     requires { ⌜ Stored (now store) ⌝ }
     ensures { λ r. ⌜ FreeCount (now (store .entry)) r ⌝ }
 {
-    let n = slot_count(store);
+    let n = slot_count(Form::Counted, store);
     let mut free = 0;
     let mut i = 0;
     while i < n {
-        if all_zero(slot_of(store, i)) {
+        if all_zero(slot_of(Form::Counted, store, i)) {
             free += 1;
             i += 1;
             continue;
@@ -35,9 +36,9 @@ pub fn root_version(store: &[u8], version: u32) -> u32
     requires { ⌜ Stored (now store) ⌝ }
     ensures { λ r. ⌜ r ≡ rootVersion (rootOf (storeOf (now (store .entry))) version) ⌝ }
 {
-    let found = find_root(store, version);
+    let found = find_root(Form::Counted, store, version);
     let Found::At(i) = found else {
         return 0;
     };
-    version_at(store, i)
+    version_at(Form::Counted, store, i)
 }

@@ -49,7 +49,7 @@ use Rattle.apply_root.specs.Root.{newRootSays, HereRoot}
 pub says-root : (w : Bool) (new : ℕ) (n : node.Node) (t : VTree) → NodeSays w n t → NodeSays w (newRootSays new n) (newRoot new t)
 says-root w new N.Nothing t e = rw e refl
 says-root w new (N.Leaf v k x) t e = rw e refl
-says-root w new (N.Inner v l r) t (a, b, e, x, y) = (a, b, ap (newRoot new) e, x, y)
+says-root w new (N.Inner v l r i j) t (a, b, e, x, y, z) = (a, b, ap (newRoot new) e, x, y, z)
 
 root-numbered : (new : ℕ) (t : VTree) → Number new → Numbered t → Numbered (newRoot new t)
 root-numbered new vnone n m = tt

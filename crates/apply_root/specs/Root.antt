@@ -14,7 +14,7 @@ use Rattle.apply_tip.specs.Stepping.{Here}
 abbrev pub newRootSays : ℕ → node.Node → node.Node
 newRootSays new Nothing = Nothing
 newRootSays new (Leaf v k x) = Leaf new k x
-newRootSays new (Inner v l r) = Inner new l r
+newRootSays new (Inner v l r i j) = Inner new l r i j
 
 -- The tree stands at the empty place.
 pub record HereRoot (new : ℕ) (writes : Bool) (s : Bytes) (p : place.Place) (v : ℕ) (batch : Bytes) : Type 0 where

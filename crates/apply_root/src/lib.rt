@@ -33,10 +33,14 @@ fn new_root(node: Node, new: u32) -> Node
             version: _,
             left,
             right,
+            lefts,
+            rights,
         } => Node::Inner {
             version: new,
             left,
             right,
+            lefts,
+            rights,
         },
     }
 }

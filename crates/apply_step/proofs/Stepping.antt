@@ -34,8 +34,8 @@ use Rattle.apply_place.specs.Placing.{Stored, Single}
 use Rattle.apply_place.specs.Reach.{Starts}
 use Rattle.apply_place.proofs.Changing.{changed-stored}
 use Rattle.apply_outcome.specs.declared.Outcome as declared
-use Rattle.apply_outcome.specs.Outcomes.{NodeSays, changeSays, updatedSays, Kept, Did}
-use Rattle.apply_outcome.proofs.Saying.{says-child}
+use Rattle.apply_outcome.specs.Outcomes.{Weighs, NodeSays, changeSays, updatedSays, Kept, Did}
+use Rattle.apply_outcome.proofs.Saying.{says-child, says-few}
 use Rattle.apply_outcome.proofs.Forms.{Numbered}
 use Rattle.apply_read.specs.declared.Onward as onward
 use Rattle.apply_read.specs.declared.Onward.the-variants.{End, Inner}
@@ -46,7 +46,7 @@ use Rattle.apply_inner.specs.Settling.{settledSays, SettledTo, Settles, Settled
 use Rattle.apply_inner.proofs.Inner.{settled-did}
 use Rattle.apply_inner.proofs.Standing.{kid-older, top-older, stands-after, single-after, found-after, found-version, child-read, child-standing}
 use Rattle.apply_tip.specs.Stepping.{Here, AtTip, atNode, atChild}
-use Rattle.apply_tip.proofs.Stepping.{stepping, step-inner, side-step, shaped, numbered, child-new, child-ends, child-form, child-kept}
+use Rattle.apply_tip.proofs.Stepping.{stepping, step-inner, side-step, shaped, numbered, child-new, child-ends, child-form, child-kept, child-few}
 use Rattle.apply_step.specs.Inner.{HereInner}
 
 -- on a side of an inner node, in bytes where its child stands
@@ -171,10 +171,10 @@ module _ {new : ℕ} {writes : Bool} {from : ℕ} {s : Bytes} {p : place.Place} 
         kept-side b c o a t says e h k i z u =
             says ∙ ap (childOf leafHash innerHash) (sym (k (sym e ∙ ap changeSays u) ∙ i)) ∙ sym (says-child writes (o .node) (a .node) z h)
 
-        kept-both : (cl cr : child.Child) → NodeSays true (N.Inner (versionIn s₂ slot) cl cr) (treeHere s₂ p (versionIn s₂ slot)) →
+        kept-both : (cl cr : child.Child) (i j : ℕ) → NodeSays true (N.Inner (versionIn s₂ slot) cl cr i j) (treeHere s₂ p (versionIn s₂ slot)) →
             Kept writes cl l × Kept writes cr r
-        kept-both cl cr says =
-            let (a, b, e, sl, sr) = says in
+        kept-both cl cr i j says =
+            let (a, b, e, sl, sr, ws) = says in
             let is : whole ≡ vinner (versionIn s₂ slot) a b = sym read-again ∙ e in (
               kept-side left cl l lefts (treeHere s lp vl) (sl ∙ ap (λ z. childOf leafHash innerHash (kid left z)) (sym is)) (x .change) (x .node)
                   (child-kept left-here) left-read,
@@ -196,6 +196,8 @@ module _ {new : ℕ} {writes : Bool} {from : ℕ} {s : Bytes} {p : place.Place} 
           starts = y .reach .starts;
           left-form = λ e. subst (λ q. All RecordForm (updatedSays q l)) (gl .place) (child-form left-here t l (x .node) e);
           right-form = λ e. subst (λ q. All RecordForm (updatedSays q r)) (gr .place) (child-form right-here t r (y .node) e);
+          left-few = says-few writes (l .node) _ (x .node);
+          right-few = says-few writes (r .node) _ (y .node);
           kept = kept-both;
         }
 
@@ -214,11 +216,12 @@ module _ {new : ℕ} {writes : Bool} {from : ℕ} {s : Bytes} {p : place.Place} 
         pub inner-did : (w₂ : Bool) → writes ≡ w₂ → {s₃ : Bytes} {o : declared.Outcome} → Settled new w₂ s₂ s₃ p slot l r o →
             Did new writes from s s₃ (atNode new s p v part) o
         inner-did w₂ same {s₃} {o} z =
-            let (a, b, e′, sl, sr) = z .node in
+            let (a, b, e′, sl, sr, ws) = z .node in
             let e : whole ≡ vinner v a b = sym read-again ∙ e′ ∙ ap (λ u. vinner u a b) same-version in
             let is : whole ≡ vinner v (kid left whole) (kid right whole) = rw e refl in
             let la : childSays (z .left-child) ≡ childOf leafHash innerHash (kid left whole) = rw e sl in
             let lb : childSays (z .right-child) ≡ childOf leafHash innerHash (kid right whole) = rw e sr in
+            let lw : Weighs (z .lefts) (z .rights) (kid left whole) (kid right whole) = rw e ws in
             let k : Numbered (vinner v (kid left whole) (kid right whole)) = subst Numbered is (numbered (w .here)) in
             let older-kid : (b : Side) → Older new (longer b (placeOf p)) (kid b whole) = λ b. kid-older b new (placeOf p) whole (w .here .older) in
             subst (λ u. Did new writes from s s₃ u o) (step-is is)
@@ -226,7 +229,8 @@ module _ {new : ℕ} {writes : Bool} {from : ℕ} {s : Bytes} {p : place.Place} 
             la lb (k .1) (k .2) x y (child-new left-here) (child-new right-here) (child-ends right-here)
             (λ u i m. older-kid left u i (at-node u i (kid left whole) (longer left (placeOf p)) m .0))
             (λ u i m. older-kid right u i (at-node u i (kid right whole) (longer right (placeOf p)) m .0))
-            (subst₂ (λ (t : Bool) (u : ℕ). SettledTo (settledSays l r) new t s₂ s₃ p u (z .left-child) (z .right-child) l r o) (sym same) same-version (z .settled)))
+            lw (omega (arith, child-few left-here, child-few right-here))
+            (subst₂ (λ (t : Bool) (u : ℕ). SettledTo (settledSays l r) new t s₂ s₃ p u (z .left-child) (z .right-child) (z .lefts) (z .rights) l r o) (sym same) same-version (z .settled)))
 
 -- by what was found
 module _ {new : ℕ} {writes : Bool} {from : ℕ} {s : Bytes} {p : place.Place} {v : ℕ} {part : Bytes} (w : Here new writes from s p v part) (o : found.Found)

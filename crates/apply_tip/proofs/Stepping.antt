@@ -12,9 +12,10 @@ use denote.Enum.Declared.{tagOf}
 use Rattle.terms.specs.Bits.{Bytes, Side, Place, All, longer, left, right, begins}
 use Rattle.terms.specs.Records.{Grant, grant, Ask, askKey}
 use Rattle.terms.specs.Form.{top32, AskForm, RecordForm}
-use Rattle.meaning.specs.Tree.{Tree, VTree, vnone, vleaf, vinner, unversioned, grantsIn}
+use Rattle.meaning.specs.Tree.{Tree, VTree, vnone, vleaf, vinner, unversioned, grantsIn, leaves}
 use Rattle.meaning.specs.Runs.{run}
 use Rattle.meaning.specs.Calls.{ascending}
+use Rattle.meaning.proofs.Leaves.{few-leaves}
 use Rattle.meaning.proofs.Shaped.{Shaped}
 use Rattle.histories.proofs.Trees.{stands-shaped}
 use Rattle.hash.specs.declared.Hash.{Hash}
@@ -23,9 +24,11 @@ use Rattle.nodehash.specs.Node.{leafHash, innerHash}
 use Rattle.place.specs.declared.Place as place
 use Rattle.place.specs.Place.{placeOf}
 use Rattle.place.proofs.Places.{proper-count}
+use Rattle.layout.specs.Sizes.{mostSlots}
 use Rattle.layout.specs.Stores.{storeOf}
 use Rattle.lookup.specs.declared.Found as found
 use Rattle.lookup.specs.declared.Found.the-variants as F
+use Rattle.batch.specs.Sizes.{mostRecords}
 use Rattle.batch.specs.Batch.{asks}
 use Rattle.batch.proofs.Records.{asks-whole, length-asks}
 use Rattle.steps.specs.Step as step
@@ -33,10 +36,12 @@ use Rattle.steps.specs.Given.{Gives}
 use Rattle.steps.proofs.Fitting.{Fits, fits-shaped}
 use Rattle.steps.proofs.Steps.{after, step-gives, child-gives, shaped-fits}
 use Rattle.steps.proofs.Idle.{idle-run-is-unchanged}
+use Rattle.steps.proofs.Leaves.{step-leaves}
 use Rattle.steps.proofs.Writing.{AllNew, AllOlder, given-new, given-older}
 use Rattle.apply_place.specs.declared.Node as node
 use Rattle.apply_place.specs.declared.Node.the-variants as N
 use Rattle.apply_place.proofs.Node as node-type
+use Rattle.apply_place.proofs.Changing.{stored-accepted}
 use Rattle.apply_place.specs.Reach.{Reaches}
 use Rattle.apply_place.proofs.Reaching.{reaches-none}
 use Rattle.apply_outcome.specs.declared.Outcome as declared
@@ -141,6 +146,21 @@ module _ {new : ℕ} {writes : Bool} {from : ℕ} {s : Bytes} {p : place.Place} 
           sym (idle-run-is-unchanged leafHash innerHash new (256 - p .count) (placeOf p) tree [] long shaped (w .older) form under up tt)
       go (a ∷ as′) f form under up = refl
 
+  -- what it leaves has no more leaves than slots and asks
+  pub child-few : leaves (atChild new s p v part .node) ≤ mostSlots + mostRecords
+  unfolding atNode
+  child-few =
+      let a = stored-accepted (w .standing .stored) .fits in
+      subst (λ o. leaves (o .node) ≤ mostSlots + mostRecords) (sym child-is-node)
+      (omega (
+        arith,
+        a,
+        step-leaves leafHash innerHash new (256 - p .count) (placeOf p) tree (asks part),
+        length-asks part,
+        w .run .few,
+        few-leaves leafHash innerHash (storeOf s) (placeOf p) tree (w .standing .stands),
+      ))
+
   -- the node is there once
   pub is-once : Once s v p
   is-once = record {
@@ -231,4 +251,4 @@ module _ {new : ℕ} {writes : Bool} {from : ℕ} {s : Bytes} {p : place.Place} 
         go : {A : Type 0} (m : node.Node) → OneOf (0 ∷ 2 ∷ []) (tagOf node-type.the-type m) → HoldsNode m (tip-used .held) → NodeSays true m (treeHere s p v) → A
         go N.Nothing k b e = absurd b
         go (N.Leaf u x y) k b e = absurd (⊎-elim (λ e. omega arith) (λ e. omega arith) k)
-        go (N.Inner u x y) k b e = absurd (true≢false (sym (ap isInner (e .2)) ∙ w .tip))
+        go (N.Inner u x y i j) k b e = absurd (true≢false (sym (ap isInner (e .2)) ∙ w .tip))

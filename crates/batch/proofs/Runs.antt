@@ -6,7 +6,7 @@ use mathlib.Core.Path.{_≡_, refl, ap, sym, _∙_}
 use mathlib.Core.Bool.{Bool, true, false, cond, Bool·beq, false≢true}
 use mathlib.Core.List.{List, [], _∷_}
 use lib.ListN.{length, getD, length-take, length-drop}
-use borrow.Author.Tests.{eqb-true}
+use borrow.Author.Tests.{eqb-true, leb-true}
 use Rattle.terms.specs.Bits.{Bytes, Byte, All, Side, Place, bits, bit, begins, before, longer, filter}
 use Rattle.terms.specs.Records.{Ask, askKey}
 use Rattle.terms.specs.Form.{AskForm}
@@ -19,7 +19,7 @@ use Rattle.meaning.specs.Calls.{ascending}
 use Rattle.place.specs.declared.Place as declared
 use Rattle.place.specs.Place.{placeOf, Proper, Grown}
 use Rattle.place.proofs.Places.{proper-count}
-use Rattle.batch.specs.Sizes.{recordSize}
+use Rattle.batch.specs.Sizes.{recordSize, mostRecords}
 use Rattle.batch.specs.Batch.{ask, askForm, count, recordsOf, asks, batchForm}
 use Rattle.batch.specs.Records.{askAt}
 use Rattle.batch.specs.Runs.{Run, RunAt, onSide, lefts, half, runOf}
@@ -142,6 +142,10 @@ whole-half : (b : Side) (m : ℕ) (run : Bytes) → m ≤ count run → length r
 whole-half false m run h e = simp length-take (omega arith)
 whole-half true m run h e = simp length-drop (omega arith)
 
+few-half : (b : Side) (m : ℕ) (run : Bytes) → m ≤ count run → count run ≤ mostRecords → count (half b (recordSize * m) run) ≤ mostRecords
+few-half false m run h e = simp length-take (omega arith)
+few-half true m run h e = simp length-drop (omega arith)
+
 module _ (b : Side) (i : ℕ) (run : Bytes) (w : RunAt i run) where
   -- a part of a run is exactly the records whose key goes on to its side
   pub asks-of-part : asks (runOf b i run) ≡ filter (onSide b i) (asks run)
@@ -166,6 +170,7 @@ module _ (b : Side) (i : ℕ) (run : Bytes) (w : RunAt i run) where
       record {
         bytes = all-half Byte b (recordSize * lefts i run) run (w .holds .bytes);
         whole = whole-half b (lefts i run) run m (w .holds .whole);
+        few = few-half b (lefts i run) run m (w .holds .few);
         form = rw (records-half b (lefts i run) run m) (all-half (λ x. askForm x ≡ true) b (lefts i run) (recordsOf run) (w .holds .form));
         order = rw asks-of-part (ascending-filter (onSide b i) (asks run) (w .holds .order));
         under = rw asks-of-part under-longer;
@@ -194,6 +199,7 @@ run-of-batch b h e o =
     record {
       bytes = h;
       whole = eqb-true (length b % recordSize) 0 (t .0);
+      few = leb-true (count b) mostRecords (t .1 .0);
       form = every-all askForm (recordsOf b) (t .1 .1 .0);
       order = o;
       under = all-map AskForm (λ a. true ≡ true) (asks b) (λ a k. refl) (asks-whole b h);

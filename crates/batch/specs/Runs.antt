@@ -1,6 +1,6 @@
 -- Document 01, 'The tree of a set of grants': each child is handed its own run of the batch, uncopied. The run at a place is a part of the
 -- batch, the records whose keys begin with the place; bit 0 means left, 1 right. Assumes nothing.
-use Prim.Native.Nat.{ℕ, _*_, _<_, _%_}
+use Prim.Native.Nat.{ℕ, _*_, _<_, _≤_, _%_}
 use mathlib.Core.Path.{_≡_}
 use mathlib.Core.Bool.{Bool, true, false, Bool·beq}
 use mathlib.Core.List.{List}
@@ -8,13 +8,14 @@ use lib.ListN.{length, take, drop}
 use Rattle.terms.specs.Bits.{Bytes, Byte, All, Side, Place, left, bit, begins, filter}
 use Rattle.terms.specs.Records.{Ask, askKey}
 use Rattle.meaning.specs.Calls.{ascending}
-use Rattle.batch.specs.Sizes.{recordSize}
-use Rattle.batch.specs.Batch.{askForm, recordsOf, asks}
+use Rattle.batch.specs.Sizes.{recordSize, mostRecords}
+use Rattle.batch.specs.Batch.{askForm, count, recordsOf, asks}
 
--- Whole records in form, keys strictly ascending, each key begins with the place.
+-- Whole records in form, 1,024 at most, keys strictly ascending, each key begins with the place.
 pub record Run (p : Place) (run : Bytes) : Type 0 where
   pub bytes : All Byte run
   pub whole : length run % recordSize ≡ 0
+  pub few : count run ≤ mostRecords
   pub form : All (λ x. askForm x ≡ true) (recordsOf run)
   pub order : ascending (asks run) ≡ true
   pub under : All (λ a. begins p (askKey a) ≡ true) (asks run)

@@ -11,6 +11,7 @@ use lib.Dec.{leb, ltb}
 use borrow.Author.Tests.{leb-true, lt-ltb, le-ltb}
 use types.Run.{OneOf}
 use denote.Enum.Declared.{tagOf}
+use Rattle.terms.specs.declared.Form.the-variants.{Counted as counted}
 use Rattle.terms.specs.Bits.{Bytes, Byte, All}
 use Rattle.terms.specs.Records.{Store}
 use Rattle.terms.proofs.Tests.{and-left, and-right}
@@ -114,8 +115,8 @@ kept-says st v e =
     (leb-true (st .oldest) v (and-left (leb (st .oldest) v) (leb v (st .latest)) e), leb-true v (st .latest) (and-right (leb (st .oldest) v) (leb v (st .latest)) e))
 
 module _ {s : Bytes} (w : SoundBytes s) where
-  pub sound-size : sizeRight (length s) ≡ true
-  sound-size = let h = header-accepted s (w .capacity) (w .oldest) (w .latest) (w .headed) in size-right-of (length s) (w .capacity) (h .size) (h .some) (h .fits)
+  pub sound-size : sizeRight counted (length s) ≡ true
+  sound-size = let h = header-accepted s (w .capacity) (w .oldest) (w .latest) (w .headed) in size-right-of counted (length s) (w .capacity) (h .size) (h .some) (h .fits)
 
   sound-apart : Apart (storeOf s)
   unfolding Apart

@@ -11,6 +11,7 @@ use read_open::open;
 use refusal_numbers::NO_ROOM;
 use refusal_numbers::NOT_KEPT;
 use refusal_numbers::TOO_MANY_VISITS;
+use terms::Form;
 ghost use Rattle.promises.specs.Calls.{SoundBytes};
 ghost use Rattle.changes.specs.Parts.{comparedSays, Compares};
 
@@ -59,7 +60,7 @@ fn changes_sound(store: &[u8], first: u32, second: u32, limit: u32, room: &mut [
 pub fn changes(store: &[u8], first: u32, second: u32, limit: u32, room: &mut [u8]) -> Compared
     ensures { λ r. ⌜ Compares first second limit (now (store .entry)) (now (room .entry)) (comparedSays r) (now (room .exit)) ⌝ }
 {
-    let refusal = check(store);
+    let refusal = check(Form::Counted, store);
     if refusal != 0 {
         return Compared::Refused(refusal);
     }

@@ -4,6 +4,7 @@ use native.Mathlib.Omega.{arith}
 use mathlib.Core.Path.{_≡_, ap₂, sym, _∙_, subst}
 use mathlib.Core.Bool.{Bool, true}
 use lib.ListN.{length}
+use Rattle.terms.specs.declared.Form.the-variants.{Counted as counted}
 use Rattle.terms.specs.Bits.{Bytes, Place}
 use Rattle.terms.specs.Records.{free, used}
 use Rattle.terms.proofs.Members.{getD-in}
@@ -34,12 +35,12 @@ guessed s v p {i} apart e h =
 
 -- the bytes of a store of n slots
 pub record Room (s : Bytes) (n : ℕ) : Type 0 where
-  pub size : sizeRight (length s) ≡ true
-  pub many : n ≡ roomOf (length s)
+  pub size : sizeRight counted (length s) ≡ true
+  pub many : n ≡ roomOf counted (length s)
   pub small : n ≤ mostSlots
 
-pub room-of-size : {s : Bytes} {n : ℕ} → sizeRight (length s) ≡ true → n ≡ roomOf (length s) → Room s n
-room-of-size {s} h e = record { size = h; many = e; small = omega (arith, size-says (length s) h) }
+pub room-of-size : {s : Bytes} {n : ℕ} → sizeRight counted (length s) ≡ true → n ≡ roomOf counted (length s) → Room s n
+room-of-size {s} h e = record { size = h; many = e; small = omega (arith, size-says counted (length s) h) }
 
-pub room-slot : {s : Bytes} {n i : ℕ} → Room s n → i < n → SlotWithin i s
+pub room-slot : {s : Bytes} {n i : ℕ} → Room s n → i < n → SlotWithin counted i s
 room-slot {s} r l = slot-within (slot-has s (r .size) (r .many) l)

@@ -12,6 +12,7 @@ use store::retired_at;
 use store::slot_count;
 use store::slot_of;
 use store::version_at;
+use terms::Form;
 ghost use mathlib.Core.Path.{_≡_};
 ghost use mathlib.Core.Bool.{true};
 ghost use Prim.Native.Nat.{_<_};
@@ -56,13 +57,13 @@ fn keep(guesses: &mut [u16; 16384], b: usize, slot: u16)
 
 // Whether the fields of slot i say that its record stands in one of two versions.
 fn stands_in(store: &[u8], i: usize, first: u32, second: u32) -> bool
-    requires { ⌜ SlotWithin i (now store) ⌝ }
+    requires { ⌜ SlotWithin Form.Counted i (now store) ⌝ }
 {
-    let from = version_at(store, i);
+    let from = version_at(Form::Counted, store, i);
     if from == 0 {
         return false;
     }
-    let since = retired_at(store, i);
+    let since = retired_at(Form::Counted, store, i);
     if covers(from, since, first) {
         return true;
     }
@@ -71,17 +72,17 @@ fn stands_in(store: &[u8], i: usize, first: u32, second: u32) -> bool
 
 // Guesses the slots of all nodes of two versions.
 pub fn guess_both(store: &[u8], first: u32, second: u32, guesses: &mut [u16; 16384])
-    requires { ⌜ sizeRight (length (now store)) ≡ true ⌝ }
+    requires { ⌜ sizeRight Form.Counted (length (now store)) ≡ true ⌝ }
 {
-    let n = slot_count(store);
+    let n = slot_count(Form::Counted, store);
     let mut i = 0;
     while i < n {
         if stands_in(store, i, first, second) {
-            let version = version_at(store, i);
-            let count = count_at(store, i) as usize;
+            let version = version_at(Form::Counted, store, i);
+            let count = count_at(Form::Counted, store, i) as usize;
             keep(
                 guesses,
-                start_of(version, count, bits_of(slot_of(store, i))),
+                start_of(version, count, bits_of(slot_of(Form::Counted, store, i))),
                 i as u16,
             );
         }
@@ -91,7 +92,7 @@ pub fn guess_both(store: &[u8], first: u32, second: u32, guesses: &mut [u16; 163
 
 // The slot of the node (version, place), which is there once at most: a guess that is right, or what a search finds.
 pub fn find_near(store: &[u8], guesses: &[u16; 16384], version: u32, place: Place) -> Found
-    requires { ⌜ ((sizeRight (length (now store)) ≡ true) × Apart (storeOf (now store))) × Proper place ⌝ }
+    requires { ⌜ ((sizeRight Form.Counted (length (now store)) ≡ true) × Apart (storeOf (now store))) × Proper place ⌝ }
     ensures { λ r. ⌜ FoundIn (storeOf (now (store .entry)) .slots) version (placeOf place) r ⌝ }
 {
     let bits = place.bits;
@@ -100,12 +101,12 @@ pub fn find_near(store: &[u8], guesses: &[u16; 16384], version: u32, place: Plac
     while j < GUESSES {
         let i = slot_number(guesses[(b + j) % GUESSES]);
         if i == 0 {
-            return find(store, version, place);
+            return find(Form::Counted, store, version, place);
         }
         if holds(store, i, version, place) {
             return Found::At(i);
         }
         j += 1;
     }
-    find(store, version, place)
+    find(Form::Counted, store, version, place)
 }

@@ -8,6 +8,7 @@ use mathlib.Core.List.{List, [], _∷_, _++_, append-nil}
 use lib.ListN.{length, take, drop, length-append, take-append-drop}
 use types.Run.{OneOf}
 use denote.Enum.Declared.{tagOf}
+use Rattle.terms.specs.declared.Form.the-variants.{Counted as counted}
 use Rattle.terms.specs.Bits.{Bytes, before, sameBytes}
 use Rattle.terms.specs.Fields.{le, zeroBytes, flat}
 use Rattle.terms.specs.Records.{Grant, grant}
@@ -20,6 +21,7 @@ use Rattle.layout.specs.Sizes.{grantSize}
 use Rattle.layout.specs.Slots.{keyIn, valueIn, grantIn}
 use Rattle.layout.specs.Stores.{slotIn, SlotWithin}
 use Rattle.slots.proofs.Parts.{grant-key, grant-value, key-long, value-long}
+use Rattle.layout.proofs.Headers.{size-long}
 use Rattle.store.proofs.Slots.{slot-long}
 use Rattle.changed.specs.Changes.{added, removed, another, changed, Item, inserts, deletes, items, itemSize, itemAs, itemBytes, listBytes}
 use Rattle.changed.proofs.Ends.{item-long, removed-first, added-first, one-key, only-removed}
@@ -67,15 +69,15 @@ put-on true at m n f g s d e h =
 put-on false at m n f g s d e h = refl
 
 -- the grant in a slot
-module _ (s : Bytes) (i : ℕ) (h : SlotWithin i s) where
-  pub grant-is : {x g : Bytes} → x ≡ slotIn i s → g ≡ grantIn x → grantOf g ≡ grantAt i s
+module _ (s : Bytes) (i : ℕ) (h : SlotWithin counted i s) where
+  pub grant-is : {x g : Bytes} → x ≡ slotIn counted i s → g ≡ grantIn x → grantOf g ≡ grantAt i s
   unfolding grantOf grantAt
-  grant-is {x} {g} d e = rw (e ∙ ap grantIn d) (ap₂ grant (grant-key (slotIn i s)) (grant-value (slotIn i s)))
+  grant-is {x} {g} d e = rw (e ∙ ap grantIn d) (ap₂ grant (grant-key (slotIn counted i s)) (grant-value (slotIn counted i s)))
 
   pub item-sized : (kind : ℕ) → length (itemAs kind (grantAt i s)) ≡ itemSize * 1
   unfolding grantAt
   item-sized kind =
-      item-long kind (grantAt i s) (key-long (slotIn i s) (slot-long i s h), value-long (slotIn i s) (slot-long i s h))
+      let l = size-long counted (slotIn counted i s) (slot-long counted i s h) in item-long kind (grantAt i s) (key-long (slotIn counted i s) l, value-long (slotIn counted i s) l)
 
 -- the fields of a record fill its 72 bytes
 grant-parts : (g : Bytes) → flat (g ∷ []) ≡ flat (take 32 g ∷ drop 32 g ∷ [])
@@ -100,7 +102,7 @@ item-put {a} {b} {c} {y} kind part g l m ea eb ec ey =
 pub not-put : (w : Bool) (at : ℕ) (f s : Bytes) → w ≡ false → s ≡ putInto w at f s
 not-put w at f s e = rw e
 
-pub record-put : {x g y : Bytes} (s : Bytes) (i : ℕ) → SlotWithin i s → (kind : ℕ) (w : Bool) (at : ℕ) (room : Bytes) → w ≡ true → x ≡ slotIn i s →
+pub record-put : {x g y : Bytes} (s : Bytes) (i : ℕ) → SlotWithin counted i s → (kind : ℕ) (w : Bool) (at : ℕ) (room : Bytes) → w ≡ true → x ≡ slotIn counted i s →
     g ≡ grantIn x → y ≡ itemAs kind (grantOf g) →
     take (itemSize * at) room ++ (y ++ drop (itemSize * at + itemSize - itemSize * at) (drop (itemSize * at) room))
     ≡ putInto w at (itemAs kind (grantAt i s)) room
@@ -140,7 +142,7 @@ pub puts-as : {w : Bool} {at n : ℕ} {room left : Bytes} {xs ys : List Item} �
 puts-as {w} {at} {n} {room} {left} e h = subst (λ y. Puts w at y room n left) (sym e) h
 
 -- the key and the value in a slot
-module _ (s : Bytes) (i : ℕ) {x f : Bytes} (d : x ≡ slotIn i s) where
+module _ (s : Bytes) (i : ℕ) {x f : Bytes} (d : x ≡ slotIn counted i s) where
   pub key-is : f ≡ keyIn x → f ≡ grantAt i s .key
   unfolding grantAt
   key-is e = e ∙ ap keyIn d

@@ -5,6 +5,7 @@ use mathlib.Core.Path.{_≡_}
 use mathlib.Core.Bool.{Bool, true, false}
 use mathlib.Core.List.{List, [], _∷_}
 use lib.ListN.{length, take, drop}
+use Rattle.terms.specs.declared.Form.the-variants.{Counted as counted}
 use Rattle.terms.specs.Bits.{Bytes}
 use Rattle.terms.specs.Records.{Grant, grant}
 use Rattle.fields.specs.Written.{written}
@@ -44,7 +45,7 @@ pub record Fits (writes : Bool) (n at : ℕ) (room : Bytes) : Type 0 where
 -- The slot of a top that is a leaf is one of the store's.
 abbrev pub LeafIn : Bytes → top.Top → Type 0
 LeafIn s Nothing = Unit {0}
-LeafIn s (Leaf i) = SlotWithin i s
+LeafIn s (Leaf i) = SlotWithin counted i s
 LeafIn s (Inner v l r) = Unit {0}
 
 -- Two tops, and room for what changed between them.

@@ -10,6 +10,7 @@ use slots::grant_of;
 use slots::key_of;
 use slots::value_of;
 use store::slot_of;
+use terms::Form;
 ghost use mathlib.Core.Path.{_≡_};
 ghost use mathlib.Core.List.{_++_};
 ghost use Prim.Native.Nat.{_+_};
@@ -40,7 +41,7 @@ fn put_item(part: &mut [u8], kind: u16, grant: &[u8])
 
 // The record with the grant of the leaf in slot i, as number `at` of the list.
 fn put_record(store: &[u8], i: usize, kind: u16, writes: bool, room: &mut [u8], at: usize)
-    requires { ⌜ SlotWithin i (now store) × Fits writes 1 at (now room) ⌝ }
+    requires { ⌜ SlotWithin Form.Counted i (now store) × Fits writes 1 at (now room) ⌝ }
     ensures { λ _. ⌜ now (room .exit) ≡ putInto writes at (itemAs kind (grantAt i (now (store .entry)))) (now (room .entry)) ⌝ }
 {
     if !writes {
@@ -48,7 +49,11 @@ fn put_record(store: &[u8], i: usize, kind: u16, writes: bool, room: &mut [u8], 
     }
     let start = ITEM_SIZE * at;
     let end = start + ITEM_SIZE;
-    put_item(&mut room[start..end], kind, grant_of(slot_of(store, i)));
+    put_item(
+        &mut room[start..end],
+        kind,
+        grant_of(slot_of(Form::Counted, store, i)),
+    );
 }
 
 // Two records, one after the other; answers the number of the next one.
@@ -62,7 +67,7 @@ fn put_pair(
     room: &mut [u8],
     at: usize,
 ) -> usize
-    requires { ⌜ (SlotWithin i (now store) × SlotWithin j (now store)) × Fits writes 2 at (now room) ⌝ }
+    requires { ⌜ (SlotWithin Form.Counted i (now store) × SlotWithin Form.Counted j (now store)) × Fits writes 2 at (now room) ⌝ }
     ensures next { λ r. ⌜ r ≡ at + 2 ⌝ }
     ensures bytes { λ _. ⌜ now (room .exit) ≡ putInto writes at (itemAs kind (grantAt i (now (store .entry))) ++ itemAs other (grantAt j (now (store .entry)))) (now (room .entry)) ⌝ }
 {
@@ -73,11 +78,11 @@ fn put_pair(
 
 // What changed from the leaf in slot i to the one in slot j; answers the number of the next record.
 fn put_two(store: &[u8], i: usize, j: usize, writes: bool, room: &mut [u8], at: usize) -> usize
-    requires { ⌜ (SlotWithin i (now store) × SlotWithin j (now store)) × Fits writes (length (twoItems (now store) i j)) at (now room) ⌝ }
+    requires { ⌜ (SlotWithin Form.Counted i (now store) × SlotWithin Form.Counted j (now store)) × Fits writes (length (twoItems (now store) i j)) at (now room) ⌝ }
     ensures { λ r. ⌜ Puts writes at (twoItems (now (store .entry)) i j) (now (room .entry)) r (now (room .exit)) ⌝ }
 {
-    let old = slot_of(store, i);
-    let new = slot_of(store, j);
+    let old = slot_of(Form::Counted, store, i);
+    let new = slot_of(Form::Counted, store, j);
     if before(key_of(new), key_of(old)) {
         return put_pair(store, j, INSERTS, i, DELETES, writes, room, at);
     }

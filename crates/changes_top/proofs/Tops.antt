@@ -1,4 +1,4 @@
--- The record that is found is the top of the tree that is read on from there: a record in form says what its 120 bytes say, and an inner one
+-- The record that is found is the top of the tree that is read on from there: a record in form says what its slot's bytes say, and an inner one
 -- stands at a place shorter than a key. Assumes nothing.
 use Prim.Native.Nat.{ℕ, zero, suc, _-_, _<_, _≤_}
 use native.Mathlib.Omega.{arith}
@@ -12,6 +12,7 @@ use lib.Dec.{eqb}
 use borrow.Author.Tests.{ne-eqb}
 use types.Run.{OneOf}
 use denote.Enum.Declared.{tagOf}
+use Rattle.terms.specs.declared.Form.the-variants.{Counted as counted}
 use Rattle.terms.specs.Bits.{Bytes, Byte, All, Side, right, Place, longer, bit}
 use Rattle.terms.specs.Records.{Body, leafBody, innerBody, Record, free, used}
 use Rattle.terms.specs.Form.{RecordForm, placeLimit}
@@ -51,42 +52,42 @@ inner-limit x = refl
 abbrev onwards : Bytes → place.Place → Side → ℕ → VTree
 onwards s p b w = treeFrom (255 - p .count) (storeOf s .slots) w (longer b (placeOf p))
 
-module _ (s : Bytes) (size : sizeRight (length s) ≡ true) (bytes : All Byte s) where
+module _ (s : Bytes) (size : sizeRight counted (length s) ≡ true) (bytes : All Byte s) where
   -- the record in slot i stands at a place
   module _ (i : ℕ) (r : Record) (l : i < length (storeOf s .slots)) (is : getD (storeOf s .slots) i free ≡ used r) where
-    inside : i < roomOf (length s)
-    inside = rw (slots-many s) at l
+    inside : i < roomOf counted (length s)
+    inside = rw (slots-many counted s) at l
 
-    pub its-slot : SlotWithin i s
-    its-slot = slot-fits s size i inside
+    pub its-slot : SlotWithin counted i s
+    its-slot = slot-fits counted s size i inside
 
-    slot-says : slotOf (slotIn i s) ≡ used r
-    slot-says = sym (slot-at s i inside) ∙ is
+    slot-says : slotOf (slotIn counted i s) ≡ used r
+    slot-says = sym (slot-at counted s i inside) ∙ is
 
     form : RecordForm r
-    form = subst SlotForm slot-says (slot-form (slotIn i s) (slot-long i s its-slot) (slot-bytes i s bytes))
+    form = subst (SlotForm counted) slot-says (slot-form counted (slotIn counted i s) (slot-long counted i s its-slot) (slot-bytes counted i s bytes)) .0
 
     module _ (p : place.Place) (proper : Proper p) (at : r .place ≡ placeOf p) where
       abbrev treeOn : Record → VTree
       treeOn q = treeBelow (q .version) (q .body) (onwards s p)
 
-      short : isLeaf (slotIn i s) ≡ false → p .count < 256
+      short : isLeaf (slotIn counted i s) ≡ false → p .count < 256
       unfolding recordIn
       short e =
-          let it = ap (λ (q : Record). placeLimit (q .body)) (sym (record-is (slotIn i s) r slot-says)) in
+          let it = ap (λ (q : Record). placeLimit (q .body)) (sym (record-is (slotIn counted i s) r slot-says)) in
           let limit : placeLimit (r .body) ≡ 255 = it ∙ kind in
           omega (arith, form .short, ap length at, proper-count p proper)
         where
-          kind : placeLimit (bodyIn (slotIn i s)) ≡ 255
-          kind = rw e (inner-limit (slotIn i s))
+          kind : placeLimit (bodyIn (slotIn counted i s)) ≡ 255
+          kind = rw e (inner-limit (slotIn counted i s))
 
       pub found-top : TopSays s p (treeOn r) (topIn i s)
       unfolding topIn recordIn leafIn innerIn grantAt
-      found-top = subst (λ q. TopSays s p (treeOn q) (topIn i s)) (record-is (slotIn i s) r slot-says) (go (isLeaf (slotIn i s)) refl)
+      found-top = subst (λ q. TopSays s p (treeOn q) (topIn i s)) (record-is (slotIn counted i s) r slot-says) (go (isLeaf (slotIn counted i s)) refl)
         where
-          go : (b : Bool) → isLeaf (slotIn i s) ≡ b →
-              TopSays s p (treeOn (recordIn (slotIn i s) (cond b (leafIn (slotIn i s)) (innerIn (slotIn i s)))))
-              (cond b (Leaf i) (Inner (versionIn (slotIn i s)) (leftIn (slotIn i s) .version) (rightIn (slotIn i s) .version)))
+          go : (b : Bool) → isLeaf (slotIn counted i s) ≡ b →
+              TopSays s p (treeOn (recordIn (slotIn counted i s) (cond b (leafIn (slotIn counted i s)) (innerIn (slotIn counted i s)))))
+              (cond b (Leaf i) (Inner (versionIn (slotIn counted i s)) (leftIn (slotIn counted i s) .version) (rightIn (slotIn counted i s) .version)))
           go true e = record { right = inside; tree = refl }
           go false e = record { right = short e; tree = refl }
 
@@ -148,12 +149,12 @@ module _ (s : Bytes) (size : sizeRight (length s) ≡ true) (bytes : All Byte s)
   root-missing p v e = record { right = tt; tree = sym (ap (λ o. treeFound o (λ b w. treeFrom 255 (storeOf s .slots) w (b ∷ []))) e) }
 
 -- the record in a slot, read
-pub leaf-top : (s : Bytes) (i : ℕ) {x : Bytes} {b : Bool} → x ≡ slotIn i s → b ≡ isLeaf x → b ≡ true → Leaf i ≡ topIn i s
+pub leaf-top : (s : Bytes) (i : ℕ) {x : Bytes} {b : Bool} → x ≡ slotIn counted i s → b ≡ isLeaf x → b ≡ true → Leaf i ≡ topIn i s
 unfolding topIn
 leaf-top s i q d e = rw (ap isLeaf (sym q) ∙ sym d ∙ e)
 
-pub inner-top : (s : Bytes) (i : ℕ) {x : Bytes} {v l r : ℕ} {b : Bool} → x ≡ slotIn i s → b ≡ isLeaf x → b ≡ false → v ≡ versionIn (slotIn i s) →
-    l ≡ leftIn (slotIn i s) .version → r ≡ rightIn (slotIn i s) .version → Inner v l r ≡ topIn i s
+pub inner-top : (s : Bytes) (i : ℕ) {x : Bytes} {v l r : ℕ} {b : Bool} → x ≡ slotIn counted i s → b ≡ isLeaf x → b ≡ false → v ≡ versionIn (slotIn counted i s) →
+    l ≡ leftIn (slotIn counted i s) .version → r ≡ rightIn (slotIn counted i s) .version → Inner v l r ≡ topIn i s
 unfolding topIn
 inner-top s i q d e f g h = rw (ap isLeaf (sym q) ∙ sym d ∙ e, f, g, h)
 
@@ -182,7 +183,7 @@ module _ (s : Bytes) (p q : place.Place) (b : Side) (grown : Grown b p q) where
       go false g = ap (λ m. treeFrom (255 - p .count) (storeOf s .slots) m (longer false (placeOf p))) g
 
   -- or the leaf, if its key goes there
-  module _ {t : declared.Top} (i : ℕ) (e : t ≡ Leaf i) {x k : Bytes} {c : Bool} (slot : x ≡ slotIn i s) (key : k ≡ keyIn x)
+  module _ {t : declared.Top} (i : ℕ) (e : t ≡ Leaf i) {x k : Bytes} {c : Bool} (slot : x ≡ slotIn counted i s) (key : k ≡ keyIn x)
       (goes : c ≡ bit (p .count) k) where
     leaf-goes : under (p .count) b (topTree s p t) ≡ cond (Bool·beq b c) (topTree s p (Leaf i)) vnone
     unfolding grantAt
@@ -224,7 +225,7 @@ neither-inner Nothing Nothing a b s p = refl
 neither-inner Nothing (Leaf j) a b s p = refl
 neither-inner Nothing (Inner w m q) a b s p = absurd (⊎-elim (λ e. omega arith) (λ e. omega arith) b)
 neither-inner (Leaf i) Nothing a b s p = refl
-neither-inner (Leaf i) (Leaf j) a b s p = or-true (eqb (versionIn (slotIn i s)) (versionIn (slotIn j s)))
+neither-inner (Leaf i) (Leaf j) a b s p = or-true (eqb (versionIn (slotIn counted i s)) (versionIn (slotIn counted j s)))
 neither-inner (Leaf i) (Inner w m q) a b s p = absurd (⊎-elim (λ e. omega arith) (λ e. omega arith) b)
 neither-inner (Inner v l r) u a b s p = absurd (⊎-elim (λ e. omega arith) (λ e. omega arith) a)
 

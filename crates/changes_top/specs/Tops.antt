@@ -4,6 +4,7 @@ use Prim.Native.Nat.{ℕ, _-_, _<_}
 use mathlib.Core.Path.{_≡_}
 use mathlib.Core.Bool.{Bool, cond}
 use lib.ListN.{length}
+use Rattle.terms.specs.declared.Form.the-variants.{Counted as counted}
 use Rattle.terms.specs.Bits.{Bytes, left, right, longer}
 use Rattle.terms.specs.Records.{Grant, grant}
 use Rattle.meaning.specs.Tree.{VTree, vnone, vleaf, vinner}
@@ -19,13 +20,13 @@ use Rattle.changes_top.specs.declared.Top.the-variants.{Nothing, Leaf, I
 
 -- The grant of the leaf in slot i.
 unfoldable pub grantAt : ℕ → Bytes → Grant
-grantAt i s = grant (keyIn (slotIn i s)) (valueIn (slotIn i s))
+grantAt i s = grant (keyIn (slotIn counted i s)) (valueIn (slotIn counted i s))
 
 -- What the record in slot i is the top of.
 unfoldable pub topIn : ℕ → Bytes → declared.Top
 topIn i s =
-    cond (isLeaf (slotIn i s)) (Leaf i)
-    (Inner (versionIn (slotIn i s)) (leftIn (slotIn i s) .version) (rightIn (slotIn i s) .version))
+    cond (isLeaf (slotIn counted i s)) (Leaf i)
+    (Inner (versionIn (slotIn counted i s)) (leftIn (slotIn counted i s) .version) (rightIn (slotIn counted i s) .version))
 
 -- The tree that is read on from a version and place.
 unfoldable pub treeHere : Bytes → place.Place → ℕ → VTree
@@ -34,7 +35,7 @@ treeHere s p v = treeFrom (256 - p .count) (storeOf s .slots) v (placeOf p)
 -- The tree with this top at a place; a leaf's record may stand further up.
 abbrev pub topTree : Bytes → place.Place → declared.Top → VTree
 topTree s p Nothing = vnone
-topTree s p (Leaf i) = vleaf (versionIn (slotIn i s)) (grantAt i s)
+topTree s p (Leaf i) = vleaf (versionIn (slotIn counted i s)) (grantAt i s)
 topTree s p (Inner v l r) =
     vinner v (treeFrom (255 - p .count) (storeOf s .slots) l (longer left (placeOf p)))
     (treeFrom (255 - p .count) (storeOf s .slots) r (longer right (placeOf p)))
@@ -42,7 +43,7 @@ topTree s p (Inner v l r) =
 -- A leaf's slot is one of the store's, and an inner node's place is shorter than a key.
 abbrev pub TopRight : Bytes → place.Place → declared.Top → Type 0
 TopRight s p Nothing = Unit {0}
-TopRight s p (Leaf i) = i < roomOf (length s)
+TopRight s p (Leaf i) = i < roomOf counted (length s)
 TopRight s p (Inner v l r) = p .count < 256
 
 -- What was read is the top of a tree.

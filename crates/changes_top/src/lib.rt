@@ -10,6 +10,7 @@ use slots::key_of;
 use store::child_version_at;
 use store::slot_of;
 use store::version_at;
+use terms::Form;
 ghost use mathlib.Core.Path.{_≡_};
 ghost use mathlib.Core.Bool.{true};
 ghost use mathlib.Core.List.{[]};
@@ -33,16 +34,16 @@ pub enum Top {
 
 // The node whose record is in slot i.
 fn top_in(store: &[u8], i: usize) -> Top
-    requires { ⌜ SlotWithin i (now store) ⌝ }
+    requires { ⌜ SlotWithin Form.Counted i (now store) ⌝ }
     ensures { λ r. ⌜ r ≡ topIn i (now (store .entry)) ⌝ }
 {
-    let slot = slot_of(store, i);
+    let slot = slot_of(Form::Counted, store, i);
     if is_leaf(slot) {
         return Top::Leaf(i);
     }
-    let version = version_at(store, i);
-    let left = child_version_at(store, i, false);
-    let right = child_version_at(store, i, true);
+    let version = version_at(Form::Counted, store, i);
+    let left = child_version_at(Form::Counted, store, i, false);
+    let right = child_version_at(Form::Counted, store, i, true);
     Top::Inner {
         version,
         left,
@@ -52,10 +53,10 @@ fn top_in(store: &[u8], i: usize) -> Top
 
 // The root of a version, at the empty place.
 pub fn root_top(store: &[u8], version: u32, top: Place) -> Top
-    requires { ⌜ (sizeRight (length (now store)) ≡ true) × Stands [] 0 top ⌝ }
+    requires { ⌜ (sizeRight Form.Counted (length (now store)) ≡ true) × Stands [] 0 top ⌝ }
     ensures { λ r. ⌜ TopSays (now (store .entry)) top (treeAtVersion (storeOf (now (store .entry))) version) r ⌝ }
 {
-    let found = find_root(store, version);
+    let found = find_root(Form::Counted, store, version);
     let Found::At(i) = found else {
         return Top::Nothing;
     };
@@ -64,7 +65,7 @@ pub fn root_top(store: &[u8], version: u32, top: Place) -> Top
 
 // The child of a version at its place; version 0 is no child.
 fn top_at(store: &[u8], guesses: &[u16; 16384], version: u32, place: Place) -> Top
-    requires { ⌜ ((sizeRight (length (now store)) ≡ true) × Apart (storeOf (now store))) × Proper place ⌝ }
+    requires { ⌜ ((sizeRight Form.Counted (length (now store)) ≡ true) × Apart (storeOf (now store))) × Proper place ⌝ }
     ensures { λ r. ⌜ TopSays (now (store .entry)) place (treeHere (now (store .entry)) place version) r ⌝ }
 {
     if version == 0 {
@@ -86,13 +87,13 @@ pub fn below(
     right: bool,
     longer: Place,
 ) -> Top
-    requires { ⌜ ((sizeRight (length (now store)) ≡ true) × Apart (storeOf (now store))) × (Proper place × (place .count < 256)) × TopRight (now store) place top × Grown right place longer ⌝ }
+    requires { ⌜ ((sizeRight Form.Counted (length (now store)) ≡ true) × Apart (storeOf (now store))) × (Proper place × (place .count < 256)) × TopRight (now store) place top × Grown right place longer ⌝ }
     ensures { λ r. ⌜ TopSays (now (store .entry)) longer (under (place .count) right (topTree (now (store .entry)) place top)) r ⌝ }
 {
     match top {
         Top::Nothing => Top::Nothing,
         Top::Leaf(i) => {
-            if key_bit(key_of(slot_of(store, i)), place.count) == right {
+            if key_bit(key_of(slot_of(Form::Counted, store, i)), place.count) == right {
                 return top;
             }
             Top::Nothing

@@ -5,6 +5,7 @@ use mathlib.Core.Path.{_≡_, refl, ap, ap₂, sym, _∙_, subst}
 use mathlib.Core.Bool.{Bool, true, false, cond, _||_, true≢false}
 use mathlib.Core.List.{List, [], _∷_, _++_, map, map-append}
 use lib.ListN.{length, length-append}
+use Rattle.terms.specs.declared.Form.the-variants.{Counted as counted}
 use Rattle.terms.specs.Bits.{Bytes, All, Side, left, right}
 use Rattle.terms.specs.Fields.{flat}
 use Rattle.terms.proofs.Fields.{flat-append}
@@ -14,6 +15,7 @@ use Rattle.place.specs.Place.{placeOf, Proper, Grown}
 use Rattle.layout.specs.Headers.{sizeRight}
 use Rattle.layout.specs.Stores.{slotIn}
 use Rattle.slots.proofs.Parts.{key-long, value-long}
+use Rattle.layout.proofs.Headers.{size-long}
 use Rattle.store.proofs.Slots.{slot-long, slot-fits}
 use Rattle.changed.specs.Changes.{changed, Item, items, itemSize, itemBytes, listBytes}
 use Rattle.changed.specs.Visits.{sameRecord, noDeeper}
@@ -35,16 +37,16 @@ held-leaf s p Nothing = refl
 held-leaf s p (Leaf i) = refl
 held-leaf s p (Inner v l r) = refl
 
-leaf-in : (s : Bytes) (p : place.Place) (t : top.Top) → sizeRight (length s) ≡ true → TopRight s p t → LeafIn s t
+leaf-in : (s : Bytes) (p : place.Place) (t : top.Top) → sizeRight counted (length s) ≡ true → TopRight s p t → LeafIn s t
 leaf-in s p Nothing z h = tt
-leaf-in s p (Leaf i) z h = slot-fits s z i h
+leaf-in s p (Leaf i) z h = slot-fits counted s z i h
 leaf-in s p (Inner v l r) z h = tt
 
-leaf-long : (s : Bytes) (p : place.Place) (t : top.Top) → sizeRight (length s) ≡ true → TopRight s p t → All Long32 (held (topTree s p t))
+leaf-long : (s : Bytes) (p : place.Place) (t : top.Top) → sizeRight counted (length s) ≡ true → TopRight s p t → All Long32 (held (topTree s p t))
 unfolding grantAt
 leaf-long s p Nothing z h = tt
 leaf-long s p (Leaf i) z h =
-    let l = slot-long i s (slot-fits s z i h) in ((key-long (slotIn i s) l, value-long (slotIn i s) l), tt)
+    let l = size-long counted (slotIn counted i s) (slot-long counted i s (slot-fits counted s z i h)) in ((key-long (slotIn counted i s) l, value-long (slotIn counted i s) l), tt)
 leaf-long s p (Inner v l r) z h = tt
 
 -- two lists of records, one after the other

@@ -5,6 +5,7 @@ use mathlib.Core.Path.{_≡_}
 use mathlib.Core.Bool.{Bool, true}
 use mathlib.Core.List.{List}
 use lib.ListN.{length}
+use Rattle.terms.specs.declared.Form.the-variants.{Counted as counted}
 use Rattle.terms.specs.Bits.{Bytes}
 use Rattle.place.specs.declared.Place as place
 use Rattle.place.specs.Place.{Proper}
@@ -28,7 +29,7 @@ itemsHere s p first second = items (listed (256 - p .count) (p .count) (topTree 
 
 -- Two tops at a place of a store in which no two records share version and place.
 pub record Here (s : Bytes) (p : place.Place) (first second : top.Top) : Type 0 where
-  pub size : sizeRight (length s) ≡ true
+  pub size : sizeRight counted (length s) ≡ true
   pub apart : Apart (storeOf s)
   pub proper : Proper p
   pub old : TopRight s p first

@@ -10,20 +10,21 @@ use check_link::Below;
 use check_parents::parents_right;
 use hash::Hash;
 use place::key_bit;
+use terms::Form;
 ghost use Rattle.check_alone.specs.Parts.{Headed};
 ghost use Rattle.check_above.specs.Above.{AboveSays};
 
 // Whether a record of that kind and hash is right below its parents, or as a root beside the other roots.
-pub fn above_right(store: &[u8], kept: Kept, head: Head, leaf: bool, hash: Hash) -> bool
-    requires { ⌜ Headed (now store) kept head ⌝ }
-    ensures { λ r. ⌜ AboveSays (now (store .entry)) head leaf hash r ⌝ }
+pub fn above_right(form: Form, store: &[u8], kept: Kept, head: Head, leaf: bool, hash: Hash) -> bool
+    requires { ⌜ Headed form (now store) kept head ⌝ }
+    ensures { λ r. ⌜ AboveSays form (now (store .entry)) head leaf hash r ⌝ }
 {
     let place = head.place;
     let version = head.version;
     let count = place.count;
     let ends = ends_before(kept.latest, head.retired);
     if count == 0 {
-        return roots_apart(store, kept, version, ends);
+        return roots_apart(form, store, kept, version, ends);
     }
     let bits = place.bits;
     let up = front(&bits, count - 1);
@@ -36,5 +37,11 @@ pub fn above_right(store: &[u8], kept: Kept, head: Head, leaf: bool, hash: Hash)
         leaf,
         hash,
     };
-    parents_right(store, kept, below, kept_life(kept.oldest, version, ends))
+    parents_right(
+        form,
+        store,
+        kept,
+        below,
+        kept_life(kept.oldest, version, ends),
+    )
 }

@@ -1,5 +1,6 @@
 -- Links whose records are hashed ahead. Assumes nothing.
 use Prim.Native.Nat.{ℕ, _≤_, _<_}
+use Rattle.terms.specs.declared.Form.{Form}
 use Rattle.terms.specs.Bits.{Bytes}
 use Rattle.sha256.specs.Sha256.{sha256}
 use Rattle.nodehash.specs.Words.{message}
@@ -10,18 +11,18 @@ use Rattle.check_ahead.specs.declared.Ahead as declared
 use Rattle.check_ahead.specs.declared.Four as declared-four
 
 -- A link of the store, and a slot of it.
-pub record Fits (s : Bytes) (x : declared.Ahead) : Type 0 where
-  pub child : Has s (x .slot)
+pub record Fits (fm : Form) (s : Bytes) (x : declared.Ahead) : Type 0 where
+  pub child : Has fm s (x .slot)
   pub some : 1 ≤ x .link
-  pub parent : Has s (linkSlot (x .link))
+  pub parent : Has fm s (linkSlot (x .link))
 
-pub record AllFit (s : Bytes) (x : declared-four.Four) : Type 0 where
-  pub a : Fits s (x .a)
-  pub b : Fits s (x .b)
-  pub c : Fits s (x .c)
-  pub d : Fits s (x .d)
+pub record AllFit (fm : Form) (s : Bytes) (x : declared-four.Four) : Type 0 where
+  pub a : Fits fm s (x .a)
+  pub b : Fits fm s (x .b)
+  pub c : Fits fm s (x .c)
+  pub d : Fits fm s (x .d)
 
 -- The hash of the record in slot c is that of this message.
-pub record MessageOf (s : Bytes) (c : ℕ) (m : Message) : Type 0 where
+pub record MessageOf (fm : Form) (s : Bytes) (c : ℕ) (m : Message) : Type 0 where
   pub kind : m .kind < 256
-  pub hash : HashIs s c (sha256 (message (m .kind) (m .left) (m .right)))
+  pub hash : HashIs fm s c (sha256 (message (m .kind) (m .left) (m .right)))

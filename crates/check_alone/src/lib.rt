@@ -4,6 +4,7 @@ use check_kin::Kept;
 use check_kin::child_found;
 use check_kin::holders;
 use place::Place;
+use terms::Form;
 ghost use mathlib.Core.Path.{_≡_};
 ghost use mathlib.Core.Bool.{true, _&&_};
 ghost use Prim.Native.Nat.{_<_};
@@ -37,9 +38,9 @@ pub fn life_right(kept: Kept, version: u32, retired: u32) -> bool
 }
 
 // Whether a record's version and life are right, and one slot alone holds its node.
-pub fn alone_right(store: &[u8], kept: Kept, head: Head) -> bool
-    requires { ⌜ Headed (now store) kept head ⌝ }
-    ensures { λ r. ⌜ AloneSays (now (store .entry)) head r ⌝ }
+pub fn alone_right(form: Form, store: &[u8], kept: Kept, head: Head) -> bool
+    requires { ⌜ Headed form (now store) kept head ⌝ }
+    ensures { λ r. ⌜ AloneSays form (now (store .entry)) head r ⌝ }
 {
     if kept.latest < head.version {
         return false;
@@ -48,16 +49,16 @@ pub fn alone_right(store: &[u8], kept: Kept, head: Head) -> bool
         return false;
     }
     let place = head.place;
-    holders(store, head.version, place) == 1
+    holders(form, store, head.version, place) == 1
 }
 
 // Whether the children of an inner record are missing or found.
-pub fn children_found(store: &[u8], place: Place, a: u32, b: u32) -> bool
-    requires { ⌜ (sizeRight (length (now store)) ≡ true) × Proper place × (place .count < 256) ⌝ }
-    ensures { λ r. ⌜ r ≡ (foundOn (now (store .entry)) place left a && foundOn (now (store .entry)) place right b) ⌝ }
+pub fn children_found(form: Form, store: &[u8], place: Place, a: u32, b: u32) -> bool
+    requires { ⌜ (sizeRight form (length (now store)) ≡ true) × Proper place × (place .count < 256) ⌝ }
+    ensures { λ r. ⌜ r ≡ (foundOn form (now (store .entry)) place left a && foundOn form (now (store .entry)) place right b) ⌝ }
 {
-    if !child_found(store, a, place.left()) {
+    if !child_found(form, store, a, place.left()) {
         return false;
     }
-    child_found(store, b, place.right())
+    child_found(form, store, b, place.right())
 }

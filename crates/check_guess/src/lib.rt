@@ -4,13 +4,14 @@
 use hash::Hash;
 use hash::hash_at;
 use layout::sizes::INNER_BITS;
-use layout::sizes::INNER_KIND;
+use layout::sizes::LEAF_KIND;
 use slots::bits_of;
 use store::child_version_at;
 use store::count_at;
 use store::kind_at;
 use store::slot_of;
 use store::version_at;
+use terms::Form;
 ghost use mathlib.Core.Path.{_≡_};
 ghost use Prim.Native.Nat.{_≤_, _<_};
 ghost use Rattle.check_pass.specs.Passes.{Room};
@@ -29,15 +30,15 @@ fn wide(x: u16) -> usize
 }
 
 // Whether slot i stands before a node; a slot that isn't there doesn't.
-fn stands_before(store: &[u8], n: usize, i: usize, node: Node) -> bool
-    requires { ⌜ Room (now store) n ⌝ }
+fn stands_before(form: Form, store: &[u8], n: usize, i: usize, node: Node) -> bool
+    requires { ⌜ Room form (now store) n ⌝ }
 {
     if n <= i {
         return false;
     }
-    let count = count_at(store, i);
-    let bits = hash_at(bits_of(slot_of(store, i)), 0);
-    let version = version_at(store, i);
+    let count = count_at(form, store, i);
+    let bits = hash_at(bits_of(slot_of(form, store, i)), 0);
+    let version = version_at(form, store, i);
     if count != node.count {
         return count < node.count;
     }
@@ -59,6 +60,7 @@ fn stands_before(store: &[u8], n: usize, i: usize, node: Node) -> bool
 
 // The first of the entries from `from` to `end` that does not stand before a node, by halving; `end` where there is none.
 fn halved(
+    form: Form,
     store: &[u8],
     n: usize,
     table: &[u16; 16384],
@@ -66,14 +68,14 @@ fn halved(
     end: usize,
     node: Node,
 ) -> usize
-    requires { ⌜ Room (now store) n × (from ≤ end) × (end ≤ 16384) ⌝ }
+    requires { ⌜ Room form (now store) n × (from ≤ end) × (end ≤ 16384) ⌝ }
     ensures { λ r. ⌜ r ≤ end ⌝ }
 {
     let mut low = from;
     let mut high = end;
     while low < high {
         let middle = low + (high - low) / 2;
-        if stands_before(store, n, wide(table[middle]), node) {
+        if stands_before(form, store, n, wide(table[middle]), node) {
             low = middle + 1;
         } else {
             high = middle;
@@ -84,6 +86,7 @@ fn halved(
 
 // The same among the first `many` entries from `from` on, by steps that double and then by halving.
 fn galloped(
+    form: Form,
     store: &[u8],
     n: usize,
     table: &[u16; 16384],
@@ -91,26 +94,27 @@ fn galloped(
     many: usize,
     node: Node,
 ) -> usize
-    requires { ⌜ Room (now store) n × (from ≤ many) × (many ≤ 16384) ⌝ }
+    requires { ⌜ Room form (now store) n × (from ≤ many) × (many ≤ 16384) ⌝ }
     ensures { λ r. ⌜ r ≤ many ⌝ }
 {
     let mut low = from;
     let mut high = from;
     let mut step = 1;
     while high < many {
-        if !stands_before(store, n, wide(table[high]), node) {
-            return halved(store, n, table, low, high, node);
+        if !stands_before(form, store, n, wide(table[high]), node) {
+            return halved(form, store, n, table, low, high, node);
         }
         low = high + 1;
         high = high + step;
         step = step + step;
     }
-    halved(store, n, table, low, many, node)
+    halved(form, store, n, table, low, many, node)
 }
 
 // The first of the first `many` entries that does not stand before a node, looked for from a finger on; all of them are searched where the
 // finger is too far.
 fn searched(
+    form: Form,
     store: &[u8],
     n: usize,
     table: &[u16; 16384],
@@ -118,15 +122,15 @@ fn searched(
     many: usize,
     node: Node,
 ) -> usize
-    requires { ⌜ Room (now store) n × (finger ≤ many) × (many ≤ 16384) ⌝ }
+    requires { ⌜ Room form (now store) n × (finger ≤ many) × (many ≤ 16384) ⌝ }
     ensures { λ r. ⌜ r ≤ many ⌝ }
 {
     if 0 < finger {
-        if !stands_before(store, n, wide(table[finger - 1]), node) {
-            return halved(store, n, table, 0, finger - 1, node);
+        if !stands_before(form, store, n, wide(table[finger - 1]), node) {
+            return halved(form, store, n, table, 0, finger - 1, node);
         }
     }
-    galloped(store, n, table, finger, many, node)
+    galloped(form, store, n, table, finger, many, node)
 }
 
 // The bits of a place of `count` bits, with a bit set behind them.
@@ -170,6 +174,7 @@ fn guess_at(j: usize, right: bool) -> usize
 
 // The guess for one side of slot j, and the finger from there on.
 fn guess_side(
+    form: Form,
     store: &[u8],
     n: usize,
     table: &[u16; 16384],
@@ -179,16 +184,16 @@ fn guess_side(
     right: bool,
     guess: &mut [u16; 32768],
 ) -> usize
-    requires { ⌜ Room (now store) n × (finger ≤ many) × (many ≤ 16384) × (j < 65536) ⌝ }
+    requires { ⌜ Room form (now store) n × (finger ≤ many) × (many ≤ 16384) × (j < 65536) ⌝ }
     ensures { λ r. ⌜ r ≤ many ⌝ }
 {
     if n <= j {
         return finger;
     }
-    let kind = kind_at(store, j);
-    let count = count_at(store, j);
-    let version = child_version_at(store, j, right);
-    if kind != INNER_KIND {
+    let kind = kind_at(form, store, j);
+    let count = count_at(form, store, j);
+    let version = child_version_at(form, store, j, right);
+    if kind <= LEAF_KIND {
         return finger;
     }
     if INNER_BITS < count {
@@ -197,14 +202,14 @@ fn guess_side(
     if version == 0 {
         return finger;
     }
-    let its = hash_at(bits_of(slot_of(store, j)), 0);
+    let its = hash_at(bits_of(slot_of(form, store, j)), 0);
     let bits = longer(its, count, right);
     let node = Node {
         count: count + 1,
         bits,
         version,
     };
-    let found = searched(store, n, table, finger, many, node);
+    let found = searched(form, store, n, table, finger, many, node);
     let to = guess_at(j, right);
     if found < many {
         if to < 32768 {
@@ -215,16 +220,23 @@ fn guess_side(
 }
 
 // Two guesses for each slot among the first `many` entries of the table: for its left child and for its right.
-pub fn guessed(store: &[u8], n: usize, table: &[u16; 16384], many: usize, guess: &mut [u16; 32768])
-    requires { ⌜ Room (now store) n × (many ≤ 16384) ⌝ }
+pub fn guessed(
+    form: Form,
+    store: &[u8],
+    n: usize,
+    table: &[u16; 16384],
+    many: usize,
+    guess: &mut [u16; 32768],
+)
+    requires { ⌜ Room form (now store) n × (many ≤ 16384) ⌝ }
 {
     let mut left = 0;
     let mut right = 0;
     let mut k = 0;
     while k < many {
         let j = wide(table[k]);
-        left = guess_side(store, n, table, left, many, j, false, guess);
-        right = guess_side(store, n, table, right, many, j, true, guess);
+        left = guess_side(form, store, n, table, left, many, j, false, guess);
+        right = guess_side(form, store, n, table, right, many, j, true, guess);
         k += 1;
     }
 }

@@ -9,6 +9,7 @@ use lib.ListN.{getD, set}
 use lib.Seq.{getD-set-other}
 use lib.Dec.{eqb}
 use borrow.Author.Tests.{eqb-true, eqb-false}
+use Rattle.terms.specs.declared.Form.{Form}
 use Rattle.terms.specs.Bits.{Bytes, sameBytes}
 use Rattle.terms.proofs.Tests.{same-bytes}
 use Rattle.check_pass.specs.Passes.{Passed}
@@ -19,28 +20,28 @@ set-or [] c w = inr refl
 set-or (x ∷ xs) zero w = inl refl
 set-or (x ∷ xs) (suc c) w = set-or xs c w
 
-pub known-set : (s : Bytes) (xs : List ℕ) (c w : ℕ) → Known s xs → KnownAt s c w → Known s (set xs c w)
-known-set s xs c w k h i = go (eqb i c) refl
+pub known-set : {fm : Form} (s : Bytes) (xs : List ℕ) (c w : ℕ) → Known fm s xs → KnownAt fm s c w → Known fm s (set xs c w)
+known-set {fm} s xs c w k h i = go (eqb i c) refl
   where
-    go : (t : Bool) → eqb i c ≡ t → 1 ≤ getD (set xs c w) i 0 → KnownAt s i (getD (set xs c w) i 0)
+    go : (t : Bool) → eqb i c ≡ t → 1 ≤ getD (set xs c w) i 0 → KnownAt fm s i (getD (set xs c w) i 0)
     go true e some =
         let f = eqb-true i c e in
         let at = ap (λ n. getD (set xs c w) n 0) f in
         let g : getD (set xs c w) i 0 ≡ w = at ∙ ⊎-elim (λ z. z) (λ z. absurd (omega (arith, z, some, at))) (set-or xs c w) in
-        subst (λ n. KnownAt s n (getD (set xs c w) i 0)) (sym f) (subst (KnownAt s c) (sym g) h)
+        subst (λ n. KnownAt fm s n (getD (set xs c w) i 0)) (sym f) (subst (KnownAt fm s c) (sym g) h)
     go false e some =
         let g = getD-set-other xs c i w 0 (eqb-false i c e) in
-        subst (KnownAt s i) (sym g) (k i (omega (arith, g, some)))
+        subst (KnownAt fm s i) (sym g) (k i (omega (arith, g, some)))
 
 -- nothing is known at first
-pub known-none : (s : Bytes) (xs : List ℕ) → ((i : ℕ) → getD xs i 0 ≡ 0) → Known s xs
-known-none s xs z c some = absurd (omega (arith, z c))
+pub known-none : (fm : Form) (s : Bytes) (xs : List ℕ) → ((i : ℕ) → getD xs i 0 ≡ 0) → Known fm s xs
+known-none fm s xs z c some = absurd (omega (arith, z c))
 
 -- the same bytes as those that are known
-module _ (s : Bytes) (c : ℕ) (x y : Bytes) (its : HashIs s c x) where
-  pub same-is : {t : Bool} → t ≡ sameBytes x y → t ≡ true → HashIs s c y
+module _ (fm : Form) (s : Bytes) (c : ℕ) (x y : Bytes) (its : HashIs fm s c x) where
+  pub same-is : {t : Bool} → t ≡ sameBytes x y → t ≡ true → HashIs fm s c y
   same-is e f r a = its r a ∙ same-bytes x y (sym e ∙ f)
 
-  pub same-passes : (t : Bool) → t ≡ sameBytes x y → Passed t (HashIs s c y)
+  pub same-passes : (t : Bool) → t ≡ sameBytes x y → Passed t (HashIs fm s c y)
   same-passes true e = same-is e refl
   same-passes false e = tt

@@ -8,6 +8,7 @@ use lib.ListN.{length, take, drop}
 use lib.Seq.{take-suc}
 use native.Mathlib.Numerals.{add-one}
 use native.Mathlib.Nat.{zero-add}
+use Rattle.terms.specs.declared.Form.{Form}
 use Rattle.terms.specs.Bits.{Bytes, Byte, All, Place, bits, bit, longer, sameBytes}
 use Rattle.terms.specs.Records.{Record, Slot, free, used, spoiled}
 use Rattle.terms.proofs.Tests.{same-bytes, bytes-same}
@@ -21,7 +22,7 @@ use Rattle.place.proofs.Places.{proper-count}
 use Rattle.layout.specs.Sizes.{roomOf}
 use Rattle.layout.specs.Headers.{sizeRight}
 use Rattle.layout.specs.Slots.{countIn, bitsIn, versionIn, slotOf}
-use Rattle.layout.specs.Stores.{slotIn, storeOf, slotNo, Has}
+use Rattle.layout.specs.Stores.{slotIn, storeIn, slotNo, Has}
 use Rattle.store.proofs.Slots.{slot-long, slot-bytes, slot-within, slot-is}
 use Rattle.store.proofs.Scans.{Scan, scan-start, scan-here, scan-next, scan-end}
 use Rattle.lookup.specs.declared.Found as declared-found
@@ -44,57 +45,57 @@ at-most-one v p (used q) = elim (isNode v p q) as (λ t. cond t 1 0 ≤ 1) [ tru
 at-most-one v p (spoiled x) = omega arith
 
 -- slot j, by its fields
-module _ {s : Bytes} {j : ℕ} (h : Has s j) (b : All Byte s) (v : ℕ) (p : declared.Place) (w : Proper p) where
-  not-held : NoNode (slotIn j s) v (placeOf p) → 0 ≡ byRecord 0 (countNode v (placeOf p)) (slotNo j s)
-  not-held f = sym (ap (byRecord 0 (countNode v (placeOf p))) (slot-is h) ∙ none-counted v (placeOf p) (slotOf (slotIn j s)) f)
+module _ {fm : Form} {s : Bytes} {j : ℕ} (h : Has fm s j) (b : All Byte s) (v : ℕ) (p : declared.Place) (w : Proper p) where
+  not-held : NoNode (slotIn fm j s) v (placeOf p) → 0 ≡ byRecord 0 (countNode v (placeOf p)) (slotNo fm j s)
+  not-held f = sym (ap (byRecord 0 (countNode v (placeOf p))) (slot-is h) ∙ none-counted v (placeOf p) (slotOf (slotIn fm j s)) f)
 
-  pub other-version : (versionIn (slotIn j s) ≡ v → ⊥) → 0 ≡ byRecord 0 (countNode v (placeOf p)) (slotNo j s)
-  other-version f = not-held (off-version (slotIn j s) (slot-long j s (slot-within h)) (slot-bytes j s b) v (placeOf p) f)
+  pub other-version : (versionIn (slotIn fm j s) ≡ v → ⊥) → 0 ≡ byRecord 0 (countNode v (placeOf p)) (slotNo fm j s)
+  other-version f = not-held (off-version fm (slotIn fm j s) (slot-long fm j s (slot-within h)) (slot-bytes fm j s b) v (placeOf p) f)
 
-  pub other-count : (countIn (slotIn j s) ≡ p .count → ⊥) → 0 ≡ byRecord 0 (countNode v (placeOf p)) (slotNo j s)
+  pub other-count : (countIn (slotIn fm j s) ≡ p .count → ⊥) → 0 ≡ byRecord 0 (countNode v (placeOf p)) (slotNo fm j s)
   unfolding countIn
-  other-count f = not-held (off-count (slotIn j s) (slot-long j s (slot-within h)) (slot-bytes j s b) v (placeOf p) (λ e. f (e ∙ proper-count p w)))
+  other-count f = not-held (off-count fm (slotIn fm j s) (slot-long fm j s (slot-within h)) (slot-bytes fm j s b) v (placeOf p) (λ e. f (e ∙ proper-count p w)))
 
-  pub other-bits : {x y : Bytes} → x ≡ slotIn j s → y ≡ bitsIn x → sameBytes y (p .bits) ≡ false → 0 ≡ byRecord 0 (countNode v (placeOf p)) (slotNo j s)
+  pub other-bits : {x y : Bytes} → x ≡ slotIn fm j s → y ≡ bitsIn x → sameBytes y (p .bits) ≡ false → 0 ≡ byRecord 0 (countNode v (placeOf p)) (slotNo fm j s)
   other-bits i k f =
-      not-held (off-bits (slotIn j s) (slot-long j s (slot-within h)) (slot-bytes j s b) v (placeOf p) (λ e.
+      not-held (off-bits fm (slotIn fm j s) (slot-long fm j s (slot-within h)) (slot-bytes fm j s b) v (placeOf p) (λ e.
       true≢false (sym (ap (λ z. sameBytes z (p .bits)) (k ∙ ap bitsIn i ∙ e ∙ sym (w .trimmed)) ∙ bytes-same (p .bits)) ∙ f)))
 
-  pub no-record : {x : Bytes} → x ≡ slotIn j s → isUsed (slotOf x) ≡ false → 0 ≡ byRecord 0 (countNode v (placeOf p)) (slotNo j s)
-  no-record i f = not-held (λ r e. unused (slotOf (slotIn j s)) r (ap (λ y. isUsed (slotOf y)) (sym i) ∙ f) e)
+  pub no-record : {x : Bytes} → x ≡ slotIn fm j s → isUsed (slotOf x) ≡ false → 0 ≡ byRecord 0 (countNode v (placeOf p)) (slotNo fm j s)
+  no-record i f = not-held (λ r e. unused (slotOf (slotIn fm j s)) r (ap (λ y. isUsed (slotOf y)) (sym i) ∙ f) e)
 
-  pub held : {x y : Bytes} → x ≡ slotIn j s → y ≡ bitsIn x → versionIn (slotIn j s) ≡ v → countIn (slotIn j s) ≡ p .count → sameBytes y (p .bits) ≡ true →
-      isUsed (slotOf x) ≡ true → 1 ≡ byRecord 0 (countNode v (placeOf p)) (slotNo j s)
+  pub held : {x y : Bytes} → x ≡ slotIn fm j s → y ≡ bitsIn x → versionIn (slotIn fm j s) ≡ v → countIn (slotIn fm j s) ≡ p .count → sameBytes y (p .bits) ≡ true →
+      isUsed (slotOf x) ≡ true → 1 ≡ byRecord 0 (countNode v (placeOf p)) (slotNo fm j s)
   unfolding countIn countNode
   held i k a c d u =
-      let (q, e) = used-or (slotOf (slotIn j s)) (ap (λ y. isUsed (slotOf y)) (sym i) ∙ u) in
+      let (q, e) = used-or (slotOf (slotIn fm j s)) (ap (λ y. isUsed (slotOf y)) (sym i) ∙ u) in
       let n : isNode v (placeOf p) q ≡ true =
-      is-node (slotIn j s) (slot-long j s (slot-within h)) (slot-bytes j s b) v (placeOf p) (omega (arith, w .short, proper-count p w)) a (c ∙ sym (proper-count p w))
+      is-node fm (slotIn fm j s) (slot-long fm j s (slot-within h)) (slot-bytes fm j s b) v (placeOf p) (omega (arith, w .short, proper-count p w)) a (c ∙ sym (proper-count p w))
       (ap bitsIn (sym i) ∙ sym k ∙ same-bytes _ (p .bits) d ∙ w .trimmed) q e
       in
       sym (ap (byRecord 0 (countNode v (placeOf p))) (slot-is h ∙ e) ∙ rw n)
 
 -- the slots before j are counted, those to come are not
-abbrev Uncounted : Bytes → ℕ → Place → ℕ → List Slot → List Slot → Type 0
-Uncounted s v p count xs ys = total (byRecord 0 (countNode v p)) (storeOf s .slots) ≡ count + total (byRecord 0 (countNode v p)) ys
+abbrev Uncounted : Form → Bytes → ℕ → Place → ℕ → List Slot → List Slot → Type 0
+Uncounted fm s v p count xs ys = total (byRecord 0 (countNode v p)) (storeIn fm s .slots) ≡ count + total (byRecord 0 (countNode v p)) ys
 
-pub record Counted (s : Bytes) (v : ℕ) (p : Place) (n count j : ℕ) : Type 0 where
-  pub scan : Scan s (Uncounted s v p count) n j
+pub record Counted (fm : Form) (s : Bytes) (v : ℕ) (p : Place) (n count j : ℕ) : Type 0 where
+  pub scan : Scan fm s (Uncounted fm s v p count) n j
   pub few : count ≤ j
 
-pub count-start : (s : Bytes) (v : ℕ) (p : Place) → sizeRight (length s) ≡ true → {n : ℕ} → n ≡ roomOf (length s) → Counted s v p n 0 0
-count-start s v p e m = record { scan = scan-start s (Uncounted s v p 0) e m (rw zero-add); few = omega arith }
+pub count-start : {fm : Form} (s : Bytes) (v : ℕ) (p : Place) → sizeRight fm (length s) ≡ true → {n : ℕ} → n ≡ roomOf fm (length s) → Counted fm s v p n 0 0
+count-start {fm} s v p e m = record { scan = scan-start s (Uncounted fm s v p 0) e m (rw zero-add); few = omega arith }
 
-module _ {s : Bytes} {v : ℕ} {p : Place} {n count j : ℕ} (w : Counted s v p n count j) where
-  pub count-few : {m : ℕ} → m ≡ byRecord 0 (countNode v p) (slotNo j s) → m ≤ 1
-  count-few e = omega (arith, at-most-one v p (slotNo j s))
+module _ {fm : Form} {s : Bytes} {v : ℕ} {p : Place} {n count j : ℕ} (w : Counted fm s v p n count j) where
+  pub count-few : {m : ℕ} → m ≡ byRecord 0 (countNode v p) (slotNo fm j s) → m ≤ 1
+  count-few e = omega (arith, at-most-one v p (slotNo fm j s))
 
-  pub count-next : {m : ℕ} → j < n → m ≡ byRecord 0 (countNode v p) (slotNo j s) → Counted s v p n (count + m) (j + 1)
+  pub count-next : {m : ℕ} → j < n → m ≡ byRecord 0 (countNode v p) (slotNo fm j s) → Counted fm s v p n (count + m) (j + 1)
   count-next {m} h e =
       let k = count-few e in
-      record { scan = scan-next (w .scan) h (Uncounted s v p (count + m)) (omega (arith, scan-here (w .scan) h)); few = omega (arith, w .few) }
+      record { scan = scan-next (w .scan) h (Uncounted fm s v p (count + m)) (omega (arith, scan-here (w .scan) h)); few = omega (arith, w .few) }
 
-  pub count-end : n ≤ j → count ≡ total (byRecord 0 (countNode v p)) (storeOf s .slots)
+  pub count-end : n ≤ j → count ≡ total (byRecord 0 (countNode v p)) (storeIn fm s .slots)
   count-end h = omega (arith, scan-end (w .scan) h)
 
 -- what a search says

@@ -6,19 +6,20 @@ use mathlib.Core.Bool.{Bool, true, false, cond, not, _||_}
 use mathlib.Core.List.{[]}
 use lib.ListN.{length}
 use lib.Dec.{eqb, leb}
+use Rattle.terms.specs.declared.Form.{Form}
 use Rattle.terms.specs.Bits.{Bytes, Place, samePlace}
 use Rattle.terms.specs.Records.{Body, leafBody, innerBody, Record, Store}
 use Rattle.meaning.specs.Store.{isNode}
 use Rattle.meaning.specs.Local.{endsBefore}
 use Rattle.layout.specs.Headers.{sizeRight}
-use Rattle.layout.specs.Stores.{storeOf}
+use Rattle.layout.specs.Stores.{storeIn}
 use Rattle.check_kin.specs.declared.Kept as declared-kept
 
 -- The header of a store of the right size says which versions are kept.
-pub record Keeps (s : Bytes) (k : declared-kept.Kept) : Type 0 where
-  pub size : sizeRight (length s) ≡ true
-  pub oldest : storeOf s .oldest ≡ k .oldest
-  pub latest : storeOf s .latest ≡ k .latest
+pub record Keeps (fm : Form) (s : Bytes) (k : declared-kept.Kept) : Type 0 where
+  pub size : sizeRight fm (length s) ≡ true
+  pub oldest : storeIn fm s .oldest ≡ k .oldest
+  pub latest : storeIn fm s .latest ≡ k .latest
 
 -- 1 for a record that is the node (v, p), else 0.
 unfoldable pub countNode : ℕ → Place → Record → ℕ

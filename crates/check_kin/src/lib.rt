@@ -11,6 +11,7 @@ use store::retired_at;
 use store::slot_count;
 use store::slot_of;
 use store::version_at;
+use terms::Form;
 ghost use mathlib.Core.Path.{_≡_};
 ghost use mathlib.Core.Bool.{true, _||_};
 ghost use Prim.Native.Nat.{_-_, _≤_, _<_, max};
@@ -21,7 +22,7 @@ ghost use Rattle.meaning.specs.Store.{find};
 ghost use Rattle.local.specs.Test.{every, total, byRecord, isFound};
 ghost use Rattle.place.specs.Place.{placeOf, Proper, Stands, Grown};
 ghost use Rattle.layout.specs.Headers.{sizeRight};
-ghost use Rattle.layout.specs.Stores.{storeOf, slotNo, Has};
+ghost use Rattle.layout.specs.Stores.{storeIn, slotNo, Has};
 ghost use Rattle.check_kin.specs.Kin.{Keeps, countNode, endsAt, livesApart, clearOf};
 
 // The kept versions of a store.
@@ -62,18 +63,18 @@ pub fn kept_life(oldest: u32, version: u32, ends: u64) -> u64
 }
 
 // 1 where slot j holds the node (version, place), else 0: the cheap fields first.
-fn holder(store: &[u8], j: usize, version: u32, place: Place) -> usize
-    requires { ⌜ Has (now store) j × Proper place ⌝ }
-    ensures { λ r. ⌜ r ≡ byRecord 0 (countNode version (placeOf place)) (slotNo j (now (store .entry))) ⌝ }
+fn holder(form: Form, store: &[u8], j: usize, version: u32, place: Place) -> usize
+    requires { ⌜ Has form (now store) j × Proper place ⌝ }
+    ensures { λ r. ⌜ r ≡ byRecord 0 (countNode version (placeOf place)) (slotNo form j (now (store .entry))) ⌝ }
 {
-    if version_at(store, j) != version {
+    if version_at(form, store, j) != version {
         return 0;
     }
-    if count_at(store, j) as usize != place.count {
+    if count_at(form, store, j) as usize != place.count {
         return 0;
     }
     let bits = place.bits;
-    let s = slot_of(store, j);
+    let s = slot_of(form, store, j);
     if !same(bits_of(s), &bits) {
         return 0;
     }
@@ -84,15 +85,15 @@ fn holder(store: &[u8], j: usize, version: u32, place: Place) -> usize
 }
 
 // How many slots hold the node (version, place).
-pub fn holders(store: &[u8], version: u32, place: Place) -> usize
-    requires { ⌜ (sizeRight (length (now store)) ≡ true) × Proper place ⌝ }
-    ensures { λ r. ⌜ r ≡ total (byRecord 0 (countNode version (placeOf place))) (storeOf (now (store .entry)) .slots) ⌝ }
+pub fn holders(form: Form, store: &[u8], version: u32, place: Place) -> usize
+    requires { ⌜ (sizeRight form (length (now store)) ≡ true) × Proper place ⌝ }
+    ensures { λ r. ⌜ r ≡ total (byRecord 0 (countNode version (placeOf place))) (storeIn form (now (store .entry)) .slots) ⌝ }
 {
-    let n = slot_count(store);
+    let n = slot_count(form, store);
     let mut count = 0;
     let mut j = 0;
     while j < n {
-        count += holder(store, j, version, place);
+        count += holder(form, store, j, version, place);
         j += 1;
     }
     count
@@ -112,29 +113,29 @@ fn lives_apart(oldest: u32, version: u32, ends: u64, other: u32, end: u64) -> bo
 }
 
 // Whether slot j holds no other root record that lives when the root of that version and end of life does: the cheap fields first.
-fn root_apart(store: &[u8], j: usize, kept: Kept, version: u32, ends: u64) -> bool
-    requires { ⌜ Has (now store) j × Keeps (now store) kept ⌝ }
-    ensures { λ r. ⌜ r ≡ byRecord true (clearOf (storeOf (now (store .entry))) version ends) (slotNo j (now (store .entry))) ⌝ }
+fn root_apart(form: Form, store: &[u8], j: usize, kept: Kept, version: u32, ends: u64) -> bool
+    requires { ⌜ Has form (now store) j × Keeps form (now store) kept ⌝ }
+    ensures { λ r. ⌜ r ≡ byRecord true (clearOf (storeIn form (now (store .entry))) version ends) (slotNo form j (now (store .entry))) ⌝ }
 {
-    if count_at(store, j) != 0 {
+    if count_at(form, store, j) != 0 {
         return true;
     }
-    let end = ends_before(kept.latest, retired_at(store, j));
-    if lives_apart(kept.oldest, version, ends, version_at(store, j), end) {
+    let end = ends_before(kept.latest, retired_at(form, store, j));
+    if lives_apart(kept.oldest, version, ends, version_at(form, store, j), end) {
         return true;
     }
-    !holds_record(slot_of(store, j))
+    !holds_record(slot_of(form, store, j))
 }
 
 // Whether no other root record lives when the root of that version and end of life does.
-pub fn roots_apart(store: &[u8], kept: Kept, version: u32, ends: u64) -> bool
-    requires { ⌜ Keeps (now store) kept ⌝ }
-    ensures { λ r. ⌜ r ≡ every (byRecord true (clearOf (storeOf (now (store .entry))) version ends)) (storeOf (now (store .entry)) .slots) ⌝ }
+pub fn roots_apart(form: Form, store: &[u8], kept: Kept, version: u32, ends: u64) -> bool
+    requires { ⌜ Keeps form (now store) kept ⌝ }
+    ensures { λ r. ⌜ r ≡ every (byRecord true (clearOf (storeIn form (now (store .entry))) version ends)) (storeIn form (now (store .entry)) .slots) ⌝ }
 {
-    let n = slot_count(store);
+    let n = slot_count(form, store);
     let mut j = 0;
     while j < n {
-        if !root_apart(store, j, kept, version, ends) {
+        if !root_apart(form, store, j, kept, version, ends) {
             return false;
         }
         j += 1;
@@ -143,14 +144,14 @@ pub fn roots_apart(store: &[u8], kept: Kept, version: u32, ends: u64) -> bool
 }
 
 // Whether a child is missing or found.
-pub fn child_found(store: &[u8], version: u32, place: Place) -> bool
-    requires { ⌜ (sizeRight (length (now store)) ≡ true) × Proper place ⌝ }
-    ensures { λ r. ⌜ r ≡ (eqb version 0 || isFound (find version (placeOf place) (storeOf (now (store .entry)) .slots))) ⌝ }
+pub fn child_found(form: Form, store: &[u8], version: u32, place: Place) -> bool
+    requires { ⌜ (sizeRight form (length (now store)) ≡ true) × Proper place ⌝ }
+    ensures { λ r. ⌜ r ≡ (eqb version 0 || isFound (find version (placeOf place) (storeIn form (now (store .entry)) .slots))) ⌝ }
 {
     if version == 0 {
         return true;
     }
-    match find(store, version, place) {
+    match find(form, store, version, place) {
         Found::At(_) => true,
         Found::Nothing => false,
     }

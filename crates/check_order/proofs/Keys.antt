@@ -7,6 +7,7 @@ use mathlib.Core.List.{List, [], _∷_, _++_}
 use lib.ListN.{length, getD}
 use lib.Dec.{ltb, leb, eqb}
 use borrow.Author.Tests.{le-ltb, eq-eqb, ne-eqb, eqb-true, leb-true, leb-false}
+use Rattle.terms.specs.declared.Form.{Form}
 use Rattle.terms.specs.Bits.{Bytes, before, sameBytes}
 use Rattle.terms.proofs.Fields.{length-slice}
 use Rattle.terms.proofs.Order.{before-irrefl}
@@ -14,6 +15,7 @@ use Rattle.terms.proofs.Tests.{is-false, same-bytes}
 use Rattle.layout.specs.Sizes.{slotSize}
 use Rattle.layout.specs.Slots.{countIn, bitsIn, versionIn, sinceIn}
 use Rattle.layout.specs.Stores.{slotIn, Has}
+use Rattle.layout.proofs.Headers.{size-small}
 use Rattle.check_kin.specs.Kin.{endsAt}
 use Rattle.check_pass.specs.Passes.{Passed}
 use Rattle.check_pass.proofs.Records.{version-of, read-as}
@@ -38,12 +40,12 @@ or-false false true = refl
 or-false false false = refl
 
 -- two slots' bytes, by the fields that were read of them
-module _ (x y : Bytes) {c d : ℕ} (e : c ≡ countIn x) (f : d ≡ countIn y) where
+module _ (fm : Form) (x y : Bytes) {c d : ℕ} (e : c ≡ countIn x) (f : d ≡ countIn y) where
   pub by-count : (c ≡ d → ⊥) → ltb c d ≡ before (nodeKey x) (nodeKey y)
   unfolding nodeKey
   by-count n = sym (rw (← e, ← f, ne-eqb c d n) (or-false (ltb c d) false))
 
-  module _ (same : c ≡ d) (l : length x ≡ slotSize) (m : length y ≡ slotSize) where
+  module _ (same : c ≡ d) (l : length x ≡ slotSize fm) (m : length y ≡ slotSize fm) where
     bits-first : before (nodeKey x) (nodeKey y)
         ≡ before (bitsIn x) (bitsIn y)
         || (sameBytes (bitsIn x) (bitsIn y) && before (versionIn x ∷ []) (versionIn y ∷ []))
@@ -52,8 +54,8 @@ module _ (x y : Bytes) {c d : ℕ} (e : c ≡ countIn x) (f : d ≡ countIn y) w
         rw (← e, ← f, le-ltb c d (omega (arith, same)), eq-eqb c d same)
         (before-joined (bitsIn x) (bitsIn y) (versionIn x ∷ []) (versionIn y ∷ []) (bits-long x l ∙ sym (bits-long y m)))
       where
-        bits-long : (z : Bytes) → length z ≡ slotSize → length (bitsIn z) ≡ 32
-        bits-long z k = length-slice _ 32 z (omega arith)
+        bits-long : (z : Bytes) → length z ≡ slotSize fm → length (bitsIn z) ≡ 32
+        bits-long z k = length-slice _ 32 z (omega (arith, size-small fm))
 
     module _ {a b : Bytes} (ae : a ≡ bitsIn x) (be : b ≡ bitsIn y) {t : Bool} (te : t ≡ sameBytes a b) where
       pub by-version : t ≡ true → {v z : ℕ} → v ≡ versionIn x → z ≡ versionIn y → ltb v z ≡ before (nodeKey x) (nodeKey y)
@@ -87,17 +89,17 @@ step-next P t k h steps e f g n l = go (leb (suc (suc n)) k) refl
         subst₂ P (e ∙ ap (λ z. getD t z 0) p) (f ∙ ap (λ z. getD t z 0) q) g
 
 -- a root, as it was read
-pub root-parted : (latest : ℕ) (s : Bytes) (i j : ℕ) {n e v : ℕ} → n ≡ sinceIn (slotIn i s) → e ≡ endsAt latest n → v ≡ versionIn (slotIn j s) →
-    (b : Bool) → b ≡ leb e v → Passed b (PartedNo latest s i j)
-root-parted latest s i j {e = e} {v = v} retired ends version true h = λ z. rw (← retired, ← ends, ← version) (leb-true e v (sym h))
-root-parted latest s i j retired ends version false h = tt
+pub root-parted : (fm : Form) (latest : ℕ) (s : Bytes) (i j : ℕ) {n e v : ℕ} → n ≡ sinceIn (slotIn fm i s) → e ≡ endsAt latest n → v ≡ versionIn (slotIn fm j s) →
+    (b : Bool) → b ≡ leb e v → Passed b (PartedNo fm latest s i j)
+root-parted fm latest s i j {e = e} {v = v} retired ends version true h = λ z. rw (← retired, ← ends, ← version) (leb-true e v (sym h))
+root-parted fm latest s i j retired ends version false h = tt
 
-pub below-parted : (latest : ℕ) (s : Bytes) (i j : ℕ) {c : ℕ} → c ≡ countIn (slotIn j s) → (c ≡ 0 → ⊥) → PartedNo latest s i j
-below-parted latest s i j e n z = absurd (n (e ∙ z))
+pub below-parted : (fm : Form) (latest : ℕ) (s : Bytes) (i j : ℕ) {c : ℕ} → c ≡ countIn (slotIn fm j s) → (c ≡ 0 → ⊥) → PartedNo fm latest s i j
+below-parted fm latest s i j e n z = absurd (n (e ∙ z))
 
 -- a slot of version 0 holds no record
-pub no-version : (s : Bytes) (i : ℕ) (t : List ℕ) (m : ℕ) → Has s i → {v : ℕ} → v ≡ versionIn (slotIn i s) → v ≡ 0 → NamedAt s t m i
-no-version s i t m h e z r a some = absurd (omega (arith, version-of (slotIn i s) r (read-as h refl r a)))
+pub no-version : {fm : Form} (s : Bytes) (i : ℕ) (t : List ℕ) (m : ℕ) → Has fm s i → {v : ℕ} → v ≡ versionIn (slotIn fm i s) → v ≡ 0 → NamedAt fm s t m i
+no-version {fm} s i t m h e z r a some = absurd (omega (arith, version-of (slotIn fm i s) r (read-as h refl r a)))
 
-pub record-named : (s : Bytes) (t : List ℕ) (m i : ℕ) → Named t m i → NamedAt s t m i
-record-named s t m i n r a some = n
+pub record-named : (fm : Form) (s : Bytes) (t : List ℕ) (m i : ℕ) → Named t m i → NamedAt fm s t m i
+record-named fm s t m i n r a some = n

@@ -8,13 +8,14 @@ use mathlib.Core.List.{List, []}
 use lib.ListN.{length, getD}
 use lib.Dec.{ltb, eqb}
 use borrow.Author.Tests.{ltb-true, ltb-false, eqb-true}
+use Rattle.terms.specs.declared.Form.{Form}
 use Rattle.terms.specs.Bits.{Bytes, Byte, All, before}
 use Rattle.terms.specs.Records.{Record}
 use Rattle.meaning.specs.Sound.{At}
 use Rattle.meaning.specs.Local.{endsBefore}
 use Rattle.layout.specs.Slots.{countIn, bitsIn, versionIn, sinceIn}
 use Rattle.layout.specs.Headers.{sizeRight}
-use Rattle.layout.specs.Stores.{slotIn, storeOf, Has}
+use Rattle.layout.specs.Stores.{slotIn, storeIn, Has}
 use Rattle.lookup.proofs.Matching.{count-is}
 use Rattle.store.proofs.Slots.{slots-many}
 use Rattle.check_kin.specs.Kin.{endsAt}
@@ -31,10 +32,10 @@ no-more-bits : (x y : Bytes) → before (nodeKey x) (nodeKey y) ≡ true → cou
 unfolding nodeKey
 no-more-bits x y h = first-most (ltb (countIn x) (countIn y)) (eqb (countIn x) (countIn y)) _ refl refl h
 
-module _ (latest : ℕ) (s : Bytes) (t : List ℕ) (m : ℕ) (order : InOrder latest s t m)
-    (lives : (i : ℕ) → Has s i → versionIn (slotIn i s) < endsAt latest (sinceIn (slotIn i s))) where
+module _ (fm : Form) (latest : ℕ) (s : Bytes) (t : List ℕ) (m : ℕ) (order : InOrder fm latest s t m)
+    (lives : (i : ℕ) → Has fm s i → versionIn (slotIn fm i s) < endsAt latest (sinceIn (slotIn fm i s))) where
   abbrev entry : ℕ → Bytes
-  entry k = slotIn (getD t k 0) s
+  entry k = slotIn fm (getD t k 0) s
 
   abbrev ends : ℕ → ℕ
   ends k = endsAt latest (sinceIn (entry k))
@@ -60,11 +61,11 @@ module _ (latest : ℕ) (s : Bytes) (t : List ℕ) (m : ℕ) (order : InOrder la
       let e : suc (k + (l - suc k)) ≡ l = omega arith in
       subst (λ n. countIn (entry n) ≡ 0 → ends k ≤ versionIn (entry n)) e (further k (l - suc k) (omega arith))
 
-  module _ (size : sizeRight (length s) ≡ true) (bytes : All Byte s) (same : storeOf s .latest ≡ latest)
-      (named : (i : ℕ) (r : Record) → At (storeOf s) i r → Named t m i) where
-    has : (i : ℕ) (r : Record) → At (storeOf s) i r → Has s i
+  module _ (size : sizeRight fm (length s) ≡ true) (bytes : All Byte s) (same : storeIn fm s .latest ≡ latest)
+      (named : (i : ℕ) (r : Record) → At (storeIn fm s) i r → Named t m i) where
+    has : (i : ℕ) (r : Record) → At (storeIn fm s) i r → Has fm s i
     unfolding At
-    has i r a = record { size = size; inside = omega (arith, a .0, slots-many s) }
+    has i r a = record { size = size; inside = omega (arith, a .0, slots-many fm s) }
 
     -- the fields of a root, by an entry that names it
     record Entry (r : Record) : Type 0 where
@@ -72,27 +73,27 @@ module _ (latest : ℕ) (s : Bytes) (t : List ℕ) (m : ℕ) (order : InOrder la
       inside : at < m
       count : countIn (entry at) ≡ length (r .place)
       version : versionIn (entry at) ≡ r .version
-      end : ends at ≡ endsBefore (storeOf s) r
+      end : ends at ≡ endsBefore (storeIn fm s) r
       lived : versionIn (entry at) < ends at
 
-    its-entry : (i : ℕ) (r : Record) → At (storeOf s) i r → Entry r
+    its-entry : (i : ℕ) (r : Record) → At (storeIn fm s) i r → Entry r
     unfolding endsBefore countIn
     its-entry i r a =
         let (k, h, e) = named i r a in
         let w = has i r a in
-        let x : entry k ≡ slotIn i s = ap (λ n. slotIn n s) e in
+        let x : entry k ≡ slotIn fm i s = ap (λ n. slotIn fm n s) e in
         record {
           at = k;
           inside = h;
-          count = ap countIn x ∙ count-is (slotIn i s) (read-long w refl) (read-bytes w refl bytes) r (read-as w refl r a);
-          version = ap versionIn x ∙ sym (version-of (slotIn i s) r (read-as w refl r a));
-          end = rw (x, same, retired-of (slotIn i s) r (read-as w refl r a));
+          count = ap countIn x ∙ count-is fm (slotIn fm i s) (read-long w refl) (read-bytes w refl bytes) r (read-as w refl r a);
+          version = ap versionIn x ∙ sym (version-of (slotIn fm i s) r (read-as w refl r a));
+          end = rw (x, same, retired-of (slotIn fm i s) r (read-as w refl r a));
           lived = subst (λ z. versionIn z < endsAt latest (sinceIn z)) (sym x) (lives i w);
         }
 
     -- The life of a root ends before that of a later one begins.
-    pub roots-parted : (i j : ℕ) (r q : Record) → At (storeOf s) i r → At (storeOf s) j q → r .place ≡ [] → q .place ≡ [] → r .version < q .version →
-        endsBefore (storeOf s) r ≤ q .version
+    pub roots-parted : (i j : ℕ) (r q : Record) → At (storeIn fm s) i r → At (storeIn fm s) j q → r .place ≡ [] → q .place ≡ [] → r .version < q .version →
+        endsBefore (storeIn fm s) r ≤ q .version
     roots-parted i j r q a c e f v = go (ltb (x .at) (y .at)) (ltb (y .at) (x .at)) refl refl
       where
         x : Entry r
@@ -101,7 +102,7 @@ module _ (latest : ℕ) (s : Bytes) (t : List ℕ) (m : ℕ) (order : InOrder la
         y : Entry q
         y = its-entry j q c
 
-        go : (b d : Bool) → ltb (x .at) (y .at) ≡ b → ltb (y .at) (x .at) ≡ d → endsBefore (storeOf s) r ≤ q .version
+        go : (b d : Bool) → ltb (x .at) (y .at) ≡ b → ltb (y .at) (x .at) ≡ d → endsBefore (storeIn fm s) r ≤ q .version
         go true d g h =
             let w = apart (x .at) (y .at) (ltb-true (x .at) (y .at) g) (y .inside) (y .count ∙ ap length f) in
             omega (arith, w, x .end, y .version)

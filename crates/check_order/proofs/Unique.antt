@@ -6,32 +6,33 @@ use mathlib.Core.Logic.{_⊎_, inl, inr}
 use mathlib.Core.Bool.{true}
 use mathlib.Core.List.{List, [], _∷_, _++_}
 use lib.ListN.{length, getD}
+use Rattle.terms.specs.declared.Form.{Form}
 use Rattle.terms.specs.Bits.{Bytes, Byte, All, before, pack}
 use Rattle.terms.specs.Records.{Record}
 use Rattle.terms.proofs.Order.{before-trans, before-irrefl}
 use Rattle.meaning.specs.Sound.{At}
 use Rattle.layout.specs.Slots.{countIn}
 use Rattle.layout.specs.Headers.{sizeRight}
-use Rattle.layout.specs.Stores.{slotIn, storeOf, Has}
+use Rattle.layout.specs.Stores.{slotIn, storeIn, Has}
 use Rattle.lookup.proofs.Matching.{count-is, bits-are}
 use Rattle.store.proofs.Slots.{slots-many}
 use Rattle.check_pass.proofs.Records.{version-of, read-long, read-bytes, read-as}
 use Rattle.check_order.specs.Order.{nodeKey, Holding, ByNode, keyNo, Ascending, Named}
 
 -- the key of a record's slot is its node's
-node-key : (x : Bytes) (r : Record) → Holding x r → nodeKey x ≡ length (r .place) ∷ (pack 32 (r .place) ++ (r .version ∷ []))
+node-key : (fm : Form) (x : Bytes) (r : Record) → Holding fm x r → nodeKey x ≡ length (r .place) ∷ (pack 32 (r .place) ++ (r .version ∷ []))
 unfolding nodeKey countIn
-node-key x r h =
+node-key fm x r h =
     let v = version-of x r (h .here) in
-    rw (bits-are x (h .long) (h .bytes) r (h .here), count-is x (h .long) (h .bytes) r (h .here), v)
+    rw (bits-are fm x (h .long) (h .bytes) r (h .here), count-is fm x (h .long) (h .bytes) r (h .here), v)
 
 -- The key of the check is one that the node decides.
-pub node-key-by-node : ByNode nodeKey
-node-key-by-node x y r q h k v p = node-key x r h ∙ ap₂ (λ b w. length b ∷ (pack 32 b ++ (w ∷ []))) p v ∙ sym (node-key y q k)
+pub node-key-by-node : (fm : Form) → ByNode fm nodeKey
+node-key-by-node fm x y r q h k v p = node-key fm x r h ∙ ap₂ (λ b w. length b ∷ (pack 32 b ++ (w ∷ []))) p v ∙ sym (node-key fm y q k)
 
-module _ (key : Bytes → Bytes) (s : Bytes) (t : List ℕ) (m : ℕ) (up : Ascending key s t m) where
+module _ (fm : Form) (key : Bytes → Bytes) (s : Bytes) (t : List ℕ) (m : ℕ) (up : Ascending fm key s t m) where
   abbrev entry : ℕ → Bytes
-  entry k = keyNo key s (getD t k 0)
+  entry k = keyNo fm key s (getD t k 0)
 
   -- an entry comes before each later one
   further : (k d : ℕ) → suc (k + d) < m → before (entry k) (entry (suc (k + d))) ≡ true
@@ -65,19 +66,19 @@ module _ (key : Bytes → Bytes) (s : Bytes) (t : List ℕ) (m : ℕ) (up : Asce
       go (inr (inl h)) = absurd (distinct l k h a (sym e))
       go (inr (inr h)) = h
 
-  module _ (size : sizeRight (length s) ≡ true) (bytes : All Byte s) where
-    holding : (i : ℕ) (r : Record) → At (storeOf s) i r → Holding (slotIn i s) r
+  module _ (size : sizeRight fm (length s) ≡ true) (bytes : All Byte s) where
+    holding : (i : ℕ) (r : Record) → At (storeIn fm s) i r → Holding fm (slotIn fm i s) r
     unfolding At
     holding i r a =
-        let h : Has s i = record { size = size; inside = omega (arith, a .0, slots-many s) } in
+        let h : Has fm s i = record { size = size; inside = omega (arith, a .0, slots-many fm s) } in
         record { long = read-long h refl; bytes = read-bytes h refl bytes; here = read-as h refl r a }
 
     -- No two records share version and place.
-    pub ascending-unique : ByNode key → ((i : ℕ) (r : Record) → At (storeOf s) i r → Named t m i) →
-        (i j : ℕ) (r q : Record) → At (storeOf s) i r → At (storeOf s) j q → r .version ≡ q .version → r .place ≡ q .place → i ≡ j
+    pub ascending-unique : ByNode fm key → ((i : ℕ) (r : Record) → At (storeIn fm s) i r → Named t m i) →
+        (i j : ℕ) (r q : Record) → At (storeIn fm s) i r → At (storeIn fm s) j q → r .version ≡ q .version → r .place ≡ q .place → i ≡ j
     unfolding keyNo
     ascending-unique by named i j r q a c v p =
         let (k, h, e) = named i r a in
         let (l, g, f) = named j q c in
-        let same : keyNo key s i ≡ keyNo key s j = by (slotIn i s) (slotIn j s) r q (holding i r a) (holding j q c) v p in
-        sym e ∙ ap (λ n. getD t n 0) (one-entry k l h g (ap (keyNo key s) e ∙ same ∙ sym (ap (keyNo key s) f))) ∙ f
+        let same : keyNo fm key s i ≡ keyNo fm key s j = by (slotIn fm i s) (slotIn fm j s) r q (holding i r a) (holding j q c) v p in
+        sym e ∙ ap (λ n. getD t n 0) (one-entry k l h g (ap (keyNo fm key s) e ∙ same ∙ sym (ap (keyNo fm key s) f))) ∙ f

@@ -10,6 +10,7 @@ use store::retired_at;
 use store::slot_count;
 use store::slot_of;
 use store::version_at;
+use terms::Form;
 ghost use mathlib.Core.Path.{_≡_};
 ghost use mathlib.Core.Bool.{true};
 ghost use Prim.Native.Nat.{_≤_};
@@ -27,38 +28,38 @@ fn wide(x: u16) -> usize
 }
 
 // Whether slot i stands before slot j: by the bit count, then by the bits, then by the version.
-fn ahead(store: &[u8], i: usize, j: usize) -> bool
-    requires { ⌜ Has (now store) i × Has (now store) j ⌝ }
-    ensures { λ r. ⌜ r ≡ before (keyNo nodeKey (now (store .entry)) i) (keyNo nodeKey (now (store .entry)) j) ⌝ }
+fn ahead(form: Form, store: &[u8], i: usize, j: usize) -> bool
+    requires { ⌜ Has form (now store) i × Has form (now store) j ⌝ }
+    ensures { λ r. ⌜ r ≡ before (keyNo form nodeKey (now (store .entry)) i) (keyNo form nodeKey (now (store .entry)) j) ⌝ }
 {
-    let c = count_at(store, i);
-    let d = count_at(store, j);
+    let c = count_at(form, store, i);
+    let d = count_at(form, store, j);
     if c != d {
         return c < d;
     }
-    let x = bits_of(slot_of(store, i));
-    let y = bits_of(slot_of(store, j));
+    let x = bits_of(slot_of(form, store, i));
+    let y = bits_of(slot_of(form, store, j));
     if same_hash(hash_at(x, 0), hash_at(y, 0)) {
-        return version_at(store, i) < version_at(store, j);
+        return version_at(form, store, i) < version_at(form, store, j);
     }
     before(x, y)
 }
 
 // Whether, where slot j holds a root, the life of slot i's record ends by its version.
-fn parted(store: &[u8], latest: u32, i: usize, j: usize) -> bool
-    requires { ⌜ Has (now store) i × Has (now store) j ⌝ }
-    ensures { λ r. ⌜ Passed r (PartedNo latest (now (store .entry)) i j) ⌝ }
+fn parted(form: Form, store: &[u8], latest: u32, i: usize, j: usize) -> bool
+    requires { ⌜ Has form (now store) i × Has form (now store) j ⌝ }
+    ensures { λ r. ⌜ Passed r (PartedNo form latest (now (store .entry)) i j) ⌝ }
 {
-    if count_at(store, j) != 0 {
+    if count_at(form, store, j) != 0 {
         return true;
     }
-    ends_before(latest, retired_at(store, i)) <= version_at(store, j) as u64
+    ends_before(latest, retired_at(form, store, i)) <= version_at(form, store, j) as u64
 }
 
 // Whether two entries name slots in order, two roots parted.
-fn in_order(store: &[u8], latest: u32, n: usize, a: usize, b: usize) -> bool
-    requires { ⌜ Room (now store) n ⌝ }
-    ensures { λ r. ⌜ Passed r (Follows latest (now (store .entry)) a b) ⌝ }
+fn in_order(form: Form, store: &[u8], latest: u32, n: usize, a: usize, b: usize) -> bool
+    requires { ⌜ Room form (now store) n ⌝ }
+    ensures { λ r. ⌜ Passed r (Follows form latest (now (store .entry)) a b) ⌝ }
 {
     if n <= a {
         return false;
@@ -66,21 +67,21 @@ fn in_order(store: &[u8], latest: u32, n: usize, a: usize, b: usize) -> bool
     if n <= b {
         return false;
     }
-    if !ahead(store, a, b) {
+    if !ahead(form, store, a, b) {
         return false;
     }
-    parted(store, latest, a, b)
+    parted(form, store, latest, a, b)
 }
 
 // How many of the first `many` entries of a table, from the first on, name slots in ascending order, roots parted.
-pub fn ascending(store: &[u8], latest: u32, table: &[u16; 16384], many: usize) -> usize
-    requires { ⌜ (sizeRight (length (now store)) ≡ true) × (many ≤ 16384) ⌝ }
-    ensures { λ r. ⌜ InOrder latest (now (store .entry)) (now (table .entry)) r ⌝ }
+pub fn ascending(form: Form, store: &[u8], latest: u32, table: &[u16; 16384], many: usize) -> usize
+    requires { ⌜ (sizeRight form (length (now store)) ≡ true) × (many ≤ 16384) ⌝ }
+    ensures { λ r. ⌜ InOrder form latest (now (store .entry)) (now (table .entry)) r ⌝ }
 {
-    let n = slot_count(store);
+    let n = slot_count(form, store);
     let mut k = 1;
     while k < many {
-        if !in_order(store, latest, n, wide(table[k - 1]), wide(table[k])) {
+        if !in_order(form, store, latest, n, wide(table[k - 1]), wide(table[k])) {
             return k;
         }
         k += 1;
@@ -101,25 +102,38 @@ fn is_named(table: &[u16; 16384], many: usize, rank: u16, i: usize) -> bool
 }
 
 // The same of slot i, unless its version says that it is free.
-fn slot_named(store: &[u8], table: &[u16; 16384], many: usize, rank: u16, i: usize) -> bool
-    requires { ⌜ Has (now store) i × (many ≤ 16384) ⌝ }
-    ensures { λ r. ⌜ Passed r (NamedAt (now (store .entry)) (now (table .entry)) many i) ⌝ }
+fn slot_named(
+    form: Form,
+    store: &[u8],
+    table: &[u16; 16384],
+    many: usize,
+    rank: u16,
+    i: usize,
+) -> bool
+    requires { ⌜ Has form (now store) i × (many ≤ 16384) ⌝ }
+    ensures { λ r. ⌜ Passed r (NamedAt form (now (store .entry)) (now (table .entry)) many i) ⌝ }
 {
-    if version_at(store, i) == 0 {
+    if version_at(form, store, i) == 0 {
         return true;
     }
     is_named(table, many, rank, i)
 }
 
 // How many slots, from the first on, are free or named where their rank says.
-pub fn named(store: &[u8], table: &[u16; 16384], many: usize, ranks: &[u16; 16384]) -> usize
-    requires { ⌜ (sizeRight (length (now store)) ≡ true) × (many ≤ 16384) ⌝ }
-    ensures { λ r. ⌜ Each (NamedAt (now (store .entry)) (now (table .entry)) many) r ⌝ }
+pub fn named(
+    form: Form,
+    store: &[u8],
+    table: &[u16; 16384],
+    many: usize,
+    ranks: &[u16; 16384],
+) -> usize
+    requires { ⌜ (sizeRight form (length (now store)) ≡ true) × (many ≤ 16384) ⌝ }
+    ensures { λ r. ⌜ Each (NamedAt form (now (store .entry)) (now (table .entry)) many) r ⌝ }
 {
-    let n = slot_count(store);
+    let n = slot_count(form, store);
     let mut i = 0;
     while i < n {
-        if !slot_named(store, table, many, ranks[i], i) {
+        if !slot_named(form, store, table, many, ranks[i], i) {
             return i;
         }
         i += 1;

@@ -4,6 +4,7 @@ use native.Mathlib.Omega.{arith}
 use mathlib.Core.Path.{_≡_, refl, ap, sym, _∙_, subst}
 use mathlib.Core.Bool.{Bool, true, false}
 use lib.ListN.{length, take, drop}
+use Rattle.terms.specs.declared.Form.{Form}
 use Rattle.terms.specs.Bits.{Bytes, Byte, All, bits, begins, noneSet}
 use Rattle.terms.specs.Fields.{allZero}
 use Rattle.terms.specs.Records.{Body, Slot, free, used}
@@ -13,7 +14,7 @@ use Rattle.local.specs.Test.{lifeTest}
 use Rattle.place.specs.declared.Place as declared-place
 use Rattle.place.specs.Place.{placeOf, Stands}
 use Rattle.layout.specs.Slots.{countIn, bitsIn, placeIn, versionIn, sinceIn, keyIn, leafIn, innerIn, recordIn, isLeaf, isInner, slotOf}
-use Rattle.layout.specs.Stores.{slotIn, storeOf, slotNo, Has}
+use Rattle.layout.specs.Stores.{slotIn, storeIn, slotNo, Has}
 use Rattle.slots.proofs.Reading.{leaf-head}
 use Rattle.lookup.proofs.Matching.{says}
 use Rattle.check_kin.specs.declared.Kept as declared-kept
@@ -46,37 +47,37 @@ key-begins x {c} {p} e k w g f t =
     ∙ ap (λ q. begins q (keyIn x)) (sym (w .place))
     ∙ ap (begins (placeOf p)) (sym g) ∙ sym f ∙ t
 
-module _ {s : Bytes} {i : ℕ} (h : Has s i) (bytes : All Byte s) {k : declared-kept.Kept} (keeps : Keeps s k) where
-  is : {y : Slot} → slotOf (slotIn i s) ≡ y → slotNo i s ≡ y
+module _ {fm : Form} {s : Bytes} {i : ℕ} (h : Has fm s i) (bytes : All Byte s) {k : declared-kept.Kept} (keeps : Keeps fm s k) where
+  is : {y : Slot} → slotOf (slotIn fm i s) ≡ y → slotNo fm i s ≡ y
   is e = slot-is h ∙ e
 
-  pub free-own : allZero (slotIn i s) ≡ true → OwnAt (storeOf s) i
+  pub free-own : allZero (slotIn fm i s) ≡ true → OwnAt (storeIn fm s) i
   unfolding At slotOf
   free-own z =
-      let e : slotOf (slotIn i s) ≡ free = rw z in
+      let e : slotOf (slotIn fm i s) ≡ free = rw z in
       record { whole = λ y f. free-spoiled y (sym (is e) ∙ f); own = λ r a. free-used r (sym (is e) ∙ a .1) }
 
-  module _ (b : Body) (e : slotOf (slotIn i s) ≡ used (recordIn (slotIn i s) b)) (o : HeadOwn k (slotIn i s)) (key : keyTest (placeIn (slotIn i s)) b ≡ true) where
-    fields-own : Own (storeOf s) (recordIn (slotIn i s) b)
+  module _ (b : Body) (e : slotOf (slotIn fm i s) ≡ used (recordIn (slotIn fm i s) b)) (o : HeadOwn k (slotIn fm i s)) (key : keyTest (placeIn (slotIn fm i s)) b ≡ true) where
+    fields-own : Own (storeIn fm s) (recordIn (slotIn fm i s) b)
     unfolding recordIn lifeTest lifeRight
     fields-own = record {
-      some = says (slotIn i s) (read-long h refl) (read-bytes h refl bytes) (recordIn (slotIn i s) b) e .form .versioned .0;
+      some = says {fm = fm} (slotIn fm i s) (read-long h refl) (read-bytes h refl bytes) (recordIn (slotIn fm i s) b) e .form .versioned .0;
       latest = omega (arith, o .latest, keeps .latest);
       life = rw (keeps .oldest, keeps .latest) (o .life);
       key = key;
     }
 
-    record-own : OwnAt (storeOf s) i
+    record-own : OwnAt (storeIn fm s) i
     unfolding At
     record-own = record {
-      whole = λ y f. spoiled-used y (recordIn (slotIn i s) b) (sym f ∙ is e);
-      own = λ r a. subst (Own (storeOf s)) (used-eq (recordIn (slotIn i s) b) r (sym (is e) ∙ a .1)) fields-own;
+      whole = λ y f. spoiled-used y (recordIn (slotIn fm i s) b) (sym f ∙ is e);
+      own = λ r a. subst (Own (storeIn fm s)) (used-eq (recordIn (slotIn fm i s) b) r (sym (is e) ∙ a .1)) fields-own;
     }
 
-  pub leaf-own : allZero (slotIn i s) ≡ false → isLeaf (slotIn i s) ≡ true → LeafOwn k (slotIn i s) → OwnAt (storeOf s) i
+  pub leaf-own : allZero (slotIn fm i s) ≡ false → isLeaf (slotIn fm i s) ≡ true → LeafOwn k (slotIn fm i s) → OwnAt (storeIn fm s) i
   unfolding slotOf leafIn
-  leaf-own z l o = record-own (leafIn (slotIn i s)) (rw (z, l)) (o .head) (o .key)
+  leaf-own z l o = record-own (leafIn (slotIn fm i s)) (rw (z, l)) (o .head) (o .key)
 
-  pub inner-own : allZero (slotIn i s) ≡ false → isLeaf (slotIn i s) ≡ false → isInner (slotIn i s) ≡ true → HeadOwn k (slotIn i s) → OwnAt (storeOf s) i
+  pub inner-own : allZero (slotIn fm i s) ≡ false → isLeaf (slotIn fm i s) ≡ false → isInner (slotIn fm i s) ≡ true → HeadOwn k (slotIn fm i s) → OwnAt (storeIn fm s) i
   unfolding slotOf innerIn
-  inner-own z l m o = record-own (innerIn (slotIn i s)) (rw (z, l, m)) o refl
+  inner-own z l m o = record-own (innerIn (slotIn fm i s)) (rw (z, l, m)) o refl

@@ -13,22 +13,23 @@ use store::retired_at;
 use store::slot_count;
 use store::slot_of;
 use store::version_at;
+use terms::Form;
 ghost use mathlib.Core.Path.{_≡_};
 ghost use mathlib.Core.Bool.{true};
 ghost use Rattle.layout.specs.Slots.{isLeaf};
-ghost use Rattle.layout.specs.Stores.{slotIn, storeOf, Has};
+ghost use Rattle.layout.specs.Stores.{slotIn, storeIn, Has};
 ghost use Rattle.check_kin.specs.Kin.{Keeps};
 ghost use Rattle.check_pass.specs.Passes.{Passed, Each};
 ghost use Rattle.check_seen.specs.Seen.{OwnAt};
 ghost use Rattle.check_own.specs.Own.{HeadOwn, LeafOwn};
 
 // Whether version and life of slot i's record are right.
-fn head_right(store: &[u8], kept: Kept, i: usize) -> bool
-    requires { ⌜ Has (now store) i ⌝ }
-    ensures { λ r. ⌜ Passed r (HeadOwn kept (slotIn i (now (store .entry)))) ⌝ }
+fn head_right(form: Form, store: &[u8], kept: Kept, i: usize) -> bool
+    requires { ⌜ Has form (now store) i ⌝ }
+    ensures { λ r. ⌜ Passed r (HeadOwn kept (slotIn form i (now (store .entry)))) ⌝ }
 {
-    let version = version_at(store, i);
-    let retired = retired_at(store, i);
+    let version = version_at(form, store, i);
+    let retired = retired_at(form, store, i);
     if kept.latest < version {
         return false;
     }
@@ -36,46 +37,46 @@ fn head_right(store: &[u8], kept: Kept, i: usize) -> bool
 }
 
 // The same of a leaf, and whether its key begins with its place.
-fn leaf_right(store: &[u8], kept: Kept, i: usize) -> bool
-    requires { ⌜ Has (now store) i × (isLeaf (slotIn i (now store)) ≡ true) ⌝ }
-    ensures { λ r. ⌜ Passed r (LeafOwn kept (slotIn i (now (store .entry)))) ⌝ }
+fn leaf_right(form: Form, store: &[u8], kept: Kept, i: usize) -> bool
+    requires { ⌜ Has form (now store) i × (isLeaf (slotIn form i (now store)) ≡ true) ⌝ }
+    ensures { λ r. ⌜ Passed r (LeafOwn kept (slotIn form i (now (store .entry)))) ⌝ }
 {
-    let s = slot_of(store, i);
-    let count = count_at(store, i);
+    let s = slot_of(form, store, i);
+    let count = count_at(form, store, i);
     let place = place_at(bits_of(s), count as usize);
     if !begins(key_of(s), place) {
         return false;
     }
-    head_right(store, kept, i)
+    head_right(form, store, kept, i)
 }
 
 // Whether slot i is free, or holds a record whose own fields are right.
-fn slot_right(store: &[u8], kept: Kept, i: usize) -> bool
-    requires { ⌜ Has (now store) i × Keeps (now store) kept ⌝ }
-    ensures { λ r. ⌜ Passed r (OwnAt (storeOf (now (store .entry))) i) ⌝ }
+fn slot_right(form: Form, store: &[u8], kept: Kept, i: usize) -> bool
+    requires { ⌜ Has form (now store) i × Keeps form (now store) kept ⌝ }
+    ensures { λ r. ⌜ Passed r (OwnAt (storeIn form (now (store .entry))) i) ⌝ }
 {
-    let s = slot_of(store, i);
+    let s = slot_of(form, store, i);
     if all_zero(s) {
         return true;
     }
     if is_leaf(s) {
-        return leaf_right(store, kept, i);
+        return leaf_right(form, store, kept, i);
     }
     if is_inner(s) {
-        return head_right(store, kept, i);
+        return head_right(form, store, kept, i);
     }
     false
 }
 
 // How many slots, from the first on, are free or hold a record whose own fields are right.
-pub fn own_right(store: &[u8], kept: Kept) -> usize
-    requires { ⌜ Keeps (now store) kept ⌝ }
-    ensures { λ r. ⌜ Each (OwnAt (storeOf (now (store .entry)))) r ⌝ }
+pub fn own_right(form: Form, store: &[u8], kept: Kept) -> usize
+    requires { ⌜ Keeps form (now store) kept ⌝ }
+    ensures { λ r. ⌜ Each (OwnAt (storeIn form (now (store .entry)))) r ⌝ }
 {
-    let n = slot_count(store);
+    let n = slot_count(form, store);
     let mut i = 0;
     while i < n {
-        if !slot_right(store, kept, i) {
+        if !slot_right(form, store, kept, i) {
             return i;
         }
         i += 1;

@@ -11,6 +11,7 @@ use lib.Dec.{eqb, leb}
 use borrow.Author.Tests.{eqb-true, eq-eqb}
 use types.Run.{OneOf}
 use denote.Enum.Declared.{tagOf}
+use Rattle.terms.specs.declared.Form.{Form}
 use Rattle.terms.specs.Bits.{Bytes, Byte, All, Side, left, right, longer, sameBytes, pack}
 use Rattle.terms.specs.Fields.{allOf}
 use Rattle.terms.specs.Records.{Child, Body, leafBody, innerBody, Record, Slot, free, used, spoiled, Store}
@@ -28,7 +29,7 @@ use Rattle.place.specs.Place.{placeOf, Proper}
 use Rattle.place.proofs.Places.{proper-count}
 use Rattle.layout.specs.Sizes.{slotSize}
 use Rattle.layout.specs.Slots.{countIn, leafIn, childIn, recordOf, recordBytes, slotOf, bitsIn, keyIn, valueIn, leftIn, rightIn, kidOn}
-use Rattle.layout.specs.Stores.{slotIn, storeOf, slotNo, Has}
+use Rattle.layout.specs.Stores.{slotIn, storeIn, slotNo, Has}
 use Rattle.store.proofs.Slots.{slot-long, slot-bytes, slot-within, slot-is}
 use Rattle.layout.proofs.Slots.{left-child, right-child}
 use Rattle.slots.specs.declared.Child as declared-child
@@ -47,30 +48,30 @@ use Rattle.check_link.specs.Link.{linkTests, SaidOf}
 use Rattle.check_parents.specs.Parents.{Is, couldName, SlotSays}
 
 -- the version of an inner record's child, by its field
-child-version : (x : Bytes) → length x ≡ slotSize → All Byte x → (q : Record) → slotOf x ≡ used q → (b : Side) (c d : Child) → q .body ≡ innerBody c d →
+child-version : (fm : Form) (x : Bytes) → length x ≡ slotSize fm → All Byte x → (q : Record) → slotOf x ≡ used q → (b : Side) (c d : Child) → q .body ≡ innerBody c d →
     childOn b c d .version ≡ kidOn b x .version
 unfolding childIn
-child-version x l h q e b c d k = go b
+child-version fm x l h q e b c d k = go b
   where
-    w : recordOf (q .place) (q .version) (q .retired) (innerBody c d) ≡ q
-    w = ap (recordOf (q .place) (q .version) (q .retired)) (sym k)
+    w : recordOf (q .place) (q .version) (q .retired) (innerBody c d) (q .counts) ≡ q
+    w = ap (λ o. recordOf (q .place) (q .version) (q .retired) o (q .counts)) (sym k)
 
-    form : RecordForm (recordOf (q .place) (q .version) (q .retired) (innerBody c d))
-    form = subst (λ r. RecordForm r) (sym w) (says x l h q e .form)
+    form : RecordForm (recordOf (q .place) (q .version) (q .retired) (innerBody c d) (q .counts))
+    form = subst (λ r. RecordForm r) (sym w) (says {fm = fm} x l h q e .form)
 
-    bytes : recordBytes (recordOf (q .place) (q .version) (q .retired) (innerBody c d)) ≡ x
-    bytes = ap recordBytes w ∙ says x l h q e .bytes
+    bytes : recordBytes fm (recordOf (q .place) (q .version) (q .retired) (innerBody c d) (q .counts)) ≡ x
+    bytes = ap (recordBytes fm) w ∙ says {fm = fm} x l h q e .bytes
 
     go : (b : Side) → childOn b c d .version ≡ kidOn b x .version
-    go false = sym (ap (λ z. z .version) (left-child (q .place) (q .version) (q .retired) c d form)) ∙ ap (λ y. leftIn y .version) bytes
-    go true = sym (ap (λ z. z .version) (right-child (q .place) (q .version) (q .retired) c d form)) ∙ ap (λ y. rightIn y .version) bytes
+    go false = sym (ap (λ z. z .version) (left-child fm (q .place) (q .version) (q .retired) c d (q .counts) form)) ∙ ap (λ y. leftIn y .version) bytes
+    go true = sym (ap (λ z. z .version) (right-child fm (q .place) (q .version) (q .retired) c d (q .counts) form)) ∙ ap (λ y. rightIn y .version) bytes
 
 other-side : (b : Side) {A : Type 0} → not b ≡ b → A
 other-side true e = absurd (false≢true e)
 other-side false e = absurd (true≢false e)
 
 -- a record q in the bytes x, and a record r below `up`
-module _ (x : Bytes) (l : length x ≡ slotSize) (h : All Byte x) (q : Record) (e : slotOf x ≡ used q) (b : declared-below.Below) (w : Proper (b .up)) (st : Store)
+module _ (fm : Form) (x : Bytes) (l : length x ≡ slotSize fm) (h : All Byte x) (q : Record) (e : slotOf x ≡ used q) (b : declared-below.Below) (w : Proper (b .up)) (st : Store)
     (r : Record) (i : Is st b r) where
   named-from : (c : Side) → names c q r ≡ true → (c ≡ b .right) × (q .place ≡ placeOf (b .up))
   named-from c n =
@@ -81,11 +82,11 @@ module _ (x : Bytes) (l : length x ≡ slotSize) (h : All Byte x) (q : Record) (
   named-could n =
       let p = named-from (b .right) n .1 in
       let (c, d, k) = names-inner (b .right) q r (omega (arith, i .some, i .version)) n in
-      let count : countIn x ≡ b .up .count = count-is x l h q e ∙ ap length p ∙ proper-count (b .up) w in
+      let count : countIn x ≡ b .up .count = count-is fm x l h q e ∙ ap length p ∙ proper-count (b .up) w in
       let version : kidOn (b .right) x .version ≡ b .version =
-      sym (child-version x l h q e (b .right) c d k) ∙ ap (childVersion (b .right)) (sym k) ∙ sym (names-eq (b .right) q r n .0) ∙ i .version
+      sym (child-version fm x l h q e (b .right) c d k) ∙ ap (childVersion (b .right)) (sym k) ∙ sym (names-eq (b .right) q r n .0) ∙ i .version
       in
-      let place : bitsIn x ≡ b .up .bits = bits-are x l h q e ∙ ap (pack 32) p ∙ sym (w .trimmed) in
+      let place : bitsIn x ≡ b .up .bits = bits-are fm x l h q e ∙ ap (pack 32) p ∙ sym (w .trimmed) in
       rw (eq-eqb (countIn x) (b .up .count) count, eq-eqb (kidOn (b .right) x .version) (b .version) version, place) (bytes-same (b .up .bits))
 
   not-named : couldName b x ≡ false → (c : Side) → names c q r ≡ false
@@ -103,10 +104,10 @@ module _ (x : Bytes) (l : length x ≡ slotSize) (h : All Byte x) (q : Record) (
       let version = eqb-true (kidOn (b .right) x .version) (b .version) (and-left versions same rest) in
       let place = same-bytes (bitsIn x) (b .up .bits) (and-right versions same rest) in
       eq-names (b .right) q r
-      (i .version ∙ sym version ∙ sym (child-version x l h q e (b .right) c d k) ∙ ap (childVersion (b .right)) (sym k))
+      (i .version ∙ sym version ∙ sym (child-version fm x l h q e (b .right) c d k) ∙ ap (childVersion (b .right)) (sym k))
       (i .place
       ∙ ap (longer (b .right))
-      (sym (place-is x l h q e (placeOf (b .up)) (omega (arith, w .short, proper-count (b .up) w)) (count ∙ sym (proper-count (b .up) w)) (place ∙ w .trimmed))))
+      (sym (place-is fm x l h q e (placeOf (b .up)) (omega (arith, w .short, proper-count (b .up) w)) (count ∙ sym (proper-count (b .up) w)) (place ∙ w .trimmed))))
 
   named-once : names (not (b .right)) q r ≡ false
   named-once = is-false _ (λ n. other-side (b .right) (named-from (not (b .right)) n .0))
@@ -172,17 +173,17 @@ leaf-names : (q r : Record) (k x : Bytes) → q .body ≡ leafBody k x → 1 ≤
 leaf-names q r k x e v b = is-false (names b q r) (λ n. omega (arith, names-eq b q r n .0, ap (childVersion b) e))
 
 -- slot j says nothing by its fields
-module _ {s : Bytes} {j : ℕ} (h : Has s j) (a : All Byte s) (b : declared-below.Below) (w : Proper (b .up)) where
-  pub no-parent : couldName b (slotIn j s) ≡ false → SlotSays s j b (Lived 0)
+module _ {fm : Form} {s : Bytes} {j : ℕ} (h : Has fm s j) (a : All Byte s) (b : declared-below.Below) (w : Proper (b .up)) where
+  pub no-parent : couldName b (slotIn fm j s) ≡ false → SlotSays fm s j b (Lived 0)
   no-parent f r i =
-      none-said (storeOf s) r (slotNo j s) (λ q e.
-      not-named (slotIn j s) (slot-long j s (slot-within h)) (slot-bytes j s a) q (sym (slot-is h) ∙ e) b w (storeOf s) r i f)
+      none-said (storeIn fm s) r (slotNo fm j s) (λ q e.
+      not-named fm (slotIn fm j s) (slot-long fm j s (slot-within h)) (slot-bytes fm j s a) q (sym (slot-is h) ∙ e) b w (storeIn fm s) r i f)
 
-  module _ (t : declared-slot.Slot) (read : Read (slotIn j s) t) where
+  module _ (t : declared-slot.Slot) (read : Read (slotIn fm j s) t) where
     abbrev saysAs : declared-kind.Kind → Type 0
-    saysAs k = kindSays k t (slotIn j s) ≡ slotNo j s
+    saysAs k = kindSays k t (slotIn fm j s) ≡ slotNo fm j s
 
-    pub no-inner : OneOf (0 ∷ 1 ∷ 3 ∷ []) (tagOf kind.the-type (t .kind)) → SlotSays s j b (Lived 0)
+    pub no-inner : OneOf (0 ∷ 1 ∷ 3 ∷ []) (tagOf kind.the-type (t .kind)) → SlotSays fm s j b (Lived 0)
     unfolding slotSays kindSays recordSays leafIn
     no-inner o r i = go (t .kind) o (read .says ∙ sym (slot-is h))
       where
@@ -190,41 +191,41 @@ module _ {s : Bytes} {j : ℕ} (h : Has s j) (a : All Byte s) (b : declared-belo
         v = omega (arith, i .some, i .version)
 
         go : (k : declared-kind.Kind) → OneOf (0 ∷ 1 ∷ 3 ∷ []) (tagOf kind.the-type k) → saysAs k →
-            SaidOf (byRecord true (linkTest leafHash innerHash (storeOf s) r) (slotNo j s)) (byRecord 0 (lifeAbove (storeOf s) r) (slotNo j s)) (Lived 0)
+            SaidOf (byRecord true (linkTest leafHash innerHash (storeIn fm s) r) (slotNo fm j s)) (byRecord 0 (lifeAbove (storeIn fm s) r) (slotNo fm j s)) (Lived 0)
         go Free o e = rw (← e) (refl, refl)
-        go Leaf o e = none-said (storeOf s) r (slotNo j s) (λ q u.
-            leaf-names q r (keyIn (slotIn j s)) (valueIn (slotIn j s)) (ap (λ z. z .body) (used-eq q (recordSays t (leafIn (slotIn j s))) (sym u ∙ sym e))) v)
+        go Leaf o e = none-said (storeIn fm s) r (slotNo fm j s) (λ q u.
+            leaf-names q r (keyIn (slotIn fm j s)) (valueIn (slotIn fm j s)) (ap (λ z. z .body) (used-eq q (recordSays t (slotIn fm j s) (leafIn (slotIn fm j s))) (sym u ∙ sym e))) v)
         go (Inner c d) o e = absurd (⊎-elim (λ z. omega arith) (⊎-elim (λ z. omega arith) (λ z. omega arith)) o)
         go Spoiled o e = rw (← e) (refl, refl)
 
     -- slot j is a parent
-    pub parent-said : (k : declared-kept.Kept) → Keeps s k → couldName b (slotIn j s) ≡ true → (c d : declared-child.Child) → t .kind ≡ Inner c d →
+    pub parent-said : (k : declared-kept.Kept) → Keeps fm s k → couldName b (slotIn fm j s) ≡ true → (c d : declared-child.Child) → t .kind ≡ Inner c d →
         {x y : declared-child.Child} → x ≡ cond (b .right) d c → y ≡ cond (not (b .right)) d c → (ends : ℕ) → ends ≡ endsAt (k .latest) (t .retired) →
-        (z : declared-said.Said) → SaidOf (allOf (linkTests k b (t .version) ends x (y .version))) (ends - max (k .oldest) (t .version)) z → SlotSays s j b z
+        (z : declared-said.Said) → SaidOf (allOf (linkTests k b (t .version) ends x (y .version))) (ends - max (k .oldest) (t .version)) z → SlotSays fm s j b z
     unfolding slotSays kindSays recordSays childSays endsBefore
     parent-said k keep could c d inner {x} {y} named-one beside-one ends ended z said r i =
         rw e
         (said-as z
-        (one-link (storeOf s) r q (childSays c) (childSays d) refl (b .right) n o
+        (one-link (storeIn fm s) r q (childSays c) (childSays d) refl (b .right) n o
         ∙ same-links (b .right)
         ∙ ap₂ (λ p v. allOf (linkTests k b (t .version) ends p (v .version))) (sym named-one) (sym beside-one))
-        (one-life (storeOf s) r q (childSays c) (childSays d) refl (b .right) n ∙ rw (keep .oldest, keep .latest, ended))
+        (one-life (storeIn fm s) r q (childSays c) (childSays d) refl (b .right) n ∙ rw (keep .oldest, keep .latest, ended))
         said)
       where
         q : Record
-        q = recordSays t (innerBody (childSays c) (childSays d))
+        q = recordSays t (slotIn fm j s) (innerBody (childSays c) (childSays d))
 
-        e : slotNo j s ≡ used q
-        e = slot-is h ∙ sym (read .says) ∙ ap (λ x. kindSays x t (slotIn j s)) inner
+        e : slotNo fm j s ≡ used q
+        e = slot-is h ∙ sym (read .says) ∙ ap (λ x. kindSays x t (slotIn fm j s)) inner
 
         n : names (b .right) q r ≡ true
-        n = named (slotIn j s) (slot-long j s (slot-within h)) (slot-bytes j s a) q (sym (slot-is h) ∙ e) b w (storeOf s) r i (childSays c) (childSays d) refl could
+        n = named fm (slotIn fm j s) (slot-long fm j s (slot-within h)) (slot-bytes fm j s a) q (sym (slot-is h) ∙ e) b w (storeIn fm s) r i (childSays c) (childSays d) refl could
 
         o : names (not (b .right)) q r ≡ false
-        o = named-once (slotIn j s) (slot-long j s (slot-within h)) (slot-bytes j s a) q (sym (slot-is h) ∙ e) b w (storeOf s) r i
+        o = named-once fm (slotIn fm j s) (slot-long fm j s (slot-within h)) (slot-bytes fm j s a) q (sym (slot-is h) ∙ e) b w (storeIn fm s) r i
 
         same-links : (m : Side) →
-            allOf (linksOn (storeOf s) r q (childSays c) (childSays d) refl m)
+            allOf (linksOn (storeIn fm s) r q (childSays c) (childSays d) refl m)
             ≡ allOf (linkTests k b (t .version) ends (cond m d c) (cond (not m) d c .version))
         same-links false = rw (i .hash, i .version, i .ends, keep .oldest, keep .latest, lone-is (childSays d) (r .body), i .kind, ended)
         same-links true = rw (i .hash, i .version, i .ends, keep .oldest, keep .latest, lone-is (childSays c) (r .body), i .kind, ended)

@@ -13,6 +13,7 @@ use store::child_version_at;
 use store::count_at;
 use store::slot_count;
 use store::slot_of;
+use terms::Form;
 ghost use mathlib.Core.Path.{_≡_};
 ghost use mathlib.Core.Bool.{cond};
 ghost use Rattle.place.specs.Place.{Proper};
@@ -22,19 +23,19 @@ ghost use Rattle.check_link.specs.Link.{Short};
 ghost use Rattle.check_parents.specs.Parents.{couldName, SlotSays, ParentsSay};
 
 // Whether slot j, were it an inner record, would name the record below it: most slots have another bit count.
-fn could_name(store: &[u8], j: usize, below: Below) -> bool
-    requires { ⌜ Has (now store) j ⌝ }
-    ensures { λ r. ⌜ r ≡ couldName below (slotIn j (now (store .entry))) ⌝ }
+fn could_name(form: Form, store: &[u8], j: usize, below: Below) -> bool
+    requires { ⌜ Has form (now store) j ⌝ }
+    ensures { λ r. ⌜ r ≡ couldName below (slotIn form j (now (store .entry))) ⌝ }
 {
     let up = below.up;
-    if count_at(store, j) as usize != up.count {
+    if count_at(form, store, j) as usize != up.count {
         return false;
     }
-    if child_version_at(store, j, below.right) != below.version {
+    if child_version_at(form, store, j, below.right) != below.version {
         return false;
     }
     let bits = up.bits;
-    same(bits_of(slot_of(store, j)), &bits)
+    same(bits_of(slot_of(form, store, j)), &bits)
 }
 
 // The child on a side.
@@ -45,14 +46,14 @@ fn on_side(side: bool, left: Child, right: Child) -> Child
 }
 
 // What slot j says of a record.
-fn parent_says(store: &[u8], j: usize, kept: Kept, below: Below) -> Said
-    requires { ⌜ Has (now store) j × Keeps (now store) kept × Proper (below .up) ⌝ }
-    ensures { λ t. ⌜ Short t × SlotSays (now (store .entry)) j below t ⌝ }
+fn parent_says(form: Form, store: &[u8], j: usize, kept: Kept, below: Below) -> Said
+    requires { ⌜ Has form (now store) j × Keeps form (now store) kept × Proper (below .up) ⌝ }
+    ensures { λ t. ⌜ Short t × SlotSays form (now (store .entry)) j below t ⌝ }
 {
-    if !could_name(store, j, below) {
+    if !could_name(form, store, j, below) {
         return Said::Lived(0);
     }
-    let slot = read_slot(slot_of(store, j));
+    let slot = read_slot(slot_of(form, store, j));
     let kind = slot.kind;
     let Kind::Inner { left, right } = kind else {
         return Said::Lived(0);
@@ -65,15 +66,15 @@ fn parent_says(store: &[u8], j: usize, kept: Kept, below: Below) -> Said
 }
 
 // Whether all that its parents say of a record is right, and their kept lives add up to its own.
-pub fn parents_right(store: &[u8], kept: Kept, below: Below, life: u64) -> bool
-    requires { ⌜ Keeps (now store) kept × Proper (below .up) ⌝ }
-    ensures { λ t. ⌜ ParentsSay (now (store .entry)) below life t ⌝ }
+pub fn parents_right(form: Form, store: &[u8], kept: Kept, below: Below, life: u64) -> bool
+    requires { ⌜ Keeps form (now store) kept × Proper (below .up) ⌝ }
+    ensures { λ t. ⌜ ParentsSay form (now (store .entry)) below life t ⌝ }
 {
-    let n = slot_count(store);
+    let n = slot_count(form, store);
     let mut sum = 0;
     let mut j = 0;
     while j < n {
-        let Said::Lived(lived) = parent_says(store, j, kept, below) else {
+        let Said::Lived(lived) = parent_says(form, store, j, kept, below) else {
             return false;
         };
         sum += lived;

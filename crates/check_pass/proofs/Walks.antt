@@ -4,6 +4,7 @@ use mathlib.Core.Path.{_≡_}
 use mathlib.Core.Bool.{Bool, true, false, not}
 use mathlib.Core.List.{List}
 use lib.ListN.{length}
+use Rattle.terms.specs.declared.Form.{Form}
 use Rattle.terms.specs.Bits.{Bytes}
 use Rattle.terms.specs.Records.{Slot}
 use Rattle.layout.specs.Sizes.{roomOf}
@@ -16,20 +17,20 @@ use Rattle.check_pass.proofs.Passes.{passed-so, each-start, each-next}
 abbrev Anything : List Slot → List Slot → Type 0
 Anything xs ys = Unit {0}
 
-pub record Walk (s : Bytes) (P : ℕ → Type 0) (n i : ℕ) : Type 0 where
-  pub scan : Scan s Anything n i
+pub record Walk (fm : Form) (s : Bytes) (P : ℕ → Type 0) (n i : ℕ) : Type 0 where
+  pub scan : Scan fm s Anything n i
   pub each : Each P i
 
-pub walk-start : (s : Bytes) (P : ℕ → Type 0) → sizeRight (length s) ≡ true → {n : ℕ} → n ≡ roomOf (length s) → Walk s P n 0
+pub walk-start : {fm : Form} (s : Bytes) (P : ℕ → Type 0) → sizeRight fm (length s) ≡ true → {n : ℕ} → n ≡ roomOf fm (length s) → Walk fm s P n 0
 walk-start s P e m = record { scan = scan-start s Anything e m tt; each = each-start P }
 
-module _ {s : Bytes} {P : ℕ → Type 0} {n i : ℕ} (w : Walk s P n i) (h : i < n) where
-  pub walk-slot : Has s i
+module _ {fm : Form} {s : Bytes} {P : ℕ → Type 0} {n i : ℕ} (w : Walk fm s P n i) (h : i < n) where
+  pub walk-slot : Has fm s i
   walk-slot = scan-slot (w .scan) h
 
-  pub walk-next : P i → Walk s P n (i + 1)
+  pub walk-next : P i → Walk fm s P n (i + 1)
   walk-next p = record { scan = scan-next (w .scan) h Anything tt; each = each-next P i (w .each) p }
 
   -- by a test of the slot that has not failed
-  pub walk-on : (b : Bool) → not b ≡ false → Passed b (P i) → Walk s P n (i + 1)
+  pub walk-on : (b : Bool) → not b ≡ false → Passed b (P i) → Walk fm s P n (i + 1)
   walk-on b e p = walk-next (passed-so b e p)

@@ -7,6 +7,7 @@ use mathlib.Core.List.{List}
 use lib.ListN.{length, getD, replicate}
 use lib.Dec.{eqb}
 use borrow.Author.Tests.{eqb-false}
+use Rattle.terms.specs.declared.Form.{Form}
 use Rattle.terms.specs.Bits.{Bytes, Byte, All}
 use Rattle.terms.specs.Records.{Record, used}
 use Rattle.meaning.specs.Sound.{At}
@@ -17,7 +18,7 @@ use Rattle.nodehash.specs.Node.{leafHash, innerHash}
 use Rattle.layout.specs.Sizes.{mostSlots, roomOf}
 use Rattle.layout.proofs.Headers.{size-says}
 use Rattle.layout.specs.Slots.{versionIn, sinceIn, slotOf}
-use Rattle.layout.specs.Stores.{slotIn, storeOf, slotNo, Has}
+use Rattle.layout.specs.Stores.{slotIn, storeIn, slotNo, Has}
 use Rattle.store.proofs.Slots.{slots-many, slot-is}
 use Rattle.check_kin.specs.declared.Kept as declared-kept
 use Rattle.check_kin.specs.Kin.{endsAt}
@@ -48,26 +49,26 @@ zeros (suc n) zero = refl
 zeros (suc n) (suc i) = zeros n i
 
 -- a store has at most 16,384 slots
-pub room-fits : (s : Bytes) {n : ℕ} → Room s n → n ≤ mostSlots
-room-fits s r = omega (arith, r .many, size-says (length s) (r .size))
+pub room-fits : {fm : Form} (s : Bytes) {n : ℕ} → Room fm s n → n ≤ mostSlots
+room-fits {fm} s r = omega (arith, r .many, size-says fm (length s) (r .size))
 
-module _ (s : Bytes) where
+module _ (fm : Form) (s : Bytes) where
   -- a record's slot is one of the store's
-  inside : (i : ℕ) (r : Record) → At (storeOf s) i r → i < roomOf (length s)
+  inside : (i : ℕ) (r : Record) → At (storeIn fm s) i r → i < roomOf fm (length s)
   unfolding At
-  inside i r a = omega (arith, a .0, slots-many s)
+  inside i r a = omega (arith, a .0, slots-many fm s)
 
   -- each life ends after the version it begins at; a free slot has version 0
-  lives : {k : declared-kept.Kept} → Ready s k → All Byte s → (i : ℕ) → Has s i → versionIn (slotIn i s) < endsAt (k .latest) (sinceIn (slotIn i s))
+  lives : {k : declared-kept.Kept} → Ready fm s k → All Byte s → (i : ℕ) → Has fm s i → versionIn (slotIn fm i s) < endsAt (k .latest) (sinceIn (slotIn fm i s))
   unfolding endsBefore
   lives {k} ready bytes i h =
-      slot-elim (λ y. slotNo i s ≡ y → versionIn (slotIn i s) < endsAt (k .latest) (sinceIn (slotIn i s))) (slotNo i s)
-      (λ e. omega (arith, free-zero (slotIn i s) (read-long h refl) (read-bytes h refl bytes) (sym (slot-is h) ∙ e) .0, ends-some (k .latest) (sinceIn (slotIn i s))))
+      slot-elim (λ y. slotNo fm i s ≡ y → versionIn (slotIn fm i s) < endsAt (k .latest) (sinceIn (slotIn fm i s))) (slotNo fm i s)
+      (λ e. omega (arith, free-zero fm (slotIn fm i s) (read-long h refl) (read-bytes h refl bytes) (sym (slot-is h) ∙ e) .0, ends-some (k .latest) (sinceIn (slotIn fm i s))))
       (λ x e f. absurd (ready .own i (h .inside) .whole x e))
       (λ r e f.
-      let here : slotOf (slotIn i s) ≡ used r = sym (slot-is h) ∙ e in
-      rw (← version-of (slotIn i s) r here, ← retired-of (slotIn i s) r here, ← ready .keeps .latest)
-      (own-lives (storeOf s) r (ready .own i (h .inside) .own r (stands h refl r here)))) refl
+      let here : slotOf (slotIn fm i s) ≡ used r = sym (slot-is h) ∙ e in
+      rw (← version-of (slotIn fm i s) r here, ← retired-of (slotIn fm i s) r here, ← ready .keeps .latest)
+      (own-lives (storeIn fm s) r (ready .own i (h .inside) .own r (stands h refl r here)))) refl
     where
       ends-some : (l n : ℕ) → 0 < endsAt l n
       ends-some l n = go (eqb n 0) refl
@@ -77,33 +78,33 @@ module _ (s : Bytes) where
           go false e = let f = eqb-false n 0 e in omega arith
 
   -- the entries follow each other, and each record is named
-  pub all-alone : {kept : declared-kept.Kept} → Ready s kept → All Byte s → (t : List ℕ) (m k n : ℕ) → m ≤ k → InOrder (kept .latest) s t k →
-      roomOf (length s) ≤ n → Each (NamedAt s t m) n → Alone (storeOf s)
+  pub all-alone : {kept : declared-kept.Kept} → Ready fm s kept → All Byte s → (t : List ℕ) (m k n : ℕ) → m ≤ k → InOrder fm (kept .latest) s t k →
+      roomOf fm (length s) ≤ n → Each (NamedAt fm s t m) n → Alone (storeIn fm s)
   all-alone {kept} ready bytes t m k n le steps ln named =
-      let order : InOrder (kept .latest) s t m = λ i h. steps i (omega arith) in
-      let all : (i : ℕ) (r : Record) → At (storeOf s) i r → Named t m i
+      let order : InOrder fm (kept .latest) s t m = λ i h. steps i (omega arith) in
+      let all : (i : ℕ) (r : Record) → At (storeIn fm s) i r → Named t m i
       = λ i r a. named i (omega (arith, inside i r a)) r a (ready .own i (inside i r a) .own r a .some) in
       record {
-        unique = ascending-unique nodeKey s t m (λ i h. order i h .up) (ready .keeps .size) bytes node-key-by-node all;
-        parted = roots-parted (kept .latest) s t m order (lives ready bytes) (ready .keeps .size) bytes (ready .keeps .latest) all;
+        unique = ascending-unique fm nodeKey s t m (λ i h. order i h .up) (ready .keeps .size) bytes (node-key-by-node fm) all;
+        parted = roots-parted fm (kept .latest) s t m order (lives ready bytes) (ready .keeps .size) bytes (ready .keeps .latest) all;
       }
 
   -- the links, and the lives that were added up from nothing
-  pub all-linked : (xs ys : List ℕ) → ((i : ℕ) → getD xs i 0 ≡ 0) → AllTied s (roomOf (length s)) xs ys → (n : ℕ) → roomOf (length s) ≤ n →
-      Each (CoveredAt s ys) n → Linked leafHash innerHash (storeOf s)
+  pub all-linked : (xs ys : List ℕ) → ((i : ℕ) → getD xs i 0 ≡ 0) → AllTied fm s (roomOf fm (length s)) xs ys → (n : ℕ) → roomOf fm (length s) ≤ n →
+      Each (CoveredAt fm s ys) n → Linked leafHash innerHash (storeIn fm s)
   all-linked xs ys none w n ln covers = record {
     tied = λ i r a. w .tied i (inside i r a) r a;
-    covered = λ i r a below. under-end (storeOf s) (roomOf (length s)) ys (w .under (under-start (storeOf s) xs none)) i r a
+    covered = λ i r a below. under-end (storeIn fm s) (roomOf fm (length s)) ys (w .under (under-start (storeIn fm s) xs none)) i r a
         (covers i (omega (arith, inside i r a)) r a below);
   }
 
-  pub all-fine : (n : ℕ) → roomOf (length s) ≤ n → Each (OwnAt (storeOf s)) n → Alone (storeOf s) → Linked leafHash innerHash (storeOf s) →
-      slotsTest leafHash innerHash (storeOf s) ≡ true
+  pub all-fine : (n : ℕ) → roomOf fm (length s) ≤ n → Each (OwnAt (storeIn fm s)) n → Alone (storeIn fm s) → Linked leafHash innerHash (storeIn fm s) →
+      slotsTest leafHash innerHash (storeIn fm s) ≡ true
   all-fine n ln own alone linked =
-      seen-passes leafHash innerHash (storeOf s) (alone .unique) (alone .parted)
+      seen-passes leafHash innerHash (storeIn fm s) (alone .unique) (alone .parted)
       (λ i r a. record {
         own = own i (omega (arith, inside i r a)) .own r a;
         tied = linked .tied i r a;
         covered = linked .covered i r a;
       })
-      (λ i x l e. own i (omega (arith, slots-many s)) .whole x e)
+      (λ i x l e. own i (omega (arith, slots-many fm s)) .whole x e)

@@ -12,12 +12,13 @@ use check_sort::rank;
 use check_sort::sort;
 use check_tie::tie_all;
 use store::slot_count;
+use terms::Form;
 ghost use mathlib.Core.Path.{_≡_};
 ghost use mathlib.Core.Bool.{true};
 ghost use Prim.Native.Nat.{_≤_, _<_};
 ghost use Rattle.local.specs.Test.{slotsTest};
 ghost use Rattle.nodehash.specs.Node.{leafHash, innerHash};
-ghost use Rattle.layout.specs.Stores.{storeOf, Has};
+ghost use Rattle.layout.specs.Stores.{storeIn, Has};
 ghost use Rattle.check_kin.specs.Kin.{Keeps};
 ghost use Rattle.check_tie.specs.Side.{Ready};
 ghost use Rattle.check_quick.specs.Look.{Sure, Alone, Linked};
@@ -35,21 +36,22 @@ fn wide(x: u16) -> usize {
 
 // The slots in order: whether no two records share their node, and no two roots live together.
 fn in_order(
+    form: Form,
     store: &[u8],
     kept: Kept,
     many: usize,
     table: &[u16; 16384],
     ranks: &[u16; 16384],
 ) -> Look
-    requires { ⌜ Ready (now store) kept × (many ≤ 16384) ⌝ }
-    ensures { λ r. ⌜ Sure r (Alone (storeOf (now (store .entry)))) ⌝ }
+    requires { ⌜ Ready form (now store) kept × (many ≤ 16384) ⌝ }
+    ensures { λ r. ⌜ Sure r (Alone (storeIn form (now (store .entry)))) ⌝ }
 {
-    let n = slot_count(store);
-    let up = ascending(store, kept.latest, table, many);
+    let n = slot_count(form, store);
+    let up = ascending(form, store, kept.latest, table, many);
     if up < many {
         return Look::Suspect(wide(table[up]));
     }
-    let i = named(store, table, many, ranks);
+    let i = named(form, store, table, many, ranks);
     if i < n {
         return Look::Suspect(i);
     }
@@ -57,29 +59,29 @@ fn in_order(
 }
 
 // Whether no two records share their node, and no two roots live together; and a guess at the slots of the children that they name.
-fn alone(store: &[u8], kept: Kept, guess: &mut [u16; 32768]) -> Look
-    requires { ⌜ Ready (now store) kept ⌝ }
-    ensures { λ r. ⌜ Sure r (Alone (storeOf (now (store .entry)))) ⌝ }
+fn alone(form: Form, store: &[u8], kept: Kept, guess: &mut [u16; 32768]) -> Look
+    requires { ⌜ Ready form (now store) kept ⌝ }
+    ensures { λ r. ⌜ Sure r (Alone (storeIn form (now (store .entry)))) ⌝ }
 {
-    let n = slot_count(store);
+    let n = slot_count(form, store);
     let mut table = [0u16; 16384];
     let mut ranks = [0u16; 16384];
-    let many = sort(store, n, &mut table, &mut ranks);
+    let many = sort(form, store, n, &mut table, &mut ranks);
     rank(&table, many, &mut ranks);
-    guessed(store, n, &table, many, guess);
-    in_order(store, kept, many, &table, &ranks)
+    guessed(form, store, n, &table, many, guess);
+    in_order(form, store, kept, many, &table, &ranks)
 }
 
 // Of a slot whose links are not right, the slot that fails the exact test: itself, or what was guessed for its children.
-fn suspect(store: &[u8], kept: Kept, j: usize, a: usize, b: usize) -> usize
-    requires { ⌜ Has (now store) j × Keeps (now store) kept ⌝ }
+fn suspect(form: Form, store: &[u8], kept: Kept, j: usize, a: usize, b: usize) -> usize
+    requires { ⌜ Has form (now store) j × Keeps form (now store) kept ⌝ }
 {
-    let n = slot_count(store);
-    if !slot_passes(store, j, kept) {
+    let n = slot_count(form, store);
+    if !slot_passes(form, store, j, kept) {
         return j;
     }
     if a < n {
-        if !slot_passes(store, a, kept) {
+        if !slot_passes(form, store, a, kept) {
             return a;
         }
     }
@@ -87,21 +89,21 @@ fn suspect(store: &[u8], kept: Kept, j: usize, a: usize, b: usize) -> usize
 }
 
 // Whether each record is tied to the children that it names, and its life covered by its parents.
-fn linked(store: &[u8], kept: Kept, guess: &[u16; 32768]) -> Look
-    requires { ⌜ Ready (now store) kept ⌝ }
-    ensures { λ r. ⌜ Sure r (Linked leafHash innerHash (storeOf (now (store .entry)))) ⌝ }
+fn linked(form: Form, store: &[u8], kept: Kept, guess: &[u16; 32768]) -> Look
+    requires { ⌜ Ready form (now store) kept ⌝ }
+    ensures { λ r. ⌜ Sure r (Linked leafHash innerHash (storeIn form (now (store .entry)))) ⌝ }
 {
-    let n = slot_count(store);
+    let n = slot_count(form, store);
     let mut known = [0u16; 16384];
     let mut sums = [0u32; 16384];
-    hash_ahead(store, guess, &mut known);
-    let j = tie_all(store, kept, guess, &mut known, &mut sums);
+    hash_ahead(form, store, guess, &mut known);
+    let j = tie_all(form, store, kept, guess, &mut known, &mut sums);
     if j < n {
         let a = wide(guess[2 * j]);
         let b = wide(guess[2 * j + 1]);
-        return Look::Suspect(suspect(store, kept, j, a, b));
+        return Look::Suspect(suspect(form, store, kept, j, a, b));
     }
-    let i = covered(store, kept, &sums);
+    let i = covered(form, store, kept, &sums);
     if i < n {
         return Look::Suspect(i);
     }
@@ -109,19 +111,19 @@ fn linked(store: &[u8], kept: Kept, guess: &[u16; 32768]) -> Look
 }
 
 // Whether each slot passes; own fields first, so that no spoiled slot stands beside a right one in the order.
-pub fn quick(store: &[u8], kept: Kept) -> Look
-    requires { ⌜ Keeps (now store) kept ⌝ }
-    ensures { λ r. ⌜ Sure r (slotsTest leafHash innerHash (storeOf (now (store .entry))) ≡ true) ⌝ }
+pub fn quick(form: Form, store: &[u8], kept: Kept) -> Look
+    requires { ⌜ Keeps form (now store) kept ⌝ }
+    ensures { λ r. ⌜ Sure r (slotsTest leafHash innerHash (storeIn form (now (store .entry))) ≡ true) ⌝ }
 {
-    let n = slot_count(store);
-    let i = own_right(store, kept);
+    let n = slot_count(form, store);
+    let i = own_right(form, store, kept);
     if i < n {
         return Look::Suspect(i);
     }
     let mut guess = [0u16; 32768];
-    let first = alone(store, kept, &mut guess);
+    let first = alone(form, store, kept, &mut guess);
     match first {
-        Look::Fine => linked(store, kept, &guess),
+        Look::Fine => linked(form, store, kept, &guess),
         Look::Suspect(i) => Look::Suspect(i),
     }
 }

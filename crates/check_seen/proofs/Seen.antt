@@ -7,20 +7,22 @@ use mathlib.Core.Bool.{Bool, true, false, cond, _&&_, _||_, true≢false}
 use lib.ListN.{length, getD}
 use mathlib.Core.List.{[]}
 use lib.Dec.{eqb, ltb}
-use borrow.Author.Tests.{eqb-false, ltb-true, ltb-false}
+use borrow.Author.Tests.{eqb-true, eqb-false, ltb-true, ltb-false}
+use Rattle.terms.specs.declared.Form.the-variants.{Counted as counted}
 use Rattle.terms.specs.Bits.{Bytes, Side, left, right, longer}
-use Rattle.terms.specs.Records.{Child, Body, leafBody, innerBody, Record, Slot, free, spoiled, Store}
+use Rattle.terms.specs.Records.{Child, Body, leafBody, innerBody, Tally, countOn, Record, Slot, free, spoiled, Store}
 use Rattle.meaning.specs.Store.{find, childOn}
 use Rattle.meaning.specs.Sound.{At}
-use Rattle.meaning.specs.Local.{endsBefore, childVersion}
-use Rattle.local.specs.Test.{firstKept, lifeCovered, isSame, holders, names, isParent, linkOn, linkTest, childTest, bodyTest, isFound, recordTest, slotTest, slotsTest}
+use Rattle.meaning.specs.Local.{endsBefore, childVersion, weighed, countsBy}
+use Rattle.local.specs.Test.{firstKept, lifeCovered, isSame, holders, names, isParent, linkOn, linkTest, childTest, bodyTest, isFound, countsTest, recordTest, slotTest, slotsTest}
+use Rattle.meaning.proofs.Counts.{tell-counts, no-zero}
 use Rattle.meaning.proofs.Finding.{same-record, at-find}
 use Rattle.local.proofs.Scans.{at-every}
 use Rattle.local.proofs.Records.{slot-elim, each-record, record-total, record-one}
 use Rattle.local.proofs.Naming.{names-eq, parent-names}
 use Rattle.local.proofs.Says.{itself, equal, at-most, done, next}
 use Rattle.local.proofs.Lifetimes.{Lifetime}
-use Rattle.local.proofs.Tests.{node-counted, counted-node, counted-once, RootApart, covered-says, life-says}
+use Rattle.local.proofs.Tests.{node-counted, counted-node, counted-once, RootApart, covered-says, counts-say, life-says}
 use Rattle.check_seen.specs.Seen.{keyTest, Own, Parted, Seen}
 
 -- a life ends after the record's version
@@ -32,6 +34,9 @@ own-lives st r o = go (eqb (r .retired) 0) refl (life-says st r .passed (o .life
     go true e l = omega (arith, o .latest)
     go false e (inl z) = absurd (eqb-false (r .retired) 0 e z)
     go false e (inr l) = l .0
+
+same-tally : {c d : Tally} → c .leftward ≡ d .leftward → c .rightward ≡ d .rightward → c ≡ d
+same-tally e f = λ j. record { leftward = e j; rightward = f j }
 
 or-left : (a b : Bool) → a || b ≡ false → a ≡ false
 or-left true b h = h
@@ -71,7 +76,7 @@ module _ (leafHash innerHash : Bytes → Bytes → Bytes) (st : Store) where
         go true e =
             let (b, n) = parent-names q r e in
             let (v, p) = names-eq b q r n in
-            let (k, x, d, m, ok) = seen j q c .tied b (omega (arith, v, seen i r a .own .some)) in
+            let (k, x, d, m, ok, told) = seen j q c .tied b .0 (omega (arith, v, seen i r a .own .some)) in
             let (w, o) = names-eq b q x m in
             subst (λ y. linkTest leafHash innerHash st y q ≡ true) (same-record st unique k i x r d a (w ∙ sym v) (o ∙ sym p)) ok
 
@@ -85,7 +90,7 @@ module _ (leafHash innerHash : Bytes → Bytes → Bytes) (st : Store) where
         go false h =
             let f = eqb-false (childOn b l m .version) 0 h in
             let v : childVersion b (q .body) ≡ childOn b l m .version = ap (childVersion b) e in
-            let (k, x, d, n, ok) = seen j q c .tied b (rw v (some-of (childOn b l m .version) f)) in
+            let (k, x, d, n, ok, told) = seen j q c .tied b .0 (rw v (some-of (childOn b l m .version) f)) in
             let (w, o) = names-eq b q x n in
             ap isFound (sym (ap₂ (λ z p. find z p (st .slots)) (w ∙ v) o) ∙ at-find st unique k x d)
           where
@@ -113,6 +118,34 @@ module _ (leafHash innerHash : Bytes → Bytes → Bytes) (st : Store) where
     life-covered : (i : ℕ) (r : Record) → At st i r → lifeCovered st r ≡ true
     life-covered i r a = covered-says st r .passes ((λ e j q c. apart i j r q a c e), seen i r a .covered)
 
+    -- each count is what the record that it was tied to says
+    side-weighs : (j : ℕ) (q : Record) → At st j q → (b : Side) (l m : Child) → q .body ≡ innerBody l m → st .form ≡ counted →
+        countOn b (q .counts) ≡ weighed (find (childOn b l m .version) (longer b (q .place)) (st .slots))
+    side-weighs j q c b l m e f = go (eqb (childOn b l m .version) 0) refl
+      where
+        v : childVersion b (q .body) ≡ childOn b l m .version
+        v = ap (childVersion b) e
+
+        some-of : (n : ℕ) → (n ≡ 0 → ⊥) → 1 ≤ n
+        some-of n g = omega (arith, g)
+
+        go : (t : Bool) → eqb (childOn b l m .version) 0 ≡ t → countOn b (q .counts) ≡ weighed (find (childOn b l m .version) (longer b (q .place)) (st .slots))
+        go true h =
+            let z = eqb-true (childOn b l m .version) 0 h in
+            seen j q c .tied b .1 (v ∙ z) f
+            ∙ sym (ap weighed (ap (λ n. find n (longer b (q .place)) (st .slots)) z ∙ no-zero st (λ i r a. seen i r a .own .some) (longer b (q .place))))
+        go false h =
+            let (k, x, d, n, ok, told) = seen j q c .tied b .0 (rw v (some-of (childOn b l m .version) (eqb-false (childOn b l m .version) 0 h))) in
+            let (w, o) = names-eq b q x n in
+            told f ∙ sym (ap weighed (sym (ap₂ (λ z p. find z p (st .slots)) (w ∙ v) o) ∙ at-find st unique k x d))
+
+    counted-right : (j : ℕ) (q : Record) → At st j q → countsTest st q ≡ true
+    counted-right j q c = counts-say st q .passes (tell-counts (st .form) (λ f. go (q .body) refl f))
+      where
+        go : (o : Body) → q .body ≡ o → st .form ≡ counted → q .counts ≡ countsBy (st .slots) (q .place) o
+        go (leafBody k x) e f = same-tally (seen j q c .tied left .1 (ap (childVersion left) e) f) (seen j q c .tied right .1 (ap (childVersion right) e) f)
+        go (innerBody l m) e f = same-tally (side-weighs j q c left l m e f) (side-weighs j q c right l m e f)
+
     passed : (i : ℕ) (r : Record) → At st i r → recordTest leafHash innerHash st r ≡ true
     unfolding recordTest
     passed i r a =
@@ -122,8 +155,9 @@ module _ (leafHash innerHash : Bytes → Bytes → Bytes) (st : Store) where
         (next (equal (holders r (st .slots)) 1)
         (next (itself _)
         (next (each-record st (linkTest leafHash innerHash st r) (λ q. linkTest leafHash innerHash st r q ≡ true) (λ q. itself (linkTest leafHash innerHash st r q)))
-        (next (itself _) done))))) .all .passes
-        (s .own .latest, (s .own .life, (once i r a, (bodied i r a, ((λ j q c. linked i j r q a c), (life-covered i r a, tt))))))
+        (next (itself _)
+        (next (itself _) done)))))) .all .passes
+        (s .own .latest, (s .own .life, (once i r a, (bodied i r a, ((λ j q c. linked i j r q a c), (life-covered i r a, (counted-right i r a, tt)))))))
 
     abbrev Passing : Slot → Type 0
     Passing y = slotTest leafHash innerHash st y ≡ true

@@ -9,45 +9,46 @@ use layout::Header;
 use layout::read_header;
 use refusal_numbers::NOT_SOUND;
 use store::slot_count;
+use terms::Form;
 ghost use mathlib.Core.Path.{_≡_};
 ghost use Rattle.local.specs.Test.{slotsTest};
 ghost use Rattle.nodehash.specs.Node.{leafHash, innerHash};
-ghost use Rattle.layout.specs.Stores.{storeOf};
+ghost use Rattle.layout.specs.Stores.{storeIn};
 ghost use Rattle.check_kin.specs.Kin.{Keeps};
 ghost use Rattle.promises.specs.Check.{Checked};
 
 // Whether each slot passes, where slot i is suspect: the exact test of it decides, or where it passes, that of each.
-fn suspect_passes(store: &[u8], kept: Kept, i: usize) -> bool
-    requires { ⌜ Keeps (now store) kept ⌝ }
-    ensures { λ r. ⌜ r ≡ slotsTest leafHash innerHash (storeOf (now (store .entry))) ⌝ }
+fn suspect_passes(form: Form, store: &[u8], kept: Kept, i: usize) -> bool
+    requires { ⌜ Keeps form (now store) kept ⌝ }
+    ensures { λ r. ⌜ r ≡ slotsTest leafHash innerHash (storeIn form (now (store .entry))) ⌝ }
 {
-    let n = slot_count(store);
+    let n = slot_count(form, store);
     if n <= i {
-        return each_passes(store, kept);
+        return each_passes(form, store, kept);
     }
-    if !slot_passes(store, i, kept) {
+    if !slot_passes(form, store, i, kept) {
         return false;
     }
-    each_passes(store, kept)
+    each_passes(form, store, kept)
 }
 
 // Whether each slot passes.
-fn slots_pass(store: &[u8], kept: Kept) -> bool
-    requires { ⌜ Keeps (now store) kept ⌝ }
-    ensures { λ r. ⌜ r ≡ slotsTest leafHash innerHash (storeOf (now (store .entry))) ⌝ }
+fn slots_pass(form: Form, store: &[u8], kept: Kept) -> bool
+    requires { ⌜ Keeps form (now store) kept ⌝ }
+    ensures { λ r. ⌜ r ≡ slotsTest leafHash innerHash (storeIn form (now (store .entry))) ⌝ }
 {
-    let seen = quick(store, kept);
+    let seen = quick(form, store, kept);
     match seen {
         Look::Fine => true,
-        Look::Suspect(i) => suspect_passes(store, kept, i),
+        Look::Suspect(i) => suspect_passes(form, store, kept, i),
     }
 }
 
 // 0 where any bytes are a sound store, else the number of refusal.
-pub fn check(store: &[u8]) -> u32
-    ensures { λ r. ⌜ Checked (now (store .entry)) r ⌝ }
+pub fn check(form: Form, store: &[u8]) -> u32
+    ensures { λ r. ⌜ Checked form (now (store .entry)) r ⌝ }
 {
-    let header = read_header(store);
+    let header = read_header(form, store);
     match header {
         Header::Refused(n) => n,
         Header::Accepted {
@@ -56,7 +57,7 @@ pub fn check(store: &[u8]) -> u32
             latest,
         } => {
             let kept = Kept { oldest, latest };
-            if !slots_pass(store, kept) {
+            if !slots_pass(form, store, kept) {
                 return NOT_SOUND;
             }
             0

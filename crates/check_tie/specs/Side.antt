@@ -5,8 +5,9 @@ use mathlib.Core.Bool.{false, not, cond}
 use mathlib.Core.List.{List}
 use lib.ListN.{length}
 use lib.Dec.{eqb}
+use Rattle.terms.specs.declared.Form.{Form}
 use Rattle.terms.specs.Bits.{Bytes, Side, Place}
-use Rattle.terms.specs.Records.{Child, innerBody, Record, Store}
+use Rattle.terms.specs.Records.{Child, innerBody, countOn, Record, Store}
 use Rattle.meaning.specs.Store.{childOn}
 use Rattle.meaning.specs.Sound.{At}
 use Rattle.meaning.specs.Local.{endsBefore}
@@ -16,7 +17,7 @@ use Rattle.nodehash.specs.Node.{leafHash, innerHash}
 use Rattle.place.specs.Place.{placeOf, Proper}
 use Rattle.layout.specs.Sizes.{roomOf}
 use Rattle.layout.specs.Slots.{placeIn, versionIn, sinceIn}
-use Rattle.layout.specs.Stores.{storeOf}
+use Rattle.layout.specs.Stores.{storeIn}
 use Rattle.check_kin.specs.declared.Kept as declared-kept
 use Rattle.check_kin.specs.Kin.{Keeps, endsAt, isLeafBody}
 use Rattle.check_pass.specs.Passes.{Each}
@@ -26,9 +27,9 @@ use Rattle.check_tie.specs.declared.Parent as declared
 use Rattle.check_tie.specs.declared.Link as declared-link
 
 -- The passes before this one found nothing wrong.
-pub record Ready (s : Bytes) (k : declared-kept.Kept) : Type 0 where
-  pub keeps : Keeps s k
-  pub own : Each (OwnAt (storeOf s)) (roomOf (length s))
+pub record Ready (fm : Form) (s : Bytes) (k : declared-kept.Kept) : Type 0 where
+  pub keeps : Keeps fm s k
+  pub own : Each (OwnAt (storeIn fm s)) (roomOf fm (length s))
 
 -- A parent that can have children, with a life that is no longer than there are versions.
 pub record Fit (p : declared.Parent) : Type 0 where
@@ -51,7 +52,7 @@ pub record IsParent (st : Store) (p : declared.Parent) (q : Record) : Type 0 whe
   pub ends : endsBefore st q ≡ p .ends
   pub life : keptLife st q ≡ p .life
 
--- The child that it names on a side: its version and stored hash, and the version of the other child.
+-- The child that it names on a side: its version and stored hash, the version of the other child, and the leaves there.
 pub record IsLink (d : declared-link.Link) (q : Record) : Type 0 where
   pub l : Child
   pub m : Child
@@ -59,39 +60,40 @@ pub record IsLink (d : declared-link.Link) (q : Record) : Type 0 where
   pub version : childOn (d .right) l m .version ≡ d .version
   pub hash : childOn (d .right) l m .hash ≡ hashBytes (d .hash)
   pub other : childOn (not (d .right)) l m .version ≡ d .other
+  pub count : countOn (d .right) (q .counts) ≡ d .count
 
 -- Slot c holds a record that is the node of a version at a place.
-pub record Node (s : Bytes) (c v : ℕ) (p : Place) : Type 0 where
+pub record Node (fm : Form) (s : Bytes) (c v : ℕ) (p : Place) : Type 0 where
   pub it : Record
-  pub here : At (storeOf s) c it
+  pub here : At (storeIn fm s) c it
   pub version : it .version ≡ v
   pub place : it .place ≡ p
 
 -- The record in slot c lives to an end at least, and beside a child of this version it is no lone leaf.
-abbrev pub Outlives : Bytes → ℕ → ℕ → ℕ → Type 0
-Outlives s c ends other =
-    (r : Record) → At (storeOf s) c r → (ends ≤ endsBefore (storeOf s) r) × (cond (isLeafBody (r .body)) (eqb other 0) false ≡ false)
+abbrev pub Outlives : Form → Bytes → ℕ → ℕ → ℕ → Type 0
+Outlives fm s c ends other =
+    (r : Record) → At (storeIn fm s) c r → (ends ≤ endsBefore (storeIn fm s) r) × (cond (isLeafBody (r .body)) (eqb other 0) false ≡ false)
 
 -- Of each record that is this parent with this child: it is tied to the child, and no more than its life was added.
-abbrev pub SideTied : Bytes → declared.Parent → declared-link.Link → List ℕ → List ℕ → Type 0
-SideTied s p d xs ys =
-    (q : Record) → IsParent (storeOf s) p q → IsLink d q →
-    Tied leafHash innerHash (storeOf s) q (d .right) × SideAdded (storeOf s) (d .right) q xs ys
+abbrev pub SideTied : Form → Bytes → declared.Parent → declared-link.Link → List ℕ → List ℕ → Type 0
+SideTied fm s p d xs ys =
+    (q : Record) → IsParent (storeIn fm s) p q → IsLink d q →
+    Tied leafHash innerHash (storeIn fm s) q (d .right) × SideAdded (storeIn fm s) (d .right) q xs ys
 
 -- The record in slot j is tied on both sides.
-abbrev pub TiedAt : Bytes → ℕ → Type 0
-TiedAt s j = (q : Record) → At (storeOf s) j q → (b : Side) → Tied leafHash innerHash (storeOf s) q b
+abbrev pub TiedAt : Form → Bytes → ℕ → Type 0
+TiedAt fm s j = (q : Record) → At (storeIn fm s) j q → (b : Side) → Tied leafHash innerHash (storeIn fm s) q b
 
 -- What a look at slot j leaves.
-pub record SlotTied (s : Bytes) (j : ℕ) (xs ys : List ℕ) : Type 0 where
-  pub tied : TiedAt s j
-  pub under : Under (storeOf s) xs j → Under (storeOf s) ys (j + 1)
+pub record SlotTied (fm : Form) (s : Bytes) (j : ℕ) (xs ys : List ℕ) : Type 0 where
+  pub tied : TiedAt fm s j
+  pub under : Under (storeIn fm s) xs j → Under (storeIn fm s) ys (j + 1)
 
 -- What a look at the first n slots leaves.
-pub record AllTied (s : Bytes) (n : ℕ) (xs ys : List ℕ) : Type 0 where
-  pub tied : (j : ℕ) → j < n → TiedAt s j
-  pub under : Under (storeOf s) xs 0 → Under (storeOf s) ys n
+pub record AllTied (fm : Form) (s : Bytes) (n : ℕ) (xs ys : List ℕ) : Type 0 where
+  pub tied : (j : ℕ) → j < n → TiedAt fm s j
+  pub under : Under (storeIn fm s) xs 0 → Under (storeIn fm s) ys n
 
 -- A look that ended at slot j leaves this where j is past the last slot.
-abbrev pub TiedTo : Bytes → ℕ → List ℕ → List ℕ → Type 0
-TiedTo s j xs ys = roomOf (length s) ≤ j → AllTied s (roomOf (length s)) xs ys
+abbrev pub TiedTo : Form → Bytes → ℕ → List ℕ → List ℕ → Type 0
+TiedTo fm s j xs ys = roomOf fm (length s) ≤ j → AllTied fm s (roomOf fm (length s)) xs ys

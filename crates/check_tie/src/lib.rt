@@ -1,5 +1,6 @@
 // Parents and their children, found at once by a guess: whether each child stands in the slot that was guessed, and all that is said of it is
 // right. Slots are read by single fields, since the own fields of all were looked at before.
+use check_counts::count_fits;
 use check_hash::hash_right;
 use check_kin::Kept;
 use check_kin::ends_before;
@@ -10,12 +11,12 @@ use check_sums::add;
 use hash::Hash;
 use hash::hash_at;
 use hash::same_hash;
-use layout::sizes::INNER_KIND;
 use layout::sizes::LEAF_KIND;
 use place::Place;
 use place::place_at;
 use slots::bits_of;
 use slots::child_hash;
+use store::child_count_at;
 use store::child_version_at;
 use store::count_at;
 use store::kind_at;
@@ -23,12 +24,13 @@ use store::retired_at;
 use store::slot_count;
 use store::slot_of;
 use store::version_at;
+use terms::Form;
 ghost use mathlib.Core.Path.{_≡_};
 ghost use mathlib.Core.Bool.{true};
 ghost use Prim.Native.Nat.{_≤_};
 ghost use Rattle.place.specs.Place.{placeOf, Proper};
 ghost use Rattle.layout.specs.Slots.{isInner};
-ghost use Rattle.layout.specs.Stores.{slotIn, storeOf, Has};
+ghost use Rattle.layout.specs.Stores.{slotIn, storeIn, Has};
 ghost use Rattle.check_pass.specs.Passes.{Passed};
 ghost use Rattle.check_seen.specs.Seen.{OwnAt};
 ghost use Rattle.check_hash.specs.Known.{Stored, Known};
@@ -43,13 +45,15 @@ struct Parent {
     life: u64,
 }
 
-// The link to a child on one side: its number, the child's version and stored hash, and the version of the other child.
+// The link to a child on one side: its number, the child's version and stored hash, the version of the other child, and the leaves
+// that are counted there.
 struct Link {
     right: bool,
     number: u16,
     version: u32,
     hash: Hash,
     other: u32,
+    count: u32,
 }
 
 fn wide(x: u16) -> usize {
@@ -57,37 +61,41 @@ fn wide(x: u16) -> usize {
 }
 
 // Whether slot c holds the node of a version at a place.
-fn is_node(store: &[u8], c: usize, version: u32, place: Place) -> bool
-    requires { ⌜ Has (now store) c × OwnAt (storeOf (now store)) c × (1 ≤ version) × Proper place ⌝ }
-    ensures { λ r. ⌜ Passed r (Node (now (store .entry)) c version (placeOf place)) ⌝ }
+fn is_node(form: Form, store: &[u8], c: usize, version: u32, place: Place) -> bool
+    requires { ⌜ Has form (now store) c × OwnAt (storeIn form (now store)) c × (1 ≤ version) × Proper place ⌝ }
+    ensures { λ r. ⌜ Passed r (Node form (now (store .entry)) c version (placeOf place)) ⌝ }
 {
-    if version_at(store, c) != version {
+    if version_at(form, store, c) != version {
         return false;
     }
-    if count_at(store, c) as usize != place.count {
+    if count_at(form, store, c) as usize != place.count {
         return false;
     }
     let bits = place.bits;
-    same_hash(hash_at(bits_of(slot_of(store, c)), 0), hash_at(&bits, 0))
+    same_hash(
+        hash_at(bits_of(slot_of(form, store, c)), 0),
+        hash_at(&bits, 0),
+    )
 }
 
 // Whether the record in slot c lives to an end at least, and is no lone leaf beside a child of version `other`.
-fn outlives(store: &[u8], c: usize, latest: u32, ends: u64, other: u32) -> bool
-    requires { ⌜ Has (now store) c × (storeOf (now store) .latest ≡ latest) ⌝ }
-    ensures { λ r. ⌜ Passed r (Outlives (now (store .entry)) c ends other) ⌝ }
+fn outlives(form: Form, store: &[u8], c: usize, latest: u32, ends: u64, other: u32) -> bool
+    requires { ⌜ Has form (now store) c × (storeIn form (now store) .latest ≡ latest) ⌝ }
+    ensures { λ r. ⌜ Passed r (Outlives form (now (store .entry)) c ends other) ⌝ }
 {
-    if ends_before(latest, retired_at(store, c)) < ends {
+    if ends_before(latest, retired_at(form, store, c)) < ends {
         return false;
     }
     if other != 0 {
         return true;
     }
-    kind_at(store, c) != LEAF_KIND
+    kind_at(form, store, c) != LEAF_KIND
 }
 
 // Whether the child of a link is missing, or stands in slot c and all that is said of it is right; then its parent's life is added there. The
 // slot c is a guess of anyone's.
 fn tie_link(
+    form: Form,
     store: &[u8],
     kept: Kept,
     c: usize,
@@ -96,15 +104,15 @@ fn tie_link(
     known: &mut [u16; 16384],
     sums: &mut [u32; 16384],
 ) -> bool
-    requires { ⌜ Ready (now store) kept × Fit parent × Stored (now store) (link .number) (link .hash) × Known (now store) (now known) ⌝ }
-    ensures { λ _. ⌜ Known (now (store .entry)) (now (known .exit)) ⌝ }
-    ensures { λ r. ⌜ Passed r (SideTied (now (store .entry)) parent link (now (sums .entry)) (now (sums .exit))) ⌝ }
+    requires { ⌜ Ready form (now store) kept × Fit parent × Stored form (now store) (link .number) (link .hash) × Known form (now store) (now known) ⌝ }
+    ensures { λ _. ⌜ Known form (now (store .entry)) (now (known .exit)) ⌝ }
+    ensures { λ r. ⌜ Passed r (SideTied form (now (store .entry)) parent link (now (sums .entry)) (now (sums .exit))) ⌝ }
 {
     let version = link.version;
     if version == 0 {
-        return true;
+        return link.count == 0;
     }
-    let n = slot_count(store);
+    let n = slot_count(form, store);
     if n <= c {
         return false;
     }
@@ -112,13 +120,16 @@ fn tie_link(
         return false;
     }
     let up = parent.up;
-    if !is_node(store, c, version, longer(up, link.right)) {
+    if !is_node(form, store, c, version, longer(up, link.right)) {
         return false;
     }
-    if !outlives(store, c, kept.latest, parent.ends, link.other) {
+    if !outlives(form, store, c, kept.latest, parent.ends, link.other) {
         return false;
     }
-    if !hash_right(store, c, link.number, link.hash, known) {
+    if !hash_right(form, store, c, link.number, link.hash, known) {
+        return false;
+    }
+    if !count_fits(form, store, c, link.count) {
         return false;
     }
     add(sums, c, parent.life);
@@ -126,13 +137,16 @@ fn tie_link(
 }
 
 // The parent that the inner record in slot j is.
-fn parent_in(store: &[u8], kept: Kept, j: usize) -> Parent
-    requires { ⌜ Has (now store) j × (isInner (slotIn j (now store)) ≡ true) ⌝ }
-    ensures { λ r. ⌜ ParentIn kept (slotIn j (now (store .entry))) r ⌝ }
+fn parent_in(form: Form, store: &[u8], kept: Kept, j: usize) -> Parent
+    requires { ⌜ Has form (now store) j × (isInner (slotIn form j (now store)) ≡ true) ⌝ }
+    ensures { λ r. ⌜ ParentIn kept (slotIn form j (now (store .entry))) r ⌝ }
 {
-    let up = place_at(bits_of(slot_of(store, j)), count_at(store, j) as usize);
-    let version = version_at(store, j);
-    let ends = ends_before(kept.latest, retired_at(store, j));
+    let up = place_at(
+        bits_of(slot_of(form, store, j)),
+        count_at(form, store, j) as usize,
+    );
+    let version = version_at(form, store, j);
+    let ends = ends_before(kept.latest, retired_at(form, store, j));
     let first = later(kept.oldest, version);
     let life = kept_life(kept.oldest, version, ends);
     Parent {
@@ -145,6 +159,7 @@ fn parent_in(store: &[u8], kept: Kept, j: usize) -> Parent
 
 // Whether both children of slot j are missing or tied, with a guess for each.
 fn tie_slot(
+    form: Form,
     store: &[u8],
     kept: Kept,
     j: usize,
@@ -153,17 +168,19 @@ fn tie_slot(
     known: &mut [u16; 16384],
     sums: &mut [u32; 16384],
 ) -> bool
-    requires { ⌜ Has (now store) j × Ready (now store) kept × Known (now store) (now known) ⌝ }
-    ensures { λ _. ⌜ Known (now (store .entry)) (now (known .exit)) ⌝ }
-    ensures { λ r. ⌜ Passed r (SlotTied (now (store .entry)) j (now (sums .entry)) (now (sums .exit))) ⌝ }
+    requires { ⌜ Has form (now store) j × Ready form (now store) kept × Known form (now store) (now known) ⌝ }
+    ensures { λ _. ⌜ Known form (now (store .entry)) (now (known .exit)) ⌝ }
+    ensures { λ r. ⌜ Passed r (SlotTied form (now (store .entry)) j (now (sums .entry)) (now (sums .exit))) ⌝ }
 {
-    if kind_at(store, j) != INNER_KIND {
+    if kind_at(form, store, j) <= LEAF_KIND {
         return true;
     }
-    let s = slot_of(store, j);
-    let parent = parent_in(store, kept, j);
-    let left = child_version_at(store, j, false);
-    let right = child_version_at(store, j, true);
+    let s = slot_of(form, store, j);
+    let parent = parent_in(form, store, kept, j);
+    let left = child_version_at(form, store, j, false);
+    let right = child_version_at(form, store, j, true);
+    let lefts = child_count_at(form, store, j, false);
+    let rights = child_count_at(form, store, j, true);
     let number = 2 * (j as u16) + 1;
     let to_left = Link {
         right: false,
@@ -171,8 +188,9 @@ fn tie_slot(
         version: left,
         hash: hash_at(child_hash(s, false), 0),
         other: right,
+        count: lefts,
     };
-    if !tie_link(store, kept, a, parent, to_left, known, sums) {
+    if !tie_link(form, store, kept, a, parent, to_left, known, sums) {
         return false;
     }
     let to_right = Link {
@@ -181,27 +199,29 @@ fn tie_slot(
         version: right,
         hash: hash_at(child_hash(s, true), 0),
         other: left,
+        count: rights,
     };
-    tie_link(store, kept, b, parent, to_right, known, sums)
+    tie_link(form, store, kept, b, parent, to_right, known, sums)
 }
 
 // How many slots, from the first on, are tied to the children that they name, with a guess for each child; at the end the sums are right.
 pub fn tie_all(
+    form: Form,
     store: &[u8],
     kept: Kept,
     guess: &[u16; 32768],
     known: &mut [u16; 16384],
     sums: &mut [u32; 16384],
 ) -> usize
-    requires { ⌜ Ready (now store) kept × Known (now store) (now known) ⌝ }
-    ensures { λ r. ⌜ TiedTo (now (store .entry)) r (now (sums .entry)) (now (sums .exit)) ⌝ }
+    requires { ⌜ Ready form (now store) kept × Known form (now store) (now known) ⌝ }
+    ensures { λ r. ⌜ TiedTo form (now (store .entry)) r (now (sums .entry)) (now (sums .exit)) ⌝ }
 {
-    let n = slot_count(store);
+    let n = slot_count(form, store);
     let mut j = 0;
     while j < n {
         let a = wide(guess[2 * j]);
         let b = wide(guess[2 * j + 1]);
-        if !tie_slot(store, kept, j, a, b, known, sums) {
+        if !tie_slot(form, store, kept, j, a, b, known, sums) {
             return j;
         }
         j += 1;

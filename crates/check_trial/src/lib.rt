@@ -12,6 +12,7 @@ use slots::grant_of;
 use store::kind_at;
 use store::slot_count;
 use store::slot_of;
+use terms::Form;
 ghost use mathlib.Core.Path.{_≡_};
 ghost use mathlib.Core.Bool.{true};
 ghost use lib.ListN.{length};
@@ -29,22 +30,22 @@ const NO_STORE: u32 = 3;
 // The check itself.
 #[no_mangle]
 pub extern "C" fn check_store(store: &[u8]) -> u32 {
-    check(store)
+    check(Form::Counted, store)
 }
 
 // What came of the passes over the slots of a store that keeps these versions.
 fn suspected(store: &[u8], kept: Kept) -> u32
-    requires { ⌜ Keeps (now store) kept ⌝ }
+    requires { ⌜ Keeps Form.Counted (now store) kept ⌝ }
 {
-    let n = slot_count(store);
-    let seen = quick(store, kept);
+    let n = slot_count(Form::Counted, store);
+    let seen = quick(Form::Counted, store, kept);
     match seen {
         Look::Fine => FINE,
         Look::Suspect(i) => {
             if n <= i {
                 return SUSPECT_PASSES;
             }
-            if slot_passes(store, i, kept) {
+            if slot_passes(Form::Counted, store, i, kept) {
                 return SUSPECT_PASSES;
             }
             SUSPECT_FAILS
@@ -56,7 +57,7 @@ fn suspected(store: &[u8], kept: Kept) -> u32
 // size or header are refused.
 #[no_mangle]
 pub extern "C" fn check_suspect(store: &[u8]) -> u32 {
-    let header = read_header(store);
+    let header = read_header(Form::Counted, store);
     match header {
         Header::Refused(_) => NO_STORE,
         Header::Accepted {
@@ -69,14 +70,14 @@ pub extern "C" fn check_suspect(store: &[u8]) -> u32 {
 
 // A number that the hash of each used slot has a part in: one node hash for each.
 fn hashed(store: &[u8]) -> u32
-    requires { ⌜ sizeRight (length (now store)) ≡ true ⌝ }
+    requires { ⌜ sizeRight Form.Counted (length (now store)) ≡ true ⌝ }
 {
-    let n = slot_count(store);
+    let n = slot_count(Form::Counted, store);
     let mut odd = 0u32;
     let mut i = 0;
     while i < n {
-        if kind_at(store, i) != 0 {
-            let h = leaf_hash(grant_of(slot_of(store, i)));
+        if kind_at(Form::Counted, store, i) != 0 {
+            let h = leaf_hash(grant_of(slot_of(Form::Counted, store, i)));
             odd = std::num::wrapping_add_u32(odd, (h.a % 2) as u32);
         }
         i += 1;
@@ -87,7 +88,7 @@ fn hashed(store: &[u8]) -> u32
 // The same of any bytes: the time of hashing the records of a store once.
 #[no_mangle]
 pub extern "C" fn check_hashes(store: &[u8]) -> u32 {
-    if !size_right(store.len()) {
+    if !size_right(Form::Counted, store.len()) {
         return 0;
     }
     hashed(store)

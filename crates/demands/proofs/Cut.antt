@@ -1,10 +1,11 @@
 -- An accepted pruning: the bytes that are left are those of the store that the definition leaves, slot by slot. Assumes nothing.
 use Prim.Native.Nat.{ℕ, zero, suc, _≤_, _<_}
 use native.Mathlib.Omega.{arith}
-use mathlib.Core.Path.{_≡_, refl, ap, sym, _∙_, subst₂}
+use mathlib.Core.Path.{_≡_, refl, ap, sym, _∙_, subst, subst₂}
 use mathlib.Core.Bool.{true, false}
 use mathlib.Core.List.{List, [], _∷_, map}
 use lib.ListN.{length, getD}
+use Rattle.terms.specs.declared.Form.the-variants.{Counted as counted}
 use Rattle.terms.specs.Bits.{Bytes, Byte, All}
 use Rattle.terms.specs.Fields.{le, num, zeroBytes}
 use Rattle.terms.specs.Records.{Record, Slot, free, used, spoiled, Store}
@@ -26,7 +27,7 @@ use Rattle.promises.proofs.Calls.{sound-form, sound-back}
 use Rattle.promises.specs.Calls.{SoundBytes, accepts, exports-refusal, exports-answer}
 use Rattle.grants.specs.Contracts.{Prunes}
 use Rattle.demands.specs.Claims.{Pruned}
-use Rattle.demands.proofs.Stored.{stored-is, stored-sound}
+use Rattle.demands.proofs.Stored.{stored-is, stored-sound, prune-form}
 use Rattle.demands.proofs.Refusals.{no-refusal, never-0, prune-refusals, does-numbers}
 use Rattle.demands.proofs.Showing.{same-tree-reads-as}
 use Rattle.demands.proofs.Versions.{free-most}
@@ -67,26 +68,27 @@ module _ (n : ℕ) (s : Bytes) (bytes : All Byte s) (w : SoundBytes s) (a : ℕ)
 
   -- slot i afterwards
   slot-left : (i : ℕ) → i < length (storeOf s .slots) →
-      slotIn i (storeBytes st″) ≡ slotBytes (onRecord (pruneRecord n) (getD (storeOf s .slots) i free))
+      slotIn counted i (storeBytes st″) ≡ slotBytes counted (onRecord (pruneRecord n) (getD (storeOf s .slots) i free))
   unfolding st″
   slot-left i h =
       let many : length (st″ .slots) ≡ length (storeOf s .slots) =
       prune-keeps-sound leafHash innerHash n (storeOf s) a (w .sound) e .capacity in
-      slot-in st″ (sound-form st″ left-sound) i (omega arith)
-      ∙ ap (λ xs. slotBytes (getD xs i free)) (cut-by n (storeOf s) a e)
-      ∙ ap slotBytes (mapped (onRecord (pruneRecord n)) (storeOf s .slots) i h)
+      subst (λ f. slotIn f i (storeBytes st″) ≡ slotBytes f (getD (st″ .slots) i free)) (prune-form n (storeOf s))
+      (slot-in st″ (sound-form st″ (prune-form n (storeOf s)) left-sound) i (omega arith))
+      ∙ ap (λ xs. slotBytes counted (getD xs i free)) (cut-by n (storeOf s) a e)
+      ∙ ap (slotBytes counted) (mapped (onRecord (pruneRecord n)) (storeOf s .slots) i h)
 
-  slot-freed : (i : ℕ) (r : Record) → At (storeOf s) i r → retiredBy n r ≡ true → slotIn i (storeBytes st″) ≡ zeroBytes slotSize
+  slot-freed : (i : ℕ) (r : Record) → At (storeOf s) i r → retiredBy n r ≡ true → slotIn counted i (storeBytes st″) ≡ zeroBytes (slotSize counted)
   unfolding At slotBytes
   slot-freed i r h f =
-      slot-left i (h .0) ∙ ap (λ x. slotBytes (onRecord (pruneRecord n) x)) (h .1) ∙ ap slotBytes (pruned-free n r f)
+      slot-left i (h .0) ∙ ap (λ x. slotBytes counted (onRecord (pruneRecord n) x)) (h .1) ∙ ap (slotBytes counted) (pruned-free n r f)
 
   slot-kept : (i : ℕ) → i < length (storeOf s .slots) → ((r : Record) → At (storeOf s) i r → retiredBy n r ≡ false) →
-      slotIn i (storeBytes st″) ≡ slotIn i s
+      slotIn counted i (storeBytes st″) ≡ slotIn counted i s
   unfolding At
   slot-kept i h f =
-      slot-left i h ∙ ap slotBytes (pruned-kept n (getD (storeOf s .slots) i free) (λ r g. f r (h, g)))
-      ∙ sym (slot-in (storeOf s) (sound-form (storeOf s) (w .sound)) i h) ∙ ap (slotIn i) (sound-back w bytes)
+      slot-left i h ∙ ap (slotBytes counted) (pruned-kept n (getD (storeOf s .slots) i free) (λ r g. f r (h, g)))
+      ∙ sym (slot-in (storeOf s) (sound-form (storeOf s) refl (w .sound)) i h) ∙ ap (slotIn counted i) (sound-back w bytes)
 
 -- An accepted pruning frees the records that it counts, and leaves the versions still kept their trees.
 pub accepted-prune-frees : (n : ℕ) {s f t g : Bytes} → All Byte s → Prunes n s f 0 t g → Pruned n s t g
@@ -99,17 +101,17 @@ accepted-prune-frees n {s} bytes w = go w refl
         let st = prune n (storeOf s) .store in
         let made = prune-keeps-sound leafHash innerHash n (storeOf s) a (w .sound) e in
         let few : a ≤ top32 = omega (arith, made .count, made .capacity, free-most (st .slots), w .sound .size .1) in
-        let said = stored-is st (made .sound) in
+        let said = stored-is st (prune-form n (storeOf s)) (made .sound) in
         let after : AfterPrune leafHash innerHash n (storeOf s) (num (le 4 a)) (storeOf (storeBytes st)) =
         subst₂ (λ k x. AfterPrune leafHash innerHash n (storeOf s) k x) (sym (num-le 4 a (omega arith))) (sym said) made in
         let here : Kept (storeOf s) n = kept-by n (storeOf s) a e in
         record {
           was = w;
-          sound = stored-sound st (made .sound);
+          sound = stored-sound st (prune-form n (storeOf s)) (made .sound);
           bytes = ap storeBytes (sym said);
           after = after;
           reads = λ v k.
-              same-tree-reads-as (stored-sound st (made .sound)) w k
+              same-tree-reads-as (stored-sound st (prune-form n (storeOf s)) (made .sound)) w k
               (omega (arith, here .0, after .oldest, k .0), omega (arith, after .latest, k .1)) (after .trees v k);
           frees = λ i r h f. slot-freed n s bytes w a e i r h f;
           keeps = λ i h f. slot-kept n s bytes w a e i h f;

@@ -10,6 +10,7 @@ use mathlib.Core.Option.{some}
 use lib.ListN.{length, getD}
 use lib.Dec.{eqb, ltb, leb}
 use borrow.Author.Tests.{eqb-true, ltb-true, leb-true}
+use Rattle.terms.specs.declared.Form.the-variants.{Counted as counted}
 use Rattle.terms.specs.Bits.{Bytes, Byte, Whole32, All}
 use Rattle.terms.specs.Fields.{le}
 use Rattle.terms.specs.Records.{Ask, insert, delete, Store}
@@ -35,7 +36,7 @@ use Rattle.apply_c.specs.Export.{told}
 use Rattle.grants.specs.Contracts.{Applies}
 use Rattle.demands.specs.Desk.{RowOverBytes, DeskOverBytes, GapsOverBytes, NotAboveOverBytes}
 use Rattle.demands.proofs.Hashes.{leaf-hash-whole, inner-hash-whole}
-use Rattle.demands.proofs.Stored.{stored-is, stored-sound}
+use Rattle.demands.proofs.Stored.{stored-is, stored-sound, formatted-form, prune-form, apply-form}
 
 -- asks in form, by computing
 abbrev bytesTest : Bytes → Bool
@@ -69,18 +70,22 @@ asks-by : (asks : List Ask) → asksTest asks ≡ true → All AskForm asks
 asks-by [] h = tt
 asks-by (a ∷ asks) h = (ask-by a (and-left (askTest a) (asksTest asks) h), asks-by asks (and-right (askTest a) (asksTest asks) h))
 
+-- a sound store with counts
+abbrev Whole : Store → Type 0
+Whole st = (st .form ≡ counted) × Sound leafHash innerHash st
+
 -- a call on the bytes of a sound store, for C, by its outcome on the store
-module _ {R : Type 0} (call : Store → Result R) (told : R → Bytes) (st : Store) (s : Sound leafHash innerHash st) where
+module _ {R : Type 0} (call : Store → Result R) (told : R → Bytes) (st : Store) (s : Whole st) where
   exported : (answer : Answer R) (end : Store) (f : Bytes) → call st ≡ record { answer = answer; store = end } →
       ((n : ℕ) → answer ≡ refused n → end ≡ st) → Exports call told (storeBytes st) f (numberOf answer) (storeBytes end) (toldOf told answer f)
   exported (refused n) end f e same =
-      let at = ap call (stored-is st s) ∙ e in
+      let at = ap call (stored-is st (s .0) (s .1)) ∙ e in
       subst (λ x. Exports call told (storeBytes st) f n (storeBytes x) f) (sym (same n refl))
-      (exports-refusal (refuses (stored-sound st s) (ap (λ o. o .answer) at)))
+      (exports-refusal (refuses (stored-sound st (s .0) (s .1)) (ap (λ o. o .answer) at)))
   exported (accepted a) end f e same =
-      let at = ap call (stored-is st s) ∙ e in
+      let at = ap call (stored-is st (s .0) (s .1)) ∙ e in
       subst (λ x. Exports call told (storeBytes st) f 0 (storeBytes x) (told a)) (ap (λ o. o .store) at)
-      (exports-answer (accepts (stored-sound st s) (ap (λ o. o .answer) at)))
+      (exports-answer (accepts (stored-sound st (s .0) (s .1)) (ap (λ o. o .answer) at)))
 
   exports-exactly : (answer : Answer R) (end : Store) → call st ≡ record { answer = answer; store = end } →
       ((n : ℕ) → answer ≡ refused n → end ≡ st) → (f : Bytes) (r : ℕ) (t g : Bytes) →
@@ -96,14 +101,14 @@ module _ {R : Type 0} (call : Store → Result R) (told : R → Bytes) (st : Sto
 -- a row on a sound store, with a batch in form
 abbrev RowReady : Row → Type 0
 RowReady (applies st number batch answer end) =
-    Sound leafHash innerHash st × (asksTest batch ≡ true) × (leb (length batch) 1024 ≡ true) × (leb number top32 ≡ true)
-RowReady (prunes st n answer end) = Sound leafHash innerHash st
-RowReady (reads st v answer) = Sound leafHash innerHash st
+    Whole st × (asksTest batch ≡ true) × (leb (length batch) 1024 ≡ true) × (leb number top32 ≡ true)
+RowReady (prunes st n answer end) = Whole st
+RowReady (reads st v answer) = Whole st
 
 -- a root read on the bytes of a sound store
-root-said : (st : Store) → Sound leafHash innerHash st → (v : ℕ) → rootAnswer (storeBytes st) v ≡ readRoot leafHash innerHash st v
+root-said : (st : Store) → Whole st → (v : ℕ) → rootAnswer (storeBytes st) v ≡ readRoot leafHash innerHash st v
 unfolding rootAnswer
-root-said st s v = rw (stored-sound st s .headed) (ap (λ x. readRoot leafHash innerHash x v) (stored-is st s))
+root-said st s v = rw (stored-sound st (s .0) (s .1) .headed) (ap (λ x. readRoot leafHash innerHash x v) (stored-is st (s .0) (s .1)))
 
 row-over-bytes : (row : Row) → RowHolds leafHash innerHash row → RowReady row → RowOverBytes row
 row-over-bytes (applies st number batch answer end) e w = λ f r t g.
@@ -130,29 +135,31 @@ rows-over-bytes (row ∷ rows) h w = (row-over-bytes row (h .0) (w .0), rows-ove
 
 -- the store after a row is sound
 abbrev SoundAfter : Row → Type 0
-SoundAfter (applies st number batch answer end) = Sound leafHash innerHash end
-SoundAfter (prunes st n answer end) = Sound leafHash innerHash end
-SoundAfter (reads st v answer) = Sound leafHash innerHash st
+SoundAfter (applies st number batch answer end) = Whole end
+SoundAfter (prunes st n answer end) = Whole end
+SoundAfter (reads st v answer) = Whole st
 
 sound-after : (row : Row) → RowHolds leafHash innerHash row → RowReady row → SoundAfter row
 sound-after (applies st number batch answer end) e w = go answer e
   where
-    go : (a : Answer Applied) → apply leafHash innerHash number (some batch) st ≡ record { answer = a; store = end } → Sound leafHash innerHash end
+    go : (a : Answer Applied) → apply leafHash innerHash number (some batch) st ≡ record { answer = a; store = end } → Whole end
     go (refused n) e =
-        subst (Sound leafHash innerHash)
+        subst Whole
         (sym (refused-apply-writes-nothing leafHash innerHash number (some batch) st n (ap (λ o. o .answer) e)) ∙ ap (λ o. o .store) e) (w .0)
     go (accepted a) e =
-        subst (Sound leafHash innerHash) (ap (λ o. o .store) e)
-        (apply-keeps-sound leafHash innerHash leaf-hash-whole inner-hash-whole number batch st a (w .0) (leb-true number top32 (w .3)) (asks-by batch (w .1))
-        (ap (λ o. o .answer) e) .sound)
+        subst Whole (ap (λ o. o .store) e) (
+          apply-form number (some batch) st ∙ w .0 .0,
+          apply-keeps-sound leafHash innerHash leaf-hash-whole inner-hash-whole number batch st a (w .0 .1) (leb-true number top32 (w .3)) (asks-by batch (w .1))
+              (ap (λ o. o .answer) e) .sound,
+        )
 sound-after (prunes st n answer end) e w = go answer e
   where
-    go : (a : Answer ℕ) → prune n st ≡ record { answer = a; store = end } → Sound leafHash innerHash end
+    go : (a : Answer ℕ) → prune n st ≡ record { answer = a; store = end } → Whole end
     go (refused m) e =
-        subst (Sound leafHash innerHash)
+        subst Whole
         (sym (refused-prune-writes-nothing leafHash innerHash n st m (ap (λ o. o .answer) e)) ∙ ap (λ o. o .store) e) w
     go (accepted a) e =
-        subst (Sound leafHash innerHash) (ap (λ o. o .store) e) (prune-keeps-sound leafHash innerHash n st a w (ap (λ o. o .answer) e) .sound)
+        subst Whole (ap (λ o. o .store) e) (prune-form n st ∙ w .0, prune-keeps-sound leafHash innerHash n st a (w .1) (ap (λ o. o .answer) e) .sound)
 sound-after (reads st v answer) e w = w
 
 -- the rows by number; those past a table are of no use
@@ -165,10 +172,10 @@ rowAt i = rowOf (table leafHash innerHash) i
 abbrev gapAt : ℕ → Row
 gapAt i = rowOf (gaps leafHash innerHash) i
 
-s20 : Sound leafHash innerHash (formatted 20)
-s20 = formatted-is-sound leafHash innerHash 20 (omega arith) (omega arith)
+s20 : Whole (formatted 20)
+s20 = (formatted-form 20, formatted-is-sound leafHash innerHash 20 (omega arith) (omega arith))
 
-m1 : Sound leafHash innerHash (s₁ leafHash innerHash)
+m1 : Whole (s₁ leafHash innerHash)
 m1 = sound-after (rowAt 0) (desk leafHash innerHash .0) (s20, refl, refl, refl)
 
 -- Each row of the desk's table is what the contracts say of the bytes.
@@ -176,7 +183,7 @@ pub desk-over-bytes : DeskOverBytes
 desk-over-bytes =
     let h = desk leafHash innerHash in
     let fresh = formatted-is-sound leafHash innerHash in
-    let s7 = fresh 7 (omega arith) (omega arith) in
+    let s7 : Whole (formatted 7) = (formatted-form 7, fresh 7 (omega arith) (omega arith)) in
     let m2 = sound-after (rowAt 1) (h .1 .0) (m1, refl, refl, refl) in
     let m3 = sound-after (rowAt 2) (h .1 .1 .0) (m2, refl, refl, refl) in
     let m4 = sound-after (rowAt 3) (h .1 .1 .1 .0) (m3, refl, refl, refl) in
@@ -204,7 +211,7 @@ desk-over-bytes =
                     (
                       (s20, refl, refl, refl),
                       (
-                        (fresh 5 (omega arith) (omega arith), refl, refl, refl),
+                        ((formatted-form 5, fresh 5 (omega arith) (omega arith)), refl, refl, refl),
                         (
                           m8,
                           (
@@ -233,13 +240,13 @@ desk-over-bytes =
     )
 
 -- The stores of the rows with gaps.
-s2 : Sound leafHash innerHash (formatted 2)
-s2 = formatted-is-sound leafHash innerHash 2 (omega arith) (omega arith)
+s2 : Whole (formatted 2)
+s2 = (formatted-form 2, formatted-is-sound leafHash innerHash 2 (omega arith) (omega arith))
 
-g5 : Sound leafHash innerHash (g₅ leafHash innerHash)
+g5 : Whole (g₅ leafHash innerHash)
 g5 = sound-after (gapAt 0) (desk-gaps leafHash innerHash .0) (s20, refl, refl, refl)
 
-g9 : Sound leafHash innerHash (g₉ leafHash innerHash)
+g9 : Whole (g₉ leafHash innerHash)
 g9 = sound-after (gapAt 2) (desk-gaps leafHash innerHash .1 .1 .0) (g5, refl, refl, refl)
 
 -- Each row with a gap is what the contracts say of the bytes,
@@ -267,5 +274,5 @@ pub writing-nothing-fails-at-M1 : {f t g : Bytes} {r : ℕ} →
 unfolding formatted
 writing-nothing-fails-at-M1 {f} {t} {g} {r} w e =
     let left = desk-over-bytes .0 f r t g .0 w .1 in
-    let same = sym (stored-is (s₁ leafHash innerHash) m1) ∙ ap storeOf (sym left ∙ e) ∙ stored-is (formatted 20) s20 in
+    let same = sym (stored-is (s₁ leafHash innerHash) (m1 .0) (m1 .1)) ∙ ap storeOf (sym left ∙ e) ∙ stored-is (formatted 20) (s20 .0) (s20 .1) in
     let z : _≡_ {A = ℕ} 1 0 = ap (λ st. st .latest) same in omega arith

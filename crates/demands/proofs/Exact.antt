@@ -10,11 +10,13 @@ use mathlib.Core.Option.{Option, none, some}
 use lib.ListN.{length}
 use lib.Dec.{eqb}
 use borrow.Author.Tests.{eqb-true, eqb-false}
+use Rattle.terms.specs.declared.Form.the-variants.{Counted as counted}
 use Rattle.terms.specs.Bits.{Bytes, Byte, All}
 use Rattle.terms.specs.Records.{Store, Proof}
 use Rattle.meaning.specs.Calls.{Answer, refused, accepted, Result, apply, prune}
 use Rattle.meaning.specs.Reading.{Trouble, lostRecord, spoiltRecord, readKey, readRoot}
 use Rattle.meaning.specs.Proving.{prove}
+use Rattle.meaning.specs.Counting.{readNumber, readPosition}
 use Rattle.meaning.specs.Answers.{numberOf}
 use Rattle.nodehash.specs.Node.{leafHash, innerHash}
 use Rattle.proofrecords.specs.ProofBytes.{proofIn}
@@ -26,6 +28,8 @@ use Rattle.promises.specs.Check as check
 use Rattle.promises.specs.Calls.{Does, wrong-header, not-sound, refuses, accepts, Exports, exports-refusal, exports-answer}
 use Rattle.read_open.specs.Headed.{byHeader}
 use Rattle.read.specs.Reads.{rootAnswer, keyAnswer}
+use Rattle.read_number.specs.Numbers.{numberAnswer}
+use Rattle.read_position.specs.Positions.{positionAnswer}
 use Rattle.prove.specs.Proving.{proveAnswer}
 use Rattle.palette_rules.specs.Palette.{wholeKeys, keysIn, palette}
 use Rattle.palette.specs.Palettes.{paletteAnswer}
@@ -33,26 +37,27 @@ use Rattle.changed.specs.Compare.{compare}
 use Rattle.verify.specs.Verify.{judged, verified}
 use Rattle.ways.specs.Ways.{its-root}
 use Rattle.refusals.specs.Exactly.{Table, Exactly, NoneOf, low, Names}
-use Rattle.refusals.specs.Rows.{NotKeys, StopsPalette, TooLongTogether, NotSound, Not32, StopsRoot, StopsGet, StopsProve, TooLong}
+use Rattle.refusals.specs.Rows.{NotKeys, StopsPalette, TooLongTogether, NotSound, Not32, StopsRoot, StopsGet, StopsAt, StopsProve, TooLong}
 use Rattle.refusals.specs.Orders.{headerRows, batchRows, versionRows, comparisonRows, holdingRows}
 use Rattle.refusals.proofs.Exactly.{First, past, within, exactly}
 use Rattle.refusals.proofs.Headers.{length-wrong, length-right, after-header, header-row, records-formed}
 use Rattle.refusals.proofs.Batches.{batch-first}
 use Rattle.refusals.proofs.Stopped.{Stopped, stopped-past, stopped-within, stopped-first, stopped-found, stopped-names}
 use Rattle.refusals.proofs.Walks.{prune-first, root-stopped, get-stopped, prove-stopped}
+use Rattle.refusals.proofs.Positions.{number-stopped, position-stopped}
 use Rattle.refusals.proofs.Palettes.{palette-stopped, keys-whole, keys-torn}
 use Rattle.refusals.proofs.Changes.{changes-first}
 use Rattle.refusals.proofs.Rescues.{rescue-first}
 use Rattle.refusals.proofs.Proofs.{off-form, form-first}
-use Rattle.demands.specs.Tables.{formatRows, checkRows, applyRows, pruneRows, rootRows, rootTests, getRows, getTests, proveRows, proveTests, paletteTests, paletteRows, changesRows, verifyRows, sha256Rows, rescuingRows}
-use Rattle.grants.specs.Contracts.{Formats, Checks, Applies, Prunes, ReadsRoot, ReadsKey, Proves, Palettes, Changes, Verifies, Hashes, Rescues}
+use Rattle.demands.specs.Tables.{formatRows, checkRows, applyRows, pruneRows, rootRows, rootTests, getRows, getTests, countRows, atRows, atTests, proveRows, proveTests, paletteTests, paletteRows, changesRows, verifyRows, sha256Rows, rescuingRows}
+use Rattle.grants.specs.Contracts.{Formats, Checks, Applies, Prunes, ReadsRoot, ReadsKey, Counts, ReadsAt, Proves, Palettes, Changes, Verifies, Hashes, Rescues}
 
 -- Format: 1.
 pub format-exactly : {s t : Bytes} {r : ℕ} → Formats s r t → Exactly (formatRows s) r
 unfolding formatAnswer
-format-exactly {s} {r = r} w = exactly (formatRows s) r refl (go (sizeRight (length s)) refl (w .answer))
+format-exactly {s} {r = r} w = exactly (formatRows s) r refl (go (sizeRight counted (length s)) refl (w .answer))
   where
-    go : (b : Bool) → sizeRight (length s) ≡ b → r ≡ cond b 0 1 → First (formatRows s) r
+    go : (b : Bool) → sizeRight counted (length s) ≡ b → r ≡ cond b 0 1 → First (formatRows s) r
     go true e f = inr (length-right s e, f)
     go false e f = inl (length-wrong s e, f)
 
@@ -60,7 +65,7 @@ format-exactly {s} {r = r} w = exactly (formatRows s) r refl (go (sizeRight (len
 pub check-exactly : {s : Bytes} {r : ℕ} → Checks s r → Exactly (checkRows s) r
 check-exactly {s} {r} w = exactly (checkRows s) r refl (go w)
   where
-    go : {n : ℕ} → check.Checked s n → First (checkRows s) n
+    go : {n : ℕ} → check.Checked counted s n → First (checkRows s) n
     go (check.refused n e) = let h = header-row s e in within (headerRows s) ((3, NotSound s) ∷ []) n (h .0) (h .1)
     go (check.unsound c o l e f) = past (headerRows s) ((3, NotSound s) ∷ []) 3 (after-header s e) (inl (f, refl))
     go (check.sound c o l e f) = past (headerRows s) ((3, NotSound s) ∷ []) 0 (after-header s e) (inr (λ n. n f, refl))
@@ -95,11 +100,11 @@ prune-exactly n {s} {r = r} w = exactly (pruneRows n s) r refl (export-first (pr
 
 -- A read: 1, 2; then its own.
 read-stopped : {A : Type 0} {early later : Table} {stops : Trouble → Type 0} (s : Bytes) (a : Answer A) →
-    ((c o l : ℕ) → headerOf s ≡ header c o l → Stopped early later stops (numberOf a)) →
-    Stopped (headerRows s ++ early) later stops (numberOf (byHeader (headerOf s) a))
-read-stopped {early = early} {later = later} {stops = stops} s a f = go (headerOf s) refl
+    ((c o l : ℕ) → headerOf counted s ≡ header c o l → Stopped early later stops (numberOf a)) →
+    Stopped (headerRows s ++ early) later stops (numberOf (byHeader (headerOf counted s) a))
+read-stopped {early = early} {later = later} {stops = stops} s a f = go (headerOf counted s) refl
   where
-    go : (h : Headed) → headerOf s ≡ h → Stopped (headerRows s ++ early) later stops (numberOf (byHeader h a))
+    go : (h : Headed) → headerOf counted s ≡ h → Stopped (headerRows s ++ early) later stops (numberOf (byHeader h a))
     go (refusal m) e = let h = header-row s e in stopped-within (headerRows s) early (h .0) (h .1)
     go (header c o l) e = stopped-past (headerRows s) early (after-header s e) (f c o l e)
 
@@ -112,6 +117,10 @@ key-stopped {early = early} {later = later} {stops = stops} k a w = go (eqb (len
     go true e = stopped-past ((12, Not32 (k ∷ [])) ∷ []) early (λ n. n (eqb-true (length k) 32 e, tt), tt) w
     go false e = stopped-within ((12, Not32 (k ∷ [])) ∷ []) early (inl (λ h. eqb-false (length k) 32 e (h .0), refl)) (λ z. absurd (omega arith))
 
+-- No root's lookup is stopped by a lost record.
+never-lost : (s : Bytes) (v : ℕ) (t : Trouble) → t ≡ lostRecord → StopsRoot s v t → ⊥
+never-lost s v t e (its-root i n m) = let z : _≡_ {A = ℕ} 0 1 = cc in omega arith
+
 -- A root read: 1, 2, 8, 3, and the slot beside 3.
 module _ {s : Bytes} {v : ℕ} {f : Bytes} {r : ℕ} {g : Bytes} (w : ReadsRoot s v f r g) where
   root-answers : Stopped (rootTests s v) [] (StopsRoot s v) r
@@ -121,10 +130,7 @@ module _ {s : Bytes} {v : ℕ} {f : Bytes} {r : ℕ} {g : Bytes} (w : ReadsRoot 
       (read-stopped s (readRoot leafHash innerHash (storeOf s) v) (λ c o l e. root-stopped leafHash innerHash s v))
 
   pub root-exactly : Exactly (rootRows s v) (low r)
-  root-exactly = exactly (rootRows s v) (low r) refl (stopped-found refl refl root-answers (never-lost lostRecord refl))
-    where
-      never-lost : (t : Trouble) → t ≡ lostRecord → StopsRoot s v t → ⊥
-      never-lost t e (its-root i n m) = let z : _≡_ {A = ℕ} 0 1 = cc in omega arith
+  root-exactly = exactly (rootRows s v) (low r) refl (stopped-found refl refl root-answers (never-lost s v lostRecord refl))
 
   pub root-names-slot : Names (λ i. NoneOf (rootTests s v) × StopsRoot s v (spoiltRecord i)) r
   root-names-slot = stopped-names refl refl root-answers
@@ -135,7 +141,7 @@ module _ {s : Bytes} {v : ℕ} {k f : Bytes} {r : ℕ} {g : Bytes} (h : All Byte
   unfolding keyAnswer
   get-answers =
       subst (Stopped (getTests s v k) [] (StopsGet s v k)) (sym (w .answer))
-      (key-stopped k (byHeader (headerOf s) (readKey (storeOf s) v k))
+      (key-stopped k (byHeader (headerOf counted s) (readKey (storeOf s) v k))
       (read-stopped s (readKey (storeOf s) v k) (λ c o l e. get-stopped s (records-formed s h e) v k)))
 
   pub get-exactly : Exactly (getRows s v k) (low r)
@@ -144,13 +150,41 @@ module _ {s : Bytes} {v : ℕ} {k f : Bytes} {r : ℕ} {g : Bytes} (h : All Byte
   pub get-names-slot : Names (λ i. NoneOf (getTests s v k) × StopsGet s v k (spoiltRecord i)) r
   get-names-slot = stopped-names refl refl get-answers
 
+-- The number of grants: 1, 2, 8, 3, and the slot beside 3.
+module _ {s : Bytes} {v : ℕ} {f : Bytes} {r : ℕ} {g : Bytes} (w : Counts s v f r g) where
+  count-answers : Stopped (rootTests s v) [] (StopsRoot s v) r
+  unfolding numberAnswer
+  count-answers =
+      subst (Stopped (rootTests s v) [] (StopsRoot s v)) (sym (w .answer))
+      (read-stopped s (readNumber (storeOf s) v) (λ c o l e. number-stopped leafHash innerHash s v))
+
+  pub count-exactly : Exactly (countRows s v) (low r)
+  count-exactly = exactly (countRows s v) (low r) refl (stopped-found refl refl count-answers (never-lost s v lostRecord refl))
+
+  pub count-names-slot : Names (λ i. NoneOf (rootTests s v) × StopsRoot s v (spoiltRecord i)) r
+  count-names-slot = stopped-names refl refl count-answers
+
+-- The grant at a position: 1, 2, 8, 20, 17 or 3, and the slot beside 3.
+module _ {s : Bytes} {v i : ℕ} {f : Bytes} {r : ℕ} {g : Bytes} (h : All Byte s) (w : ReadsAt s v i f r g) where
+  at-answers : Stopped (atTests s v i) [] (StopsAt s v i) r
+  unfolding positionAnswer
+  at-answers =
+      subst (Stopped (atTests s v i) [] (StopsAt s v i)) (sym (w .answer))
+      (read-stopped s (readPosition (storeOf s) v i) (λ c o l e. position-stopped s (records-formed s h e) v i))
+
+  pub at-exactly : Exactly (atRows s v i) (low r)
+  at-exactly = exactly (atRows s v i) (low r) refl (stopped-first refl refl at-answers)
+
+  pub at-names-slot : Names (λ j. NoneOf (atTests s v i) × StopsAt s v i (spoiltRecord j)) r
+  at-names-slot = stopped-names refl refl at-answers
+
 -- Proving: 12, 1, 2, 8, 14, 17 or 3, 9, and the slot beside 3.
 module _ {s : Bytes} {v : ℕ} {k room f : Bytes} {r : ℕ} {t g : Bytes} (h : All Byte s) (w : Proves s v k room f r t g) where
   prove-answers : Stopped (proveTests s v k) ((9, TooLong s v k room) ∷ []) (StopsProve s v k) r
   unfolding proveAnswer
   prove-answers =
       subst (Stopped (proveTests s v k) ((9, TooLong s v k room) ∷ []) (StopsProve s v k)) (sym (w .answer))
-      (key-stopped k (byHeader (headerOf s) (prove (storeOf s) v k (length room)))
+      (key-stopped k (byHeader (headerOf counted s) (prove (storeOf s) v k (length room)))
       (read-stopped s (prove (storeOf s) v k (length room)) (λ c o l e. prove-stopped s (records-formed s h e) v k room)))
 
   pub prove-exactly : Exactly (proveRows s v k room) (low r)
@@ -174,7 +208,7 @@ module _ {s : Bytes} {v : ℕ} {list room f : Bytes} {r : ℕ} {t g : Bytes} (h 
   unfolding paletteAnswer
   palette-answers =
       subst (Stopped (paletteTests s v list) ((9, TooLongTogether s v (keysIn list) room) ∷ []) (StopsPalette s v (keysIn list))) (sym (w .answer))
-      (list-stopped list (byHeader (headerOf s) (palette (storeOf s) v (keysIn list) (length room)))
+      (list-stopped list (byHeader (headerOf counted s) (palette (storeOf s) v (keysIn list) (length room)))
       (read-stopped s (palette (storeOf s) v (keysIn list) (length room)) (λ c o l e. palette-stopped s (records-formed s h e) v (keysIn list) room)))
 
   pub palette-exactly : Exactly (paletteRows s v list room) (low r)

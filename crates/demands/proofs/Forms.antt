@@ -8,6 +8,7 @@ use mathlib.Core.List.{List, [], _∷_, _++_, map}
 use mathlib.Core.Option.{Option, none, some}
 use lib.ListN.{length}
 use lib.Dec.{eqb}
+use Rattle.terms.specs.declared.Form.the-variants.{Counted as counted}
 use Rattle.terms.specs.Bits.{Bytes, Whole32, Side, left, right, Place, longer, All, bit, begins, sameBytes}
 use Rattle.terms.specs.Records.{Child, Body, leafBody, innerBody, Record, free, Store, Step, Presence, Proof, presence, absence}
 use Rattle.terms.specs.Form.{BodyForm}
@@ -54,11 +55,11 @@ SightForm (matches r) = BodyForm (r .body)
 SightForm nothing = Unit {0}
 SightForm (spoilt i) = Unit {0}
 
-slot-form : (st : Store) (i : ℕ) (r : Record) → All SlotForm (st .slots) → At st i r → BodyForm (r .body)
+slot-form : (st : Store) (i : ℕ) (r : Record) → All (SlotForm counted) (st .slots) → At st i r → BodyForm (r .body)
 unfolding At
-slot-form st i r h a = subst SlotForm (a .1) (all-at SlotForm (st .slots) free i h (a .0)) .body
+slot-form st i r h a = subst (SlotForm counted) (a .1) (all-at (SlotForm counted) (st .slots) free i h (a .0)) .0 .body
 
-node-form : (st : Store) (v : ℕ) (p : Place) → All SlotForm (st .slots) → SightForm (nodeSight st v p)
+node-form : (st : Store) (v : ℕ) (p : Place) → All (SlotForm counted) (st .slots) → SightForm (nodeSight st v p)
 node-form st v p h = go (nodeSight st v p) refl
   where
     go : (x : Sight) → nodeSight st v p ≡ x → SightForm x
@@ -66,7 +67,7 @@ node-form st v p h = go (nodeSight st v p) refl
     go nothing e = tt
     go (spoilt i) e = tt
 
-root-form : (st : Store) (v : ℕ) → All SlotForm (st .slots) → SightForm (rootSight st v)
+root-form : (st : Store) (v : ℕ) → All (SlotForm counted) (st .slots) → SightForm (rootSight st v)
 root-form st v h = go (rootSight st v) refl
   where
     go : (x : Sight) → rootSight st v ≡ x → SightForm x
@@ -83,14 +84,14 @@ child-seen v p o kid f h = either SeenForm (eqb v 0) gap (seenChild p o kid) tt 
     go (spoilt i) f = tt
     go (matches r) f = body-seen p (r .body) kid f h
 
-at-seen : (n : ℕ) (st : Store) (p : Place) (c : Child) → All SlotForm (st .slots) → SeenForm (seenAt n (scan st) p c)
+at-seen : (n : ℕ) (st : Store) (p : Place) (c : Child) → All (SlotForm counted) (st .slots) → SeenForm (seenAt n (scan st) p c)
 at-seen zero st p c h =
     child-seen (c .version) p (nodeSight st (c .version) p) (λ b d. lost lostRecord) (node-form st (c .version) p h) (λ b d. tt)
 at-seen (suc n) st p c h =
     child-seen (c .version) p (nodeSight st (c .version) p) (λ b d. seenAt n (scan st) (longer b p) d) (node-form st (c .version) p h)
     (λ b d. at-seen n st (longer b p) d h)
 
-root-seen : (n : ℕ) (st : Store) (o : Sight) → All SlotForm (st .slots) → SightForm o →
+root-seen : (n : ℕ) (st : Store) (o : Sight) → All (SlotForm counted) (st .slots) → SightForm o →
     SeenForm (seenRoot o (λ b d. seenAt n (scan st) (b ∷ []) d))
 root-seen n st nothing h f = tt
 root-seen n st (spoilt i) h f = tt
@@ -204,7 +205,7 @@ end-form k (atLeaf l x trail) w h =
     (leaf-form l x trail (h .0) (h .1) (h .2)) (sides-form k e w h)
 end-form k (atGap trail) w h = sides-form k (atGap trail) w h
 
-given-form : (st : Store) (v : ℕ) (k : Bytes) → All SlotForm (st .slots) → Whole32 k → GivenForm (proof st v k)
+given-form : (st : Store) (v : ℕ) (k : Bytes) → All (SlotForm counted) (st .slots) → Whole32 k → GivenForm (proof st v k)
 unfolding proveSeen seen
 given-form st v k h w =
     let x : Seen = seenRoot (rootSight st v) (λ b d. seenAt 255 (scan st) (b ∷ []) d) in
@@ -216,7 +217,7 @@ given-form st v k h w =
 path-whole : (q : Presence) → PathForm q → length (q .steps) ≤ 256 → PresenceForm q
 path-whole q f h = record { key32 = f .key32; value32 = f .value32; short = h; steps32 = f .steps32 }
 
-pub proof-form : (st : Store) (v : ℕ) (k : Bytes) (p : Proof) → All SlotForm (st .slots) → Whole32 k → proof st v k ≡ accepted p → ProofForm p
+pub proof-form : (st : Store) (v : ℕ) (k : Bytes) (p : Proof) → All (SlotForm counted) (st .slots) → Whole32 k → proof st v k ≡ accepted p → ProofForm p
 proof-form st v k p h w e = go p (subst GivenForm e (given-form st v k h w)) (paths-have-256-steps st v k p e)
   where
     go : (p : Proof) → GivenForm (accepted p) → All (λ q. length (q .steps) ≤ 256) (pathsOf p) → ProofForm p

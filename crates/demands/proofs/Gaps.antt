@@ -5,6 +5,7 @@ use mathlib.Core.Path.{_≡_, refl, ap, sym, _∙_, subst}
 use mathlib.Core.Bool.{Bool, true}
 use mathlib.Core.List.{List, [], _∷_}
 use lib.ListN.{length}
+use Rattle.terms.specs.declared.Form.the-variants.{Counted as counted}
 use Rattle.terms.specs.Bits.{Bytes, All}
 use Rattle.terms.specs.Records.{Store}
 use Rattle.meaning.specs.Store.{formatted, rootOf}
@@ -19,16 +20,16 @@ use Rattle.histories.proofs.Theorems as laws
 use Rattle.nodehash.specs.Node.{leafHash, innerHash}
 use Rattle.layout.specs.Sizes.{roomOf}
 use Rattle.layout.specs.Headers.{sizeRight}
-use Rattle.layout.specs.Stores.{storeOf}
+use Rattle.layout.specs.Stores.{storeOf, slotsAs}
 use Rattle.layout.proofs.Headers.{size-says}
 use Rattle.layout.proofs.Stores.{length-slots}
 use Rattle.batch.specs.Batch.{batchOf}
 use Rattle.format.specs.Format.{formatBytes}
 use Rattle.promises.specs.Calls.{wrong-header, not-sound, refuses, accepts, Exports, exports-refusal, exports-answer}
-use Rattle.demands.specs.Calls.{Called, formats, applies, prunes, checks, reads-root, reads-key, proves, palettes, compares, verifies, hashes, Calls, none-yet, then-called, WithoutGaps, Life, rescues-from, rescues-into}
+use Rattle.demands.specs.Calls.{Called, formats, applies, prunes, checks, reads-root, reads-key, counts, reads-at, proves, palettes, compares, verifies, hashes, Calls, none-yet, then-called, WithoutGaps, Life, rescues-from, rescues-into}
 use Rattle.grants.specs.Contracts.{Formats}
 use Rattle.demands.proofs.Hashes.{leaf-hash-whole, inner-hash-whole}
-use Rattle.demands.proofs.Stored.{stored-is}
+use Rattle.demands.proofs.Stored.{stored-is, formatted-form, prune-form, apply-form}
 use Rattle.demands.proofs.Histories.{Keeping, sound-bytes, size-right, not-headed, asks-form, called-keeps, formatted-keeps}
 
 -- what was called, accepted or not
@@ -36,25 +37,25 @@ abbrev callsOf : List (Call × Bool) → List Call
 callsOf [] = []
 callsOf (e ∷ history) = e .0 ∷ callsOf history
 
-slots-many : (s : Bytes) → length (storeOf s .slots) ≡ roomOf (length s)
-unfolding storeOf
-slots-many s = length-slots (roomOf (length s)) _
+slots-many : (s : Bytes) → length (storeOf s .slots) ≡ roomOf counted (length s)
+unfolding slotsAs
+slots-many s = length-slots counted (roomOf counted (length s)) _
 
 -- formatting leaves the bytes of a formatted store
-fresh-is : (s : Bytes) → sizeRight (length s) ≡ true → storeOf (formatBytes s) ≡ formatted (roomOf (length s))
+fresh-is : (s : Bytes) → sizeRight counted (length s) ≡ true → storeOf (formatBytes s) ≡ formatted (roomOf counted (length s))
 unfolding formatBytes
 fresh-is s e =
-    let z = size-says (length s) e in
-    rw e (stored-is (formatted (roomOf (length s))) (laws.formatted-is-sound leafHash innerHash (roomOf (length s)) (z .1) (z .2)))
+    let z = size-says counted (length s) e in
+    rw e (stored-is (formatted (roomOf counted (length s))) (formatted-form _) (laws.formatted-is-sound leafHash innerHash (roomOf counted (length s)) (z .1) (z .2)))
 
 -- the store after a call that tests soundness
 export-after : {A : Type 0} {call : Store → Result A} {told : A → Bytes} {s f t g : Bytes} {r : ℕ} {es : List Entry} →
     Exports call told s f r t g → Keeping s es → ((m : ℕ) → call (storeOf s) .answer ≡ refused m → call (storeOf s) .store ≡ storeOf s) →
-    Sound leafHash innerHash (call (storeOf s) .store) → storeOf t ≡ call (storeOf s) .store
-export-after (exports-refusal (wrong-header e)) k same sound = not-headed e (sound-bytes k .headed)
-export-after (exports-refusal (not-sound e n)) k same sound = absurd (n (k .keeps .sound))
-export-after (exports-refusal {m} (refuses w e)) k same sound = sym (same m e)
-export-after (exports-answer (accepts w e)) k same sound = stored-is _ sound
+    call (storeOf s) .store .form ≡ counted → Sound leafHash innerHash (call (storeOf s) .store) → storeOf t ≡ call (storeOf s) .store
+export-after (exports-refusal (wrong-header e)) k same form sound = not-headed e (sound-bytes k .headed)
+export-after (exports-refusal (not-sound e n)) k same form sound = absurd (n (k .keeps .sound))
+export-after (exports-refusal {m} (refuses w e)) k same form sound = sym (same m e)
+export-after (exports-answer (accepts w e)) k same form sound = stored-is _ form sound
 
 -- and after any public call
 module _ {s : Bytes} {es : List Entry} (k : Keeping s es) where
@@ -66,12 +67,14 @@ module _ {s : Bytes} {es : List Entry} (k : Keeping s es) where
   called-after (formats w) gap = ap storeOf (w .bytes) ∙ fresh-is s (size-right k) ∙ ap formatted (sym (slots-many s))
   called-after (applies number batch small h w) gap =
       export-after w k (λ m e. laws.refused-apply-writes-nothing leafHash innerHash number (batchOf batch) (storeOf s) m e)
-      (sound-after (applying number (batchOf batch)) (asks-form number batch small h))
+      (apply-form number (batchOf batch) (storeOf s)) (sound-after (applying number (batchOf batch)) (asks-form number batch small h))
   called-after (prunes {n} w) gap =
-      export-after w k (λ m e. laws.refused-prune-writes-nothing leafHash innerHash n (storeOf s) m e) (sound-after (pruning n) tt)
+      export-after w k (λ m e. laws.refused-prune-writes-nothing leafHash innerHash n (storeOf s) m e) (prune-form n (storeOf s)) (sound-after (pruning n) tt)
   called-after (checks w) gap = refl
   called-after (reads-root w) gap = refl
   called-after (reads-key w) gap = refl
+  called-after (counts w) gap = refl
+  called-after (reads-at w) gap = refl
   called-after (proves w) gap = refl
   called-after (palettes w) gap = refl
   called-after (compares w) gap = refl
@@ -87,6 +90,8 @@ form-of (prunes w) = tt
 form-of (checks w) = tt
 form-of (reads-root w) = tt
 form-of (reads-key w) = tt
+form-of (counts w) = tt
+form-of (reads-at w) = tt
 form-of (proves w) = tt
 form-of (palettes w) = tt
 form-of (compares w) = tt
@@ -117,8 +122,8 @@ pub without-gaps-roots-are-as-in-01 : {before s t : Bytes} {history : List (Call
     WithoutGaps calls → (v : ℕ) → Kept (storeOf t) v → rootOf (storeOf t) v ≡ rootIn01 (storeOf t) v
 without-gaps-roots-are-as-in-01 {before} {s} {t} {history} w calls gaps =
     let (size, k) = formatted-keeps w in
-    let n = roomOf (length before) in
-    let z = size-says (length before) size in
+    let n = roomOf counted (length before) in
+    let z = size-says counted (length before) size in
     let fresh : storeOf s ≡ formatted n = ap storeOf (w .bytes) ∙ fresh-is before size in
     let now : storeOf t ≡ run leafHash innerHash (callsOf history) (formatted n) =
     calls-after _ calls gaps k ∙ ap (run leafHash innerHash (callsOf history)) fresh in

@@ -9,6 +9,7 @@ use lib.ListN.{length, take, drop}
 use lib.Seq.{take-at}
 use lib.Dec.{eqb, ltb}
 use borrow.Author.Tests.{eqb-true, ltb-false}
+use Rattle.terms.specs.declared.Form.the-variants.{Counted as counted}
 use Rattle.terms.specs.Bits.{Bytes}
 use Rattle.terms.specs.Fields.{le, num, field, flat}
 use Rattle.terms.specs.Records.{Presence, Proof, presence, absence}
@@ -32,20 +33,20 @@ pub record Given (s : Bytes) (v : ℕ) (k : Bytes) (room : ℕ) (p : Proof) : Ty
   pub capacity : ℕ
   pub oldest : ℕ
   pub latest : ℕ
-  pub headed : headerOf s ≡ header capacity oldest latest
+  pub headed : headerOf counted s ≡ header capacity oldest latest
   pub proved : proof (storeOf s) v k ≡ accepted p
   pub fits : proofLength p ≤ room
 
 given-is : (s : Bytes) (v : ℕ) (k : Bytes) (room : ℕ) (p : Proof) → proveAnswer s v k room ≡ accepted p → Given s v k room p
 unfolding proveAnswer prove
-given-is s v k room p = go (eqb (length k) 32) (headerOf s) (proof (storeOf s) v k) refl refl refl
+given-is s v k room p = go (eqb (length k) 32) (headerOf counted s) (proof (storeOf s) v k) refl refl refl
   where
     within : (q : Proof) (b : Bool) → ltb room (proofLength q) ≡ b → cond b (refused 9) (accepted q) ≡ accepted p →
         (q ≡ p) × (proofLength q ≤ room)
     within q true e h = clash (cc)
     within q false e h = (cc, ltb-false room (proofLength q) e)
 
-    go : (b : Bool) (h : Headed) (a : Answer Proof) → eqb (length k) 32 ≡ b → headerOf s ≡ h → proof (storeOf s) v k ≡ a →
+    go : (b : Bool) (h : Headed) (a : Answer Proof) → eqb (length k) 32 ≡ b → headerOf counted s ≡ h → proof (storeOf s) v k ≡ a →
         cond b (byHeader h (fitted room a)) (refused 12) ≡ accepted p → Given s v k room p
     go false h a e f g z = clash (cc)
     go true (refusal m) a e f g z = clash (cc)

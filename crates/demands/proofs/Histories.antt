@@ -10,8 +10,9 @@ use mathlib.Core.Option.{Option, none, some}
 use lib.ListN.{length, take}
 use lib.Dec.{eqb}
 use borrow.Author.Tests.{eq-eqb, ne-eqb}
+use Rattle.terms.specs.declared.Form.the-variants.{Counted as counted}
 use Rattle.terms.specs.Bits.{Bytes, Byte, All, Whole32}
-use Rattle.terms.specs.Fields.{num, field}
+use Rattle.terms.specs.Fields.{le, num, field}
 use Rattle.terms.specs.Records.{Grant, Ask, Store, zeros}
 use Rattle.terms.specs.Form.{top32}
 use Rattle.meaning.specs.Tree.{grantsAt, treeOf, hash}
@@ -41,14 +42,17 @@ use Rattle.rescue_bytes.proofs.Outcomes.{refused-leaves, accepted-report}
 use Rattle.rescue_bytes.proofs.Worth.{worth}
 use Rattle.rescue_bytes.proofs.Ledger.{rescued-keeps}
 use Rattle.rescue_bytes.proofs.Report.{first-told}
-use Rattle.grants.specs.Contracts.{Formats, ReadsRoot, ReadsKey, Proves, Rescues, Verifies}
-use Rattle.meaning.specs.Answers.{foundBytes}
-use Rattle.demands.specs.Calls.{Called, formats, applies, prunes, checks, reads-root, reads-key, proves, palettes, compares, verifies, hashes, Calls, none-yet, then-called, Life, rescues-from, rescues-into, Begins, by-format, by-rescue, takenOver}
+use Rattle.read_counts_c.specs.Export.{grantBytes}
+use Rattle.grants.specs.Contracts.{Formats, ReadsRoot, ReadsKey, Proves, Rescues, Verifies, Counts, ReadsAt}
+use Rattle.meaning.specs.Counting.{grantAt}
+use Rattle.meaning.specs.Answers.{foundBytes, numberOf, toldOf}
+use Rattle.demands.specs.Calls.{Called, formats, applies, prunes, checks, reads-root, reads-key, counts, reads-at, proves, palettes, compares, verifies, hashes, Calls, none-yet, then-called, Life, rescues-from, rescues-into, Begins, by-format, by-rescue, takenOver}
 use Rattle.demands.specs.Claims.{grantsOfVersion, AfterHistory}
 use Rattle.demands.proofs.Hashes.{leaf-hash-whole, inner-hash-whole}
-use Rattle.demands.proofs.Stored.{stored-is, stored-sound}
+use Rattle.demands.proofs.Stored.{stored-is, stored-sound, formatted-form, prune-form, apply-form}
 use Rattle.demands.proofs.Given.{told-short}
 use Rattle.demands.proofs.Showing.{root-of-tree, key-of-grants, sound-is-shown, fourteen-exactly-if-empty}
+use Rattle.demands.proofs.Numbered.{sound-is-numbered}
 use Rattle.demands.proofs.Refusals.{never-0, apply-refusals, prune-refusals}
 
 -- what is kept from call to call
@@ -57,27 +61,27 @@ pub record Keeping (s : Bytes) (es : List Entry) : Type 0 where
   pub keeps : Keeps leafHash innerHash (storeOf s) es
 
 -- the bytes of a store keep what the store does
-of-store : (st : Store) (es : List Entry) → Keeps leafHash innerHash st es → Keeping (storeBytes st) es
-of-store st es k =
-    let said = stored-is st (k .sound) in
+of-store : (st : Store) (es : List Entry) → st .form ≡ counted → Keeps leafHash innerHash st es → Keeping (storeBytes st) es
+of-store st es form k =
+    let said = stored-is st form (k .sound) in
     record { bytes = ap storeBytes (sym said); keeps = subst (λ x. Keeps leafHash innerHash x es) (sym said) k }
 
 module _ {s : Bytes} {es : List Entry} (k : Keeping s es) where
   -- they are those of a sound store
   pub sound-bytes : SoundBytes s
-  sound-bytes = subst SoundBytes (sym (k .bytes)) (stored-sound (storeOf s) (k .keeps .sound))
+  sound-bytes = subst SoundBytes (sym (k .bytes)) (stored-sound (storeOf s) refl (k .keeps .sound))
 
-  pub size-right : sizeRight (length s) ≡ true
+  pub size-right : sizeRight counted (length s) ≡ true
   size-right =
       let w = sound-bytes in
       let a = headers.accepted s (w .capacity) (w .oldest) (w .latest) (w .headed) in
-      size-right-of (length s) (w .capacity) (a .size) (a .some) (a .fits)
+      size-right-of counted (length s) (w .capacity) (a .size) (a .some) (a .fits)
 
-pub fresh-keeps : (s : Bytes) → sizeRight (length s) ≡ true → Keeping (formatBytes s) (entry 0 [] ∷ [])
+pub fresh-keeps : (s : Bytes) → sizeRight counted (length s) ≡ true → Keeping (formatBytes s) (entry 0 [] ∷ [])
 unfolding formatBytes
 fresh-keeps s e =
-    let z = size-says (length s) e in
-    rw e (of-store (formatted (roomOf (length s))) (entry 0 [] ∷ []) (keeps-formatted leafHash innerHash (roomOf (length s)) (z .1, z .2)))
+    let z = size-says counted (length s) e in
+    rw e (of-store (formatted (roomOf counted (length s))) (entry 0 [] ∷ []) (formatted-form _) (keeps-formatted leafHash innerHash (roomOf counted (length s)) (z .1, z .2)))
 
 -- a header is refused or accepted
 pub not-headed : {A : Type 0} {h : Headed} {m c o l : ℕ} → h ≡ refusal m → h ≡ header c o l → A
@@ -86,12 +90,13 @@ not-headed e f = let z : _≡_ {A = ℕ} 0 1 = cc in absurd (omega arith)
 -- a call that tests soundness, refused or accepted
 export-keeps : {A : Type 0} {call : Store → Result A} {told : A → Bytes} {s f t g : Bytes} {r : ℕ} {es now : List Entry} →
     Exports call told s f r t g → Keeping s es → ((m : ℕ) → call (storeOf s) .answer ≡ refused m → m ≡ 0 → ⊥) →
+    call (storeOf s) .store .form ≡ counted →
     ((a : A) → call (storeOf s) .answer ≡ accepted a → Keeps leafHash innerHash (call (storeOf s) .store) now) →
     Keeping t (cond (eqb r 0) now es)
-export-keeps (exports-refusal (wrong-header e)) k never then = not-headed e (sound-bytes k .headed)
-export-keeps (exports-refusal (not-sound e n)) k never then = absurd (n (k .keeps .sound))
-export-keeps (exports-refusal {m} (refuses w e)) k never then = rw (ne-eqb m 0 (never m e)) k
-export-keeps {now = now} (exports-answer {a} (accepts w e)) k never then = of-store _ now (then a e)
+export-keeps (exports-refusal (wrong-header e)) k never form then = not-headed e (sound-bytes k .headed)
+export-keeps (exports-refusal (not-sound e n)) k never form then = absurd (n (k .keeps .sound))
+export-keeps (exports-refusal {m} (refuses w e)) k never form then = rw (ne-eqb m 0 (never m e)) k
+export-keeps {now = now} (exports-answer {a} (accepts w e)) k never form then = of-store _ now form (then a e)
 
 pub asks-form : (number : ℕ) (batch : Bytes) → number ≤ top32 → All Byte batch → CallForm (applying number (batchOf batch))
 asks-form number batch small h = go (batchOf batch) refl
@@ -125,19 +130,21 @@ called-keeps {s} {t} es (formats {r} w) k =
     let fresh : Keeping t (noted formatting es) = subst (λ x. Keeping x (entry 0 [] ∷ [])) (sym (w .bytes)) (fresh-keeps s (size-right k)) in
     subst (λ b. Keeping t (cond b (noted formatting es) es)) (sym (eq-eqb r 0 z)) fresh
 called-keeps {s} es (applies number batch small h w) k =
-    export-keeps w k (λ m e. never-0 (4 ∷ 5 ∷ 18 ∷ 7 ∷ []) refl (apply-refusals number (batchOf batch) (storeOf s) m e))
+    export-keeps w k (λ m e. never-0 (4 ∷ 5 ∷ 18 ∷ 7 ∷ []) refl (apply-refusals number (batchOf batch) (storeOf s) m e)) (apply-form number (batchOf batch) (storeOf s))
     (λ a e.
     let f = asks-form number batch small h in
     let kept = keeps-calls leafHash innerHash leaf-hash-whole inner-hash-whole (applying number (batchOf batch) ∷ []) (storeOf s) es (f, tt) (k .keeps) in
     rw e at kept)
 called-keeps {s} es (prunes {n} w) k =
-    export-keeps w k (λ m e. never-0 (8 ∷ []) refl (prune-refusals n (storeOf s) m e))
+    export-keeps w k (λ m e. never-0 (8 ∷ []) refl (prune-refusals n (storeOf s) m e)) (prune-form n (storeOf s))
     (λ a e.
     let kept = keeps-calls leafHash innerHash leaf-hash-whole inner-hash-whole (pruning n ∷ []) (storeOf s) es (tt, tt) (k .keeps) in
     rw e at kept)
 called-keeps es (checks w) k = k
 called-keeps es (reads-root w) k = k
 called-keeps es (reads-key w) k = k
+called-keeps es (counts w) k = k
+called-keeps es (reads-at w) k = k
 called-keeps es (proves w) k = k
 called-keeps es (palettes w) k = k
 called-keeps es (compares w) k = k
@@ -171,6 +178,14 @@ module _ {t : Bytes} (w : SoundBytes t) {es : List Entry} (h : Holds leafHash in
   its-grants : grantsOfVersion t v ≡ gs
   its-grants = h .gives v kept .3 ∙ same-grants
 
+  held-count : {f g : Bytes} {r : ℕ} → Counts t v f r g → (r ≡ 0) × (g ≡ le 8 (length gs))
+  held-count x = let e = sound-is-numbered w v kept .number x in (e .0, e .1 ∙ ap (λ y. le 8 (length y)) its-grants)
+
+  held-at : {i : ℕ} {f g : Bytes} {r : ℕ} → ReadsAt t v i f r g → (r ≡ numberOf (grantAt gs i)) × (g ≡ toldOf grantBytes (grantAt gs i) f)
+  held-at {i} {f} x =
+      let e = sound-is-numbered w v kept .position x in
+      (e .0 ∙ ap (λ y. numberOf (grantAt y i)) its-grants, e .1 ∙ ap (λ y. toldOf grantBytes (grantAt y i) f) its-grants)
+
   held-shown : {k room f u g f₁ root f₂ found : Bytes} {r r₁ r₂ : ℕ} → (gs ≡ [] → ⊥) → Whole32 k → 17080 ≤ length room → Proves t v k room f r u g →
       ReadsRoot t v f₁ r₁ root → Verifies root k (take (num g) u) f₂ r₂ found →
       (r ≡ 0) × (r₁ ≡ 0) × (r₂ ≡ 0) × (found ≡ foundBytes (answerOf k gs))
@@ -190,7 +205,7 @@ unfolding treeOf grantsAt
 no-grants-zeros = refl
 
 -- a store before the first call
-pub formatted-keeps : {before t : Bytes} → Formats before 0 t → (sizeRight (length before) ≡ true) × Keeping t (entry 0 [] ∷ [])
+pub formatted-keeps : {before t : Bytes} → Formats before 0 t → (sizeRight counted (length before) ≡ true) × Keeping t (entry 0 [] ∷ [])
 unfolding formatAnswer
 formatted-keeps {before} w =
     let size = right _ (w .answer) in
@@ -217,6 +232,8 @@ store-after-history {start} {t = t} life =
       lifetimes = records-stand-in-their-lifetimes leafHash innerHash (storeOf t) _ h;
       reads-root = λ a b. held-root (sound-bytes k) h a b;
       reads-key = λ a b. held-key (sound-bytes k) h a b;
+      counts = λ a b. held-count (sound-bytes k) h a b;
+      reads-at = λ a b. held-at (sound-bytes k) h a b;
       shows = λ a b. held-shown (sound-bytes k) h a b;
       shows-nothing = λ a b. held-empty (sound-bytes k) h a b;
       zero-root = λ a b x. let e = held-root (sound-bytes k) h a b x in (e .0, e .1 ∙ no-grants-zeros);

@@ -17,3 +17,4 @@ pub mod Desk
 pub mod Changed
 pub mod Palettes
 pub mod Rescued
+pub mod Numbered

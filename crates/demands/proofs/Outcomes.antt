@@ -9,7 +9,7 @@ use Rattle.promises.proofs.Calls.{one-outcome, one-export}
 use Rattle.changes.specs.Changes.{roomAfter}
 use Rattle.changes_c.specs.Export.{countBytes}
 use Rattle.rescue_bytes.proofs.Outcomes as rescue
-use Rattle.grants.specs.Contracts.{Formats, Checks, Applies, Prunes, ReadsRoot, ReadsKey, Proves, Palettes, Changes, Verifies, Hashes, Rescues}
+use Rattle.grants.specs.Contracts.{Formats, Checks, Applies, Prunes, ReadsRoot, ReadsKey, Counts, ReadsAt, Proves, Palettes, Changes, Verifies, Hashes, Rescues}
 
 module _ {s : Bytes} {a b : ℕ} where
   pub one-format : {t u : Bytes} → Formats s a t → Formats s b u → (a ≡ b) × (t ≡ u)
@@ -30,6 +30,12 @@ module _ {s : Bytes} {a b : ℕ} where
 
   pub one-get : {v : ℕ} {k f g h : Bytes} → ReadsKey s v k f a g → ReadsKey s v k f b h → (a ≡ b) × (g ≡ h)
   one-get x y = (x .answer ∙ sym (y .answer), x .found ∙ sym (y .found))
+
+  pub one-count : {v : ℕ} {f g h : Bytes} → Counts s v f a g → Counts s v f b h → (a ≡ b) × (g ≡ h)
+  one-count x y = (x .answer ∙ sym (y .answer), x .count ∙ sym (y .count))
+
+  pub one-at : {v i : ℕ} {f g h : Bytes} → ReadsAt s v i f a g → ReadsAt s v i f b h → (a ≡ b) × (g ≡ h)
+  one-at x y = (x .answer ∙ sym (y .answer), x .grant ∙ sym (y .grant))
 
   pub one-prove : {v : ℕ} {k room f t u g h : Bytes} → Proves s v k room f a t g → Proves s v k room f b u h → (a ≡ b) × (t ≡ u) × (g ≡ h)
   one-prove x y = (x .answer ∙ sym (y .answer), x .proof ∙ sym (y .proof), x .told ∙ sym (y .told))

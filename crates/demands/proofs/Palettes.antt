@@ -10,6 +10,7 @@ use lib.ListN.{length, take, drop, length-append}
 use lib.Seq.{take-at, drop-at}
 use lib.Dec.{eqb, ltb}
 use borrow.Author.Tests.{eq-eqb, ltb-true, ltb-false, le-ltb, le-leb}
+use Rattle.terms.specs.declared.Form.the-variants.{Counted as counted}
 use Rattle.terms.specs.Bits.{Bytes, Byte, All, Whole32}
 use Rattle.terms.specs.Fields.{le, num, field, flat}
 use Rattle.terms.specs.Records.{Store, Presence, Proof, presence, absence}
@@ -59,21 +60,21 @@ module _ {s : Bytes} {v : ℕ} {list room f : Bytes} {r : ℕ} {t g : Bytes} (w 
       (w .proofs ∙ ap (λ a. roomAfter a room) (e .1), w .told ∙ ap (λ a. lengthBytes a f) (e .1))
 
 -- by the header: 1 or 2 as a single call, else the rest
-in-header : (s : Bytes) (v : ℕ) (list : Bytes) (room : ℕ) {c o l : ℕ} → wholeKeys list ≡ true → headerOf s ≡ header c o l →
+in-header : (s : Bytes) (v : ℕ) (list : Bytes) (room : ℕ) {c o l : ℕ} → wholeKeys list ≡ true → headerOf counted s ≡ header c o l →
     paletteAnswer s v list room ≡ palette (storeOf s) v (keysIn list) room
 unfolding paletteAnswer
 in-header s v list room e h = rw (e, h)
 
-by-refusal : (s : Bytes) (v : ℕ) (list : Bytes) (room : ℕ) {m : ℕ} → wholeKeys list ≡ true → headerOf s ≡ refusal m → paletteAnswer s v list room ≡ refused m
+by-refusal : (s : Bytes) (v : ℕ) (list : Bytes) (room : ℕ) {m : ℕ} → wholeKeys list ≡ true → headerOf counted s ≡ refusal m → paletteAnswer s v list room ≡ refused m
 unfolding paletteAnswer
 by-refusal s v list room e h = rw (e, h)
 
-single-header : (s : Bytes) (v : ℕ) (k : Bytes) (room : ℕ) {c o l : ℕ} → length k ≡ 32 → headerOf s ≡ header c o l →
+single-header : (s : Bytes) (v : ℕ) (k : Bytes) (room : ℕ) {c o l : ℕ} → length k ≡ 32 → headerOf counted s ≡ header c o l →
     proveAnswer s v k room ≡ fitted room (proof (storeOf s) v k)
 unfolding proveAnswer prove
 single-header s v k room e h = rw (eq-eqb (length k) 32 e, h)
 
-single-refusal : (s : Bytes) (v : ℕ) (k : Bytes) (room : ℕ) {m : ℕ} → length k ≡ 32 → headerOf s ≡ refusal m → proveAnswer s v k room ≡ refused m
+single-refusal : (s : Bytes) (v : ℕ) (k : Bytes) (room : ℕ) {m : ℕ} → length k ≡ 32 → headerOf counted s ≡ refusal m → proveAnswer s v k room ≡ refused m
 unfolding proveAnswer
 single-refusal s v k room e h = rw (eq-eqb (length k) 32 e, h)
 
@@ -128,9 +129,9 @@ palette-never-0 st v keys room n e z = go (isKept st v) refl
 
 answer-never-0 : (s : Bytes) (v : ℕ) (list : Bytes) (room n : ℕ) → paletteAnswer s v list room ≡ refused n → n ≡ 0 → ⊥
 unfolding paletteAnswer
-answer-never-0 s v list room n e z = go (wholeKeys list) (headerOf s) refl e
+answer-never-0 s v list room n e z = go (wholeKeys list) (headerOf counted s) refl e
   where
-    go : (b : Bool) (h : Headed) → headerOf s ≡ h → cond b (byHeader h (palette (storeOf s) v (keysIn list) room)) (refused 12) ≡ refused n → ⊥
+    go : (b : Bool) (h : Headed) → headerOf counted s ≡ h → cond b (byHeader h (palette (storeOf s) v (keysIn list) room)) (refused 12) ≡ refused n → ⊥
     go false h f i = let x : n ≡ 12 = with-number i in omega arith
     go true (refusal m) f i = never-0 (1 ∷ 2 ∷ []) refl (header-numbers s f) (sym (with-number i) ∙ z)
     go true (header c o l) f i = palette-never-0 (storeOf s) v (keysIn list) room n i z
@@ -140,19 +141,19 @@ record Given (s : Bytes) (v : ℕ) (list : Bytes) (room : ℕ) (ps : List Proof)
   capacity : ℕ
   oldest : ℕ
   latest : ℕ
-  headed : headerOf s ≡ header capacity oldest latest
+  headed : headerOf counted s ≡ header capacity oldest latest
   each : ProofOfEach (proof (storeOf s) v) (keysIn list) ps
   fits : lengthTogether ps ≤ room
 
 given-is : (s : Bytes) (v : ℕ) (list : Bytes) (room : ℕ) (ps : List Proof) → paletteAnswer s v list room ≡ accepted ps → Given s v list room ps
 unfolding paletteAnswer palette
-given-is s v list room ps = go (wholeKeys list) (headerOf s) (isKept (storeOf s) v) (inTurn (proof (storeOf s) v) (keysIn list)) refl refl
+given-is s v list room ps = go (wholeKeys list) (headerOf counted s) (isKept (storeOf s) v) (inTurn (proof (storeOf s) v) (keysIn list)) refl refl
   where
     within : (qs : List Proof) (b : Bool) → ltb room (lengthTogether qs) ≡ b → cond b (refused 9) (accepted qs) ≡ accepted ps → (qs ≡ ps) × (lengthTogether qs ≤ room)
     within qs true e h = no-refusal (sym h)
     within qs false e h = (cc, ltb-false room (lengthTogether qs) e)
 
-    go : (b : Bool) (h : Headed) (c : Bool) (a : Answer (List Proof)) → headerOf s ≡ h → inTurn (proof (storeOf s) v) (keysIn list) ≡ a →
+    go : (b : Bool) (h : Headed) (c : Bool) (a : Answer (List Proof)) → headerOf counted s ≡ h → inTurn (proof (storeOf s) v) (keysIn list) ≡ a →
         cond b (byHeader h (cond c (fittedTogether room a) (refused 8))) (refused 12) ≡ accepted ps → Given s v list room ps
     go false h c a e f z = no-refusal (sym z)
     go true (refusal m) c a e f z = no-refusal (sym z)
@@ -186,7 +187,7 @@ module _ {s : Bytes} {v : ℕ} {list room f t g : Bytes} (w : Palettes s v list 
       ap num (w .told ∙ ap (λ a. lengthBytes a f) (there-are .1)) ∙ num-le 4 (lengthTogether (there-are .0)) (omega arith)
 
 -- the single calls' proofs
-module _ (s : Bytes) (v : ℕ) (slots : All SlotForm (storeOf s .slots)) where
+module _ (s : Bytes) (v : ℕ) (slots : All (SlotForm counted) (storeOf s .slots)) where
   its-bytes : {k room f t g : Bytes} {p : Proof} → Whole32 k → (x : Proves s v k room f 0 t g) → proof (storeOf s) v k ≡ accepted p → take (num g) t ≡ proofBytes p
   its-bytes {k} {p = p} whole x e =
       let same : its-proof x ≡ p = accepted-same (its-proof x) p (sym (its-tests x .proved) ∙ e) in
@@ -222,7 +223,7 @@ single-refused st v k room (accepted p) {n} h z e f = go (ltb room (proofLength 
     go false i j = absurd (z j)
 
 module _ {s : Bytes} {v : ℕ} where
-  first-in-turn : {c o l n : ℕ} {keys : List Bytes} → headerOf s ≡ header c o l → All (λ k. length k ≡ 32) keys → FirstRefusal s v keys n →
+  first-in-turn : {c o l n : ℕ} {keys : List Bytes} → headerOf counted s ≡ header c o l → All (λ k. length k ≡ 32) keys → FirstRefusal s v keys n →
       inTurn (proof (storeOf s) v) keys ≡ refused n
   first-in-turn h longs (refused-here {k} {room} {keys} room-for z x) =
       let e = single-refused (storeOf s) v k (length room) (proof (storeOf s) v k) room-for z refl
@@ -232,7 +233,7 @@ module _ {s : Bytes} {v : ℕ} where
       ap₂ followed (its-tests x .proved) (first-in-turn h (longs .1) more)
 
   -- where it is wrong, each single call gives the same number
-  first-by-header : {m n : ℕ} {keys : List Bytes} → headerOf s ≡ refusal m → All (λ k. length k ≡ 32) keys → FirstRefusal s v keys n → n ≡ m
+  first-by-header : {m n : ℕ} {keys : List Bytes} → headerOf counted s ≡ refusal m → All (λ k. length k ≡ 32) keys → FirstRefusal s v keys n → n ≡ m
   first-by-header h longs (refused-here {k} {room} room-for z x) = x .answer ∙ ap (λ a. numberOf a) (single-refusal s v k (length room) (longs .0) h)
   first-by-header {m} h longs (refused-later {k} {room} x more) =
       absurd (never-0 (1 ∷ 2 ∷ []) refl (header-numbers s h) (sym (x .answer ∙ ap (λ a. numberOf a) (single-refusal s v k (length room) (longs .0) h))))
@@ -253,7 +254,7 @@ module _ (s list : Bytes) (bytes : All Byte s) (asked : All Byte list) (whole : 
   keys : All Whole32 (keysIn list)
   keys = keys-are-bytes list asked
 
-  slots-of : {c o l : ℕ} → headerOf s ≡ header c o l → All SlotForm (storeOf s .slots)
+  slots-of : {c o l : ℕ} → headerOf counted s ≡ header c o l → All (SlotForm counted) (storeOf s .slots)
   slots-of {c} {o} {l} h = store-form s c o l bytes (headers.accepted s c o l h) .each
 
   joined : {room f t g : Bytes} {proofs : List Bytes} → Palettes s v list room f 0 t g → SingleCalls s v (keysIn list) proofs →
@@ -268,9 +269,9 @@ module _ (s list : Bytes) (bytes : All Byte s) (asked : All Byte list) (whole : 
       )
 
   first : {room f t g : Bytes} {r n : ℕ} → Palettes s v list room f r t g → FirstRefusal s v (keysIn list) n → r ≡ n
-  first {room} {r = r} {n = n} w c = w .answer ∙ go (headerOf s) refl
+  first {room} {r = r} {n = n} w c = w .answer ∙ go (headerOf counted s) refl
     where
-      go : (h : Headed) → headerOf s ≡ h → numberOf (palettedInto s v list room) ≡ n
+      go : (h : Headed) → headerOf counted s ≡ h → numberOf (palettedInto s v list room) ≡ n
       go (refusal m) e =
           ap (λ a. numberOf a) (by-refusal s v list (length room) whole e) ∙ sym (first-by-header e (keys-are-32 list) c)
       go (header a o l) e =
@@ -281,7 +282,7 @@ module _ (s list : Bytes) (bytes : All Byte s) (asked : All Byte list) (whole : 
   module _ {room f t g : Bytes} {r : ℕ} {key : Bytes} {more proofs : List Bytes} (w : Palettes s v list room f r t g) (some : keysIn list ≡ key ∷ more)
       (c : SingleCalls s v (keysIn list) proofs) where
     headed : {ks qs : List Bytes} → ks ≡ key ∷ more → SingleCalls s v ks qs →
-        (a : ℕ) × (o : ℕ) × (l : ℕ) × (headerOf s ≡ header a o l) × (isKept (storeOf s) v ≡ true)
+        (a : ℕ) × (o : ℕ) × (l : ℕ) × (headerOf counted s ≡ header a o l) × (isKept (storeOf s) v ≡ true)
     headed e none-asked = absurd (empty e)
       where
         empty : {x : Bytes} {xs : List Bytes} → [] ≡ x ∷ xs → ⊥
@@ -346,8 +347,8 @@ module _ (s : Bytes) (w : SoundBytes s) (v : ℕ) (kept : Kept (storeOf s) v) (s
       (checked leafHash innerHash (hash leafHash innerHash (unversioned (treeOfVersion s v))) k p ≡ accepted (answerOf k (grantsOfVersion s v)))
   its k whole = shown leafHash innerHash (storeOf s) (w .sound) v kept k whole some _ (root-read-is-hash leafHash innerHash (storeOf s) (w .sound) v kept)
 
-  slots : All SlotForm (storeOf s .slots)
-  slots = sound-form (storeOf s) (w .sound) .each
+  slots : All (SlotForm counted) (storeOf s .slots)
+  slots = sound-form (storeOf s) refl (w .sound) .each
 
   each-there : (keys : List Bytes) → All Whole32 keys → (ps : List Proof) × ProofOfEach (proof (storeOf s) v) keys ps
   each-there [] h = ([], tt)

@@ -10,7 +10,9 @@ use mathlib.Core.Option.{Option}
 use lib.ListN.{length}
 use lib.Dec.{eqb, ltb}
 use borrow.Author.Tests.{eqb-false}
+use Rattle.terms.specs.declared.Form.the-variants.{Counted as counted}
 use Rattle.terms.specs.Bits.{Bytes, left, right, sameBytes}
+use Rattle.terms.specs.Fields.{le}
 use Rattle.terms.specs.Records.{Ask, Proof, Store}
 use Rattle.terms.proofs.Tests.{and-right}
 use Rattle.meaning.specs.Calls.{Answer, refused, accepted, Result, isKept, apply, prune}
@@ -27,17 +29,20 @@ use Rattle.layout.proofs.Headers.{header-refused}
 use Rattle.format.specs.Format.{formatAnswer, formatBytes}
 use Rattle.promises.specs.Calls.{Does, wrong-header, not-sound, refuses, Exports, exports-refusal, exports-answer}
 use Rattle.promises.proofs.Calls.{refused-writes-nothing}
-use Rattle.meaning.specs.Answers.{numberOf, foundAfter}
+use Rattle.meaning.specs.Answers.{numberOf, toldOf, foundAfter}
 use Rattle.read_open.specs.Headed.{byHeader}
 use Rattle.read.specs.Reads.{rootAnswer, keyAnswer}
 use Rattle.read_c.specs.Export.{rootBytes}
+use Rattle.read_number.specs.Numbers.{numberAnswer}
+use Rattle.read_position.specs.Positions.{positionAnswer}
+use Rattle.read_counts_c.specs.Export.{grantBytes}
 use Rattle.prove.specs.Proving.{proveAnswer, roomAfter}
 use Rattle.prove_c.specs.Export.{provedInto, lengthBytes}
 use Rattle.changes.specs.Changes as compared
 use Rattle.changes_c.specs.Export.{countBytes}
 use Rattle.verify.specs.Verify.{verified}
 use Rattle.rescue_bytes.proofs.Outcomes.{refused-export-leaves}
-use Rattle.grants.specs.Contracts.{Formats, Applies, Prunes, ReadsRoot, ReadsKey, Proves, Changes, Rescues, Verifies}
+use Rattle.grants.specs.Contracts.{Formats, Applies, Prunes, ReadsRoot, ReadsKey, Counts, ReadsAt, Proves, Changes, Rescues, Verifies}
 
 -- One of the numbers in a list.
 abbrev pub OneOf : List ℕ → ℕ → Type 0
@@ -81,15 +86,15 @@ module _ {A : Type 0} where
 module _ {s t : Bytes} {r : ℕ} (w : Formats s r t) where
   pub refused-format-writes-nothing : (r ≡ 0 → ⊥) → t ≡ s
   unfolding formatAnswer formatBytes
-  refused-format-writes-nothing f = go (sizeRight (length s)) _ (w .answer) (w .bytes)
+  refused-format-writes-nothing f = go (sizeRight counted (length s)) _ (w .answer) (w .bytes)
     where
       go : (b : Bool) (fresh : Bytes) → r ≡ cond b 0 1 → t ≡ cond b fresh s → t ≡ s
       go true fresh e h = absurd (f e)
       go false fresh e h = h
 
 -- 1, 2.
-pub header-numbers : (s : Bytes) {n : ℕ} → headerOf s ≡ refusal n → OneOf (1 ∷ 2 ∷ []) n
-header-numbers s {n} e = go (header-refused s n e)
+pub header-numbers : (s : Bytes) {n : ℕ} → headerOf counted s ≡ refusal n → OneOf (1 ∷ 2 ∷ []) n
+header-numbers s {n} e = go (header-refused counted s n e)
   where
     go : (n ≡ 1) ⊎ (n ≡ 2) → OneOf (1 ∷ 2 ∷ []) n
     go (inl z) = inl z
@@ -150,6 +155,19 @@ module _ {s : Bytes} {v : ℕ} {k f : Bytes} {r : ℕ} {g : Bytes} (w : ReadsKey
   pub refused-get-writes-nothing : (r ≡ 0 → ⊥) → g ≡ f
   refused-get-writes-nothing = found-kept (keyAnswer s v k) (w .answer) (w .found)
 
+-- What an answer tells of an array.
+told-kept : {A : Type 0} (told : A → Bytes) {f g : Bytes} {r : ℕ} (a : Answer A) → r ≡ numberOf a → g ≡ toldOf told a f → (r ≡ 0 → ⊥) → g ≡ f
+told-kept told {f = f} a e h n = let d = refused-of a (λ z. n (e ∙ z)) in h ∙ ap (λ b. toldOf told b f) (d .1)
+
+-- The two reads by counts.
+module _ {s : Bytes} {v : ℕ} {f : Bytes} {r : ℕ} {g : Bytes} (w : Counts s v f r g) where
+  pub refused-count-writes-nothing : (r ≡ 0 → ⊥) → g ≡ f
+  refused-count-writes-nothing = told-kept (le 8) (numberAnswer s v) (w .answer) (w .count)
+
+module _ {s : Bytes} {v i : ℕ} {f : Bytes} {r : ℕ} {g : Bytes} (w : ReadsAt s v i f r g) where
+  pub refused-at-writes-nothing : (r ≡ 0 → ⊥) → g ≡ f
+  refused-at-writes-nothing = told-kept grantBytes (positionAnswer s v i) (w .answer) (w .grant)
+
 -- Proving: no refusal is 0.
 stopped-nonzero : (t : Trouble) → refusalOf t ≡ 0 → ⊥
 unfolding beside
@@ -201,7 +219,7 @@ proof-nonzero st v k n e = go (isKept st v) (sym (proof-by-searches st v k) ∙ 
 
 pub prove-nonzero : (s : Bytes) (v : ℕ) (k : Bytes) (room n : ℕ) → proveAnswer s v k room ≡ refused n → n ≡ 0 → ⊥
 unfolding proveAnswer prove
-prove-nonzero s v k room n = go (eqb (length k) 32) (headerOf s) (λ m. header-numbers s)
+prove-nonzero s v k room n = go (eqb (length k) 32) (headerOf counted s) (λ m. header-numbers s)
   where
     go : (b : Bool) (h : Headed) → ((m : ℕ) → h ≡ refusal m → OneOf (1 ∷ 2 ∷ []) m) →
         cond b (byHeader h (fitted room (proof (storeOf s) v k))) (refused 12) ≡ refused n → n ≡ 0 → ⊥

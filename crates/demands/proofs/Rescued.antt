@@ -31,7 +31,7 @@ pub accepted-rescue-is-worth : {oldest latest : ℕ} {s old f t g : Bytes} → A
 accepted-rescue-is-worth {oldest} {latest} {s} {old} {f} {t} {g} h n w =
     let (r, x, e) = accepted-report w refl in
     let y : Worth oldest latest s t r = worths.worth h n x in
-    let sound : SoundBytes t = subst SoundBytes (sym (y .bytes)) (stored-sound (storeOf t) (y .sound)) in
+    let sound : SoundBytes t = subst SoundBytes (sym (y .bytes)) (stored-sound (storeOf t) refl (y .sound)) in
     let kept : (v : ℕ) → r .first ≤ v → v ≤ latest → Kept (storeOf t) v = λ v a b. (omega (arith, y .begins), omega (arith, y .ends)) in
     record {
       report = r;

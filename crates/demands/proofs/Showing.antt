@@ -169,7 +169,7 @@ module _ {s : Bytes} (w : SoundBytes s) (v : ℕ) (kept : Kept (storeOf s) v) (k
 
   module _ {room f t g : Bytes} (x : Proves s v k room f 0 t g) where
     form : ProofForm (its-proof x)
-    form = proof-form (storeOf s) v k (its-proof x) (sound-form (storeOf s) (w .sound) .each) whole (its-tests x .proved)
+    form = proof-form (storeOf s) v k (its-proof x) (sound-form (storeOf s) refl (w .sound) .each) whole (its-tests x .proved)
 
     kinds : ((field 4 2 t ≡ presenceKind) ↔ ((y : Bytes) × (answerOf k (grantsOfVersion s v) ≡ present y)))
         × ((field 4 2 t ≡ absenceKind) ↔ (answerOf k (grantsOfVersion s v) ≡ absent))

@@ -29,7 +29,7 @@ use Rattle.meaning.specs.Answers.{foundBytes}
 use Rattle.grants.specs.Contracts.{Applies, ReadsRoot, ReadsKey}
 use Rattle.demands.specs.Claims.{treeOfVersion, grantsOfVersion, latestOf, ReadsAs, NextVersion}
 use Rattle.demands.proofs.Hashes.{leaf-hash-whole, inner-hash-whole, hash-whole}
-use Rattle.demands.proofs.Stored.{stored-is, stored-sound}
+use Rattle.demands.proofs.Stored.{stored-is, stored-sound, apply-form}
 use Rattle.demands.proofs.Refusals.{no-refusal, never-0, apply-refusals, does-numbers}
 use Rattle.demands.proofs.Showing.{root-of-tree, key-of-grants, same-tree-reads-as}
 
@@ -111,10 +111,10 @@ module _ {number : ℕ} {batch s t g : Bytes} (small : number ≤ top32) (bytes 
       (batch-of-back batch (m .asks) bytes (m .asked) .2) (m .accepted-as)
 
   sound : SoundBytes t
-  sound = subst SoundBytes (sym (m .bytes)) (stored-sound st′ (made .sound))
+  sound = subst SoundBytes (sym (m .bytes)) (stored-sound st′ (apply-form number (some (m .asks)) (storeOf s)) (made .sound))
 
   store-is : storeOf t ≡ st′
-  store-is = ap storeOf (m .bytes) ∙ stored-is st′ (made .sound)
+  store-is = ap storeOf (m .bytes) ∙ stored-is st′ (apply-form number (some (m .asks)) (storeOf s)) (made .sound)
 
   after : AfterApply leafHash innerHash number (m .asks) (storeOf s) (m .answer) (storeOf t)
   after = subst (AfterApply leafHash innerHash number (m .asks) (storeOf s) (m .answer)) (sym store-is) made

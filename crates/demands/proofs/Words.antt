@@ -10,6 +10,7 @@ use mathlib.Core.Option.{Option, none, Option·some-ne-none}
 use lib.ListN.{length, getD, replicate}
 use lib.Dec.{eqb, leb}
 use borrow.Author.Tests.{eqb-true, le-leb, lt-leb}
+use Rattle.terms.specs.declared.Form.the-variants.{Counted as counted}
 use Rattle.terms.specs.Bits.{Bytes, Byte, All, Place}
 use Rattle.terms.specs.Fields.{allZero, zeroBytes}
 use Rattle.terms.specs.Heads.{countIn, versionIn, sinceIn}
@@ -29,18 +30,18 @@ use Rattle.lookup.proofs.Matching.{is-node}
 use Rattle.lookup.proofs.Rooting.{at-top}
 use Rattle.demands.specs.Words.{Used, LowestUsed}
 
--- 120 zero bytes
+-- bytes that are all zero
 zeros-of : (x : Bytes) → allZero x ≡ true → x ≡ replicate (length x) 0
 zeros-of [] e = refl
 zeros-of (b ∷ x) e =
     let z = eqb-true b 0 (and-left (eqb b 0) (allZero x) e) in
     ap (_∷ x) z ∙ ap (0 ∷_) (zeros-of x (and-right (eqb b 0) (allZero x) e))
 
-not-zero : (x : Bytes) → length x ≡ slotSize → (x ≡ zeroBytes slotSize → ⊥) → allZero x ≡ false
+not-zero : (x : Bytes) → length x ≡ slotSize counted → (x ≡ zeroBytes (slotSize counted) → ⊥) → allZero x ≡ false
 unfolding zeroBytes
 not-zero x l n = is-false (allZero x) (λ e. n (zeros-of x e ∙ ap (λ m. replicate m 0) l))
 
-zero-not : (x : Bytes) → allZero x ≡ false → x ≡ zeroBytes slotSize → ⊥
+zero-not : (x : Bytes) → allZero x ≡ false → x ≡ zeroBytes (slotSize counted) → ⊥
 unfolding zeroBytes
 zero-not x e z = true≢false (sym (ap allZero z) ∙ e)
 
@@ -64,40 +65,40 @@ says-spoilt x e f = go (slot-cases x)
     go (are-spoiled z n m g) = g
 
 -- where no slot in form whose fields agree stands, the lowest spoilt slot that agrees is the lowest used one
-module _ (s : Bytes) (size : sizeRight (length s) ≡ true) (agree : Bytes → Type 0)
-    (none-matches : (j : ℕ) (r : Record) → Has s j → slotOf (slotIn j s) ≡ used r → agree (slotIn j s) → ⊥) where
-  has : (j : ℕ) → j < roomOf (length s) → Has s j
+module _ (s : Bytes) (size : sizeRight counted (length s) ≡ true) (agree : Bytes → Type 0)
+    (none-matches : (j : ℕ) (r : Record) → Has counted s j → slotOf (slotIn counted j s) ≡ used r → agree (slotIn counted j s) → ⊥) where
+  has : (j : ℕ) → j < roomOf counted (length s) → Has counted s j
   has j h = record { size = size; inside = h }
 
-  spoilt-at : (j : ℕ) → (h : j < roomOf (length s)) → Used s j → agree (slotIn j s) → getD (storeOf s .slots) j free ≡ spoiled (slotIn j s)
+  spoilt-at : (j : ℕ) → (h : j < roomOf counted (length s)) → Used s j → agree (slotIn counted j s) → getD (storeOf s .slots) j free ≡ spoiled (slotIn counted j s)
   spoilt-at j h u a =
-      let x = slotIn j s in
-      slot-is (has j h) ∙ says-spoilt x (not-zero x (slot-long j s (slot-within (has j h))) u) (λ r e. none-matches j r (has j h) e a)
+      let x = slotIn counted j s in
+      slot-is (has j h) ∙ says-spoilt x (not-zero x (slot-long counted j s (slot-within (has j h))) u) (λ r e. none-matches j r (has j h) e a)
 
   pub named-in-words : (i : ℕ) → SpoiltIn (storeOf s) agree i ↔ LowestUsed s agree i
   named-in-words i = (there, back)
     where
       there : SpoiltIn (storeOf s) agree i → LowestUsed s agree i
       there w =
-          let inside : i < roomOf (length s) = rw (slots-many s) at (w .inside) in
-          let says = spoilt-says (slotIn i s) (w .bytes) (sym (slot-is (has i inside)) ∙ w .here) in
+          let inside : i < roomOf counted (length s) = rw (slots-many counted s) at (w .inside) in
+          let says = spoilt-says (slotIn counted i s) (w .bytes) (sym (slot-is (has i inside)) ∙ w .here) in
           record {
             inside = inside;
-            used = zero-not (slotIn i s) (says .1);
+            used = zero-not (slotIn counted i s) (says .1);
             agrees = subst agree (sym (says .0)) (w .agrees);
-            lowest = λ j h u a. let k : j < roomOf (length s) = omega arith in w .lowest j (slotIn j s) h (spoilt-at j k u a) a;
+            lowest = λ j h u a. let k : j < roomOf counted (length s) = omega arith in w .lowest j (slotIn counted j s) h (spoilt-at j k u a) a;
           }
 
       back : LowestUsed s agree i → SpoiltIn (storeOf s) agree i
       back w = record {
-        bytes = slotIn i s;
-        inside = rw (slots-many s) (w .inside);
+        bytes = slotIn counted i s;
+        inside = rw (slots-many counted s) (w .inside);
         here = spoilt-at i (w .inside) (w .used) (w .agrees);
         agrees = w .agrees;
         lowest = λ j y h e a.
-            let k : j < roomOf (length s) = omega (arith, w .inside) in
-            let says = spoilt-says (slotIn j s) y (sym (slot-is (has j k)) ∙ e) in
-            w .lowest j h (zero-not (slotIn j s) (says .1)) (subst agree (sym (says .0)) a);
+            let k : j < roomOf counted (length s) = omega (arith, w .inside) in
+            let says = spoilt-says (slotIn counted j s) y (sym (slot-is (has j k)) ∙ e) in
+            w .lowest j h (zero-not (slotIn counted j s) (says .1)) (subst agree (sym (says .0)) a);
       }
 
 -- a lifetime by its fields
@@ -110,17 +111,17 @@ covered {v} from since h (inr l) = rw (le-leb from v h, lt-leb since v l) (off (
     off true = refl
     off false = refl
 
-module _ (s : Bytes) (size : sizeRight (length s) ≡ true) (bytes : All Byte s) (v : ℕ) where
+module _ (s : Bytes) (size : sizeRight counted (length s) ≡ true) (bytes : All Byte s) (v : ℕ) where
   -- A node: the slot named is the lowest used one whose version, bit count and bits fields agree.
   pub spoilt-node-in-words : (p : Place) → length p ≤ 256 → NoMatch (storeOf s) v p → (i : ℕ) →
       SpoiltIn (storeOf s) (Agrees v p) i ↔ LowestUsed s (Agrees v p) i
   unfolding countIn
   spoilt-node-in-words p short none-found = named-in-words s size (Agrees v p) (λ j r h e a. no-node j r h e (hits (storeOf s .slots) v p) none-found
-      (is-node (slotIn j s) (slot-long j s (slot-within h)) (slot-bytes j s bytes) v p short (a .version) (a .count) (a .bits) r e))
+      (is-node counted (slotIn counted j s) (slot-long counted j s (slot-within h)) (slot-bytes counted j s bytes) v p short (a .version) (a .count) (a .bits) r e))
     where
-      no-node : (j : ℕ) (r : Record) → Has s j → slotOf (slotIn j s) ≡ used r → {o : Option Record} → Lowest (storeOf s .slots) (isNode v p) o → o ≡ none →
+      no-node : (j : ℕ) (r : Record) → Has counted s j → slotOf (slotIn counted j s) ≡ used r → {o : Option Record} → Lowest (storeOf s .slots) (isNode v p) o → o ≡ none →
           isNode v p r ≡ true → ⊥
-      no-node j r h e (miss f) z t = true≢false (sym t ∙ f j r (rw (slots-many s) (h .inside)) (slot-is h ∙ e))
+      no-node j r h e (miss f) z t = true≢false (sym t ∙ f j r (rw (slots-many counted s) (h .inside)) (slot-is h ∙ e))
       no-node j r h e (hit i q l g n) z t = Option·some-ne-none q z
 
   -- A root: the lowest used one that agrees by empty place and a lifetime that covers the version.
@@ -131,11 +132,11 @@ module _ (s : Bytes) (size : sizeRight (length s) ≡ true) (bytes : All Byte s)
       lives : (x : Bytes) → AgreesRoot v x → covers (versionIn x) (sinceIn x) v ≡ true
       lives x a = covered (versionIn x) (sinceIn x) (a .version) (a .since)
 
-      is-root : (j : ℕ) (r : Record) → Has s j → slotOf (slotIn j s) ≡ used r → AgreesRoot v (slotIn j s) → isRoot v r ≡ true
+      is-root : (j : ℕ) (r : Record) → Has counted s j → slotOf (slotIn counted j s) ≡ used r → AgreesRoot v (slotIn counted j s) → isRoot v r ≡ true
       is-root j r h e a =
-          ap (rootHere v) (sym (slot-is h ∙ e)) ∙ sym (at-top h bytes v (a .count) (lives (slotIn j s) a)) ∙ ap isUsed e
+          ap (rootHere v) (sym (slot-is h ∙ e)) ∙ sym (at-top h bytes v (a .count) (lives (slotIn counted j s) a)) ∙ ap isUsed e
 
-      no-root : (j : ℕ) (r : Record) → Has s j → slotOf (slotIn j s) ≡ used r → {o : Option Record} → Lowest (storeOf s .slots) (isRoot v) o → o ≡ none →
+      no-root : (j : ℕ) (r : Record) → Has counted s j → slotOf (slotIn counted j s) ≡ used r → {o : Option Record} → Lowest (storeOf s .slots) (isRoot v) o → o ≡ none →
           isRoot v r ≡ true → ⊥
-      no-root j r h e (miss f) z t = true≢false (sym t ∙ f j r (rw (slots-many s) (h .inside)) (slot-is h ∙ e))
+      no-root j r h e (miss f) z t = true≢false (sym t ∙ f j r (rw (slots-many counted s) (h .inside)) (slot-is h ∙ e))
       no-root j r h e (hit i q l g n) z t = Option·some-ne-none q z

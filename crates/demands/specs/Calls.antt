@@ -13,7 +13,7 @@ use Rattle.layout.specs.Stores.{storeOf}
 use Rattle.batch.specs.Batch.{batchOf}
 use Rattle.rescue_bytes.specs.Rescues.{slotsIn}
 use Rattle.rescue_bytes.specs.Claims.{runLedger}
-use Rattle.grants.specs.Contracts.{Formats, Checks, Applies, Prunes, ReadsRoot, ReadsKey, Proves, Palettes, Changes, Rescues, Verifies, Hashes}
+use Rattle.grants.specs.Contracts.{Formats, Checks, Applies, Prunes, ReadsRoot, ReadsKey, Counts, ReadsAt, Proves, Palettes, Changes, Rescues, Verifies, Hashes}
 
 -- What a rescued store takes over: the grants of its versions, from the first that was reported to latest, by the source's trees.
 abbrev pub takenOver : Bytes → ℕ → Bytes → List Entry
@@ -32,6 +32,8 @@ pub data Called (s : Bytes) : Call × Bool → Bytes → Type 0 where
   checks : {r : ℕ} → Checks s r → Called s (looking, false) s
   reads-root : {v r : ℕ} {f g : Bytes} → ReadsRoot s v f r g → Called s (looking, false) s
   reads-key : {v r : ℕ} {k f g : Bytes} → ReadsKey s v k f r g → Called s (looking, false) s
+  counts : {v r : ℕ} {f g : Bytes} → Counts s v f r g → Called s (looking, false) s
+  reads-at : {v i r : ℕ} {f g : Bytes} → ReadsAt s v i f r g → Called s (looking, false) s
   proves : {v r : ℕ} {k room f t g : Bytes} → Proves s v k room f r t g → Called s (looking, false) s
   palettes : {v r : ℕ} {list room f t g : Bytes} → Palettes s v list room f r t g → Called s (looking, false) s
   compares : {first second limit r : ℕ} {room f t g : Bytes} → Changes first second limit s room f r t g → Called s (looking, false) s

@@ -6,7 +6,8 @@ use mathlib.Core.Bool.{Bool, true, false}
 use mathlib.Core.List.{List, [], _∷_, map}
 use mathlib.Core.Option.{some}
 use lib.ListN.{length, take}
-use Rattle.terms.specs.Bits.{Bytes, Whole32, Place}
+use Rattle.terms.specs.declared.Form.the-variants.{Counted as counted}
+use Rattle.terms.specs.Bits.{Bytes, Whole32, Place, All, before}
 use Rattle.terms.specs.Fields.{le, num, field, slice, zeroBytes}
 use Rattle.terms.specs.Records.{Grant, Ask, Record, Proof, zeros}
 use Rattle.meaning.specs.Tree.{withBatch, treeOf, hash, VTree, unversioned, grantsIn}
@@ -33,8 +34,10 @@ use Rattle.rescue_rules.specs.Rescue.{sourceTree}
 use Rattle.rescue_bytes.specs.Rescues.{slotsIn, Report, reportBytes}
 use Rattle.rescue_bytes.specs.Claims.{Worth, AsItWas}
 use Rattle.apply_c.specs.Export.{told}
-use Rattle.meaning.specs.Answers.{foundBytes}
-use Rattle.grants.specs.Contracts.{ReadsRoot, ReadsKey, Proves, Verifies}
+use Rattle.meaning.specs.Counting.{grantAt}
+use Rattle.meaning.specs.Answers.{foundBytes, numberOf, toldOf}
+use Rattle.read_counts_c.specs.Export.{grantBytes}
+use Rattle.grants.specs.Contracts.{ReadsRoot, ReadsKey, Proves, Verifies, Counts, ReadsAt}
 
 -- Of the store that bytes hold: the tree of a version, its grants, and the latest version.
 abbrev pub treeOfVersion : Bytes → ℕ → VTree
@@ -65,6 +68,11 @@ pub record AfterHistory (start : List Entry) (history : List (Call × Bool)) (t 
       ReadsRoot t v f r g → (r ≡ 0) × (g ≡ hash leafHash innerHash (treeOf gs))
   pub reads-key : {v : ℕ} {gs : List Grant} {k f g : Bytes} {r : ℕ} → Kept (storeOf t) v → grantsOf v (ledger history start) ≡ some gs →
       Whole32 k → ReadsKey t v k f r g → (r ≡ 0) × (g ≡ foundBytes (answerOf k gs))
+  -- the number of those grants, and the grant at a position, 20 for one that isn't below their number (2026-09)
+  pub counts : {v : ℕ} {gs : List Grant} {f g : Bytes} {r : ℕ} → Kept (storeOf t) v → grantsOf v (ledger history start) ≡ some gs →
+      Counts t v f r g → (r ≡ 0) × (g ≡ le 8 (length gs))
+  pub reads-at : {v i : ℕ} {gs : List Grant} {f g : Bytes} {r : ℕ} → Kept (storeOf t) v → grantsOf v (ledger history start) ≡ some gs →
+      ReadsAt t v i f r g → (r ≡ numberOf (grantAt gs i)) × (g ≡ toldOf grantBytes (grantAt gs i) f)
   -- and what an editor sees of a version with a grant: of any key a proof is given, where there is room, and with the root read the proof check
   -- answers for those grants
   pub shows : {v : ℕ} {gs : List Grant} {k room f u g f₁ root f₂ found : Bytes} {r r₁ r₂ : ℕ} → Kept (storeOf t) v →
@@ -124,9 +132,9 @@ pub record Pruned (n : ℕ) (s t g : Bytes) : Type 0 where
   -- the versions still kept have their trees, and as many slots more are free as was told
   pub after : AfterPrune leafHash innerHash n (storeOf s) (num g) (storeOf t)
   pub reads : (v : ℕ) → Kept (storeOf t) v → ReadsAs t v s v
-  -- the slot of every record retired since n or earlier is free, 120 zero bytes; every other slot has the bytes it had
-  pub frees : (i : ℕ) (r : Record) → At (storeOf s) i r → retiredBy n r ≡ true → slotIn i t ≡ zeroBytes slotSize
-  pub keeps : (i : ℕ) → i < length (storeOf s .slots) → ((r : Record) → At (storeOf s) i r → retiredBy n r ≡ false) → slotIn i t ≡ slotIn i s
+  -- the slot of every record retired since n or earlier is free, 128 zero bytes; every other slot has the bytes it had
+  pub frees : (i : ℕ) (r : Record) → At (storeOf s) i r → retiredBy n r ≡ true → slotIn counted i t ≡ zeroBytes (slotSize counted)
+  pub keeps : (i : ℕ) → i < length (storeOf s .slots) → ((r : Record) → At (storeOf s) i r → retiredBy n r ≡ false) → slotIn counted i t ≡ slotIn counted i s
 
 -- Demand 2: what is shown of a key in a kept version of a sound store, for every version that holds a grant (2026-03).
 pub record Shown (s : Bytes) (v : ℕ) (k : Bytes) : Type 0 where
@@ -151,6 +159,23 @@ pub record NothingToShow (s : Bytes) (v : ℕ) (k : Bytes) : Type 0 where
   pub reads-root : {f g : Bytes} {r : ℕ} → ReadsRoot s v f r g → (r ≡ 0) × (g ≡ zeros)
   pub reads-key : {f g : Bytes} {r : ℕ} → ReadsKey s v k f r g → (r ≡ 0) × (g ≡ foundBytes absent)
   pub refused : {room f t g : Bytes} {r : ℕ} → Proves s v k room f r t g → (r ≡ 14) × (t ≡ room) × (g ≡ f)
+
+-- Grants in key order: each key before all that follow, so each once.
+abbrev pub InKeyOrder : List Grant → Type 0
+InKeyOrder [] = Unit {0}
+InKeyOrder (g ∷ gs) = All (λ h. before (g .key) (h .key) ≡ true) gs × InKeyOrder gs
+
+-- Document 02, 2026-09: what is read by counts of a kept version of a sound store.
+pub record Numbered (s : Bytes) (v : ℕ) : Type 0 where
+  -- the number is that of the version's grants
+  pub number : {f g : Bytes} {r : ℕ} → Counts s v f r g → (r ≡ 0) × (g ≡ le 8 (length (grantsOfVersion s v)))
+  -- position i holds the i-th of them, in key order
+  pub ordered : InKeyOrder (grantsOfVersion s v)
+  pub position : {i : ℕ} {f g : Bytes} {r : ℕ} → ReadsAt s v i f r g →
+      (r ≡ numberOf (grantAt (grantsOfVersion s v) i)) × (g ≡ toldOf grantBytes (grantAt (grantsOfVersion s v) i) f)
+  -- 0 exactly if the position is below the number, 20 exactly if it isn't
+  pub below : {i : ℕ} {f g : Bytes} {r : ℕ} → ReadsAt s v i f r g → (r ≡ 0) ↔ (i < length (grantsOfVersion s v))
+  pub past : {i : ℕ} {f g : Bytes} {r : ℕ} → ReadsAt s v i f r g → (r ≡ 20) ↔ (length (grantsOfVersion s v) ≤ i)
 
 -- Demand 2: the proof check accepts the bytes x as a proof for the key k against a root, with this answer. The root and the key have 32 bytes,
 -- and x is one whole proof in form that holds.

@@ -1,13 +1,13 @@
 -- Document 01, 'Numbers of refusal': the table of each public call. 'Order: 12; then 1, 2; apply 3, 4, 5, 6, 7; prune 3, 8; reads 8, 3, 9;
--- the proof check 10, 11. Format gives only 1.' By 2026-03 proving tests for 14 after 8; by 2026-13 apply tests for 18 where 6 was. Assumes
--- nothing.
+-- the proof check 10, 11. Format gives only 1.' By 2026-03 proving tests for 14 after 8; by 2026-13 apply tests for 18 where 6 was; by
+-- 2026-09 a position is tested for 20 after the root's lookup. Assumes nothing.
 use Prim.Native.Nat.{ℕ}
 use mathlib.Core.List.{[], _∷_, _++_}
 use Rattle.terms.specs.Bits.{Bytes}
 use Rattle.palette_rules.specs.Palette.{keysIn}
 use Rattle.refusals.specs.Exactly.{Table}
 use Rattle.refusals.specs.Rows.{WrongLength, NotSound, Not32, NotKeys}
-use Rattle.refusals.specs.Orders.{headerRows, batchRows, versionRows, lookupRows, keyRows, provingRows, proofRows, askingRows, togetherRows, comparisonRows, holdingRows, rescueRows}
+use Rattle.refusals.specs.Orders.{headerRows, batchRows, versionRows, lookupRows, keyRows, placingRows, positionRows, provingRows, proofRows, askingRows, togetherRows, comparisonRows, holdingRows, rescueRows}
 
 -- 1, 2; then 3 by full soundness.
 abbrev pub soundRows : Bytes → Table
@@ -42,6 +42,17 @@ getRows s v k = (12, Not32 (k ∷ [])) ∷ headerRows s ++ keyRows s v k
 
 abbrev pub getTests : Bytes → ℕ → Bytes → Table
 getTests s v k = (12, Not32 (k ∷ [])) ∷ headerRows s ++ versionRows s v
+
+-- Document 02, 2026-09: the number of grants: 1, 2, 8, 3, as of the root.
+abbrev pub countRows : Bytes → ℕ → Table
+countRows s v = rootRows s v
+
+-- The grant at a position: 1, 2, 8; 20 by the root's number; then 17 or 3.
+abbrev pub atRows : Bytes → ℕ → ℕ → Table
+atRows s v i = headerRows s ++ positionRows s v i
+
+abbrev pub atTests : Bytes → ℕ → ℕ → Table
+atTests s v i = headerRows s ++ placingRows s v i
 
 -- Proving: 12; then 1, 2; then 8, 14, 17 or 3, 9.
 abbrev pub proveTests : Bytes → ℕ → Bytes → Table

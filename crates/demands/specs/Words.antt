@@ -3,6 +3,7 @@
 use Prim.Native.Nat.{ℕ, _<_}
 use mathlib.Core.Path.{_≡_}
 use lib.ListN.{length}
+use Rattle.terms.specs.declared.Form.the-variants.{Counted as counted}
 use Rattle.terms.specs.Bits.{Bytes}
 use Rattle.terms.specs.Fields.{zeroBytes}
 use Rattle.layout.specs.Sizes.{slotSize, roomOf}
@@ -10,11 +11,11 @@ use Rattle.layout.specs.Stores.{slotIn}
 
 -- A used slot: not all zero.
 abbrev pub Used : Bytes → ℕ → Type 0
-Used s i = slotIn i s ≡ zeroBytes slotSize → ⊥
+Used s i = slotIn counted i s ≡ zeroBytes (slotSize counted) → ⊥
 
 -- Slot i is the lowest used slot whose bytes agree.
 pub record LowestUsed (s : Bytes) (agree : Bytes → Type 0) (i : ℕ) : Type 0 where
-  pub inside : i < roomOf (length s)
+  pub inside : i < roomOf counted (length s)
   pub used : Used s i
-  pub agrees : agree (slotIn i s)
-  pub lowest : (j : ℕ) → j < i → Used s j → agree (slotIn j s) → ⊥
+  pub agrees : agree (slotIn counted i s)
+  pub lowest : (j : ℕ) → j < i → Used s j → agree (slotIn counted j s) → ⊥

@@ -6,6 +6,7 @@ use mathlib.Core.Bool.{Bool, true, false, cond, _&&_}
 use lib.ListN.{length}
 use lib.Dec.{leb, ltb}
 use borrow.Author.Tests.{le-leb, lt-leb}
+use Rattle.terms.specs.declared.Form.the-variants.{Counted as counted}
 use Rattle.terms.specs.Bits.{Bytes}
 use Rattle.terms.specs.Records.{Store}
 use Rattle.terms.proofs.Tests.{and-comm}
@@ -40,8 +41,8 @@ module _ (st : Store) (first last : ℕ) where
 
 -- sound bytes
 module _ {s : Bytes} (w : SoundBytes s) where
-  pub sound-size : sizeRight (length s) ≡ true
-  sound-size = let h = header-accepted s (w .capacity) (w .oldest) (w .latest) (w .headed) in size-right-of (length s) (w .capacity) (h .size) (h .some) (h .fits)
+  pub sound-size : sizeRight counted (length s) ≡ true
+  sound-size = let h = header-accepted s (w .capacity) (w .oldest) (w .latest) (w .headed) in size-right-of counted (length s) (w .capacity) (h .size) (h .some) (h .fits)
 
   pub sound-slots : Whole s
-  sound-slots = record { size = sound-size; whole = λ i x h e. w .sound .whole i x (omega (arith, slots-many s)) e }
+  sound-slots = record { size = sound-size; whole = λ i x h e. w .sound .whole i x (omega (arith, slots-many counted s)) e }

@@ -15,6 +15,7 @@ use figures_count::records_in;
 use prune_free::is_kept;
 use refusal_numbers::NO_ROOM;
 use refusal_numbers::NOT_KEPT;
+use terms::Form;
 
 // Four numbers of 4 bytes for each version.
 pub const FIGURES_SIZE: usize = 16;
@@ -101,7 +102,7 @@ fn figures_sound(store: &[u8], first: u32, last: u32, room: &mut [u8]) -> Figure
 pub fn figures(store: &[u8], first: u32, last: u32, room: &mut [u8]) -> Figured
     ensures { λ r. ⌜ Tells first last (now (store .entry)) (now (room .entry)) (figuredSays r) (now (room .exit)) ⌝ }
 {
-    let refusal = check(store);
+    let refusal = check(Form::Counted, store);
     if refusal != 0 {
         return Figured::Refused(refusal);
     }

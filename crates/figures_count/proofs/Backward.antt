@@ -6,6 +6,7 @@ use mathlib.Core.Bool.{true}
 use mathlib.Core.List.{List, [], _∷_}
 use lib.ListN.{length, drop, drop-of-length-le, length-drop}
 use lib.Seq.{drop-cons}
+use Rattle.terms.specs.declared.Form.the-variants.{Counted as counted}
 use Rattle.terms.specs.Bits.{Bytes}
 use Rattle.terms.specs.Records.{Slot, free}
 use Rattle.layout.specs.Sizes.{roomOf}
@@ -17,18 +18,18 @@ use Rattle.figures_count.specs.Count.{Plain, Whole}
 
 pub record Backward (s : Bytes) (P : List Slot → Type 0) (n i : ℕ) : Type 0 where
   pub store : Whole s
-  pub room : n ≡ roomOf (length s)
+  pub room : n ≡ roomOf counted (length s)
   pub small : n ≤ 16384
   pub within : i ≤ n
   pub holds : P (drop i (storeOf s .slots))
 
-pub backward-start : {s : Bytes} {n : ℕ} (P : List Slot → Type 0) → Whole s → n ≡ roomOf (length s) → P [] → Backward s P n n
+pub backward-start : {s : Bytes} {n : ℕ} (P : List Slot → Type 0) → Whole s → n ≡ roomOf counted (length s) → P [] → Backward s P n n
 backward-start {s} {n} P w e p = record {
   store = w;
   room = e;
-  small = omega (arith, size-says (length s) (w .size));
+  small = omega (arith, size-says counted (length s) (w .size));
   within = omega arith;
-  holds = subst P (sym (drop-of-length-le (storeOf s .slots) {i = n} (omega (arith, slots-many s)))) p;
+  holds = subst P (sym (drop-of-length-le (storeOf s .slots) {i = n} (omega (arith, slots-many counted s)))) p;
 }
 
 module _ {s : Bytes} {P : List Slot → Type 0} {n i : ℕ} (w : Backward s P n i) where
@@ -38,7 +39,7 @@ module _ {s : Bytes} {P : List Slot → Type 0} {n i : ℕ} (w : Backward s P n 
     whole = λ x. w .store .whole (i - 1) x (omega (arith, w .room, w .within));
   }
 
-  pub backward-next : (h : 0 < i) (Q : List Slot → Type 0) → Q (slotNo (i - 1) s ∷ drop i (storeOf s .slots)) → Backward s Q n (i - 1)
+  pub backward-next : (h : 0 < i) (Q : List Slot → Type 0) → Q (slotNo counted (i - 1) s ∷ drop i (storeOf s .slots)) → Backward s Q n (i - 1)
   backward-next h Q q = record {
     store = w .store;
     room = w .room;
@@ -47,8 +48,8 @@ module _ {s : Bytes} {P : List Slot → Type 0} {n i : ℕ} (w : Backward s P n 
     holds =
         let k : i ≡ suc (i - 1) = omega arith in
         subst Q
-        (ap (λ m. slotNo (i - 1) s ∷ drop m (storeOf s .slots)) k
-        ∙ sym (drop-cons (storeOf s .slots) (i - 1) free (omega (arith, slots-many s, w .room, w .within))))
+        (ap (λ m. slotNo counted (i - 1) s ∷ drop m (storeOf s .slots)) k
+        ∙ sym (drop-cons (storeOf s .slots) (i - 1) free (omega (arith, slots-many counted s, w .room, w .within))))
         q;
   }
 
@@ -57,4 +58,4 @@ module _ {s : Bytes} {P : List Slot → Type 0} {n i : ℕ} (w : Backward s P n 
 
   -- the slots passed are as many as the store has below 16,384
   pub backward-few : length (drop i (storeOf s .slots)) + i ≤ 16384
-  backward-few = simp length-drop (omega (arith, slots-many s, w .room, w .within, w .small))
+  backward-few = simp length-drop (omega (arith, slots-many counted s, w .room, w .within, w .small))

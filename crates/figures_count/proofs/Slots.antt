@@ -7,6 +7,7 @@ use mathlib.Core.Bool.{Bool, true, false, cond, _&&_, not, false≢true}
 use lib.ListN.{length}
 use lib.Dec.{leb, ltb}
 use borrow.Author.Tests.{le-leb, lt-leb, ltb-true, ltb-false}
+use Rattle.terms.specs.declared.Form.the-variants.{Counted as counted}
 use Rattle.terms.specs.Bits.{Bytes, Byte, All}
 use Rattle.terms.specs.Fields.{field}
 use Rattle.terms.specs.Records.{Body, leafBody, innerBody, Record, Slot, free, used, spoiled}
@@ -19,7 +20,7 @@ use Rattle.layout.specs.Stores.{slotIn, slotNo, Has}
 use Rattle.store.proofs.Slots.{slot-long, slot-bytes, slot-within, slot-is}
 use Rattle.lookup.proofs.Matching.{says, count-is}
 use Rattle.check_pass.specs.Passes.{kindIn}
-use Rattle.check_pass.proofs.Records.{record-cases, version-of, retired-of, free-zero}
+use Rattle.check_pass.proofs.Records.{kind-most, record-cases, version-of, retired-of, free-zero}
 use Rattle.quarter.specs.Figures.{Figures}
 use Rattle.quarter.specs.Living.{livesIn, withLeaf, withInner, bodyAdds, slotLives, slotAdds}
 use Rattle.quarter.proofs.Theorems.{four, same-four}
@@ -29,7 +30,7 @@ use Rattle.figures_count.specs.declared.Figures as declared
 -- what the body is, by its kind
 abbrev pub Bodied : Bytes → Body → Type 0
 Bodied x (leafBody k v) = kindIn x ≡ leafKind
-Bodied x (innerBody l r) = kindIn x ≡ innerKind
+Bodied x (innerBody l r) = kindIn x ≡ innerKind (length x)
 
 -- a slot that isn't spoiled: free, with version 0, or a record, with what its fields say
 pub data Holds (x : Bytes) : Slot → Type 0 where
@@ -48,23 +49,23 @@ bodied x r e = elim (record-cases x r e) [
   | inr w ↦ subst (Bodied x) (sym (ap (λ q. q .body) (w .1))) (w .0)
 ]
 
-pub holding : (s : Bytes) (i : ℕ) → Plain s i → All Byte s → Holds (slotIn i s) (slotNo i s)
+pub holding : (s : Bytes) (i : ℕ) → Plain s i → All Byte s → Holds (slotIn counted i s) (slotNo counted i s)
 unfolding countIn
-holding s i p b = go (slotNo i s) refl
+holding s i p b = go (slotNo counted i s) refl
   where
-    long : length (slotIn i s) ≡ slotSize
-    long = slot-long i s (slot-within (p .has))
+    long : length (slotIn counted i s) ≡ slotSize counted
+    long = slot-long counted i s (slot-within (p .has))
 
-    bytes : All Byte (slotIn i s)
-    bytes = slot-bytes i s b
+    bytes : All Byte (slotIn counted i s)
+    bytes = slot-bytes counted i s b
 
-    go : (y : Slot) → slotNo i s ≡ y → Holds (slotIn i s) y
-    go free e = holds-none (free-zero (slotIn i s) long bytes (sym (slot-is (p .has)) ∙ e) .0)
+    go : (y : Slot) → slotNo counted i s ≡ y → Holds (slotIn counted i s) y
+    go free e = holds-none (free-zero counted (slotIn counted i s) long bytes (sym (slot-is (p .has)) ∙ e) .0)
     go (used r) e =
         let f = sym (slot-is (p .has)) ∙ e in
-        let w = says (slotIn i s) long bytes r f in
-        holds-record r (w .form .versioned .0) (version-of (slotIn i s) r f) (retired-of (slotIn i s) r f) (count-is (slotIn i s) long bytes r f)
-        (omega (arith, w .form .short, limit-256 (r .body))) (bodied (slotIn i s) r f)
+        let w = says {fm = counted} (slotIn counted i s) long bytes r f in
+        holds-record r (w .form .versioned .0) (version-of (slotIn counted i s) r f) (retired-of (slotIn counted i s) r f) (count-is counted (slotIn counted i s) long bytes r f)
+        (omega (arith, w .form .short, limit-256 (r .body))) (bodied (slotIn counted i s) r f)
     go (spoiled x) e = absurd (p .whole x e)
 
 -- whether it lives, test by test
@@ -121,7 +122,7 @@ module _ {x : Bytes} {y : Slot} (h : Holds x y) (v : ℕ) (f : Figures) where
     where
       by-body : (b : Body) (n : ℕ) → Bodied x b → countIn x ≡ n → withLeaf (countIn x) f ≡ bodyAdds n b f
       by-body (leafBody a c) n w q = ap (λ m. withLeaf m f) q
-      by-body (innerBody a c) n w q = absurd (omega arith)
+      by-body (innerBody a c) n w q = absurd (omega (arith, kind-most (length x)))
 
       go : (y : Slot) → Holds x y → slotLives v v y ≡ true → (withLeaf (countIn x) f ≡ slotAdds v y f) × (countIn x ≤ 256)
       go free (holds-none z) e = absurd (false≢true e)

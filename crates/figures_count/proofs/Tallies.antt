@@ -5,6 +5,7 @@ use mathlib.Core.Path.{_≡_, refl, ap, ap₂, sym, _∙_, subst}
 use mathlib.Core.Bool.{Bool, true, false, cond}
 use mathlib.Core.List.{List, [], _∷_}
 use lib.ListN.{length, drop}
+use Rattle.terms.specs.declared.Form.the-variants.{Counted as counted}
 use Rattle.terms.specs.Bits.{Bytes, Byte, All}
 use Rattle.terms.specs.Records.{Slot}
 use Rattle.layout.specs.Sizes.{roomOf}
@@ -23,7 +24,7 @@ pub record Tally (v : ℕ) (f : declared.Figures) (xs : List Slot) : Type 0 wher
   pub few : f .leaves + f .inners ≤ length xs
   pub sum : f .sum ≤ 256 * length xs
 
-pub tally-start : {s : Bytes} {n : ℕ} (v : ℕ) (f : declared.Figures) → Whole s → n ≡ roomOf (length s) → f .leaves ≡ 0 → f .inners ≡ 0 → f .longest ≡ 0 → f .sum ≡ 0 →
+pub tally-start : {s : Bytes} {n : ℕ} (v : ℕ) (f : declared.Figures) → Whole s → n ≡ roomOf counted (length s) → f .leaves ≡ 0 → f .inners ≡ 0 → f .longest ≡ 0 → f .sum ≡ 0 →
     Backward s (Tally v f) n n
 unfolding livingFigures
 tally-start v f w e a b c d =
@@ -44,13 +45,13 @@ module _ {s : Bytes} {v : ℕ} {f : declared.Figures} {n i : ℕ} (w : Backward 
         few = record { leaves = omega (arith, b, t .few); inners = omega (arith, b, t .few); sum = omega (arith, b, t .sum); steps = omega arith };
       }
 
-  pub tally-next : All Byte s → (h : 0 < i) (r : declared.Figures) → figuresSay r ≡ slotAdds v (slotNo (i - 1) s) (figuresSay f) → Backward s (Tally v r) n (i - 1)
+  pub tally-next : All Byte s → (h : 0 < i) (r : declared.Figures) → figuresSay r ≡ slotAdds v (slotNo counted (i - 1) s) (figuresSay f) → Backward s (Tally v r) n (i - 1)
   tally-next b h r e =
       let t = w .holds in
-      let l = adds-few (slotNo (i - 1) s) (holding s (i - 1) (backward-slot w h) b) v (figuresSay f) in
+      let l = adds-few (slotNo counted (i - 1) s) (holding s (i - 1) (backward-slot w h) b) v (figuresSay f) in
       backward-next w h (Tally v r)
       (record {
-        told = e ∙ ap (slotAdds v (slotNo (i - 1) s)) (t .told) ∙ slot-added v (slotNo (i - 1) s) (drop i (storeOf s .slots));
+        told = e ∙ ap (slotAdds v (slotNo counted (i - 1) s)) (t .told) ∙ slot-added v (slotNo counted (i - 1) s) (drop i (storeOf s .slots));
         few = omega (arith, t .few, l .0, ap (λ (q : Figures). q .leaves) e, ap (λ (q : Figures). q .inners) e);
         sum = omega (arith, t .sum, l .1, ap (λ (q : Figures). q .pathSum) e);
       })
@@ -67,7 +68,7 @@ pub record Living (first last records : ℕ) (xs : List Slot) : Type 0 where
   pub told : records ≡ livingRecords first last xs
   pub few : records ≤ length xs
 
-pub living-start : {s : Bytes} {n : ℕ} (first last : ℕ) → Whole s → n ≡ roomOf (length s) → Backward s (Living first last 0) n n
+pub living-start : {s : Bytes} {n : ℕ} (first last : ℕ) → Whole s → n ≡ roomOf counted (length s) → Backward s (Living first last 0) n n
 unfolding livingRecords
 living-start first last w e = backward-start (Living first last 0) w e (record { told = refl; few = omega arith })
 
@@ -75,12 +76,12 @@ module _ {s : Bytes} {first last records : ℕ} {n i : ℕ} (w : Backward s (Liv
   pub living-few : records ≤ 16384
   living-few = omega (arith, backward-few w, w .holds .few)
 
-  living-next : (h : 0 < i) (b : Bool) → b ≡ slotLives first last (slotNo (i - 1) s) → Backward s (Living first last (cond b 1 0 + records)) n (i - 1)
+  living-next : (h : 0 < i) (b : Bool) → b ≡ slotLives first last (slotNo counted (i - 1) s) → Backward s (Living first last (cond b 1 0 + records)) n (i - 1)
   living-next h b e =
       let t = w .holds in
       backward-next w h (Living first last (cond b 1 0 + records))
       (record {
-        told = ap₂ (λ c m. cond c 1 0 + m) e (t .told) ∙ sym (slot-living first last (slotNo (i - 1) s) (drop i (storeOf s .slots)));
+        told = ap₂ (λ c m. cond c 1 0 + m) e (t .told) ∙ sym (slot-living first last (slotNo counted (i - 1) s) (drop i (storeOf s .slots)));
         few = at-most b (t .few);
       })
     where
@@ -88,10 +89,10 @@ module _ {s : Bytes} {first last records : ℕ} {n i : ℕ} (w : Backward s (Liv
       at-most true h = omega arith
       at-most false h = omega arith
 
-  pub living-more : (h : 0 < i) {b : Bool} → b ≡ slotLives first last (slotNo (i - 1) s) → b ≡ true → Backward s (Living first last (records + 1)) n (i - 1)
+  pub living-more : (h : 0 < i) {b : Bool} → b ≡ slotLives first last (slotNo counted (i - 1) s) → b ≡ true → Backward s (Living first last (records + 1)) n (i - 1)
   living-more h e t = let k : 1 + records ≡ records + 1 = omega arith in subst (λ m. Backward s (Living first last m) n (i - 1)) k (living-next h true (sym t ∙ e))
 
-  pub living-same : (h : 0 < i) {b : Bool} → b ≡ slotLives first last (slotNo (i - 1) s) → b ≡ false → Backward s (Living first last records) n (i - 1)
+  pub living-same : (h : 0 < i) {b : Bool} → b ≡ slotLives first last (slotNo counted (i - 1) s) → b ≡ false → Backward s (Living first last records) n (i - 1)
   living-same h e t = let k : 0 + records ≡ records = omega arith in subst (λ m. Backward s (Living first last m) n (i - 1)) k (living-next h false (sym t ∙ e))
 
   pub living-end : i ≤ 0 → records ≡ livingRecords first last (storeOf s .slots)

@@ -3,6 +3,7 @@ use Prim.Native.Nat.{ℕ, _+_, _<_, _≤_}
 use mathlib.Core.Path.{_≡_}
 use mathlib.Core.Bool.{true}
 use lib.ListN.{length}
+use Rattle.terms.specs.declared.Form.the-variants.{Counted as counted}
 use Rattle.terms.specs.Bits.{Bytes}
 use Rattle.terms.specs.Records.{spoiled}
 use Rattle.layout.specs.Sizes.{roomOf}
@@ -18,13 +19,13 @@ figuresSay f = record { leaves = f .leaves; inners = f .inners; longest = f .lon
 
 -- Slot i is one of the store's, free or a record in form.
 pub record Plain (s : Bytes) (i : ℕ) : Type 0 where
-  pub has : Has s i
-  pub whole : (x : Bytes) → slotNo i s ≡ spoiled x → ⊥
+  pub has : Has counted s i
+  pub whole : (x : Bytes) → slotNo counted i s ≡ spoiled x → ⊥
 
 -- A store of the right size, each slot free or a record in form.
 pub record Whole (s : Bytes) : Type 0 where
-  pub size : sizeRight (length s) ≡ true
-  pub whole : (i : ℕ) (x : Bytes) → i < roomOf (length s) → slotNo i s ≡ spoiled x → ⊥
+  pub size : sizeRight counted (length s) ≡ true
+  pub whole : (i : ℕ) (x : Bytes) → i < roomOf counted (length s) → slotNo counted i s ≡ spoiled x → ⊥
 
 -- Numbers that one node more doesn't carry out of 32 bits.
 pub record Few (f : declared.Figures) (n : ℕ) : Type 0 where

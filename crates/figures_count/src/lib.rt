@@ -10,6 +10,7 @@ use store::kind_at;
 use store::retired_at;
 use store::slot_count;
 use store::version_at;
+use terms::Form;
 
 // The four numbers of a version.
 pub struct Figures {
@@ -22,16 +23,16 @@ pub struct Figures {
 // Whether slot i holds a record that lives at some version from first to last.
 fn lives(store: &[u8], i: usize, first: u32, last: u32) -> bool
     requires { ⌜ Plain (now store) i ⌝ }
-    ensures { λ r. ⌜ r ≡ slotLives first last (slotNo i (now (store .entry))) ⌝ }
+    ensures { λ r. ⌜ r ≡ slotLives first last (slotNo Form.Counted i (now (store .entry))) ⌝ }
 {
-    let version = version_at(store, i);
+    let version = version_at(Form::Counted, store, i);
     if version == 0 {
         return false;
     }
     if last < version {
         return false;
     }
-    let since = retired_at(store, i);
+    let since = retired_at(Form::Counted, store, i);
     if since == 0 {
         return true;
     }
@@ -75,13 +76,13 @@ fn with_inner(f: Figures) -> Figures
 // The numbers of a version with slot i.
 fn add_slot(store: &[u8], i: usize, version: u32, f: Figures) -> Figures
     requires { ⌜ Countable (now store) i f ⌝ }
-    ensures { λ r. ⌜ figuresSay r ≡ slotAdds version (slotNo i (now (store .entry))) (figuresSay f) ⌝ }
+    ensures { λ r. ⌜ figuresSay r ≡ slotAdds version (slotNo Form.Counted i (now (store .entry))) (figuresSay f) ⌝ }
 {
     if !lives(store, i, version, version) {
         return f;
     }
-    if kind_at(store, i) == LEAF_KIND {
-        let steps = count_at(store, i) as u32;
+    if kind_at(Form::Counted, store, i) == LEAF_KIND {
+        let steps = count_at(Form::Counted, store, i) as u32;
         return with_leaf(f, steps);
     }
     with_inner(f)
@@ -92,7 +93,7 @@ pub fn figures_of(store: &[u8], version: u32) -> Figures
     requires { ⌜ Whole (now store) ⌝ }
     ensures { λ r. ⌜ Counts (now (store .entry)) version r ⌝ }
 {
-    let n = slot_count(store);
+    let n = slot_count(Form::Counted, store);
     let mut f = Figures {
         leaves: 0,
         inners: 0,
@@ -112,7 +113,7 @@ pub fn records_in(store: &[u8], first: u32, last: u32) -> u32
     requires { ⌜ Whole (now store) ⌝ }
     ensures { λ r. ⌜ r ≡ livingRecords first last (storeOf (now (store .entry)) .slots) ⌝ }
 {
-    let n = slot_count(store);
+    let n = slot_count(Form::Counted, store);
     let mut records = 0;
     let mut i = n;
     while 0 < i {

@@ -4,6 +4,7 @@ use mathlib.Core.Path.{_≡_, refl, ap, ap₂, sym, _∙_}
 use mathlib.Core.Bool.{true, false}
 use mathlib.Core.List.{List, [], _∷_, _++_}
 use lib.ListN.{length, drop}
+use Rattle.terms.specs.declared.Form.the-variants.{Counted as counted}
 use Rattle.terms.specs.Bits.{Bytes}
 use Rattle.terms.specs.Records.{Slot}
 use Rattle.sha256.specs.Sha256.{sha256}
@@ -27,48 +28,48 @@ Ahead s v m xs ys = partner sha256 m (nodeMessages v (storeOf s .slots)) ≡ par
 abbrev pub ZeroAhead : Bytes → ℕ → List Slot → List Slot → Type 0
 ZeroAhead s v xs ys = zeroAmong sha256 (nodeMessages v (storeOf s .slots)) ≡ zeroAmong sha256 (nodeMessages v ys)
 
-pub partner-start : (s : Bytes) (v : ℕ) (m : Bytes) {n : ℕ} → sizeRight (length s) ≡ true → n ≡ roomOf (length s) → Scan s (Ahead s v m) n 0
+pub partner-start : (s : Bytes) (v : ℕ) (m : Bytes) {n : ℕ} → sizeRight counted (length s) ≡ true → n ≡ roomOf counted (length s) → Scan counted s (Ahead s v m) n 0
 partner-start s v m e k = scan-start s (Ahead s v m) e k refl
 
-pub zero-start : (s : Bytes) (v : ℕ) {n : ℕ} → sizeRight (length s) ≡ true → n ≡ roomOf (length s) → Scan s (ZeroAhead s v) n 0
+pub zero-start : (s : Bytes) (v : ℕ) {n : ℕ} → sizeRight counted (length s) ≡ true → n ≡ roomOf counted (length s) → Scan counted s (ZeroAhead s v) n 0
 zero-start s v e k = scan-start s (ZeroAhead s v) e k refl
 
-module _ {s : Bytes} (v : ℕ) (m : Message) {n i : ℕ} (w : Scan s (Ahead s v (messageBytes m)) n i) where
+module _ {s : Bytes} (v : ℕ) (m : Message) {n i : ℕ} (w : Scan counted s (Ahead s v (messageBytes m)) n i) where
   abbrev rest : List Slot
   rest = drop (i + 1) (storeOf s .slots)
 
-  here : i < n → Ahead s v (messageBytes m) [] (slotOf (slotIn i s) ∷ rest)
+  here : i < n → Ahead s v (messageBytes m) [] (slotOf (slotIn counted i s) ∷ rest)
   here h = scan-here w h ∙ ap (λ y. partner sha256 (messageBytes m) (nodeMessages v (y ∷ rest))) (slot-is (scan-slot w h))
 
-  pub partner-next : i < n → partnerHere v (messageBytes m) (slotIn i s) ≡ false → Scan s (Ahead s v (messageBytes m)) n (i + 1)
+  pub partner-next : i < n → partnerHere v (messageBytes m) (slotIn counted i s) ≡ false → Scan counted s (Ahead s v (messageBytes m)) n (i + 1)
   partner-next h e =
-      scan-next w h (Ahead s v (messageBytes m)) (here h ∙ partner-past v (messageBytes m) (slotIn i s) (nodeMessages v rest) e)
+      scan-next w h (Ahead s v (messageBytes m)) (here h ∙ partner-past v (messageBytes m) (slotIn counted i s) (nodeMessages v rest) e)
 
-  pub partner-found : i < n → partnerHere v (messageBytes m) (slotIn i s) ≡ true → (node : Message) → messageBytes node ≡ messageIn (slotIn i s) →
+  pub partner-found : i < n → partnerHere v (messageBytes m) (slotIn counted i s) ≡ true → (node : Message) → messageBytes node ≡ messageIn (slotIn counted i s) →
       namedSays (Two node m) ≡ partner sha256 (messageBytes m) (nodeMessages v (storeOf s .slots))
   unfolding namedSays
   partner-found h e node f =
       ap (λ x. twoEqual x (messageBytes m)) f
-      ∙ sym (here h ∙ partner-at v (messageBytes m) (slotIn i s) (nodeMessages v rest) e)
+      ∙ sym (here h ∙ partner-at v (messageBytes m) (slotIn counted i s) (nodeMessages v rest) e)
 
   pub no-partner : n ≤ i → namedSays Nothing ≡ partner sha256 (messageBytes m) (nodeMessages v (storeOf s .slots))
   unfolding namedSays
   no-partner h = sym (scan-end w h)
 
-module _ {s : Bytes} (v : ℕ) {n i : ℕ} (w : Scan s (ZeroAhead s v) n i) where
+module _ {s : Bytes} (v : ℕ) {n i : ℕ} (w : Scan counted s (ZeroAhead s v) n i) where
   abbrev after : List Slot
   after = drop (i + 1) (storeOf s .slots)
 
-  zero-here : i < n → ZeroAhead s v [] (slotOf (slotIn i s) ∷ after)
+  zero-here : i < n → ZeroAhead s v [] (slotOf (slotIn counted i s) ∷ after)
   zero-here h = scan-here w h ∙ ap (λ y. zeroAmong sha256 (nodeMessages v (y ∷ after))) (slot-is (scan-slot w h))
 
-  pub zero-next : i < n → zeroHere v (slotIn i s) ≡ false → Scan s (ZeroAhead s v) n (i + 1)
-  zero-next h e = scan-next w h (ZeroAhead s v) (zero-here h ∙ zero-past v (slotIn i s) (nodeMessages v after) e)
+  pub zero-next : i < n → zeroHere v (slotIn counted i s) ≡ false → Scan counted s (ZeroAhead s v) n (i + 1)
+  zero-next h e = scan-next w h (ZeroAhead s v) (zero-here h ∙ zero-past v (slotIn counted i s) (nodeMessages v after) e)
 
-  pub zero-found : i < n → zeroHere v (slotIn i s) ≡ true → (node : Message) → messageBytes node ≡ messageIn (slotIn i s) →
+  pub zero-found : i < n → zeroHere v (slotIn counted i s) ≡ true → (node : Message) → messageBytes node ≡ messageIn (slotIn counted i s) →
       namedSays (Zero node) ≡ zeroAmong sha256 (nodeMessages v (storeOf s .slots))
   unfolding namedSays
-  zero-found h e node f = ap oneZero f ∙ sym (zero-here h ∙ zero-at v (slotIn i s) (nodeMessages v after) e)
+  zero-found h e node f = ap oneZero f ∙ sym (zero-here h ∙ zero-at v (slotIn counted i s) (nodeMessages v after) e)
 
   pub no-zero : n ≤ i → namedSays Nothing ≡ zeroAmong sha256 (nodeMessages v (storeOf s .slots))
   unfolding namedSays

@@ -14,6 +14,7 @@ use store::retired_at;
 use store::slot_count;
 use store::slot_of;
 use store::version_at;
+use terms::Form;
 ghost use mathlib.Core.Path.{_≡_};
 ghost use mathlib.Core.Bool.{true};
 ghost use lib.ListN.{length};
@@ -36,7 +37,7 @@ pub enum Named {
 
 // The message of a record, from what it holds.
 fn record_message(slot: &[u8]) -> Message
-    requires { ⌜ length (now slot) ≡ slotSize ⌝ }
+    requires { ⌜ length (now slot) ≡ slotSize Form.Counted ⌝ }
     ensures { λ r. ⌜ messageBytes r ≡ messageIn (now (slot .entry)) ⌝ }
 {
     if is_leaf(slot) {
@@ -59,47 +60,51 @@ fn record_message(slot: &[u8]) -> Message
 
 // Whether slot i holds a record that is in a version's tree.
 fn stands_in(store: &[u8], i: usize, version: u32) -> bool
-    requires { ⌜ Has (now store) i ⌝ }
-    ensures { λ r. ⌜ r ≡ standsHere version (slotOf (slotIn i (now (store .entry)))) ⌝ }
+    requires { ⌜ Has Form.Counted (now store) i ⌝ }
+    ensures { λ r. ⌜ r ≡ standsHere version (slotOf (slotIn Form.Counted i (now (store .entry)))) ⌝ }
 {
-    if !covers(version_at(store, i), retired_at(store, i), version) {
+    if !covers(
+        version_at(Form::Counted, store, i),
+        retired_at(Form::Counted, store, i),
+        version,
+    ) {
         return false;
     }
-    holds_record(slot_of(store, i))
+    holds_record(slot_of(Form::Counted, store, i))
 }
 
 // Whether it is a node whose message is another than m and has the same hash.
 fn partner_here(store: &[u8], i: usize, version: u32, m: Message) -> bool
-    requires { ⌜ Has (now store) i ⌝ }
-    ensures { λ r. ⌜ r ≡ partnerHere version (messageBytes m) (slotIn i (now (store .entry))) ⌝ }
+    requires { ⌜ Has Form.Counted (now store) i ⌝ }
+    ensures { λ r. ⌜ r ≡ partnerHere version (messageBytes m) (slotIn Form.Counted i (now (store .entry))) ⌝ }
 {
     if !stands_in(store, i, version) {
         return false;
     }
-    collides(record_message(slot_of(store, i)), m)
+    collides(record_message(slot_of(Form::Counted, store, i)), m)
 }
 
 // Whether it is a node whose hash is zero.
 fn zero_here(store: &[u8], i: usize, version: u32) -> bool
-    requires { ⌜ Has (now store) i ⌝ }
-    ensures { λ r. ⌜ r ≡ zeroHere version (slotIn i (now (store .entry))) ⌝ }
+    requires { ⌜ Has Form.Counted (now store) i ⌝ }
+    ensures { λ r. ⌜ r ≡ zeroHere version (slotIn Form.Counted i (now (store .entry))) ⌝ }
 {
     if !stands_in(store, i, version) {
         return false;
     }
-    hashes_to_zero(record_message(slot_of(store, i)))
+    hashes_to_zero(record_message(slot_of(Form::Counted, store, i)))
 }
 
 // The first node of a version whose message is another than m and has the same hash.
 pub fn partner(store: &[u8], version: u32, m: Message) -> Named
-    requires { ⌜ sizeRight (length (now store)) ≡ true ⌝ }
+    requires { ⌜ sizeRight Form.Counted (length (now store)) ≡ true ⌝ }
     ensures { λ r. ⌜ namedSays r ≡ partner sha256 (messageBytes m) (nodeMessages version (storeOf (now (store .entry)) .slots)) ⌝ }
 {
-    let n = slot_count(store);
+    let n = slot_count(Form::Counted, store);
     let mut i = 0;
     while i < n {
         if partner_here(store, i, version, m) {
-            let node = record_message(slot_of(store, i));
+            let node = record_message(slot_of(Form::Counted, store, i));
             return Named::Two { node, checked: m };
         }
         i += 1;
@@ -109,14 +114,14 @@ pub fn partner(store: &[u8], version: u32, m: Message) -> Named
 
 // The first node of a version whose hash is zero.
 pub fn zero_node(store: &[u8], version: u32) -> Named
-    requires { ⌜ sizeRight (length (now store)) ≡ true ⌝ }
+    requires { ⌜ sizeRight Form.Counted (length (now store)) ≡ true ⌝ }
     ensures { λ r. ⌜ namedSays r ≡ zeroAmong sha256 (nodeMessages version (storeOf (now (store .entry)) .slots)) ⌝ }
 {
-    let n = slot_count(store);
+    let n = slot_count(Form::Counted, store);
     let mut i = 0;
     while i < n {
         if zero_here(store, i, version) {
-            let node = record_message(slot_of(store, i));
+            let node = record_message(slot_of(Form::Counted, store, i));
             return Named::Zero(node);
         }
         i += 1;

@@ -9,6 +9,7 @@ use hash::Hash;
 use hash::hash_at;
 use proofrecords::KEY_AT;
 use proofrecords::VALUE_AT;
+use terms::Form;
 use verify_path::is_right;
 use verify_path::sibling;
 ghost use mathlib.Core.Path.{_≡_};
@@ -46,7 +47,7 @@ fn parent_message(p: &[u8], i: usize, h: Hash) -> Message
 
 // What is named at one message: its own hash is zero, or a node's message is its partner.
 fn at_message(store: &[u8], version: u32, m: Message) -> Named
-    requires { ⌜ sizeRight (length (now store)) ≡ true ⌝ }
+    requires { ⌜ sizeRight Form.Counted (length (now store)) ≡ true ⌝ }
     ensures { λ r. ⌜ namedSays r ≡ atMessage (nodesIn version (now (store .entry))) (messageBytes m) ⌝ }
 {
     if hashes_to_zero(m) {
@@ -71,7 +72,7 @@ pub fn is_nothing(named: Named) -> bool
 
 // What is named first on the way up the first n steps of a presence proof.
 pub fn along(store: &[u8], version: u32, p: &[u8], n: usize) -> Named
-    requires { ⌜ (sizeRight (length (now store)) ≡ true) × Room n (now p) ⌝ }
+    requires { ⌜ (sizeRight Form.Counted (length (now store)) ≡ true) × Room n (now p) ⌝ }
     ensures { λ r. ⌜ namedSays r ≡ alongPath (nodesIn version (now (store .entry))) n (now (p .entry)) ⌝ }
 {
     let first = hash_at(p, KEY_AT);

@@ -8,6 +8,7 @@ use forged_path::is_nothing;
 use proofrecords::ABSENCE_HEAD;
 use proofrecords::FLAGS_AT;
 use proofrecords::STEPS_AT;
+use terms::Form;
 ghost use mathlib.Core.Path.{_≡_};
 ghost use mathlib.Core.Bool.{true};
 ghost use lib.ListN.{length};
@@ -19,7 +20,7 @@ ghost use Rattle.forged_proof.specs.Search.{onPath, onTwo, onNeighbours,
 
 // Along the path of a presence proof.
 fn on_path(store: &[u8], version: u32, p: &[u8]) -> Named
-    requires { ⌜ (sizeRight (length (now store)) ≡ true) × (isPresence (now p) ≡ true) ⌝ }
+    requires { ⌜ (sizeRight Form.Counted (length (now store)) ≡ true) × (isPresence (now p) ≡ true) ⌝ }
     ensures { λ r. ⌜ namedSays r ≡ onPath (nodesIn version (now (store .entry))) (now (p .entry)) ⌝ }
 {
     let n = get_u16(p, STEPS_AT) as usize;
@@ -28,7 +29,7 @@ fn on_path(store: &[u8], version: u32, p: &[u8]) -> Named
 
 // Along two paths.
 fn on_two(store: &[u8], version: u32, l: &[u8], r: &[u8]) -> Named
-    requires { ⌜ (sizeRight (length (now store)) ≡ true) × (isPresence (now l) ≡ true) × (isPresence (now r) ≡ true) ⌝ }
+    requires { ⌜ (sizeRight Form.Counted (length (now store)) ≡ true) × (isPresence (now l) ≡ true) × (isPresence (now r) ≡ true) ⌝ }
     ensures { λ x. ⌜ namedSays x ≡ onTwo (nodesIn version (now (store .entry))) (now (l .entry)) (now (r .entry)) ⌝ }
 {
     let named = on_path(store, version, l);
@@ -40,7 +41,7 @@ fn on_two(store: &[u8], version: u32, l: &[u8], r: &[u8]) -> Named
 
 // Along the paths of an absence proof's neighbours, each read where it lies in the proof.
 fn on_neighbours(store: &[u8], version: u32, proof: &[u8]) -> Named
-    requires { ⌜ (sizeRight (length (now store)) ≡ true) × (isAbsence (now proof) ≡ true) ⌝ }
+    requires { ⌜ (sizeRight Form.Counted (length (now store)) ≡ true) × (isAbsence (now proof) ≡ true) ⌝ }
     ensures { λ r. ⌜ namedSays r ≡ onNeighbours (nodesIn version (now (store .entry))) (now (proof .entry)) ⌝ }
 {
     let n = proof.len();
@@ -54,7 +55,7 @@ fn on_neighbours(store: &[u8], version: u32, proof: &[u8]) -> Named
 
 // What was named, else a node whose hash is zero.
 fn or_zero(store: &[u8], version: u32, named: Named) -> Named
-    requires { ⌜ sizeRight (length (now store)) ≡ true ⌝ }
+    requires { ⌜ sizeRight Form.Counted (length (now store)) ≡ true ⌝ }
     ensures { λ r. ⌜ namedSays r ≡ orZero (nodesIn version (now (store .entry))) (namedSays named) ⌝ }
 {
     if !is_nothing(named) {
@@ -65,7 +66,7 @@ fn or_zero(store: &[u8], version: u32, named: Named) -> Named
 
 // The finding of a presence proof.
 pub fn in_presence(store: &[u8], version: u32, proof: &[u8]) -> Named
-    requires { ⌜ (sizeRight (length (now store)) ≡ true) × (isPresence (now proof) ≡ true) ⌝ }
+    requires { ⌜ (sizeRight Form.Counted (length (now store)) ≡ true) × (isPresence (now proof) ≡ true) ⌝ }
     ensures { λ r. ⌜ namedSays r ≡ inPresence (nodesIn version (now (store .entry))) (now (proof .entry)) ⌝ }
 {
     or_zero(store, version, on_path(store, version, proof))
@@ -73,7 +74,7 @@ pub fn in_presence(store: &[u8], version: u32, proof: &[u8]) -> Named
 
 // The finding of an absence proof.
 pub fn in_absence(store: &[u8], version: u32, proof: &[u8]) -> Named
-    requires { ⌜ (sizeRight (length (now store)) ≡ true) × (isAbsence (now proof) ≡ true) ⌝ }
+    requires { ⌜ (sizeRight Form.Counted (length (now store)) ≡ true) × (isAbsence (now proof) ≡ true) ⌝ }
     ensures { λ r. ⌜ namedSays r ≡ inAbsence (nodesIn version (now (store .entry))) (now (proof .entry)) ⌝ }
 {
     or_zero(store, version, on_neighbours(store, version, proof))

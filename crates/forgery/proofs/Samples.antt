@@ -43,7 +43,7 @@ abbrev two : Store
 two = store 0 1
     (lf (left ∷ []) 1 0 A (of 1)
     ∷ lf (right ∷ []) 1 0 B (of 11)
-    ∷ nd [] 1 0 1 (of 28) 1 zeros
+    ∷ nd [] 1 0 1 (of 28) 1 zeros 1 1
     ∷ [])
 
 -- A and C below 0, nothing below 1: C with value 1 has hash 3, the inner node 6, the root 18.
@@ -51,8 +51,8 @@ abbrev gap : Store
 gap = store 0 1
     (lf (left ∷ left ∷ []) 1 0 A (of 1)
     ∷ lf (left ∷ right ∷ []) 1 0 C (of 1)
-    ∷ nd (left ∷ []) 1 0 1 (toy (leafMessage A (of 1))) 1 (toy (leafMessage C (of 1)))
-    ∷ nd [] 1 0 1 (toy (innerMessage (toy (leafMessage A (of 1))) (toy (leafMessage C (of 1))))) 0 zeros
+    ∷ nd (left ∷ []) 1 0 1 (toy (leafMessage A (of 1))) 1 (toy (leafMessage C (of 1))) 1 1
+    ∷ nd [] 1 0 1 (toy (innerMessage (toy (leafMessage A (of 1))) (toy (leafMessage C (of 1))))) 0 zeros 2 0
     ∷ [])
 
 -- What the checker answers, and what is found.

@@ -2,6 +2,7 @@
 use Prim.Native.Nat.{ℕ}
 use mathlib.Core.Bool.{cond}
 use lib.ListN.{length}
+use Rattle.terms.specs.declared.Form.the-variants.{Counted as counted}
 use Rattle.terms.specs.Bits.{Bytes}
 use Rattle.meaning.specs.Store.{formatted}
 use Rattle.layout.specs.Sizes.{roomOf}
@@ -9,8 +10,8 @@ use Rattle.layout.specs.Headers.{sizeRight}
 use Rattle.layout.specs.Stores.{storeBytes}
 
 unfoldable pub formatAnswer : Bytes → ℕ
-formatAnswer s = cond (sizeRight (length s)) 0 1
+formatAnswer s = cond (sizeRight counted (length s)) 0 1
 
 -- The store's bytes afterwards; refused, as they were.
 unfoldable pub formatBytes : Bytes → Bytes
-formatBytes s = cond (sizeRight (length s)) (storeBytes (formatted (roomOf (length s)))) s
+formatBytes s = cond (sizeRight counted (length s)) (storeBytes (formatted (roomOf counted (length s)))) s

@@ -4,6 +4,7 @@ use layout::put_header;
 use layout::size_right;
 use refusal_numbers::WRONG_SIZE;
 use store::slot_count;
+use terms::Form;
 ghost use mathlib.Core.Path.{_≡_};
 ghost use Rattle.format.specs.Format.{formatAnswer, formatBytes};
 
@@ -12,11 +13,11 @@ pub fn format(store: &mut [u8]) -> u32
     ensures answer { λ r. ⌜ r ≡ formatAnswer (now (store .entry)) ⌝ }
     ensures bytes { λ _. ⌜ now (store .exit) ≡ formatBytes (now (store .entry)) ⌝ }
 {
-    if !size_right(store.len()) {
+    if !size_right(Form::Counted, store.len()) {
         return WRONG_SIZE;
     }
-    let capacity = slot_count(store) as u32;
+    let capacity = slot_count(Form::Counted, store) as u32;
     clear(store);
-    put_header(store, capacity, 0, 0);
+    put_header(Form::Counted, store, capacity, 0, 0);
     0
 }

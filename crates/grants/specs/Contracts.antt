@@ -2,6 +2,7 @@
 -- to look at stay as they are. A contract that is a record of the room below is the contract of the function there too. Assumes nothing.
 use Prim.Native.Nat.{ℕ}
 use mathlib.Core.Path.{_≡_}
+use Rattle.terms.specs.declared.Form.the-variants.{Counted as counted}
 use Rattle.terms.specs.Bits.{Bytes}
 use Rattle.sha256.specs.Sha256.{sha256}
 use Rattle.format.specs.Format.{formatAnswer, formatBytes}
@@ -9,6 +10,7 @@ use Rattle.promises.specs.Check.{Checked}
 use Rattle.apply_c.specs.Export as apply
 use Rattle.prune_c.specs.Export as prune
 use Rattle.read_c.specs.Export as read
+use Rattle.read_counts_c.specs.Export as counts
 use Rattle.prove_c.specs.Export as prove
 use Rattle.palette_c.specs.Export as palette
 use Rattle.changes_c.specs.Export as compare
@@ -22,7 +24,7 @@ pub record Formats (s : Bytes) (r : ℕ) (t : Bytes) : Type 0 where
 
 -- Checking the bytes s answers r.
 abbrev pub Checks : Bytes → ℕ → Type 0
-Checks s r = Checked s r
+Checks s r = Checked counted s r
 
 -- Applying the bytes of a batch to the bytes s as a number answers r and leaves the bytes t; the array f for version, root and count is left
 -- as g.
@@ -40,6 +42,14 @@ ReadsRoot s v f r g = read.ReadsRoot s v f r g
 -- Reading the key k in version v of the bytes s answers r; the array f for what is found is left as g.
 abbrev pub ReadsKey : Bytes → ℕ → Bytes → Bytes → ℕ → Bytes → Type 0
 ReadsKey s v k f r g = read.ReadsKey s v k f r g
+
+-- Reading the number of grants of version v of the bytes s answers r; the array f for the number is left as g.
+abbrev pub Counts : Bytes → ℕ → Bytes → ℕ → Bytes → Type 0
+Counts s v f r g = counts.Counts s v f r g
+
+-- Reading the grant at position i of version v of the bytes s answers r; the array f for the grant is left as g.
+abbrev pub ReadsAt : Bytes → ℕ → ℕ → Bytes → ℕ → Bytes → Type 0
+ReadsAt s v i f r g = counts.ReadsAt s v i f r g
 
 -- Proving the key k in version v of the bytes s answers r; the room is left as t, the array f for the proof's length as g.
 abbrev pub Proves : Bytes → ℕ → Bytes → Bytes → Bytes → ℕ → Bytes → Bytes → Type 0

@@ -1,6 +1,7 @@
 // The public calls, for C, Rust and others to link. Each answers 0 where it is accepted, else document 01's number of refusal; a refused
 // call writes nothing, its answer included. A slice is passed as a pointer and a length, an array as a pointer alone.
-ghost use Rattle.grants.specs.Contracts.{Formats, Checks, Applies, Prunes, ReadsRoot, ReadsKey, Proves, Palettes, Changes, Rescues, Verifies, Hashes};
+use terms::Form;
+ghost use Rattle.grants.specs.Contracts.{Formats, Checks, Applies, Prunes, ReadsRoot, ReadsKey, Counts, ReadsAt, Proves, Palettes, Changes, Rescues, Verifies, Hashes};
 
 // Makes a fresh store of any bytes of the right length.
 #[no_mangle]
@@ -15,7 +16,7 @@ pub extern "C" fn grants_format(store: &mut [u8]) -> u32
 pub extern "C" fn grants_check(store: &[u8]) -> u32
     ensures { λ r. ⌜ Checks (now (store .entry)) r ⌝ }
 {
-    check_store::check(store)
+    check_store::check(Form::Counted, store)
 }
 
 // Makes the version of a number above latest of a batch; answer: version, root and count of new records, little-endian.
@@ -53,6 +54,22 @@ pub extern "C" fn grants_get(store: &[u8], version: u32, key: &[u8], found: &mut
     ensures { λ r. ⌜ ReadsKey (now (store .entry)) version (now (key .entry)) (now (found .entry)) r (now (found .exit)) ⌝ }
 {
     read_c::grants_get(store, version, key, found)
+}
+
+// The number of grants of a version, little-endian.
+#[no_mangle]
+pub extern "C" fn grants_count(store: &[u8], version: u32, count: &mut [u8; 8]) -> u64
+    ensures { λ r. ⌜ Counts (now (store .entry)) version (now (count .entry)) r (now (count .exit)) ⌝ }
+{
+    read_counts_c::grants_count(store, version, count)
+}
+
+// The grant at a position of a version, 0 the least key: its key and its value.
+#[no_mangle]
+pub extern "C" fn grants_at(store: &[u8], version: u32, position: u64, grant: &mut [u8; 64]) -> u64
+    ensures { λ r. ⌜ ReadsAt (now (store .entry)) version position (now (grant .entry)) r (now (grant .exit)) ⌝ }
+{
+    read_counts_c::grants_at(store, version, position, grant)
 }
 
 // Writes the proof for a key in a version to the front of the room; length: how long it is, little-endian.

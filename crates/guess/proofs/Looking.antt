@@ -4,6 +4,7 @@ use native.Mathlib.Omega.{arith}
 use mathlib.Core.Path.{_≡_, ap, sym, _∙_}
 use mathlib.Core.Bool.{Bool, true, false}
 use lib.ListN.{length}
+use Rattle.terms.specs.declared.Form.the-variants.{Counted as counted}
 use Rattle.terms.specs.Bits.{Bytes, Byte, All, sameBytes}
 use Rattle.terms.proofs.Tests.{same-bytes}
 use Rattle.meaning.specs.Store.{isNode}
@@ -21,19 +22,19 @@ use Rattle.lookup.proofs.Searching.{used-or}
 use Rattle.guess.specs.Guess.{NodeAt}
 
 -- a slot that is there
-pub slot-has : (s : Bytes) {n i : ℕ} → sizeRight (length s) ≡ true → n ≡ roomOf (length s) → i < n → Has s i
+pub slot-has : (s : Bytes) {n i : ℕ} → sizeRight counted (length s) ≡ true → n ≡ roomOf counted (length s) → i < n → Has counted s i
 slot-has s h e l = record { size = h; inside = omega (arith, e) }
 
 -- its fields decide
-module _ {s : Bytes} (b : All Byte s) (v : ℕ) (p : place.Place) (w : Proper p) {i : ℕ} (h : Has s i) where
-  pub held : {x y : Bytes} → x ≡ slotIn i s → versionIn (slotIn i s) ≡ v → countIn (slotIn i s) ≡ p .count → y ≡ bitsIn x →
+module _ {s : Bytes} (b : All Byte s) (v : ℕ) (p : place.Place) (w : Proper p) {i : ℕ} (h : Has counted s i) where
+  pub held : {x y : Bytes} → x ≡ slotIn counted i s → versionIn (slotIn counted i s) ≡ v → countIn (slotIn counted i s) ≡ p .count → y ≡ bitsIn x →
       sameBytes y (p .bits) ≡ true → (t : Bool) → t ≡ isUsed (slotOf x) → NodeAt s i v (placeOf p) t
   unfolding countIn
   held k a c o d true u =
-      let (q, f) = used-or (slotOf (slotIn i s)) (ap (λ y. isUsed (slotOf y)) (sym k) ∙ sym u) in
+      let (q, f) = used-or (slotOf (slotIn counted i s)) (ap (λ y. isUsed (slotOf y)) (sym k) ∙ sym u) in
       let m : isNode v (placeOf p) q ≡ true =
-      is-node (slotIn i s) (slot-long i s (slot-within h)) (slot-bytes i s b) v (placeOf p) (omega (arith, w .short, proper-count p w)) a
+      is-node counted (slotIn counted i s) (slot-long counted i s (slot-within h)) (slot-bytes counted i s b) v (placeOf p) (omega (arith, w .short, proper-count p w)) a
       (c ∙ sym (proper-count p w)) (ap bitsIn (sym k) ∙ sym o ∙ same-bytes _ (p .bits) d ∙ w .trimmed) q f
       in
-      (omega (arith, h .inside, slots-many s), (q, slot-is h ∙ f, m))
+      (omega (arith, h .inside, slots-many counted s), (q, slot-is h ∙ f, m))
   held k a c o d false u = tt

@@ -8,6 +8,7 @@ use store::count_at;
 use store::slot_count;
 use store::slot_of;
 use store::version_at;
+use terms::Form;
 ghost use mathlib.Core.Path.{_≡_};
 ghost use mathlib.Core.Bool.{true};
 ghost use Prim.Native.Nat.{_<_};
@@ -38,21 +39,21 @@ pub fn spread(version: u32, count: usize, bits: &[u8]) -> u64
 
 // Whether slot i holds the node (version, place): the cheap fields first.
 pub fn holds(store: &[u8], i: usize, version: u32, place: Place) -> bool
-    requires { ⌜ (sizeRight (length (now store)) ≡ true) × Proper place ⌝ }
+    requires { ⌜ (sizeRight Form.Counted (length (now store)) ≡ true) × Proper place ⌝ }
     ensures { λ r. ⌜ NodeAt (now (store .entry)) i version (placeOf place) r ⌝ }
 {
-    let n = slot_count(store);
+    let n = slot_count(Form::Counted, store);
     if n <= i {
         return false;
     }
-    if version_at(store, i) != version {
+    if version_at(Form::Counted, store, i) != version {
         return false;
     }
-    if count_at(store, i) as usize != place.count {
+    if count_at(Form::Counted, store, i) as usize != place.count {
         return false;
     }
     let bits = place.bits;
-    let s = slot_of(store, i);
+    let s = slot_of(Form::Counted, store, i);
     if !same(bits_of(s), &bits) {
         return false;
     }

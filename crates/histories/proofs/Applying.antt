@@ -16,10 +16,12 @@ use Rattle.terms.specs.Records.{Record, Slot, Store}
 use Rattle.terms.specs.Form.{top32, RecordForm}
 use Rattle.terms.proofs.Tests.{is-false}
 use Rattle.terms.proofs.Members.{In, all-in}
-use Rattle.meaning.specs.Tree.{VTree, vinner, unversioned}
+use Rattle.meaning.specs.Tree.{VTree, vinner, leaves, unversioned}
 use Rattle.meaning.specs.Store.{find, treeAtVersion, freeSlots, marked, hasNode, retire, retiredBy, recordsOf, newRecords, settled}
-use Rattle.meaning.specs.Sound.{At, Kept, Found, NodeOf, Lives, Hashes32, Stands}
+use Rattle.meaning.specs.Sound.{At, Kept, Found, Tallied, NodeOf, Lives, Hashes32, Stands}
 use Rattle.meaning.proofs.Finding.{some-inner}
+use Rattle.meaning.proofs.Counts.{tell-counts}
+use Rattle.meaning.proofs.Leaves.{few-leaves}
 use Rattle.meaning.proofs.Shaped.{Shaped, no-lone-leaf}
 use Rattle.histories.proofs.Slots.{Has, Unique, unique-find}
 use Rattle.histories.proofs.Writing.{contents, turned, turned-node, retire-at, placed-at, has-retire, spoiled-retire, find-retire, unique-retire, free-retire, has-placed, spoiled-placed, placed-has, length-written, New, Older, find-older, unique-placed}
@@ -35,7 +37,7 @@ module _ (leafHash innerHash : Bytes → Bytes → Bytes) where
       Shaped p (unversioned t) →
       ((x : Record) → In x (recordsAt leafHash innerHash p t) → New new x → find (x .version) (x .place) (st .slots) ≡ some x) →
       Stands leafHash innerHash st p t
-  unfolding Found
+  unfolding Found Tallied
   grows-stands st new p grow-same s k f = s
   grows-stands st new p grow-none s k f = tt
   grows-stands st new p (grow-leaf {g = g}) s k f = ((_, f _ (inl refl) refl, refl), k .0)
@@ -47,6 +49,7 @@ module _ (leafHash innerHash : Bytes → Bytes → Bytes) where
             (λ x i n. f x (kid-records leafHash innerHash left x p new l r i) n),
         grows-stands st new (longer right p) b (kid-stands leafHash innerHash right st p old s) (k .3)
             (λ x i n. f x (kid-records leafHash innerHash right x p new l r i) n),
+        (h .0, ap₂ (λ x y. find x y (st .slots)) (sym (h .2)) (sym (h .3)) ∙ f (h .0) (h .1) (h .2), tell-counts (st .form) (λ _. h .5)),
       )
 
   module _ (lh : Hashes32 leafHash) (ih : Hashes32 innerHash) (st : Store) (w : Whole leafHash innerHash st)
@@ -190,6 +193,21 @@ module _ (leafHash innerHash : Bytes → Bytes → Bytes) where
       | inr m ↦ let u = old-number (was-kept (st .latest) last-kept) x q m in (u .0, omega (arith, u .1))
     ]
 
+    stands-old : {v : ℕ} {t : VTree} → Was v t → Stands leafHash innerHash st′ [] t
+    unfolding Alike settled
+    stands-old {t = t} was =
+        stands-alike leafHash innerHash st st′ refl [] t (λ x q n. find-old x q (old-number was x q n .1)) (was .stands)
+
+    stands-now : Stands leafHash innerHash st′ [] now
+    stands-now =
+        grows-stands st′ new [] (g .grows) (stands-old (was-kept (st .latest) last-kept)) (g .shaped)
+        (λ x h e. find-fresh x (in-new leafHash innerHash new now x h e))
+
+    -- the new tree has no more leaves than there are slots
+    few-now : leaves now ≤ top32
+    unfolding settled
+    few-now = omega (arith, few-leaves leafHash innerHash st′ [] now stands-now, length-written news new before after (st .slots), w .size)
+
     formed′ : Formed (st′ .slots)
     unfolding marked
     formed′ r h = go (came r h)
@@ -198,8 +216,8 @@ module _ (leafHash innerHash : Bytes → Bytes → Bytes) where
         go (stayed h f) = w .formed r h
         go (ended q h e a b) =
             let f = w .formed q h in
-            subst RecordForm e (record { short = f .short; versioned = f .versioned; number = small; body = f .body })
-        go (fresh h e) = record-form leafHash innerHash lh ih now (g .shaped) new-number r h
+            subst RecordForm e (record { short = f .short; versioned = f .versioned; number = small; body = f .body; counts = f .counts })
+        go (fresh h e) = record-form leafHash innerHash lh ih now (g .shaped) new-number few-now r h
 
     versions′ : (r : Record) → Came r → (1 ≤ r .version) × (r .version ≤ new)
     unfolding marked
@@ -215,16 +233,6 @@ module _ (leafHash innerHash : Bytes → Bytes → Bytes) where
         let v = w .versions q h in let o = w .header in
         subst (Lifetime (st .oldest) new) e (inr (omega arith, omega arith, omega arith))
     lifetimes′ r (fresh h e) = inl (origin leafHash innerHash r [] now h .is .retired)
-
-    stands-old : {v : ℕ} {t : VTree} → Was v t → Stands leafHash innerHash st′ [] t
-    unfolding Alike
-    stands-old {t = t} was =
-        stands-alike leafHash innerHash st st′ [] t (λ x q n. find-old x q (old-number was x q n .1)) (was .stands)
-
-    stands-now : Stands leafHash innerHash st′ [] now
-    stands-now =
-        grows-stands st′ new [] (g .grows) (stands-old (was-kept (st .latest) last-kept)) (g .shaped)
-        (λ x h e. find-fresh x (in-new leafHash innerHash new now x h e))
 
     -- at an older version a record lives as before; one that ended now was there to the end
     exact-old : {v : ℕ} {t : VTree} → Was v t → (r : Record) → Came r → NodeOf (r .version) (r .place) t [] ↔ Lives v r

@@ -1,4 +1,5 @@
--- The records of a shaped tree are in form, where its versions are numbers of four bytes and its hashes have 32 bytes. Assumes nothing.
+-- The records of a shaped tree are in form, where its versions and the number of its leaves have four bytes and its hashes 32. Assumes
+-- nothing.
 use Prim.Native.Nat.{ℕ, zero, suc, _≤_, _<_}
 use native.Mathlib.Omega.{arith}
 use mathlib.Core.Path.{_≡_, refl, ap, sym, subst₂}
@@ -6,13 +7,14 @@ use mathlib.Core.List.{[], _++_}
 use lib.ListN.{length, replicate}
 use Rattle.terms.specs.Bits.{Bytes, Byte, Whole32, All, Place, longer, left, right, bits, begins}
 use Rattle.terms.specs.Records.{Record, zeros}
-use Rattle.terms.specs.Form.{top32, placeLimit, ChildForm, BodyForm, RecordForm}
+use Rattle.terms.specs.Form.{top32, placeLimit, ChildForm, BodyForm, CountsForm, RecordForm}
 use Rattle.terms.proofs.Places.{length-bits, prefix-length}
 use Rattle.terms.proofs.Members.{In}
-use Rattle.meaning.specs.Tree.{Tree, none, leaf, inner, hash, VTree, vnone, vleaf, vinner, unversioned, grantsIn, topVersion}
-use Rattle.meaning.specs.Store.{childOf}
+use Rattle.meaning.specs.Tree.{Tree, none, leaf, inner, hash, VTree, vnone, vleaf, vinner, unversioned, grantsIn, topVersion, leaves}
+use Rattle.meaning.specs.Store.{childOf, countsOf}
 use Rattle.meaning.specs.Sound.{NodeOf, Hashes32}
 use Rattle.meaning.proofs.Finding.{Within, there, go-kid, Some, some-leaf, some-inner, within-node, within-trans}
+use Rattle.meaning.proofs.Leaves.{within-leaves}
 use Rattle.meaning.proofs.Shaped.{Shaped}
 use Rattle.histories.proofs.Nodes.{bodyOf, recordsAt, Origin, origin, origin-node}
 use Rattle.histories.proofs.Trees.{within-shaped}
@@ -34,7 +36,8 @@ module _ (leafHash innerHash : Bytes → Bytes → Bytes) (lh : Hashes32 leafHas
   hash32 (leaf g) = lh (g .key) (g .value)
   hash32 (inner l r) = ih (hash leafHash innerHash l) (hash leafHash innerHash r)
 
-  module _ (t : VTree) (s : Shaped [] (unversioned t)) (numbers : (w : ℕ) (q : Place) → NodeOf w q t [] → (1 ≤ w) × (w ≤ top32)) where
+  module _ (t : VTree) (s : Shaped [] (unversioned t)) (numbers : (w : ℕ) (q : Place) → NodeOf w q t [] → (1 ≤ w) × (w ≤ top32))
+      (few : leaves t ≤ top32) where
     -- a node has a version; no node has version 0
     top-number : (u : VTree) (q : Place) → Within u q t [] → (topVersion u ≤ top32) × (topVersion u ≡ 0 → u ≡ vnone)
     top-number vnone q w = (omega arith, λ e. refl)
@@ -60,6 +63,11 @@ module _ (leafHash innerHash : Bytes → Bytes → Bytes) (lh : Hashes32 leafHas
         λ e f. two-missing l r (top-number l _ a .1 e) (top-number r _ b .1 f) (k .1) in
         (k .0, (child-form l (longer left q) a, child-form r (longer right q) b, present))
 
+    -- a count has four bytes where the tree's leaves do
+    counts-form : (u : VTree) (q : Place) → Some u → Within u q t [] → CountsForm (bodyOf leafHash innerHash u) (countsOf u)
+    counts-form (vleaf v g) q o w = refl
+    counts-form (vinner v l r) q o w = let k = within-leaves w in (omega arith, omega arith)
+
     pub record-form : (x : Record) → In x (recordsAt leafHash innerHash [] t) → RecordForm x
     record-form x h =
         let o : Origin leafHash innerHash x t [] = origin leafHash innerHash x [] t h in
@@ -71,4 +79,5 @@ module _ (leafHash innerHash : Bytes → Bytes → Bytes) (lh : Hashes32 leafHas
           versioned = numbers (x .version) (x .place) (origin-node leafHash innerHash x [] t o);
           number = omega (arith, o .is .retired);
           body = b .1;
+          counts = subst₂ CountsForm (sym (o .is .body)) (sym (o .is .counts)) (counts-form (o .tree) (o .place) (o .is .some) (o .within));
         }

@@ -14,7 +14,7 @@ use Rattle.terms.proofs.Lists.{all-append, all-filter}
 use Rattle.terms.proofs.Places.{length-longer, prefix-longer, prefix-self, prefix-length}
 use Rattle.terms.proofs.Members.{In, in-left, in-right, in-append, in-filter, filter-in, all-in}
 use Rattle.meaning.specs.Tree.{VTree, vnone, vleaf, vinner, topVersion, kid}
-use Rattle.meaning.specs.Store.{isNode, hasNode, childOf, recordAt, recordsBelow, recordsOf, newRecords}
+use Rattle.meaning.specs.Store.{isNode, hasNode, childOf, countsOf, recordAt, recordsBelow, recordsOf, newRecords}
 use Rattle.meaning.specs.Sound.{NodeOf}
 use Rattle.meaning.proofs.Finding.{Within, there, go-kid, Some, some-leaf, some-inner, within-node, isNode-eq}
 use Rattle.histories.proofs.Slots.{is-node, not-node}
@@ -84,9 +84,10 @@ module _ (leafHash innerHash : Bytes → Bytes → Bytes) where
     pub version : x .version ≡ topVersion u
     pub retired : x .retired ≡ 0
     pub body : x .body ≡ bodyOf u
+    pub counts : x .counts ≡ countsOf u
 
   abbrev written : Place → VTree → Record
-  written q u = record { place = q; version = topVersion u; retired = 0; body = bodyOf u }
+  written q u = record { place = q; version = topVersion u; retired = 0; body = bodyOf u; counts = countsOf u }
 
   is-written : (x : Record) (q : Place) (u : VTree) → Some u → written q u ≡ x → IsRecord x q u
   is-written x q u s e = record {
@@ -95,6 +96,7 @@ module _ (leafHash innerHash : Bytes → Bytes → Bytes) where
     version = sym (ap (λ r. r .version) e);
     retired = sym (ap (λ r. r .retired) e);
     body = sym (ap (λ r. r .body) e);
+    counts = sym (ap (λ r. r .counts) e);
   }
 
   at-is : (x : Record) (q : Place) (u : VTree) → In x (recordAt leafHash innerHash q u) → IsRecord x q u
@@ -109,9 +111,9 @@ module _ (leafHash innerHash : Bytes → Bytes → Bytes) where
   recordsAt p t = recordsBelow leafHash innerHash p t ++ recordAt leafHash innerHash p t
 
   pub top-record : (p : Place) (u : VTree) → Some u →
-      (x : Record) × In x (recordsAt p u) × (x .version ≡ topVersion u) × (x .place ≡ p) × (x .body ≡ bodyOf u)
-  top-record p (vleaf v g) s = (_, inl refl, refl, refl, refl)
-  top-record p (vinner v l r) s = (_, in-right _ (recordsBelow leafHash innerHash p (vinner v l r)) _ (inl refl), refl, refl, refl)
+      (x : Record) × In x (recordsAt p u) × (x .version ≡ topVersion u) × (x .place ≡ p) × (x .body ≡ bodyOf u) × (x .counts ≡ countsOf u)
+  top-record p (vleaf v g) s = (_, inl refl, refl, refl, refl, refl)
+  top-record p (vinner v l r) s = (_, in-right _ (recordsBelow leafHash innerHash p (vinner v l r)) _ (inl refl), refl, refl, refl, refl)
 
   -- strictly below a node are the records of its children, in four parts: those strictly below the left and the right child, and these
   module _ (p : Place) (v : ℕ) (l r : VTree) where

@@ -63,7 +63,7 @@ formatted-whole leafHash innerHash n h = record {
 -- pruning
 
 unfoldable pub cut : ℕ → Store → Store
-cut n st = record { oldest = n; latest = st .latest; slots = pruned n (st .slots) }
+cut n st = record { form = st .form; oldest = n; latest = st .latest; slots = pruned n (st .slots) }
 
 module _ (leafHash innerHash : Bytes → Bytes → Bytes) (st : Store) (w : Whole leafHash innerHash st) (n : ℕ) (k : Kept st n) where
   -- a node of a tree that is still kept is not freed
@@ -86,7 +86,7 @@ module _ (leafHash innerHash : Bytes → Bytes → Bytes) (st : Store) (w : Whol
 
   cut-stands : (v : ℕ) → Kept (cut n st) v → Stands leafHash innerHash (cut n st) [] (treeAtVersion st v)
   unfolding cut
-  cut-stands v l = stands-alike leafHash innerHash st (cut n st) [] (treeAtVersion st v) (alike v l) (w .stands v (omega arith, l .1))
+  cut-stands v l = stands-alike leafHash innerHash st (cut n st) refl [] (treeAtVersion st v) (alike v l) (w .stands v (omega arith, l .1))
 
   cut-exact : (v : ℕ) → Kept (cut n st) v → Exact (pruned n (st .slots)) v (treeAtVersion st v)
   unfolding cut

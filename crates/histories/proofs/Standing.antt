@@ -10,12 +10,12 @@ use mathlib.Core.Option.{Option, none, some, Option·none-ne-some}
 use lib.ListN.{length}
 use borrow.Author.Tests.{ne-eqb}
 use Rattle.terms.specs.Bits.{Bytes, Side, left, right, Place, longer}
-use Rattle.terms.specs.Records.{grant, Body, leafBody, Record, Slot, Store}
+use Rattle.terms.specs.Records.{grant, Body, leafBody, Tally, Record, Slot, Store}
 use Rattle.terms.specs.Form.{placeLimit, RecordForm}
 use Rattle.terms.proofs.Places.{length-longer}
 use Rattle.meaning.specs.Tree.{VTree, vnone, vleaf, vinner, topVersion, kid}
 use Rattle.meaning.specs.Store.{find, rootOf, treeBelow, treeFound, treeFrom, treeAtVersion, childOf}
-use Rattle.meaning.specs.Sound.{Found, Stands, NodeOf, Lives}
+use Rattle.meaning.specs.Sound.{Found, CountsAre, Tallied, Stands, NodeOf, Lives}
 use Rattle.meaning.proofs.Nodes.{node-top}
 use Rattle.meaning.proofs.Roots.{root-none}
 use Rattle.histories.proofs.Slots.{Has, find-has, Unique, unique-find, root-has, root-not}
@@ -25,9 +25,12 @@ use Rattle.histories.proofs.Writing.{contents}
 abbrev pub Formed : List Slot → Type 0
 Formed s = (r : Record) → Has r s → RecordForm r
 
-contents-some : (o : Option Record) (r : Record) → contents o ≡ contents (some r) → (q : Record) × (o ≡ some q) × (q .body ≡ r .body)
-contents-some none r e = absurd (Option·none-ne-some (r .version, r .body) e)
-contents-some (some q) r e = let p : _≡_ {A = ℕ × Body} (q .version, q .body) (r .version, r .body) = cc in (q, refl, ap (λ x. x .1) p)
+contents-some : (o : Option Record) (r : Record) → contents o ≡ contents (some r) →
+    (q : Record) × (o ≡ some q) × (q .body ≡ r .body) × (q .counts ≡ r .counts)
+contents-some none r e = absurd (Option·none-ne-some (r .version, r .body, r .counts) e)
+contents-some (some q) r e =
+    let p : _≡_ {A = ℕ × Body × Tally} (q .version, q .body, q .counts) (r .version, r .body, r .counts) = cc in
+    (q, refl, ap (λ x. x .1) p, ap (λ x. x .2) p)
 
 -- a node of a standing tree's side is a node of the tree
 pub kid-node : (b : Side) (w : ℕ) (q : Place) (t : VTree) (p : Place) → NodeOf w q (kid b t) (longer b p) → NodeOf w q t p
@@ -103,16 +106,24 @@ module _ (leafHash innerHash : Bytes → Bytes → Bytes) where
   unfolding Found
   found-alike st st′ v p b e (r, f, g) = let q = contents-some _ r (e ∙ ap contents f) in (q .0, q .1, q .2 ∙ g)
 
-  pub stands-alike : (st st′ : Store) (p : Place) (t : VTree) → Alike st st′ t p → Stands leafHash innerHash st p t →
+  tallied-alike : (st st′ : Store) → st .form ≡ st′ .form → (v : ℕ) (p : Place) (c : Tally) →
+      contents (find v p (st′ .slots)) ≡ contents (find v p (st .slots)) → Tallied st v p c → Tallied st′ v p c
+  unfolding Tallied
+  tallied-alike st st′ same v p c e (r, f, g) =
+      let q = contents-some _ r (e ∙ ap contents f) in
+      (q .0, q .1, subst₂ (λ x y. CountsAre x y c) same (sym (q .3)) g)
+
+  pub stands-alike : (st st′ : Store) → st .form ≡ st′ .form → (p : Place) (t : VTree) → Alike st st′ t p → Stands leafHash innerHash st p t →
       Stands leafHash innerHash st′ p t
   unfolding Alike
-  stands-alike st st′ p vnone a s = tt
-  stands-alike st st′ p (vleaf v g) a s = (found-alike st st′ v p _ (a v p (refl, refl)) (s .0), s .1)
-  stands-alike st st′ p (vinner v l r) a s = (
+  stands-alike st st′ same p vnone a s = tt
+  stands-alike st st′ same p (vleaf v g) a s = (found-alike st st′ v p _ (a v p (refl, refl)) (s .0), s .1)
+  stands-alike st st′ same p (vinner v l r) a s = (
     found-alike st st′ v p _ (a v p (inl (refl, refl))) (s .0),
     s .1,
-    stands-alike st st′ (longer left p) l (λ w q n. a w q (inr (inl n))) (s .2),
-    stands-alike st st′ (longer right p) r (λ w q n. a w q (inr (inr n))) (s .3),
+    stands-alike st st′ same (longer left p) l (λ w q n. a w q (inr (inl n))) (s .2),
+    stands-alike st st′ same (longer right p) r (λ w q n. a w q (inr (inr n))) (s .3),
+    tallied-alike st st′ same v p _ (a v p (inl (refl, refl))) (s .4),
   )
 
   -- a node of a standing tree is found

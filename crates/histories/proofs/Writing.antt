@@ -9,7 +9,7 @@ use mathlib.Core.List.{List, [], _∷_, map}
 use mathlib.Core.Option.{Option, none, some, Option·none-ne-some, Option·some-ne-none}
 use lib.ListN.{length, getD, length-map}
 use Rattle.terms.specs.Bits.{Bytes, Place, All}
-use Rattle.terms.specs.Records.{Body, Record, Slot, free, used, spoiled}
+use Rattle.terms.specs.Records.{Body, Tally, Record, Slot, free, used, spoiled}
 use Rattle.terms.proofs.Lists.{all-map}
 use Rattle.terms.proofs.Members.{In}
 use Rattle.meaning.specs.Store.{find, isNode, freeSlots, placed, marked, onRecord, hasNode, retireIn, retire, retiredBy, pruneRecord, pruned}
@@ -40,13 +40,13 @@ spoiled-changed f x k (spoiled y ∷ s) (inr h) = inr (spoiled-changed f x k s h
 -- retiring
 
 -- what is found, but for when it was retired
-abbrev pub contents : Option Record → Option (ℕ × Body)
+abbrev pub contents : Option Record → Option (ℕ × Body × Tally)
 contents none = none
-contents (some r) = some (r .version, r .body)
+contents (some r) = some (r .version, r .body, r .counts)
 
 pub contents-none : (o : Option Record) → contents o ≡ none → o ≡ none
 contents-none none e = refl
-contents-none (some r) e = absurd (Option·some-ne-none (r .version, r .body) e)
+contents-none (some r) e = absurd (Option·some-ne-none (r .version, r .body, r .counts) e)
 
 -- a record of the old tree alone is marked, any other stays
 abbrev pub turned : ℕ → List Record → List Record → Record → Record

@@ -8,6 +8,7 @@ use mathlib.Core.Option.{Option, none, some}
 use lib.ListN.{length, getD, List·getD-eq-default}
 use lib.Dec.{ltb}
 use borrow.Author.Tests.{lt-ltb, le-ltb, le-leb}
+use Rattle.terms.specs.declared.Form.the-variants.{Counted as counted}
 use Rattle.terms.specs.Bits.{Bytes, Byte, All, Place, pack, before, samePlace}
 use Rattle.terms.specs.Records.{Body, leafBody, innerBody, Record, Slot, free, used, spoiled}
 use Rattle.terms.specs.Form.{placeLimit}
@@ -62,21 +63,21 @@ off-form look free e = refl
 off-form look (used r) e = absurd (true≢false e)
 off-form look (spoiled x) e = refl
 
-module _ {s : Bytes} {i : ℕ} (has : Has s i) (b : All Byte s) (v : ℕ) (p : declared-place.Place) (proper : Proper p) where
+module _ {s : Bytes} {i : ℕ} (has : Has counted s i) (b : All Byte s) (v : ℕ) (p : declared-place.Place) (proper : Proper p) where
   abbrev x : Bytes
-  x = slotIn i s
+  x = slotIn counted i s
 
   abbrev q : Place
   q = placeOf p
 
   abbrev Says : declared.Look → Type 0
-  Says l = l ≡ lookSays (lookAt (nodeLook v q) (inForm (slotNo i s)))
+  Says l = l ≡ lookSays (lookAt (nodeLook v q) (inForm (slotNo counted i s)))
 
-  long : length x ≡ slotSize
-  long = slot-long i s (slot-within has)
+  long : length x ≡ slotSize counted
+  long = slot-long counted i s (slot-within has)
 
   whole : All Byte x
-  whole = slot-bytes i s b
+  whole = slot-bytes counted i s b
 
   says-of : (l : declared.Look) → isUsed (slotOf x) ≡ true → ((r : Record) → slotOf x ≡ used r → lookSays (nodeLook v q r) ≡ l) → Says l
   says-of l e f = by-slot (nodeLook v q) l (slotOf x) e f ∙ ap (λ y. lookSays (lookAt (nodeLook v q) (inForm y))) (sym (slot-is has))
@@ -85,10 +86,10 @@ module _ {s : Bytes} {i : ℕ} (has : Has s i) (b : All Byte s) (v : ℕ) (p : d
   short = omega (arith, proper .short, proper-count p proper)
 
   its-bits : (r : Record) → slotOf x ≡ used r → bitsIn x ≡ pack 32 (r .place)
-  its-bits r e = bits-are x long whole r e
+  its-bits r e = bits-are counted x long whole r e
 
   its-short : (r : Record) → slotOf x ≡ used r → length (r .place) ≤ 256
-  its-short r e = omega (arith, says x long whole r e .form .short, limit (r .body))
+  its-short r e = omega (arith, says {fm = counted} x long whole r e .form .short, limit (r .body))
 
   pub unformed : isUsed (slotOf x) ≡ false → Says Great
   unformed e = off-form (nodeLook v q) (slotOf x) e ∙ ap (λ y. lookSays (lookAt (nodeLook v q) (inForm y))) (sym (slot-is has))
@@ -110,7 +111,7 @@ module _ {s : Bytes} {i : ℕ} (has : Has s i) (b : All Byte s) (v : ℕ) (p : d
 
       its-count : (r : Record) → slotOf x ≡ used r → countIn x ≡ length (r .place)
       unfolding countIn
-      its-count r u = count-is x long whole r u
+      its-count r u = count-is counted x long whole r u
 
       pub count-small : countIn x < p .count → Says Small
       count-small l =
@@ -131,15 +132,15 @@ module _ {s : Bytes} {i : ℕ} (has : Has s i) (b : All Byte s) (v : ℕ) (p : d
         pub version-small : versionIn x < v → Says Small
         version-small l =
             says-of Small form (λ r u.
-            ap lookSays (small v q r (by-version (r .version) v (r .place) q (its-place r u) (omega (arith, version-is x long whole r u)))))
+            ap lookSays (small v q r (by-version (r .version) v (r .place) q (its-place r u) (omega (arith, version-is counted x long whole r u)))))
 
         pub version-great : v < versionIn x → Says Great
         version-great l =
             says-of Great form (λ r u.
-            ap lookSays (great v q r (by-version v (r .version) q (r .place) (sym (its-place r u)) (omega (arith, version-is x long whole r u)))))
+            ap lookSays (great v q r (by-version v (r .version) q (r .place) (sym (its-place r u)) (omega (arith, version-is counted x long whole r u)))))
 
         pub meeting : versionIn x ≡ v → Says Meets
-        meeting e = says-of Meets form (λ r u. ap lookSays (met v q r (sym (version-is x long whole r u) ∙ e) (its-place r u)))
+        meeting e = says-of Meets form (λ r u. ap lookSays (met v q r (sym (version-is counted x long whole r u) ∙ e) (its-place r u)))
 
 -- an entry beyond the slots names none
 pub beyond : (look : Record → Look) (s : List Slot) (e : ℕ) → length s ≤ e → Great ≡ lookSays (lookAt look (named s e))
@@ -206,18 +207,18 @@ not-of : (b c : Bool) → not b ≡ c → b ≡ not c
 not-of true c e = ap not e
 not-of false c e = ap not e
 
-module _ {s : Bytes} {i : ℕ} (has : Has s i) (b : All Byte s) (v : ℕ) where
+module _ {s : Bytes} {i : ℕ} (has : Has counted s i) (b : All Byte s) (v : ℕ) where
   abbrev y : Bytes
-  y = slotIn i s
+  y = slotIn counted i s
 
   abbrev SaysRoot : declared.Look → Type 0
-  SaysRoot l = l ≡ lookSays (lookAt (rootLook v) (inForm (slotNo i s)))
+  SaysRoot l = l ≡ lookSays (lookAt (rootLook v) (inForm (slotNo counted i s)))
 
-  lasting : length y ≡ slotSize
-  lasting = slot-long i s (slot-within has)
+  lasting : length y ≡ slotSize counted
+  lasting = slot-long counted i s (slot-within has)
 
   all : All Byte y
-  all = slot-bytes i s b
+  all = slot-bytes counted i s b
 
   root-says : (l : declared.Look) → isUsed (slotOf y) ≡ true → ((r : Record) → slotOf y ≡ used r → lookSays (rootLook v r) ≡ l) → SaysRoot l
   root-says l e f = by-slot (rootLook v) l (slotOf y) e f ∙ ap (λ x. lookSays (lookAt (rootLook v) (inForm x))) (sym (slot-is has))
@@ -228,15 +229,15 @@ module _ {s : Bytes} {i : ℕ} (has : Has s i) (b : All Byte s) (v : ℕ) where
   module _ (form : isUsed (slotOf y) ≡ true) where
     pub root-deep : (countIn y ≡ 0 → ⊥) → SaysRoot Great
     unfolding countIn
-    root-deep n = root-says Great form (λ r u. ap lookSays (off-top v r (λ e. n (count-is y lasting all r u ∙ ap length e))))
+    root-deep n = root-says Great form (λ r u. ap lookSays (off-top v r (λ e. n (count-is counted y lasting all r u ∙ ap length e))))
 
     module _ (top : countIn y ≡ 0) where
       at-top : (r : Record) → slotOf y ≡ used r → r .place ≡ []
       unfolding countIn
-      at-top r u = no-bits (r .place) (sym (count-is y lasting all r u) ∙ top)
+      at-top r u = no-bits (r .place) (sym (count-is counted y lasting all r u) ∙ top)
 
       its-version : (r : Record) → slotOf y ≡ used r → versionIn y ≡ r .version
-      its-version r u = version-is y lasting all r u
+      its-version r u = version-is counted y lasting all r u
 
       pub root-later : v < versionIn y → SaysRoot Great
       root-later l = root-says Great form (λ r u. ap lookSays (later v r (at-top r u) (omega (arith, its-version r u))))
@@ -245,7 +246,7 @@ module _ {s : Bytes} {i : ℕ} (has : Has s i) (b : All Byte s) (v : ℕ) where
         its-end : (r : Record) → slotOf y ≡ used r → (c : Bool) → covers (versionIn y) (sinceIn y) v ≡ c → retiredBy v r ≡ not c
         its-end r u c e =
             not-of (retiredBy v r) c
-            (sym (life v r (omega (arith, its-version r u))) ∙ (sym (ap₂ (λ x z. covers x z v) (its-version r u) (retired-is y lasting all r u)) ∙ e))
+            (sym (life v r (omega (arith, its-version r u))) ∙ (sym (ap₂ (λ x z. covers x z v) (its-version r u) (retired-is counted y lasting all r u)) ∙ e))
 
         pub root-ended : covers (versionIn y) (sinceIn y) v ≡ false → SaysRoot Small
         root-ended e = root-says Small form (λ r u. ap lookSays (ended v r (at-top r u) (omega (arith, its-version r u)) (its-end r u false e)))

@@ -10,6 +10,7 @@ use store::retired_at;
 use store::slot_count;
 use store::slot_of;
 use store::version_at;
+use terms::Form;
 ghost use mathlib.Core.Path.{_≡_};
 ghost use mathlib.Core.Bool.{true};
 ghost use lib.ListN.{length};
@@ -36,10 +37,10 @@ fn wide(x: u32) -> usize
 
 // How slot i stands to a version and place: the bits first, then the bit count, then the version.
 fn look_node(store: &[u8], i: usize, version: u32, place: Place) -> Look
-    requires { ⌜ Has (now store) i × Proper place ⌝ }
-    ensures { λ r. ⌜ r ≡ lookSays (lookAt (nodeLook version (placeOf place)) (inForm (slotNo i (now (store .entry))))) ⌝ }
+    requires { ⌜ Has Form.Counted (now store) i × Proper place ⌝ }
+    ensures { λ r. ⌜ r ≡ lookSays (lookAt (nodeLook version (placeOf place)) (inForm (slotNo Form.Counted i (now (store .entry))))) ⌝ }
 {
-    let slot = slot_of(store, i);
+    let slot = slot_of(Form::Counted, store, i);
     if !holds_record(slot) {
         return Look::Great;
     }
@@ -51,14 +52,14 @@ fn look_node(store: &[u8], i: usize, version: u32, place: Place) -> Look
     if before(&bits, bits_of(slot)) {
         return Look::Great;
     }
-    let its = count_at(store, i) as usize;
+    let its = count_at(Form::Counted, store, i) as usize;
     if its < count {
         return Look::Small;
     }
     if count < its {
         return Look::Great;
     }
-    let own = version_at(store, i);
+    let own = version_at(Form::Counted, store, i);
     if own < version {
         return Look::Small;
     }
@@ -70,20 +71,20 @@ fn look_node(store: &[u8], i: usize, version: u32, place: Place) -> Look
 
 // How slot i stands to the root of a version: other places and later versions are too great, a root retired by then too small.
 fn look_root(store: &[u8], i: usize, version: u32) -> Look
-    requires { ⌜ Has (now store) i ⌝ }
-    ensures { λ r. ⌜ r ≡ lookSays (lookAt (rootLook version) (inForm (slotNo i (now (store .entry))))) ⌝ }
+    requires { ⌜ Has Form.Counted (now store) i ⌝ }
+    ensures { λ r. ⌜ r ≡ lookSays (lookAt (rootLook version) (inForm (slotNo Form.Counted i (now (store .entry))))) ⌝ }
 {
-    if !holds_record(slot_of(store, i)) {
+    if !holds_record(slot_of(Form::Counted, store, i)) {
         return Look::Great;
     }
-    if count_at(store, i) != 0 {
+    if count_at(Form::Counted, store, i) != 0 {
         return Look::Great;
     }
-    let from = version_at(store, i);
+    let from = version_at(Form::Counted, store, i);
     if version < from {
         return Look::Great;
     }
-    if !covers(from, retired_at(store, i), version) {
+    if !covers(from, retired_at(Form::Counted, store, i), version) {
         return Look::Small;
     }
     Look::Meets
@@ -91,7 +92,7 @@ fn look_root(store: &[u8], i: usize, version: u32) -> Look
 
 // A look for a root or for a node at an entry, which may name no slot.
 fn look_entry(store: &[u8], n: usize, entry: usize, version: u32, place: Place, root: bool) -> Look
-    requires { ⌜ (sizeRight (length (now store)) ≡ true) × (n ≡ roomOf (length (now store))) × Proper place ⌝ }
+    requires { ⌜ (sizeRight Form.Counted (length (now store)) ≡ true) × (n ≡ roomOf Form.Counted (length (now store))) × Proper place ⌝ }
     ensures { λ r. ⌜ r ≡ lookSays (lookAt (lookFor root version (placeOf place)) (named (storeOf (now (store .entry)) .slots) entry)) ⌝ }
 {
     if n <= entry {
@@ -105,10 +106,10 @@ fn look_entry(store: &[u8], n: usize, entry: usize, version: u32, place: Place, 
 
 // The slot on which the search for a root or for a node ends.
 fn search(store: &[u8], table: &[u32], version: u32, place: Place, root: bool) -> Found
-    requires { ⌜ (sizeRight (length (now store)) ≡ true) × (length (now table) ≡ roomOf (length (now store))) × Proper place ⌝ }
+    requires { ⌜ (sizeRight Form.Counted (length (now store)) ≡ true) × (length (now table) ≡ roomOf Form.Counted (length (now store))) × Proper place ⌝ }
     ensures { λ r. ⌜ Located (storeOf (now (store .entry)) .slots) (search (lookFor root version (placeOf place)) (now (table .entry)) (storeOf (now (store .entry)) .slots)) r ⌝ }
 {
-    let n = slot_count(store);
+    let n = slot_count(Form::Counted, store);
     let mut lo = 0;
     let mut hi = n;
     while lo < hi {
@@ -126,7 +127,7 @@ fn search(store: &[u8], table: &[u32], version: u32, place: Place, root: bool) -
 
 // The slot on which the search for a version and place ends.
 pub fn search_node(store: &[u8], table: &[u32], version: u32, place: Place) -> Found
-    requires { ⌜ (sizeRight (length (now store)) ≡ true) × (length (now table) ≡ roomOf (length (now store))) × Proper place ⌝ }
+    requires { ⌜ (sizeRight Form.Counted (length (now store)) ≡ true) × (length (now table) ≡ roomOf Form.Counted (length (now store))) × Proper place ⌝ }
     ensures { λ r. ⌜ Located (storeOf (now (store .entry)) .slots) (search (nodeLook version (placeOf place)) (now (table .entry)) (storeOf (now (store .entry)) .slots)) r ⌝ }
 {
     search(store, table, version, place, false)
@@ -134,7 +135,7 @@ pub fn search_node(store: &[u8], table: &[u32], version: u32, place: Place) -> F
 
 // The slot on which the search for the root of a version ends.
 pub fn search_root(store: &[u8], table: &[u32], version: u32) -> Found
-    requires { ⌜ (sizeRight (length (now store)) ≡ true) × (length (now table) ≡ roomOf (length (now store))) ⌝ }
+    requires { ⌜ (sizeRight Form.Counted (length (now store)) ≡ true) × (length (now table) ≡ roomOf Form.Counted (length (now store))) ⌝ }
     ensures { λ r. ⌜ Located (storeOf (now (store .entry)) .slots) (search (rootLook version) (now (table .entry)) (storeOf (now (store .entry)) .slots)) r ⌝ }
 {
     let top = Place::top();

@@ -6,6 +6,7 @@ use place::Place;
 use sights::Sight;
 use sights::look;
 use sights::look_root;
+use terms::Form;
 ghost use mathlib.Core.Path.{_≡_};
 ghost use mathlib.Core.Bool.{true};
 ghost use lib.ListN.{length};
@@ -18,7 +19,7 @@ ghost use Rattle.sights.specs.Sights.{Sighted};
 
 // What is found of a version and place.
 pub fn look_by(store: &[u8], table: &[u32], version: u32, place: Place) -> Sight
-    requires { ⌜ (sizeRight (length (now store)) ≡ true) × (length (now table) ≡ roomOf (length (now store))) × Proper place ⌝ }
+    requires { ⌜ (sizeRight Form.Counted (length (now store)) ≡ true) × (length (now table) ≡ roomOf Form.Counted (length (now store))) × Proper place ⌝ }
     ensures { λ r. ⌜ Sighted (storeOf (now (store .entry)) .slots) (nodeBy (now (table .entry)) (storeOf (now (store .entry))) version (placeOf place)) r ⌝ }
 {
     let found = search_node(store, table, version, place);
@@ -30,7 +31,7 @@ pub fn look_by(store: &[u8], table: &[u32], version: u32, place: Place) -> Sight
 
 // What is found of the root of a version.
 pub fn look_root_by(store: &[u8], table: &[u32], version: u32) -> Sight
-    requires { ⌜ (sizeRight (length (now store)) ≡ true) × (length (now table) ≡ roomOf (length (now store))) ⌝ }
+    requires { ⌜ (sizeRight Form.Counted (length (now store)) ≡ true) × (length (now table) ≡ roomOf Form.Counted (length (now store))) ⌝ }
     ensures { λ r. ⌜ Sighted (storeOf (now (store .entry)) .slots) (rootBy (now (table .entry)) (storeOf (now (store .entry))) version) r ⌝ }
 {
     let found = search_root(store, table, version);

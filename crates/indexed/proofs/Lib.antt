@@ -6,4 +6,5 @@ pub mod Scanned
 pub mod Leads
 pub mod One
 pub mod Counted
+pub mod Alike
 pub mod Samples

@@ -5,8 +5,9 @@ use mathlib.Core.Bool.{Bool, true, false}
 use mathlib.Core.List.{List, [], _∷_, map}
 use mathlib.Core.Option.{Option, none, some}
 use lib.ListN.{replicate}
+use Rattle.terms.specs.declared.Form.the-variants.{Counted as counted}
 use Rattle.terms.specs.Bits.{Place, left, right, samePlace}
-use Rattle.terms.specs.Records.{leafBody, Record, Slot, free, used, spoiled, Store}
+use Rattle.terms.specs.Records.{leafBody, noTally, Record, Slot, free, used, spoiled, Store}
 use Rattle.meaning.specs.Store.{isNode, isRoot, retiredBy, rootOf}
 use Rattle.meaning.specs.Sight.{Sight, matches, nothing, spoilt, agrees, agreesRoot, livesBy, rootSight, nodeSight}
 use Rattle.indexed.specs.Index.{placeBefore, nodeBefore, Look, tooSmall, tooGreat, meets, named, nodeLook, rootLook, searchFrom, search, rootBy, nodeBy}
@@ -29,14 +30,14 @@ places-in-order = refl
 
 -- six slots: roots of versions 1 (retired by 3) and 3 in slots 4 and 0, the places 0 and 1 in 2 and 5, slot 1 free, slot 3 a second copy of the place 1
 abbrev at : ℕ → Place → ℕ → Record
-at v p since = record { version = v; place = p; retired = since; body = leafBody [] [] }
+at v p since = record { version = v; place = p; retired = since; body = leafBody [] []; counts = noTally }
 
 abbrev slots : List Slot
 slots =
     used (at 3 [] 0) ∷ free ∷ used (at 1 (left ∷ []) 0) ∷ used (at 2 (right ∷ []) 0) ∷ used (at 1 [] 3) ∷ used (at 2 (right ∷ []) 7) ∷ []
 
 st : Store
-st = record { oldest = 1; latest = 4; slots = slots }
+st = record { form = counted; oldest = 1; latest = 4; slots = slots }
 
 -- the order of the used slots is 4, 0, 2, then 3 and 5, which tie
 table : List ℕ

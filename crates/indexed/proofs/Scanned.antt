@@ -10,11 +10,13 @@ use mathlib.Core.Option.{Option, none, some}
 use lib.ListN.{length, List·getD-eq-default}
 use lib.Dec.{eqb, ltb}
 use Rattle.terms.specs.Bits.{Bytes, Side, Place, longer}
-use Rattle.terms.specs.Records.{Child, Record, Slot, free, Store}
+use Rattle.terms.specs.Records.{Grant, Child, Record, Slot, free, Store}
 use Rattle.meaning.specs.Store.{isNode, isRoot, lowest, rootOf}
-use Rattle.meaning.specs.Sight.{Sight, Looking, rootSight, nodeSight, scan}
-use Rattle.meaning.specs.Reading.{Seen, gap, lost, lostRecord, seenChild, seenAt, seenRoot, seen}
+use Rattle.meaning.specs.Sight.{Sight, matches, nothing, spoilt, Looking, rootSight, nodeSight, scan}
+use Rattle.meaning.specs.Reading.{Seen, gap, lost, lostRecord, refusalOf, seenChild, seenAt, seenRoot, seen}
 use Rattle.meaning.specs.Sound.{At, Kept, Sound}
+use Rattle.meaning.specs.Calls.{Answer, refused}
+use Rattle.meaning.specs.Counting.{weight, numberAt, atBody, atSight, descend, positionAt}
 use Rattle.meaning.proofs.Finding.{Lowest, miss, hit, lowest-is, same-slot, isNode-eq}
 use Rattle.meaning.proofs.Roots.{is-root, top-root}
 use Rattle.meaning.proofs.Sights.{root-sighted, node-sighted}
@@ -80,6 +82,14 @@ module _ (st : Store) (v : ℕ) where
   unfolding rootBy search
   root-without-table = ap (λ o. orScan o (rootSight st v)) (nowhere (rootLook v) (st .slots) (length (st .slots)) 0 (length (st .slots)))
 
+-- a descent by counts goes by what is found at nodes alone
+descend-alike : (n : ℕ) (look look′ : Looking) → look .node ≡ look′ .node → (p : Place) (c : Child) (i : ℕ) → descend n look p c i ≡ descend n look′ p c i
+descend-alike zero look look′ e p c i =
+    ap (λ (f : ℕ → Place → Sight). cond (eqb (c .version) 0) (refused 3) (atSight p (f (c .version) p) i (λ b d j. refused (refusalOf lostRecord)))) e
+descend-alike (suc n) look look′ e p c i =
+    ap₂ (λ (f : ℕ → Place → Sight) (g : Side → Child → ℕ → Answer Grant). cond (eqb (c .version) 0) (refused 3) (atSight p (f (c .version) p) i g)) e
+    (fun-ext (λ b. fun-ext (λ d. fun-ext (λ j. descend-alike n look look′ e (longer b p) d j))))
+
 -- what is seen below a root depends on how nodes are found alone
 seen-at-alike : (n : ℕ) (a b : Looking) → a .node ≡ b .node → (p : Place) (c : Child) → seenAt n a p c ≡ seenAt n b p c
 seen-at-alike zero a b e p c =
@@ -114,3 +124,20 @@ module _ (leafHash innerHash : Bytes → Bytes → Bytes) (st : Store) (sound : 
       ap₂ seenRoot (root-as-by-scan st table v (one-root v kept))
       (fun-ext (λ b. fun-ext (λ d. seen-at-alike 255 (byTable table st) (scan st)
       (fun-ext (λ w. fun-ext (λ p. node-as-by-scan st table w p (one-node w p)))) (b ∷ []) d)))
+
+  -- The number of grants and the grant at a position too.
+  pub sound-number-as-by-scan : (table : List ℕ) (v : ℕ) → Kept st v → numberAt (byTable table st .root v) ≡ numberAt (scan st .root v)
+  sound-number-as-by-scan table v kept = ap numberAt (root-as-by-scan st table v (one-root v kept))
+
+  pub sound-position-as-by-scan : (table : List ℕ) (v i : ℕ) → Kept st v →
+      positionAt (byTable table st) (byTable table st .root v) i ≡ positionAt (scan st) (scan st .root v) i
+  sound-position-as-by-scan table v i kept =
+      ap (λ x. positionAt (byTable table st) x i) (root-as-by-scan st table v (one-root v kept)) ∙ go (scan st .root v)
+    where
+      go : (x : Sight) → positionAt (byTable table st) x i ≡ positionAt (scan st) x i
+      go (matches r) =
+          ap (λ (f : Side → Child → ℕ → Answer Grant). cond (ltb i (weight r)) (atBody [] (r .body) (r .counts) i f) (refused 20))
+          (fun-ext (λ b. fun-ext (λ d. fun-ext (λ j. descend-alike 255 (byTable table st) (scan st)
+          (fun-ext (λ w. fun-ext (λ p. node-as-by-scan st table w p (one-node w p)))) (b ∷ []) d j))))
+      go nothing = refl
+      go (spoilt s) = refl

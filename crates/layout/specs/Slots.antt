@@ -1,27 +1,34 @@
--- Document 01, 'Bytes', slot: what 120 bytes say, and the 120 bytes that say it. In form is exactly what the sentence asks; retired-since,
+-- Document 01, 'Bytes', slot, and the counted form of 2026-09: what the bytes of a slot say, and the bytes that say it. How many they are
+-- tells the form, 120 or 128. In form is exactly what the sentence asks; retired-since,
 -- the children's versions and whether a leaf's key begins with its place are matters of soundness. Assumes nothing.
-use Prim.Native.Nat.{ℕ, _+_}
+use Prim.Native.Nat.{ℕ, _+_, _-_, _≤_}
 use mathlib.Core.Path.{_≡_}
 use mathlib.Core.Bool.{Bool, true, false, cond, _||_}
 use mathlib.Core.List.{List, [], _∷_, _++_}
 use lib.ListN.{length, take, drop}
 use lib.Dec.{eqb, leb}
+use Rattle.terms.specs.declared.Form.{Form}
+use Rattle.terms.specs.declared.Form.the-variants.{Plain as plain, Counted as counted}
 use Rattle.terms.specs.Bits.{Bytes, Byte, Side, Place, All, bits, pack, noneSet}
 use Rattle.terms.specs.Fields.{le, field, slice, zeroBytes, allZero, flat, allOf}
-use Rattle.terms.specs.Records.{Child, child, Body, leafBody, innerBody, Record, Slot, free, used, spoiled}
-use Rattle.terms.specs.Form.{placeLimit, RecordForm}
+use Rattle.terms.specs.Records.{Child, child, Body, leafBody, innerBody, Tally, tally, Record, Slot, free, used, spoiled}
+use Rattle.terms.specs.Form.{placeLimit, RecordForm, FormedAs}
 unfoldable pub use Rattle.terms.specs.Heads.{countIn}
 pub use Rattle.terms.specs.Heads.{bitsIn, versionIn, sinceIn}
-use Rattle.layout.specs.Sizes.{slotSize, leafLength, leafKind, innerLength, innerKind, kindAt, grantSize, keyAt, valueAt, tailAt, leftAt, rightAt}
+use Rattle.layout.specs.Sizes.{slotSize, leafLength, leafKind, innerKind, kindAt, grantSize, keyAt, valueAt, tailAt, leftAt, rightAt, leftCountAt, rightCountAt}
 
--- Leaf: length 112, kind 2. Inner: length 120, kind 3.
-abbrev pub lengthOf : Body → ℕ
-lengthOf (leafBody k x) = leafLength
-lengthOf (innerBody l r) = innerLength
+-- As many bytes as a slot of either form has: all that reading them asks for.
+abbrev pub SlotLong : Bytes → Type 0
+SlotLong x = (slotSize plain ≤ length x) × (length x ≤ slotSize counted)
 
-abbrev pub kindOf : Body → ℕ
-kindOf (leafBody k x) = leafKind
-kindOf (innerBody l r) = innerKind
+-- In a slot of n bytes. Leaf: length 112, kind 2. Inner: length n, and the kind of its form.
+abbrev pub lengthOf : ℕ → Body → ℕ
+lengthOf n (leafBody k x) = leafLength
+lengthOf n (innerBody l r) = n
+
+abbrev pub kindOf : ℕ → Body → ℕ
+kindOf n (leafBody k x) = leafKind
+kindOf n (innerBody l r) = innerKind n
 
 -- The place: as many bits as the bit count says.
 unfoldable pub placeIn : Bytes → Place
@@ -58,13 +65,17 @@ kidOn true x = rightIn x
 unfoldable pub innerIn : Bytes → Body
 innerIn x = innerBody (leftIn x) (rightIn x)
 
--- A record of a place, a version, a retired-since and a body.
-abbrev pub recordOf : Place → ℕ → ℕ → Body → Record
-recordOf p v n b = record { place = p; version = v; retired = n; body = b }
+-- The counts. In the plain form there are no bytes for them, so they read as 0; those of a leaf are of its zero bytes.
+unfoldable pub countsIn : Bytes → Tally
+countsIn x = tally (field leftCountAt 4 x) (field rightCountAt 4 x)
+
+-- A record of a place, a version, a retired-since, a body and counts.
+abbrev pub recordOf : Place → ℕ → ℕ → Body → Tally → Record
+recordOf p v n b c = record { place = p; version = v; retired = n; body = b; counts = c }
 
 -- The record with this body that the bytes hold.
 unfoldable pub recordIn : Bytes → Body → Record
-recordIn x b = recordOf (placeIn x) (versionIn x) (sinceIn x) b
+recordIn x b = recordOf (placeIn x) (versionIn x) (sinceIn x) b (countsIn x)
 
 -- Length and kind; bit count (0 to 256, inner 0 to 255), unused bits zero; version at least 1.
 abbrev pub headTests : ℕ → ℕ → ℕ → Bytes → List Bool
@@ -77,11 +88,11 @@ headTests n kind limit x =
     ∷ []
 
 unfoldable pub headRight : Body → Bytes → Bool
-headRight b x = allOf (headTests (lengthOf b) (kindOf b) (placeLimit b) x)
+headRight b x = allOf (headTests (lengthOf (length x) b) (kindOf (length x) b) (placeLimit b) x)
 
--- A leaf ends with 8 zero bytes.
+-- A leaf ends with zero bytes: 8, or 16 in the counted form.
 unfoldable pub isLeaf : Bytes → Bool
-isLeaf x = allOf (headRight (leafIn x) x ∷ allZero (slice tailAt 8 x) ∷ [])
+isLeaf x = allOf (headRight (leafIn x) x ∷ allZero (slice tailAt (length x - tailAt) x) ∷ [])
 
 -- A child's version 0 means no child, and its hash is then zero.
 unfoldable pub childRight : Child → Bool
@@ -128,18 +139,28 @@ abbrev pub bodyFields : Body → List Bytes
 bodyFields (leafBody k x) = k ∷ x ∷ zeroBytes 8 ∷ []
 bodyFields (innerBody l r) = childFields l ++ childFields r
 
+-- Then, in the counted form, the counts; a leaf has none, so they are 8 zero bytes more.
+abbrev pub countFields : Form → Tally → List Bytes
+countFields plain c = []
+countFields counted c = le 4 (c .leftward) ∷ le 4 (c .rightward) ∷ []
+
+abbrev pub recordFields : Form → Record → List Bytes
+recordFields f r =
+    headFields (lengthOf (slotSize f) (r .body)) (kindOf (slotSize f) (r .body)) (r .place) (r .version) (r .retired)
+    ++ (bodyFields (r .body) ++ countFields f (r .counts))
+
 -- The bytes of a record.
-unfoldable pub recordBytes : Record → Bytes
-recordBytes r = flat (headFields (lengthOf (r .body)) (kindOf (r .body)) (r .place) (r .version) (r .retired) ++ bodyFields (r .body))
+unfoldable pub recordBytes : Form → Record → Bytes
+recordBytes f r = flat (recordFields f r)
 
--- The 120 bytes of a slot.
-unfoldable pub slotBytes : Slot → Bytes
-slotBytes free = zeroBytes slotSize
-slotBytes (used r) = recordBytes r
-slotBytes (spoiled x) = x
+-- The bytes of a slot.
+unfoldable pub slotBytes : Form → Slot → Bytes
+slotBytes f free = zeroBytes (slotSize f)
+slotBytes f (used r) = recordBytes f r
+slotBytes f (spoiled x) = x
 
--- A slot that 120 bytes can be: a record is in form, and spoiled bytes are no record.
-abbrev pub SlotForm : Slot → Type 0
-SlotForm free = Unit {0}
-SlotForm (used r) = RecordForm r
-SlotForm (spoiled x) = (length x ≡ slotSize) × All Byte x × (slotOf x ≡ spoiled x)
+-- A slot that the bytes of a form can be: a record is in form, and spoiled bytes are no record.
+abbrev pub SlotForm : Form → Slot → Type 0
+SlotForm f free = Unit {0}
+SlotForm f (used r) = RecordForm r × FormedAs f r
+SlotForm f (spoiled x) = (length x ≡ slotSize f) × All Byte x × (slotOf x ≡ spoiled x)

@@ -3,7 +3,9 @@ pub const HEADER_SIZE: usize = 24;
 
 pub const HEADER_LENGTH: u32 = 24;
 
-pub const HEADER_KIND: u16 = 1;
+pub const PLAIN_HEADER_KIND: u16 = 1;
+
+pub const COUNTED_HEADER_KIND: u16 = 4;
 
 pub const MOST_SLOTS: usize = 16384;
 
@@ -17,7 +19,9 @@ pub const LATEST_AT: usize = 16;
 
 pub const HEADER_TAIL_AT: usize = 20;
 
-pub const SLOT_SIZE: usize = 120;
+pub const PLAIN_SIZE: usize = 120;
+
+pub const COUNTED_SIZE: usize = 128;
 
 pub const LEAF_LENGTH: u32 = 112;
 
@@ -25,9 +29,9 @@ pub const LEAF_KIND: u16 = 2;
 
 pub const LEAF_BITS: u16 = 256;
 
-pub const INNER_LENGTH: u32 = 120;
+pub const PLAIN_INNER_KIND: u16 = 3;
 
-pub const INNER_KIND: u16 = 3;
+pub const COUNTED_INNER_KIND: u16 = 5;
 
 pub const INNER_BITS: u16 = 255;
 
@@ -54,3 +58,7 @@ pub const LEFT_HASH_AT: usize = 52;
 pub const RIGHT_AT: usize = 84;
 
 pub const RIGHT_HASH_AT: usize = 88;
+
+pub const LEFT_COUNT_AT: usize = 120;
+
+pub const RIGHT_COUNT_AT: usize = 124;

@@ -14,8 +14,8 @@ use Rattle.terms.specs.Form.{RecordForm, top32}
 use mathlib.Core.List.{[]}
 use mathlib.Core.Option.{some, Option·some-injective}
 use Rattle.meaning.specs.Store.{find, rootOf, childOn}
-use Rattle.meaning.specs.Sound.{At, Sound, mostSlots}
-use Rattle.meaning.specs.Local.{Local, Linked, missing, found, BodyFits, childVersion, endsBefore}
+use Rattle.meaning.specs.Sound.{At, Sound, mostSlots, CountsAre}
+use Rattle.meaning.specs.Local.{Local, Linked, missing, found, BodyFits, childVersion, endsBefore, countsBy}
 use Rattle.local.specs.Test.{firstKept, isSame, holders, names, isParent, linkTest, recordTest, slotTest, slotsTest, formTest, localTest}
 use Rattle.meaning.proofs.Finding.{found-at, same-record, at-find}
 use Rattle.meaning.proofs.Roots.{own-root}
@@ -28,7 +28,7 @@ use Rattle.local.proofs.Naming.{names-eq, eq-names, parent-names, names
 use Rattle.local.proofs.Parents.{Kin, named-is-summed}
 use Rattle.local.proofs.Says.{Says, says, itself, equal, at-most, done, next}
 use Rattle.local.proofs.InForm.{form-says}
-use Rattle.local.proofs.Tests.{node-counted, counted-node, counted-once, ChildFound, BodyFound, body-says, head-says, RootApart, Covered, covered-says, life-says, Link, link-says}
+use Rattle.local.proofs.Tests.{node-counted, counted-node, counted-once, ChildFound, BodyFound, body-says, head-says, RootApart, Covered, covered-says, counts-say, life-says, Link, link-says}
 
 module _ (leafHash innerHash : Bytes → Bytes → Bytes) (st : Store) where
   -- the child on a side is linked
@@ -48,6 +48,7 @@ module _ (leafHash innerHash : Bytes → Bytes → Bytes) (st : Store) where
     body : BodyFound st (r .place) (r .body)
     links : LinksOf r
     covered : Covered st r
+    counts : CountsAre (st .form) (r .counts) (countsBy (st .slots) (r .place) (r .body))
 
   record-says : (r : Record) → Says (recordTest leafHash innerHash st r) (Passed r)
   unfolding recordTest
@@ -57,7 +58,8 @@ module _ (leafHash innerHash : Bytes → Bytes → Bytes) (st : Store) where
       (next (equal (holders r (st .slots)) 1)
       (next (body-says st (r .place) (r .body))
       (next (each-record st (linkTest leafHash innerHash st r) _ (link-says leafHash innerHash st r))
-      (next (covered-says st r) done))))) .all)
+      (next (covered-says st r)
+      (next (counts-say st r) done)))))) .all)
       (λ h. record {
         latest = h .0;
         life = h .1 .0;
@@ -65,8 +67,9 @@ module _ (leafHash innerHash : Bytes → Bytes → Bytes) (st : Store) where
         body = h .1 .1 .1 .0;
         links = h .1 .1 .1 .1 .0;
         covered = h .1 .1 .1 .1 .1 .0;
+        counts = h .1 .1 .1 .1 .1 .1 .0;
       })
-      (λ p. (p .latest, (p .life, (p .once, (p .body, (p .links, (p .covered, tt)))))))
+      (λ p. (p .latest, (p .life, (p .once, (p .body, (p .links, (p .covered, (p .counts, tt))))))))
 
   abbrev Passing : Slot → Type 0
   Passing y = slotTest leafHash innerHash st y ≡ true
@@ -146,6 +149,7 @@ module _ (leafHash innerHash : Bytes → Bytes → Bytes) (st : Store) where
     roots = λ v k i r a e l. own-root st v i r a e l (λ j q c f m.
         passed-kin formed passed (header .0) .roots v (k .0) j i q r c a f e (lives-living st q v (k .1) m) (lives-living st r v (k .1) l));
     bodies = λ i r a. passed-bodies formed passed i r a (r .body) refl (passed i r a .body);
+    counts = λ i r a. passed i r a .counts;
     parents = named-is-summed st (passed-kin formed passed (header .0)) .1 (λ i r a. passed i r a .covered .1);
   }
 
@@ -228,6 +232,7 @@ module _ (leafHash innerHash : Bytes → Bytes → Bytes) (st : Store) where
       body = bodies-found r (r .body) (ok .bodies i r a);
       links = local-links i r a;
       covered = (local-apart i r a, named-is-summed st local-kin .0 (ok .parents) i r a);
+      counts = ok .counts i r a;
     }
 
   -- Of a store with a right size and header, whose records are in form, the slots pass exactly if it is sound.

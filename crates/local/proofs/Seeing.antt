@@ -2,21 +2,24 @@
 -- seen in the trees of both; what those trees say of its children holds from the first to the last. Assumes nothing.
 use Prim.Native.Nat.{ℕ, suc, _-_, _<_, _≤_}
 use native.Mathlib.Omega.{arith}
-use mathlib.Core.Path.{_≡_, refl, ap, sym, _∙_, subst, subst₂}
+use mathlib.Core.Path.{_≡_, refl, ap, ap₂, sym, _∙_, subst, subst₂}
 use mathlib.Core.Logic.{_⊎_, inl, inr}
 use mathlib.Core.Bool.{true, false, not, true≢false}
 use mathlib.Core.List.{[]}
 use mathlib.Core.Option.{Option, none, some}
 use lib.ListN.{length}
+use Rattle.terms.specs.declared.Form.the-variants.{Counted as counted}
 use Rattle.terms.specs.Bits.{Bytes, Side, left, right, Place, longer}
-use Rattle.terms.specs.Records.{Grant, Child, Body, leafBody, innerBody, Record, Store}
+use Rattle.terms.specs.Records.{Grant, Child, Body, leafBody, innerBody, tally, Record, Store}
+use Rattle.terms.specs.Form.{CountsForm}
 use Rattle.terms.proofs.Places.{length-longer}
 use Rattle.meaning.specs.Tree.{VTree, vnone, vleaf, vinner, topVersion, kid, unversioned, hash}
-use Rattle.meaning.specs.Store.{rootOf, treeAtVersion, childOf}
+use Rattle.meaning.specs.Store.{find, rootOf, treeAtVersion, childOf}
 use Rattle.meaning.specs.Reading.{bodyHash}
-use Rattle.meaning.specs.Sound.{At, Found, Stands, NodeOf, Kept, Lives, onlyLeaf, Sound}
-use Rattle.meaning.specs.Local.{Local, Linked, missing, found, BodyFits, endsBefore, childVersion, LoneLeaf}
-use Rattle.meaning.proofs.Finding.{found-at, same-record, Within, there, go-kid, Some, some-leaf, some-inner, none-not, within-node, within-trans}
+use Rattle.meaning.specs.Sound.{At, Found, CountsAre, Stands, NodeOf, Kept, Lives, onlyLeaf, Sound}
+use Rattle.meaning.specs.Local.{Local, Linked, missing, found, BodyFits, endsBefore, childVersion, LoneLeaf, countsBy}
+use Rattle.meaning.proofs.Counts.{tell-counts, found-counts, stands-weighs}
+use Rattle.meaning.proofs.Finding.{found-at, same-record, at-find, Within, there, go-kid, Some, some-leaf, some-inner, none-not, within-node, within-trans}
 use Rattle.meaning.proofs.Roots.{top-root}
 use Rattle.local.specs.Test.{firstKept}
 use Rattle.local.proofs.Lifetimes.{Living, EndsKept, ParentAt, living-lives, lives-living, life-ends}
@@ -210,6 +213,26 @@ module _ (leafHash innerHash : Bytes → Bytes → Bytes) where
         subst (BodyFits leafHash innerHash st r) (sym (u .body))
         (body-fits i r a v e (u .tree) (u′ .tree) (u .here) (u′ .here) (sym (u .body) ∙ u′ .body) (u .within) (u .stands) (u′ .within))
 
+    -- the counts of the record of a standing node are those that the records found as its children say
+    node-counts : (u : VTree) (q : Place) → Some u → Standing q u → (i : ℕ) (r : Record) → At st i r →
+        find (topVersion u) q (st .slots) ≡ some r → r .body ≡ nodeBody u → st .form ≡ counted →
+        r .counts ≡ countsBy (st .slots) q (nodeBody u)
+    unfolding childOf
+    node-counts (vleaf v g) q h s i r a e b f = subst (λ o. CountsForm o (r .counts)) b (ok .formed i r a .counts)
+    node-counts (vinner v x y) q h s i r a e b f =
+        let weighs = stands-weighs leafHash innerHash st f (λ j m d. ok .versions j m d .0) in
+        found-counts st f v q _ r e (s .4) ∙ sym (ap₂ tally (weighs (longer left q) x (s .2)) (weighs (longer right q) y (s .3)))
+
+    counts : (i : ℕ) (r : Record) → At st i r → CountsAre (st .form) (r .counts) (countsBy (st .slots) (r .place) (r .body))
+    counts i r a =
+        let (v, e) = last-version i r a in
+        let l = last-kept i r a v e in
+        let u = seen v i r a (l .0) (l .1) in
+        let found = ap (λ w. find w (r .place) (st .slots)) (u .version) ∙ at-find st (ok .unique) i r a in
+        tell-counts (st .form) (λ f.
+        node-counts (u .tree) (r .place) (u .here) (u .stands) i r a found (u .body) f
+        ∙ ap (countsBy (st .slots) (r .place)) (sym (u .body)))
+
     -- a root record that lives at v stands at the top of v's tree, so it is v's root
     roots : (v : ℕ) → Kept st v → (i : ℕ) (r : Record) → At st i r → r .place ≡ [] → Lives v r → rootOf st v ≡ some r
     roots v k i r a e l = top-root st v (ok .unique) i r a e (ok .exact v k i r a .1 l)
@@ -248,5 +271,6 @@ module _ (leafHash innerHash : Bytes → Bytes → Bytes) where
       lifetimes = ok .lifetimes;
       roots = roots;
       bodies = bodies;
+      counts = counts;
       parents = parents;
     }

@@ -8,15 +8,17 @@ use mathlib.Core.Logic.{inl, inr}
 use mathlib.Core.Bool.{true, false, not}
 use mathlib.Core.List.{[]}
 use lib.ListN.{length}
+use Rattle.terms.specs.declared.Form.the-variants.{Counted as counted}
 use Rattle.terms.specs.Bits.{Bytes, Side, left, right, Place, longer}
-use Rattle.terms.specs.Records.{Child, child, Body, leafBody, innerBody, Record, Store, zeros}
-use Rattle.terms.specs.Form.{ChildForm, BodyForm, placeLimit}
+use Rattle.terms.specs.Records.{Child, child, Body, leafBody, innerBody, tally, Record, Store, zeros}
+use Rattle.terms.specs.Form.{ChildForm, BodyForm, CountsForm, placeLimit}
 use Rattle.terms.proofs.Places.{length-longer}
-use Rattle.meaning.specs.Tree.{VTree, vnone, vleaf, vinner, topVersion}
-use Rattle.meaning.specs.Store.{childOn, treeBelow, treeFrom, treeAtVersion, childOf}
+use Rattle.meaning.specs.Tree.{VTree, vnone, vleaf, vinner, topVersion, leaves}
+use Rattle.meaning.specs.Store.{childOn, find, treeBelow, treeFrom, treeAtVersion, childOf, countsOf}
 use Rattle.meaning.specs.Reading.{bodyHash}
-use Rattle.meaning.specs.Sound.{At, Found, Stands, NodeOf, onlyLeaf, Sound}
-use Rattle.meaning.specs.Local.{Local, Linked, missing, found, BodyFits, childVersion, LoneLeaf}
+use Rattle.meaning.specs.Sound.{At, Found, CountsAre, Tallied, Stands, NodeOf, onlyLeaf, Sound}
+use Rattle.meaning.specs.Local.{Local, Linked, missing, found, BodyFits, childVersion, LoneLeaf, weighed, countsBy}
+use Rattle.meaning.proofs.Counts.{counts-told, tell-counts, stands-weighs}
 use Rattle.meaning.proofs.Finding.{same-record, at-find, Within, there, go-kid, Some, some-body, within-node, within-trans, Last, empty, one-more, last}
 use Rattle.local.proofs.Slots.{treeOn, RootCases, kidsFrom, no-version, kid-below, body-cases, root-cases, record-tree, root-tree}
 use Rattle.local.proofs.Lifetimes.{Living, living-lives, lives-living, life-ends, root-living}
@@ -72,6 +74,7 @@ module _ (leafHash innerHash : Bytes → Bytes → Bytes) (st : Store) (ok : Loc
     stands : Stands leafHash innerHash st (r .place) t
     says : childOf leafHash innerHash t ≡ child (r .version) (bodyHash leafHash innerHash (r .body))
     fits : (d : Child) → IsLeaf t → d .version ≡ 0 → LoneLeaf d (r .body)
+    counts : st .form ≡ counted → r .counts ≡ countsOf t
 
   -- from the tree at each record to the tree at a child
   child-stands : (n : ℕ) (r : Record) (p : Place) (c d : Child) → ChildForm c → length p + n ≡ 256 →
@@ -90,21 +93,33 @@ module _ (leafHash innerHash : Bytes → Bytes → Bytes) (st : Store) (ok : Loc
         fits = λ k z. only (u .fits d k z);
       })
 
+  -- what is found as a child says how many leaves are there
+  child-weighs : (p : Place) (c d : Child) (t : VTree) → st .form ≡ counted → ChildStands p c d t →
+      weighed (find (c .version) p (st .slots)) ≡ leaves t
+  unfolding childOf
+  child-weighs p c d t f k =
+      ap (λ x. weighed (find (x .version) p (st .slots))) (sym (k .says))
+      ∙ stands-weighs leafHash innerHash st f (λ i r a. ok .versions i r a .0) p t (k .stands)
+
   -- from the trees at its children to the tree at a record
   body-stands : (i : ℕ) (r : Record) → At st i r → (o : Body) → r .body ≡ o → BodyFits leafHash innerHash st r o →
       (below : Side → ℕ → VTree) →
       ((x y : Child) → o ≡ innerBody x y → (b : Side) →
       ChildStands (longer b (r .place)) (childOn b x y) (childOn (not b) x y) (below b (childOn b x y .version))) →
       RecordStands r (treeBelow (r .version) o below)
-  unfolding childOf Found
+  unfolding childOf Found Tallied
   body-stands i r a (leafBody k x) e fit below kids = record {
     stands = ((r, at-find st (ok .unique) i r a, e), fit);
     says = rw e;
     fits = λ d t z. rw e z;
+    counts = λ f. subst (λ o. CountsForm o (r .counts)) e (ok .formed i r a .counts);
   }
   body-stands i r a (innerBody x y) e fit below kids =
       let l = kids x y refl left in
       let m = kids x y refl right in
+      let told : st .form ≡ counted → r .counts ≡ tally (leaves (below left (x .version))) (leaves (below right (y .version))) = λ f.
+      counts-told (st .form) f (subst (λ o. CountsAre (st .form) (r .counts) (countsBy (st .slots) (r .place) o)) e (ok .counts i r a))
+      ∙ ap₂ tally (child-weighs _ x y _ f l) (child-weighs _ y x _ f m) in
       record {
         stands = (
           (r, at-find st (ok .unique) i r a, e ∙ sym (ap₂ innerBody (l .says) (m .says))),
@@ -113,9 +128,11 @@ module _ (leafHash innerHash : Bytes → Bytes → Bytes) (st : Store) (ok : Loc
               (λ t z. m .fits t (sym (ap (λ c. c .version) (l .says)) ∙ z)),
           l .stands,
           m .stands,
+          (r, at-find st (ok .unique) i r a, tell-counts (st .form) told),
         );
         says = rw e (ap₂ (λ u w. child (r .version) (innerHash u w)) (ap (λ c. c .hash) (l .says)) (ap (λ c. c .hash) (m .says)));
         fits = λ d t z. absurd t;
+        counts = told;
       }
 
   -- an inner record's place has bits left
@@ -135,6 +152,10 @@ module _ (leafHash innerHash : Bytes → Bytes → Bytes) (st : Store) (ok : Loc
       (omega (arith, length-longer b (r .place)))
       (record-stands n)
       (linked-on leafHash innerHash st b r x y (subst (BodyFits leafHash innerHash st r) e (ok .bodies i r a)))))
+
+  -- in the counted form a record's counts are the numbers of leaves below its children
+  pub record-counts : (n i : ℕ) (r : Record) → At st i r → length (r .place) + n ≡ 256 → st .form ≡ counted → r .counts ≡ countsOf (treeOn n st r)
+  record-counts n i r a h f = record-stands n i r a h .counts f
 
   -- each version's tree stands
   root-stands : (v : ℕ) → Stands leafHash innerHash st [] (treeAtVersion st v)

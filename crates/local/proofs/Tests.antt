@@ -2,24 +2,27 @@
 -- life. Assumes nothing.
 use Prim.Native.Nat.{ℕ, _≤_}
 use native.Mathlib.Omega.{arith}
-use mathlib.Core.Path.{_≡_, refl, subst₂}
+use mathlib.Core.Path.{_≡_, refl, ap, sym, _∙_, subst, subst₂}
 use mathlib.Core.Logic.{_⊎_}
 use mathlib.Core.Bool.{Bool, true, false, cond, not, false≢true}
 use mathlib.Core.List.{[]}
 use mathlib.Core.Option.{Option, none, some}
 use lib.ListN.{length}
+use Rattle.terms.specs.declared.Form.{Form}
+use Rattle.terms.specs.declared.Form.the-variants.{Plain as plain, Counted as counted}
 use Rattle.terms.specs.Bits.{Bytes, Side, left, right, Place, longer, begins}
-use Rattle.terms.specs.Records.{Child, Body, leafBody, innerBody, Record, Store}
+use Rattle.terms.specs.Records.{Child, Body, leafBody, innerBody, Tally, noTally, countOn, Record, Store}
 use Rattle.terms.specs.Form.{top32}
 use Rattle.meaning.specs.Store.{childOn, find, isNode}
 use Rattle.meaning.specs.Reading.{bodyHash}
-use Rattle.meaning.specs.Sound.{At, mostSlots}
-use Rattle.meaning.specs.Local.{endsBefore, LoneLeaf}
+use Rattle.meaning.specs.Sound.{At, mostSlots, CountsAre}
+use Rattle.meaning.specs.Local.{endsBefore, childVersion, LoneLeaf, weighed, countsBy}
 use Rattle.meaning.proofs.Finding.{isNode-eq, isNode-refl}
-use Rattle.local.specs.Test.{total, byRecord, firstKept, names, loneLeaf, linkOn, linkTest, lifeTest, apart, rootApart, lifeCovered, keptLife, lifeAbove, isSame, isFound, childTest, bodyTest, headTest}
+use Rattle.local.specs.Test.{total, byRecord, firstKept, names, loneLeaf, linkOn, linkTest, lifeTest, apart, rootApart, lifeCovered, keptLife, lifeAbove, isSame, isFound, childTest, bodyTest, headTest, countsAre, countIs, countsTest}
 use Rattle.local.proofs.Lifetimes.{Lifetime}
 use Rattle.local.proofs.Parents.{AddsUp}
 use Rattle.local.proofs.Records.{each-record}
+use Rattle.local.proofs.InForm.{tally-says}
 use Rattle.local.proofs.Says.{Says, says, itself, equal, at-most, less, either, neither, asked, branch, same, same-place-says, on-sides, done, next, both}
 
 pub life-says : (st : Store) (r : Record) → Says (lifeTest st r) (Lifetime st r)
@@ -52,6 +55,40 @@ covered-says st r =
     branch (same-place-says (r .place) [])
     (each-record st (rootApart st r) (RootApart st r) (root-apart-says st r))
     (at-most (keptLife st r) (total (byRecord 0 (lifeAbove st r)) (st .slots)))
+
+-- the counts are those that the records found as children say
+counts-are : (f : Form) (c d : Tally) → Says (countsAre f c d) (CountsAre f c d)
+counts-are plain c d = record { passed = λ h. tt; passes = λ h. refl }
+counts-are counted c d = tally-says c d
+
+pub counts-say : (st : Store) (r : Record) →
+    Says (countsTest st r) (CountsAre (st .form) (r .counts) (countsBy (st .slots) (r .place) (r .body)))
+unfolding countsTest
+counts-say st r = counts-are (st .form) (r .counts) (countsBy (st .slots) (r .place) (r .body))
+
+-- by sides: where no record has version 0, the counts are right if each is what the record found as that child says
+sides-counted : (f : Form) (c d : Tally) → ((b : Side) → countIs f (countOn b c) (countOn b d) ≡ true) → countsAre f c d ≡ true
+sides-counted plain c d h = refl
+sides-counted counted c d h = rw (h left, h right)
+
+no-count : (b : Side) → countOn b noTally ≡ 0
+no-count false = refl
+no-count true = refl
+
+module _ (st : Store) (none-zero : (p : Place) → find 0 p (st .slots) ≡ none) where
+  count-found : (b : Side) (p : Place) (o : Body) →
+      countOn b (countsBy (st .slots) p o) ≡ weighed (find (childVersion b o) (longer b p) (st .slots))
+  count-found b p (leafBody k x) = no-count b ∙ sym (ap weighed (none-zero (longer b p)))
+  count-found false p (innerBody l m) = refl
+  count-found true p (innerBody l m) = refl
+
+  pub counts-by-sides : (r : Record) →
+      ((b : Side) → countIs (st .form) (countOn b (r .counts)) (weighed (find (childVersion b (r .body)) (longer b (r .place)) (st .slots))) ≡ true) →
+      countsTest st r ≡ true
+  unfolding countsTest
+  counts-by-sides r h =
+      sides-counted (st .form) (r .counts) (countsBy (st .slots) (r .place) (r .body))
+      (λ b. subst (λ n. countIs (st .form) (countOn b (r .counts)) n ≡ true) (sym (count-found b (r .place) (r .body))) (h b))
 
 -- a record's node, counted
 pub node-counted : (r q : Record) → 1 ≤ isSame r q → (q .version ≡ r .version) × (q .place ≡ r .place)

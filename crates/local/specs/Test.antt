@@ -7,14 +7,16 @@ use mathlib.Core.List.{List, [], _∷_}
 use mathlib.Core.Option.{Option, none, some}
 use lib.ListN.{length}
 use lib.Dec.{eqb, leb, ltb}
+use Rattle.terms.specs.declared.Form.{Form}
+use Rattle.terms.specs.declared.Form.the-variants.{Plain as plain, Counted as counted}
 use Rattle.terms.specs.Bits.{Bytes, Side, left, right, Place, longer, begins, sameBytes, samePlace}
-use Rattle.terms.specs.Records.{Child, Body, leafBody, innerBody, Record, Slot, free, used, spoiled, Store, zeros}
+use Rattle.terms.specs.Records.{Child, Body, leafBody, innerBody, Tally, Record, Slot, free, used, spoiled, Store, zeros}
 use Rattle.terms.specs.Form.{top32, placeLimit}
 use Rattle.terms.specs.Fields.{allOf}
 use Rattle.meaning.specs.Store.{find, isNode, childOn}
 use Rattle.meaning.specs.Reading.{bodyHash}
 use Rattle.meaning.specs.Sound.{mostSlots}
-use Rattle.meaning.specs.Local.{endsBefore, childVersion}
+use Rattle.meaning.specs.Local.{endsBefore, childVersion, countsBy}
 
 -- Each entry of a list passes a test.
 abbrev pub every : {A : Type 0} → (A → Bool) → List A → Bool
@@ -98,6 +100,20 @@ lifeCovered st r =
     (every (byRecord true (rootApart st r)) (st .slots))
     (leb (keptLife st r) (total (byRecord 0 (lifeAbove st r)) (st .slots)))
 
+-- The counts are these; the plain form has none.
+abbrev pub countsAre : Form → Tally → Tally → Bool
+countsAre plain c d = true
+countsAre counted c d = eqb (c .leftward) (d .leftward) && eqb (c .rightward) (d .rightward)
+
+-- One count is that number; the plain form has none.
+abbrev pub countIs : Form → ℕ → ℕ → Bool
+countIs plain m n = true
+countIs counted m n = eqb m n
+
+-- Each count is what the record found as that child says of the leaves there.
+unfoldable pub countsTest : Store → Record → Bool
+countsTest st r = countsAre (st .form) (r .counts) (countsBy (st .slots) (r .place) (r .body))
+
 -- A key, value or hash of 32 bytes.
 unfoldable pub whole32Test : Bytes → Bool
 whole32Test x = eqb (length x) 32 && every (λ b. ltb b 256) x
@@ -111,6 +127,11 @@ bodyFormTest (leafBody k x) = whole32Test k && whole32Test x
 bodyFormTest (innerBody l r) =
     allOf (childFormTest l ∷ childFormTest r ∷ not (eqb (l .version) 0 && eqb (r .version) 0) ∷ [])
 
+-- A leaf has no counts; a count has four bytes.
+abbrev pub countsFormTest : Body → Tally → Bool
+countsFormTest (leafBody k x) c = eqb (c .leftward) 0 && eqb (c .rightward) 0
+countsFormTest (innerBody l r) c = leb (c .leftward) top32 && leb (c .rightward) top32
+
 -- A record is in form. Of the records in a store of bytes this is known.
 unfoldable pub formTest : Record → Bool
 formTest r = allOf
@@ -119,6 +140,7 @@ formTest r = allOf
     ∷ leb (r .version) top32
     ∷ leb (r .retired) top32
     ∷ bodyFormTest (r .body)
+    ∷ countsFormTest (r .body) (r .counts)
     ∷ [])
 
 -- Size and header are right.
@@ -150,6 +172,7 @@ module _ (leafHash innerHash : Bytes → Bytes → Bytes) where
       ∷ bodyTest st (r .place) (r .body)
       ∷ every (byRecord true (linkTest st r)) (st .slots)
       ∷ lifeCovered st r
+      ∷ countsTest st r
       ∷ [])
 
   -- A free slot passes, a spoiled one doesn't.

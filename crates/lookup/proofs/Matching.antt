@@ -9,44 +9,49 @@ use lib.ListN.{length, getD, take, drop}
 use lib.Seq.{ext-getD, getD-drop, getD-take}
 use lib.Dec.{eqb}
 use borrow.Author.Tests.{eqb-true, eq-eqb}
+use Rattle.terms.specs.declared.Form.{Form}
 use Rattle.terms.specs.Bits.{Bytes, Byte, All, Place, pack, bits}
 use Rattle.terms.specs.Fields.{num, field, slice, allZero}
 use Rattle.terms.specs.Records.{Body, leafBody, innerBody, Record, free, used, spoiled}
-use Rattle.terms.specs.Form.{RecordForm, placeLimit}
+use Rattle.terms.specs.Form.{RecordForm, FormedAs, placeLimit}
 use Rattle.terms.proofs.Tests.{and-left, and-right, is-false, place-same}
 use Rattle.terms.proofs.Places.{place-packed, length-pack}
 use Rattle.terms.proofs.Fields.{length-slice, all-of-tests}
 use Rattle.meaning.specs.Store.{isNode}
 use Rattle.meaning.proofs.Finding.{isNode-eq}
+use Rattle.layout.specs.Sizes.{slotSize}
 use Rattle.layout.specs.Slots.{slotOf, slotBytes, recordBytes, countIn, headRight, isLeaf, isInner, leafIn, innerIn, recordIn, SlotForm}
+use Rattle.layout.proofs.Headers.{size-small}
 use Rattle.layout.proofs.Slots.{slot-back, slot-form, count-says, version-says, retired-says, bits-say}
 use Rattle.lookup.specs.Lookup.{isUsed}
 
--- 120 bytes that are read as a record
-pub record Says (x : Bytes) (r : Record) : Type 0 where
+-- the bytes of a slot that are read as a record
+pub record Says (fm : Form) (x : Bytes) (r : Record) : Type 0 where
   pub form : RecordForm r
-  pub bytes : recordBytes r ≡ x
+  pub bare : FormedAs fm r
+  pub bytes : recordBytes fm r ≡ x
 
-pub says : (x : Bytes) → length x ≡ 120 → All Byte x → (r : Record) → slotOf x ≡ used r → Says x r
+pub says : {fm : Form} (x : Bytes) → length x ≡ slotSize fm → All Byte x → (r : Record) → slotOf x ≡ used r → Says fm x r
 unfolding slotBytes
-says x l h r e = record {
-  form = subst (λ s. SlotForm s) e (slot-form x l h);
-  bytes = sym (ap slotBytes e) ∙ slot-back x l h;
+says {fm} x l h r e = record {
+  form = subst (λ s. SlotForm fm s) e (slot-form fm x l h) .0;
+  bare = subst (λ s. SlotForm fm s) e (slot-form fm x l h) .1;
+  bytes = sym (ap (slotBytes fm) e) ∙ slot-back fm x l h;
 }
 
-module _ (x : Bytes) (l : length x ≡ 120) (h : All Byte x) (r : Record) (e : slotOf x ≡ used r) where
+module _ (fm : Form) (x : Bytes) (l : length x ≡ slotSize fm) (h : All Byte x) (r : Record) (e : slotOf x ≡ used r) where
   pub version-is : field 40 4 x ≡ r .version
-  version-is = let s = says x l h r e in ap (field 40 4) (sym (s .bytes)) ∙ version-says r (s .form)
+  version-is = let s = says {fm = fm} x l h r e in ap (field 40 4) (sym (s .bytes)) ∙ version-says fm r (s .form)
 
   pub retired-is : field 44 4 x ≡ r .retired
-  retired-is = let s = says x l h r e in ap (field 44 4) (sym (s .bytes)) ∙ retired-says r (s .form)
+  retired-is = let s = says {fm = fm} x l h r e in ap (field 44 4) (sym (s .bytes)) ∙ retired-says fm r (s .form)
 
   pub count-is : field 6 2 x ≡ length (r .place)
   unfolding countIn
-  count-is = let s = says x l h r e in ap (field 6 2) (sym (s .bytes)) ∙ count-says r (s .form)
+  count-is = let s = says {fm = fm} x l h r e in ap (field 6 2) (sym (s .bytes)) ∙ count-says fm r (s .form)
 
   pub bits-are : slice 8 32 x ≡ pack 32 (r .place)
-  bits-are = let s = says x l h r e in ap (slice 8 32) (sym (s .bytes)) ∙ bits-say r (s .form)
+  bits-are = let s = says {fm = fm} x l h r e in ap (slice 8 32) (sym (s .bytes)) ∙ bits-say fm r (s .form)
 
 limit-small : (b : Body) → placeLimit b ≤ 256
 limit-small (leafBody k x) = omega arith
@@ -58,11 +63,11 @@ same-packed p q a b n e =
     sym (place-packed 32 p a) ∙ ap₂ (λ m y. take m (bits y)) n e ∙ place-packed 32 q b
 
 -- a record whose count and bits are those of a place stands there
-pub place-is : (x : Bytes) → length x ≡ 120 → All Byte x → (r : Record) → slotOf x ≡ used r → (p : Place) → length p ≤ 256 → field 6 2 x ≡ length p →
+pub place-is : (fm : Form) (x : Bytes) → length x ≡ slotSize fm → All Byte x → (r : Record) → slotOf x ≡ used r → (p : Place) → length p ≤ 256 → field 6 2 x ≡ length p →
     slice 8 32 x ≡ pack 32 p → r .place ≡ p
-place-is x l h r e p short b same =
-    let s = says x l h r e in
-    same-packed (r .place) p (omega (arith, s .form .short, limit-small (r .body))) short (sym (count-is x l h r e) ∙ b) (sym (bits-are x l h r e) ∙ same)
+place-is fm x l h r e p short b same =
+    let s = says {fm = fm} x l h r e in
+    same-packed (r .place) p (omega (arith, s .form .short, limit-small (r .body))) short (sym (count-is fm x l h r e) ∙ b) (sym (bits-are fm x l h r e) ∙ same)
 
 bits-at : (x : Bytes) (j : ℕ) → j < 32 → getD (slice 8 32 x) j 0 ≡ getD x (8 + j) 0
 unfolding slice
@@ -72,27 +77,27 @@ bits-at x j h = getD-take 32 (drop 8 x) j 0 h ∙ getD-drop 8 x j 0
 abbrev pub NoNode : Bytes → ℕ → Place → Type 0
 NoNode x v p = (r : Record) → slotOf x ≡ used r → isNode v p r ≡ false
 
-module _ (x : Bytes) (l : length x ≡ 120) (h : All Byte x) (v : ℕ) (p : Place) where
+module _ (fm : Form) (x : Bytes) (l : length x ≡ slotSize fm) (h : All Byte x) (v : ℕ) (p : Place) where
   pub off-version : (field 40 4 x ≡ v → ⊥) → NoNode x v p
-  off-version f r e = is-false (isNode v p r) (λ t. f (version-is x l h r e ∙ isNode-eq v p r t .0))
+  off-version f r e = is-false (isNode v p r) (λ t. f (version-is fm x l h r e ∙ isNode-eq v p r t .0))
 
   pub off-count : (field 6 2 x ≡ length p → ⊥) → NoNode x v p
-  off-count f r e = is-false (isNode v p r) (λ t. f (count-is x l h r e ∙ ap length (isNode-eq v p r t .1)))
+  off-count f r e = is-false (isNode v p r) (λ t. f (count-is fm x l h r e ∙ ap length (isNode-eq v p r t .1)))
 
   pub off-bits : (slice 8 32 x ≡ pack 32 p → ⊥) → NoNode x v p
-  off-bits f r e = is-false (isNode v p r) (λ t. f (bits-are x l h r e ∙ ap (pack 32) (isNode-eq v p r t .1)))
+  off-bits f r e = is-false (isNode v p r) (λ t. f (bits-are fm x l h r e ∙ ap (pack 32) (isNode-eq v p r t .1)))
 
   pub off-byte : (j : ℕ) → j < 32 → (getD x (8 + j) 0 ≡ getD (pack 32 p) j 0 → ⊥) → NoNode x v p
   off-byte j k f = off-bits (λ e. f (sym (bits-at x j k) ∙ ap (λ y. getD y j 0) e))
 
   pub is-node : length p ≤ 256 → field 40 4 x ≡ v → field 6 2 x ≡ length p → slice 8 32 x ≡ pack 32 p → (r : Record) → slotOf x ≡ used r → isNode v p r ≡ true
   unfolding isNode
-  is-node short a b same r e = rw (eq-eqb (r .version) v (sym (version-is x l h r e) ∙ a), place-is x l h r e p short b same) (place-same p)
+  is-node short a b same r e = rw (eq-eqb (r .version) v (sym (version-is fm x l h r e) ∙ a), place-is fm x l h r e p short b same) (place-same p)
 
   pub is-here : length p ≤ 256 → field 40 4 x ≡ v → field 6 2 x ≡ length p → ((j : ℕ) → j < 32 → getD x (8 + j) 0 ≡ getD (pack 32 p) j 0) →
       (r : Record) → slotOf x ≡ used r → isNode v p r ≡ true
   is-here short a b c =
-      let m = length-slice 8 32 x (omega arith) in
+      let m = length-slice 8 32 x (omega (arith, size-small fm)) in
       is-node short a b
       (ext-getD 0 (slice 8 32 x) (pack 32 p) (m ∙ sym (length-pack 32 p)) (λ i k. let n : i < 32 = omega arith in bits-at x i n ∙ c i n))
 
@@ -104,29 +109,29 @@ zero-said (suc n) (a ∷ x) z =
     let e = eqb-true a 0 (and-left (eqb a 0) (allZero x) z) in omega (arith, zero-said n x (and-right (eqb a 0) (allZero x) z))
 
 -- bytes in form as a leaf or an inner record are not free
-not-free : (x : Bytes) (n : ℕ) → field 0 4 x ≡ suc n → allZero x ≡ false
+not-free : (x : Bytes) → 112 ≤ field 0 4 x → allZero x ≡ false
 unfolding field slice
-not-free x n e = is-false (allZero x) (λ z. omega (arith, zero-said 4 x z))
+not-free x e = is-false (allZero x) (λ z. omega (arith, zero-said 4 x z))
 
 leaf-length : (x : Bytes) → isLeaf x ≡ true → field 0 4 x ≡ 112
 unfolding isLeaf headRight leafIn
 leaf-length x e = eqb-true (field 0 4 x) 112 (all-of-tests _ (all-of-tests _ e .0) .0)
 
-inner-length : (x : Bytes) → isInner x ≡ true → field 0 4 x ≡ 120
+inner-length : (x : Bytes) → isInner x ≡ true → field 0 4 x ≡ length x
 unfolding isInner headRight innerIn
-inner-length x e = eqb-true (field 0 4 x) 120 (all-of-tests _ (all-of-tests _ e .0) .0)
+inner-length x e = eqb-true (field 0 4 x) (length x) (all-of-tests _ (all-of-tests _ e .0) .0)
 
 pub leaf-used : (x : Bytes) → isLeaf x ≡ true → isUsed (slotOf x) ≡ true
 unfolding slotOf
-leaf-used x e = rw (not-free x 111 (leaf-length x e), e)
+leaf-used x e = rw (not-free x (omega (arith, leaf-length x e)), e)
 
-pub inner-used : (x : Bytes) → isLeaf x ≡ false → isUsed (slotOf x) ≡ isInner x
+pub inner-used : (x : Bytes) → 120 ≤ length x → isLeaf x ≡ false → isUsed (slotOf x) ≡ isInner x
 unfolding slotOf
-inner-used x e = go (allZero x) (isInner x) refl refl
+inner-used x l e = go (allZero x) (isInner x) refl refl
   where
     go : (a b : Bool) → allZero x ≡ a → isInner x ≡ b →
         isUsed (cond a free (cond (isLeaf x) (used (recordIn x (leafIn x))) (cond b (used (recordIn x (innerIn x))) (spoiled x)))) ≡ b
-    go true true z i = absurd (true≢false (sym z ∙ not-free x 119 (inner-length x i)))
+    go true true z i = absurd (true≢false (sym z ∙ not-free x (omega (arith, inner-length x i))))
     go true false z i = refl
     go false true z i = rw e
     go false false z i = rw e

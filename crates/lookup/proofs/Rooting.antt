@@ -8,6 +8,7 @@ use mathlib.Core.Option.{some}
 use lib.ListN.{length, drop}
 use lib.Dec.{leb, ltb}
 use borrow.Author.Tests.{leb-true, leb-false, le-leb, lt-leb, lt-ltb, le-ltb}
+use Rattle.terms.specs.declared.Form.{Form}
 use Rattle.terms.specs.Bits.{Bytes, Byte, All, Place, samePlace}
 use Rattle.terms.specs.Records.{Record, Slot, free, used, spoiled}
 use Rattle.terms.proofs.Tests.{is-false, and-true}
@@ -16,7 +17,7 @@ use Rattle.meaning.proofs.Roots.{is-root}
 use Rattle.layout.specs.Sizes.{slotSize, roomOf}
 use Rattle.layout.specs.Headers.{sizeRight}
 use Rattle.layout.specs.Slots.{slotOf, countIn, versionIn, sinceIn}
-use Rattle.layout.specs.Stores.{slotIn, slotNo, storeOf, Has}
+use Rattle.layout.specs.Stores.{slotIn, slotNo, storeIn, Has}
 use Rattle.store.proofs.Slots.{slot-long, slot-bytes, slot-within, slot-is}
 use Rattle.store.proofs.Scans.{Scan, scan-start, scan-inside, scan-here, scan-next, scan-end}
 use Rattle.lookup.specs.Lookup.{isUsed, covers, rootHere, RootIn}
@@ -59,42 +60,42 @@ by-slot v c free f = refl
 by-slot v c (used r) f = sym (f r refl)
 by-slot v c (spoiled z) f = refl
 
-module _ {s : Bytes} {i : ℕ} (has : Has s i) (b : All Byte s) (v : ℕ) where
-  long : length (slotIn i s) ≡ slotSize
-  long = slot-long i s (slot-within has)
+module _ {fm : Form} {s : Bytes} {i : ℕ} (has : Has fm s i) (b : All Byte s) (v : ℕ) where
+  long : length (slotIn fm i s) ≡ slotSize fm
+  long = slot-long fm i s (slot-within has)
 
-  whole : All Byte (slotIn i s)
-  whole = slot-bytes i s b
+  whole : All Byte (slotIn fm i s)
+  whole = slot-bytes fm i s b
 
-  says : (c : Bool) → ((r : Record) → slotOf (slotIn i s) ≡ used r → isRoot v r ≡ c) → (isUsed (slotOf (slotIn i s)) && c) ≡ rootHere v (slotNo i s)
-  says c f = by-slot v c (slotOf (slotIn i s)) f ∙ ap (rootHere v) (sym (slot-is has))
+  says : (c : Bool) → ((r : Record) → slotOf (slotIn fm i s) ≡ used r → isRoot v r ≡ c) → (isUsed (slotOf (slotIn fm i s)) && c) ≡ rootHere v (slotNo fm i s)
+  says c f = by-slot v c (slotOf (slotIn fm i s)) f ∙ ap (rootHere v) (sym (slot-is has))
 
-  not-here : ((r : Record) → slotOf (slotIn i s) ≡ used r → isRoot v r ≡ false) → false ≡ rootHere v (slotNo i s)
-  not-here f = sym (and-false (isUsed (slotOf (slotIn i s)))) ∙ says false f
+  not-here : ((r : Record) → slotOf (slotIn fm i s) ≡ used r → isRoot v r ≡ false) → false ≡ rootHere v (slotNo fm i s)
+  not-here f = sym (and-false (isUsed (slotOf (slotIn fm i s)))) ∙ says false f
 
   -- a record below the root
-  pub deep : (countIn (slotIn i s) ≡ 0 → ⊥) → false ≡ rootHere v (slotNo i s)
+  pub deep : (countIn (slotIn fm i s) ≡ 0 → ⊥) → false ≡ rootHere v (slotNo fm i s)
   unfolding countIn
-  deep f = not-here (λ r e. is-false (isRoot v r) (λ t. f (count-is (slotIn i s) long whole r e ∙ ap length (is-root v r t .0))))
+  deep f = not-here (λ r e. is-false (isRoot v r) (λ t. f (count-is fm (slotIn fm i s) long whole r e ∙ ap length (is-root v r t .0))))
 
-  its-life : (r : Record) → slotOf (slotIn i s) ≡ used r → covers (r .version) (r .retired) v ≡ covers (versionIn (slotIn i s)) (sinceIn (slotIn i s)) v
-  its-life r e = ap₂ (λ a c. covers a c v) (sym (version-is (slotIn i s) long whole r e)) (sym (retired-is (slotIn i s) long whole r e))
+  its-life : (r : Record) → slotOf (slotIn fm i s) ≡ used r → covers (r .version) (r .retired) v ≡ covers (versionIn (slotIn fm i s)) (sinceIn (slotIn fm i s)) v
+  its-life r e = ap₂ (λ a c. covers a c v) (sym (version-is fm (slotIn fm i s) long whole r e)) (sym (retired-is fm (slotIn fm i s) long whole r e))
 
   -- a record that doesn't live at v
-  pub elsewhen : covers (versionIn (slotIn i s)) (sinceIn (slotIn i s)) v ≡ false → false ≡ rootHere v (slotNo i s)
+  pub elsewhen : covers (versionIn (slotIn fm i s)) (sinceIn (slotIn fm i s)) v ≡ false → false ≡ rootHere v (slotNo fm i s)
   elsewhen n = not-here (λ r e. root-parts v r ∙ ap (λ a. samePlace (r .place) [] && a) (its-life r e ∙ n) ∙ and-false (samePlace (r .place) []))
 
   -- at the empty place, and alive: what is left to know is whether it is a record
-  pub at-top : countIn (slotIn i s) ≡ 0 → covers (versionIn (slotIn i s)) (sinceIn (slotIn i s)) v ≡ true → isUsed (slotOf (slotIn i s)) ≡ rootHere v (slotNo i s)
+  pub at-top : countIn (slotIn fm i s) ≡ 0 → covers (versionIn (slotIn fm i s)) (sinceIn (slotIn fm i s)) v ≡ true → isUsed (slotOf (slotIn fm i s)) ≡ rootHere v (slotNo fm i s)
   unfolding countIn
   at-top z n =
-      sym (and-true (isUsed (slotOf (slotIn i s))))
+      sym (and-true (isUsed (slotOf (slotIn fm i s))))
       ∙ says true (λ r e. root-parts v r
-      ∙ ap₂ (λ p a. samePlace p [] && a) (no-bits (r .place) (sym (count-is (slotIn i s) long whole r e) ∙ z)) (its-life r e ∙ n))
+      ∙ ap₂ (λ p a. samePlace p [] && a) (no-bits (r .place) (sym (count-is fm (slotIn fm i s) long whole r e) ∙ z)) (its-life r e ∙ n))
 
 -- what is found is found among the slots to come
-abbrev pub Ahead : Bytes → ℕ → List Slot → List Slot → Type 0
-Ahead s v xs ys = lowest (isRoot v) (storeOf s .slots) ≡ lowest (isRoot v) ys
+abbrev pub Ahead : Form → Bytes → ℕ → List Slot → List Slot → Type 0
+Ahead fm s v xs ys = lowest (isRoot v) (storeIn fm s .slots) ≡ lowest (isRoot v) ys
 
 -- the search past a slot that is no such root, and at one that is
 past : (v : ℕ) (y : Slot) (ys : List Slot) → rootHere v y ≡ false → lowest (isRoot v) (y ∷ ys) ≡ lowest (isRoot v) ys
@@ -107,19 +108,19 @@ here v free ys e = absurd (false≢true e)
 here v (used r) ys e = (r, refl, rw e)
 here v (spoiled z) ys e = absurd (false≢true e)
 
-pub root-start : (s : Bytes) (v : ℕ) {n : ℕ} → sizeRight (length s) ≡ true → n ≡ roomOf (length s) → Scan s (Ahead s v) n 0
-root-start s v e m = scan-start s (Ahead s v) e m refl
+pub root-start : {fm : Form} (s : Bytes) (v : ℕ) {n : ℕ} → sizeRight fm (length s) ≡ true → n ≡ roomOf fm (length s) → Scan fm s (Ahead fm s v) n 0
+root-start {fm} s v e m = scan-start s (Ahead fm s v) e m refl
 
-module _ {s : Bytes} (v : ℕ) {n i : ℕ} (w : Scan s (Ahead s v) n i) where
-  pub root-next : i < n → rootHere v (slotNo i s) ≡ false → Scan s (Ahead s v) n (i + 1)
-  root-next h e = scan-next w h (Ahead s v) (scan-here w h ∙ past v (slotNo i s) (drop (i + 1) (storeOf s .slots)) e)
+module _ {fm : Form} {s : Bytes} (v : ℕ) {n i : ℕ} (w : Scan fm s (Ahead fm s v) n i) where
+  pub root-next : i < n → rootHere v (slotNo fm i s) ≡ false → Scan fm s (Ahead fm s v) n (i + 1)
+  root-next h e = scan-next w h (Ahead fm s v) (scan-here w h ∙ past v (slotNo fm i s) (drop (i + 1) (storeIn fm s .slots)) e)
 
-  pub root-found : i < n → rootHere v (slotNo i s) ≡ true → RootIn (storeOf s) v (At i)
+  pub root-found : i < n → rootHere v (slotNo fm i s) ≡ true → RootIn (storeIn fm s) v (At i)
   unfolding rootOf
   root-found h e =
-      let u = here v (slotNo i s) (drop (i + 1) (storeOf s .slots)) e in
+      let u = here v (slotNo fm i s) (drop (i + 1) (storeIn fm s .slots)) e in
       (scan-inside w h, (u .0, u .1, scan-here w h ∙ u .2))
 
-  pub root-nowhere : n ≤ i → RootIn (storeOf s) v Nothing
+  pub root-nowhere : n ≤ i → RootIn (storeIn fm s) v Nothing
   unfolding rootOf
   root-nowhere h = scan-end w h

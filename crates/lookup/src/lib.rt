@@ -2,6 +2,8 @@
 use fields::get_u16;
 use fields::get_u32;
 use layout::sizes;
+use layout::slot_size;
+use layout::slot_start;
 use place::Place;
 use slots::is_inner;
 use slots::is_leaf;
@@ -10,19 +12,19 @@ use store::retired_at;
 use store::slot_count;
 use store::slot_of;
 use store::version_at;
+use terms::Form;
 ghost use mathlib.Core.Path.{_≡_};
 ghost use mathlib.Core.Bool.{true};
 ghost use lib.ListN.{length};
 ghost use Rattle.place.specs.Place.{placeOf, Proper};
-ghost use Rattle.layout.specs.Sizes.{slotSize};
 ghost use Rattle.layout.specs.Headers.{sizeRight};
-ghost use Rattle.layout.specs.Slots.{slotOf};
-ghost use Rattle.layout.specs.Stores.{storeOf, slotNo, Has};
+ghost use Rattle.layout.specs.Slots.{slotOf, SlotLong};
+ghost use Rattle.layout.specs.Stores.{storeIn, slotNo, Has};
 ghost use Rattle.lookup.specs.Lookup.{isUsed, covers, rootHere, FoundIn, RootIn};
 
-// Whether 120 bytes are a record in form.
+// Whether the bytes of a slot are a record in form.
 pub fn holds_record(s: &[u8]) -> bool
-    requires { ⌜ length (now s) ≡ slotSize ⌝ }
+    requires { ⌜ SlotLong (now s) ⌝ }
     ensures { λ r. ⌜ r ≡ isUsed (slotOf (now (s .entry))) ⌝ }
 {
     if is_leaf(s) {
@@ -38,19 +40,19 @@ pub enum Found {
 }
 
 // The lowest slot that matches a version and place: the cheap fields first, and the next slot at the first difference.
-pub fn find(store: &[u8], version: u32, place: Place) -> Found
-    requires { ⌜ (sizeRight (length (now store)) ≡ true) × Proper place ⌝ }
-    ensures { λ r. ⌜ FoundIn (storeOf (now (store .entry)) .slots) version (placeOf place) r ⌝ }
+pub fn find(form: Form, store: &[u8], version: u32, place: Place) -> Found
+    requires { ⌜ (sizeRight form (length (now store)) ≡ true) × Proper place ⌝ }
+    ensures { λ r. ⌜ FoundIn (storeIn form (now (store .entry)) .slots) version (placeOf place) r ⌝ }
 {
     let bits = place.bits;
     let count = place.count;
-    let n = slot_count(store);
+    let n = slot_count(form, store);
     let mut i = 0;
     'slots: loop {
         if n <= i {
             break 'slots Found::Nothing;
         }
-        let at = sizes::HEADER_SIZE + sizes::SLOT_SIZE * i;
+        let at = slot_start(form, i);
         if get_u32(store, at + sizes::VERSION_AT) != version {
             i += 1;
             continue 'slots;
@@ -67,7 +69,7 @@ pub fn find(store: &[u8], version: u32, place: Place) -> Found
             }
             k += 1;
         }
-        let end = at + sizes::SLOT_SIZE;
+        let end = at + slot_size(form);
         if holds_record(&store[at..end]) {
             break 'slots Found::At(i);
         }
@@ -89,28 +91,32 @@ pub fn covers(from: u32, since: u32, version: u32) -> bool
 }
 
 // Whether slot i holds a root record whose lifetime covers a version: the cheap fields first.
-fn root_here(store: &[u8], i: usize, version: u32) -> bool
-    requires { ⌜ Has (now store) i ⌝ }
-    ensures { λ r. ⌜ r ≡ rootHere version (slotNo i (now (store .entry))) ⌝ }
+fn root_here(form: Form, store: &[u8], i: usize, version: u32) -> bool
+    requires { ⌜ Has form (now store) i ⌝ }
+    ensures { λ r. ⌜ r ≡ rootHere version (slotNo form i (now (store .entry))) ⌝ }
 {
-    if count_at(store, i) != 0 {
+    if count_at(form, store, i) != 0 {
         return false;
     }
-    if !covers(version_at(store, i), retired_at(store, i), version) {
+    if !covers(
+        version_at(form, store, i),
+        retired_at(form, store, i),
+        version,
+    ) {
         return false;
     }
-    holds_record(slot_of(store, i))
+    holds_record(slot_of(form, store, i))
 }
 
 // The root of a version: the lowest slot with a root record whose lifetime covers it.
-pub fn find_root(store: &[u8], version: u32) -> Found
-    requires { ⌜ sizeRight (length (now store)) ≡ true ⌝ }
-    ensures { λ r. ⌜ RootIn (storeOf (now (store .entry))) version r ⌝ }
+pub fn find_root(form: Form, store: &[u8], version: u32) -> Found
+    requires { ⌜ sizeRight form (length (now store)) ≡ true ⌝ }
+    ensures { λ r. ⌜ RootIn (storeIn form (now (store .entry))) version r ⌝ }
 {
-    let n = slot_count(store);
+    let n = slot_count(form, store);
     let mut j = 0;
     while j < n {
-        if root_here(store, j, version) {
+        if root_here(form, store, j, version) {
             return Found::At(j);
         }
         j += 1;

@@ -10,3 +10,6 @@ pub mod Versions
 pub mod Samples
 pub mod Shaped
 pub mod Told
+pub mod Counts
+pub mod Leaves
+pub mod Descent

@@ -8,12 +8,13 @@ use mathlib.Core.Option.{none, some}
 use lib.ListN.{length, take, drop, replicate}
 use Rattle.terms.specs.Bits.{Bytes, left, right, Place, pack}
 use Rattle.terms.specs.Fields.{le}
-use Rattle.terms.specs.Records.{Grant, Slot, free, spoiled, Store, Presence, Proof, presence, zeros}
+use Rattle.terms.specs.Records.{Grant, grant, Slot, free, spoiled, Store, Presence, Proof, presence, zeros}
 use Rattle.meaning.specs.Tree.{grantsIn}
 use Rattle.meaning.specs.Store.{treeAtVersion}
 use Rattle.meaning.specs.Calls.{Answer, refused, accepted}
 use Rattle.meaning.specs.Reading.{Verdict, present, absent, readKey, beside, rootRead, readRoot, answerOf}
 use Rattle.meaning.specs.Sight.{scan}
+use Rattle.meaning.specs.Counting.{readNumber, readPosition}
 use Rattle.meaning.specs.Proving.{step, presenceOf, absenceOf, proof, proofLength, prove}
 use Rattle.meaning.specs.Checking.{checked}
 use Rattle.meaning.specs.Desk.{keyOf, A, B, C, D, E, F, a, b, c, d, c′, lf, nd, store, hA, hB, hC, hD, hF, h01, h0, root₁, s₁, s₂, s₆, s₉, g₁₅}
@@ -153,7 +154,7 @@ module _ (leafHash innerHash : Bytes → Bytes → Bytes) where
 
   -- the first met: D's walk ends at the missing child 10, its left neighbour is the leaf 0, and its right one stands below 11
   abbrev gap : Slot → Slot → Store
-  gap x y = store 0 1 (x ∷ y ∷ nd (true ∷ []) 1 0 0 zeros 1 (hC leafHash innerHash) ∷ nd [] 1 0 1 (hA leafHash innerHash) 1 (hB leafHash innerHash) ∷ [])
+  gap x y = store 0 1 (x ∷ y ∷ nd (true ∷ []) 1 0 0 zeros 1 (hC leafHash innerHash) 0 1 ∷ nd [] 1 0 1 (hA leafHash innerHash) 1 (hB leafHash innerHash) 1 1 ∷ [])
 
   abbrev spoilt₀ : Slot
   spoilt₀ = head (false ∷ []) 1 0
@@ -181,7 +182,7 @@ module _ (leafHash innerHash : Bytes → Bytes → Bytes) where
 
   -- a leaf whose key doesn't begin with its place gives 3 to the walk and to the descent
   abbrev misplaced : Store
-  misplaced = store 0 1 (lf (false ∷ []) 1 0 D d ∷ lf (true ∷ []) 1 0 E c ∷ nd [] 1 0 1 (hD leafHash innerHash) 1 (leafHash E c) ∷ [])
+  misplaced = store 0 1 (lf (false ∷ []) 1 0 D d ∷ lf (true ∷ []) 1 0 E c ∷ nd [] 1 0 1 (hD leafHash innerHash) 1 (leafHash E c) 1 1 ∷ [])
 
   pub reads-of-misplaced : map (readKey misplaced 1) (A ∷ E ∷ D ∷ []) ≡ refused 3 ∷ accepted (present c) ∷ accepted absent ∷ []
   unfolding computed
@@ -190,6 +191,46 @@ module _ (leafHash innerHash : Bytes → Bytes → Bytes) where
   pub proofs-of-misplaced : proof misplaced 1 D ≡ refused 3
   unfolding computed
   proofs-of-misplaced = refl
+
+  -- the number of grants and the grants by position, of M1, of an empty version, and pruned ones
+  pub numbers-of-M6 : map (readNumber six) (0 ∷ 1 ∷ 2 ∷ 3 ∷ 4 ∷ 5 ∷ 6 ∷ 7 ∷ [])
+      ≡ accepted 0 ∷ accepted 4 ∷ accepted 3 ∷ accepted 3 ∷ accepted 2 ∷ accepted 1 ∷ accepted 0 ∷ refused 8 ∷ []
+  unfolding computed
+  numbers-of-M6 = refl
+
+  pub positions-of-M1 : map (readPosition one 1) (0 ∷ 1 ∷ 2 ∷ 3 ∷ 4 ∷ [])
+      ≡ accepted (grant A a) ∷ accepted (grant B b) ∷ accepted (grant C c) ∷ accepted (grant D d) ∷ refused 20 ∷ []
+  unfolding computed
+  positions-of-M1 = refl
+
+  -- counts that are wrong: at a missing child and at a leaf with a position left over 3, where the root's counts let the position pass; a lost
+  -- leaf 17, a misplaced one 3; no other leaf is looked at
+  abbrev miscounted : ℕ → ℕ → Slot → Store
+  miscounted l r x = store 0 1
+      (lf (false ∷ []) 1 0 A a ∷ x ∷ nd (true ∷ []) 1 0 0 zeros 1 (hD leafHash innerHash) l 1 ∷ nd [] 1 0 1 (hA leafHash innerHash) 1 (hD leafHash innerHash) 1 r ∷ [])
+
+  abbrev leafD : Slot
+  leafD = lf (true ∷ true ∷ []) 1 0 H d
+
+  pub positions-of-miscounted :
+      readNumber (miscounted 0 4294967295 leafD) 1
+      ∷ readNumber (miscounted 0 1 free) 1
+      ∷ []
+      ≡ accepted 4294967296 ∷ accepted 2 ∷ []
+  unfolding computed
+  positions-of-miscounted = refl
+
+  pub grants-of-miscounted :
+      map (readPosition (miscounted 0 2 leafD) 1) (0 ∷ 1 ∷ 2 ∷ 3 ∷ [])
+      ++ readPosition (miscounted 1 2 leafD) 1 1
+      ∷ readPosition (miscounted 0 2 free) 1 1
+      ∷ readPosition (miscounted 0 2 (lf (true ∷ true ∷ []) 1 0 D d)) 1 1
+      ∷ readPosition (miscounted 0 2 free) 1 0
+      ∷ readPosition (miscounted 0 2 (head (true ∷ true ∷ []) 1 0)) 1 1
+      ∷ []
+      ≡ accepted (grant A a) ∷ accepted (grant H d) ∷ refused 3 ∷ refused 20 ∷ refused 3 ∷ refused 17 ∷ refused 3 ∷ accepted (grant A a) ∷ refused (beside 3 1) ∷ []
+  unfolding computed
+  grants-of-miscounted = refl
 
 -- Toy hash functions, which forget the last byte of a key and of a hash: what they don't see, the checker must.
 abbrev mix : ℕ → Bytes → ℕ

@@ -48,7 +48,7 @@ prune n st =
     cond (isKept st n)
     (record {
       answer = accepted (freeSlots (pruned n (st .slots)) - freeSlots (st .slots));
-      store = record { oldest = n; latest = st .latest; slots = pruned n (st .slots) };
+      store = record { form = st .form; oldest = n; latest = st .latest; slots = pruned n (st .slots) };
     })
     (refuse 8 st)
 

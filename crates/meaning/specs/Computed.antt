@@ -9,12 +9,13 @@ use Rattle.terms.specs.Fields.{le, slice, field, allOf}
 use Rattle.terms.specs.Heads.{countIn}
 use Rattle.meaning.specs.Sight.{agrees, livesBy, agreesRoot, rootSight, nodeSight}
 use Rattle.meaning.specs.Reading.{beside, seen, readKey, readRoot}
+use Rattle.meaning.specs.Counting.{weight, readNumber, readPosition}
 use Rattle.meaning.specs.Proving.{turnsAway, absenceAt, proveSeen, proof, presenceLength, prove}
 use Rattle.meaning.specs.Checking.{keepsTo, sameStep, pathsPart, leadsTo, neighbourHolds}
 use Rattle.meaning.specs.History.{keptBy}
 
 unfoldable pub computed : Unit {0}
 unfolding longer odd byteBits bit begins zeros smaller greater grantsAt treeOf nodeVersion nextTree formatted isNode isRoot rootOf treeAtVersion
-    marked retireIn retiredBy pruneRecord childOf recordsOf newRecords settled refuse isKept prune publish applyAs pack packed le slice field allOf countIn agrees livesBy agreesRoot rootSight nodeSight beside seen readKey readRoot
+    marked retireIn retiredBy pruneRecord childOf recordsOf newRecords settled refuse isKept prune publish applyAs pack packed le slice field allOf countIn agrees livesBy agreesRoot rootSight nodeSight beside seen readKey readRoot weight readNumber readPosition
     turnsAway absenceAt proveSeen proof presenceLength prove keepsTo sameStep pathsPart leadsTo neighbourHolds keptBy
 computed = tt

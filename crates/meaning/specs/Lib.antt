@@ -5,6 +5,7 @@ pub mod Sound
 pub mod Sight
 pub mod Calls
 pub mod Reading
+pub mod Counting
 pub mod Proving
 pub mod Checking
 pub mod History

@@ -4,16 +4,17 @@ use Prim.Native.Nat.{ℕ, suc, _≤_, _<_, max}
 use mathlib.Core.Path.{_≡_}
 use mathlib.Core.Logic.{_⊎_}
 use mathlib.Core.Bool.{true, cond}
-use mathlib.Core.List.{[]}
-use mathlib.Core.Option.{some}
+use mathlib.Core.List.{List, []}
+use mathlib.Core.Option.{Option, none, some}
 use lib.ListN.{length, getD}
 use lib.Dec.{eqb}
 use Rattle.terms.specs.Bits.{Bytes, Side, left, right, Place, longer, begins}
-use Rattle.terms.specs.Records.{Child, Body, leafBody, innerBody, Record, free, spoiled, Store}
+use Rattle.terms.specs.Records.{Child, Body, leafBody, innerBody, Tally, tally, noTally, Record, Slot, free, spoiled, Store}
 use Rattle.terms.specs.Form.{RecordForm, top32}
-use Rattle.meaning.specs.Store.{childOn, rootOf}
-use Rattle.meaning.specs.Sound.{At, Kept, Lives, mostSlots}
+use Rattle.meaning.specs.Store.{childOn, find, rootOf}
+use Rattle.meaning.specs.Sound.{At, Kept, Lives, mostSlots, CountsAre}
 use Rattle.meaning.specs.Reading.{bodyHash}
+use Rattle.meaning.specs.Counting.{weight}
 
 -- The first version after a record's life; a record that is not retired lives past latest.
 unfoldable pub endsBefore : Store → Record → ℕ
@@ -28,6 +29,17 @@ childVersion b (innerBody l r) = childOn b l r .version
 abbrev pub LoneLeaf : Child → Body → Type 0
 LoneLeaf d (leafBody k x) = d .version ≡ 0
 LoneLeaf d (innerBody l r) = ⊥
+
+-- The leaves at a record found as a child, by what it says; 0 for none.
+abbrev pub weighed : Option Record → ℕ
+weighed none = 0
+weighed (some q) = weight q
+
+-- The counts of a record by the records found as its children.
+abbrev pub countsBy : List Slot → Place → Body → Tally
+countsBy s p (leafBody k x) = noTally
+countsBy s p (innerBody l r) =
+    tally (weighed (find (l .version) (longer left p) s)) (weighed (find (r .version) (longer right p) s))
 
 module _ (leafHash innerHash : Bytes → Bytes → Bytes) where
   -- The child c of the record r, at the place p, beside d: missing, or found as a record that lives at each kept version of r's life, with
@@ -61,6 +73,8 @@ module _ (leafHash innerHash : Bytes → Bytes → Bytes) where
     -- a root record that lives at a kept version is that version's root
     pub roots : (v : ℕ) → Kept st v → (i : ℕ) (r : Record) → At st i r → r .place ≡ [] → Lives v r → rootOf st v ≡ some r
     pub bodies : (i : ℕ) (r : Record) → At st i r → BodyFits st r (r .body)
+    -- each count is what the record found as that child says of the leaves there
+    pub counts : (i : ℕ) (r : Record) → At st i r → CountsAre (st .form) (r .counts) (countsBy (st .slots) (r .place) (r .body))
     -- at each kept version of its life, a record below the root is named by a record one bit shorter that lives then
     pub parents : (i : ℕ) (r : Record) (p : Place) (b : Side) →
         At st i r →

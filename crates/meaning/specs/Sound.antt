@@ -1,4 +1,4 @@
--- Document 01, 'Sound'. Assumes nothing.
+-- Document 01, 'Sound', with the counts of 2026-09. Assumes nothing.
 use Prim.Native.Nat.{ℕ, _≤_, _<_}
 use mathlib.Core.Path.{_≡_}
 use mathlib.Core.Logic.{_↔_, _⊎_}
@@ -6,11 +6,13 @@ use mathlib.Core.Bool.{Bool, true, false}
 use mathlib.Core.List.{[]}
 use mathlib.Core.Option.{some}
 use lib.ListN.{length, getD}
+use Rattle.terms.specs.declared.Form.{Form}
+use Rattle.terms.specs.declared.Form.the-variants.{Plain as plain, Counted as counted}
 use Rattle.terms.specs.Bits.{Bytes, Whole32, left, right, Place, longer, begins}
-use Rattle.terms.specs.Records.{Body, leafBody, innerBody, Record, free, used, spoiled, Store}
+use Rattle.terms.specs.Records.{Body, leafBody, innerBody, Tally, tally, Record, free, used, spoiled, Store}
 use Rattle.terms.specs.Form.{RecordForm, top32}
 pub use Rattle.terms.specs.Form.{mostSlots}
-use Rattle.meaning.specs.Tree.{VTree, vnone, vleaf, vinner}
+use Rattle.meaning.specs.Tree.{VTree, vnone, vleaf, vinner, leaves}
 use Rattle.meaning.specs.Store.{find, treeAtVersion, childOf, retiredBy}
 
 -- Slot i holds the record r.
@@ -35,6 +37,15 @@ onlyLeaf (vinner v l r) t = false
 unfoldable pub Found : Store → ℕ → Place → Body → Type 0
 Found st v p b = (r : Record) × (find v p (st .slots) ≡ some r) × (r .body ≡ b)
 
+-- The counts that a record has are these; the plain form has no counts.
+abbrev pub CountsAre : Form → Tally → Tally → Type 0
+CountsAre plain c d = Unit {0}
+CountsAre counted c d = c ≡ d
+
+-- The node (v, p) is found, with these counts.
+unfoldable pub Tallied : Store → ℕ → Place → Tally → Type 0
+Tallied st v p c = (r : Record) × (find v p (st .slots) ≡ some r) × CountsAre (st .form) (r .counts) c
+
 -- (v, q) is a node of the tree t that stands at p.
 abbrev pub NodeOf : ℕ → Place → VTree → Place → Type 0
 NodeOf v q vnone p = ⊥
@@ -53,7 +64,7 @@ Lives v r = (r .version ≤ v) × (retiredBy v r ≡ false)
 module _ (leafHash innerHash : Bytes → Bytes → Bytes) where
   -- A tree stands at a place: children are found at their version and place, leaves' keys begin with their place, stored hashes are the
   -- children's hashes, and there is no inner node whose only child is a leaf. A present child that is not found is no tree, so what is
-  -- said of it, version and hash, is not what the record says.
+  -- said of it, version and hash, is not what the record says. Each count is the number of leaves below that child, 0 for none (2026-09).
   abbrev pub Stands : Store → Place → VTree → Type 0
   Stands st p vnone = Unit {0}
   Stands st p (vleaf v g) = Found st v p (leafBody (g .key) (g .value)) × (begins p (g .key) ≡ true)
@@ -62,6 +73,7 @@ module _ (leafHash innerHash : Bytes → Bytes → Bytes) where
       × (onlyLeaf l r ≡ false)
       × Stands st (longer left p) l
       × Stands st (longer right p) r
+      × Tallied st v p (tally (leaves l) (leaves r))
 
   pub record Sound (st : Store) : Type 0 where
     -- size and header are right

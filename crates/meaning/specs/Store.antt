@@ -6,13 +6,14 @@ use mathlib.Core.List.{List, [], _∷_, _++_, map}
 use mathlib.Core.Option.{Option, none, some}
 use lib.ListN.{replicate}
 use lib.Dec.{eqb, leb}
+use Rattle.terms.specs.declared.Form.the-variants.{Counted as counted}
 use Rattle.terms.specs.Bits.{Bytes, Side, left, right, Place, longer, filter, samePlace}
-use Rattle.terms.specs.Records.{grant, Child, child, Body, leafBody, innerBody, Record, Slot, free, used, spoiled, Store}
-use Rattle.meaning.specs.Tree.{hash, VTree, vnone, vleaf, vinner, topVersion, unversioned}
+use Rattle.terms.specs.Records.{grant, Child, child, Body, leafBody, innerBody, Tally, tally, noTally, Record, Slot, free, used, spoiled, Store}
+use Rattle.meaning.specs.Tree.{hash, VTree, vnone, vleaf, vinner, topVersion, unversioned, leaves}
 
--- Formatted: oldest and latest are 0 and all slots free.
+-- Formatted: oldest and latest are 0 and all slots free, in the counted form (2026-09).
 unfoldable pub formatted : ℕ → Store
-formatted n = record { oldest = 0; latest = 0; slots = replicate n free }
+formatted n = record { form = counted; oldest = 0; latest = 0; slots = replicate n free }
 
 -- A record is the node (version, place).
 unfoldable pub isNode : ℕ → Place → Record → Bool
@@ -80,7 +81,7 @@ placed rs (spoiled x ∷ s) = spoiled x ∷ placed rs s
 
 -- A record marked retired since n; nothing else in it changes.
 unfoldable pub marked : ℕ → Record → Record
-marked n r = record { place = r .place; version = r .version; retired = n; body = r .body }
+marked n r = record { place = r .place; version = r .version; retired = n; body = r .body; counts = r .counts }
 
 -- What stands in a slot, changed where it is a record.
 abbrev pub onRecord : (Record → Slot) → Slot → Slot
@@ -107,6 +108,12 @@ pruneRecord n r = cond (retiredBy n r) free (used r)
 abbrev pub pruned : ℕ → List Slot → List Slot
 pruned n s = map (onRecord (pruneRecord n)) s
 
+-- What the record at the top of a tree says of the numbers of leaves below its children (2026-09).
+abbrev pub countsOf : VTree → Tally
+countsOf vnone = noTally
+countsOf (vleaf v g) = noTally
+countsOf (vinner v l r) = tally (leaves l) (leaves r)
+
 module _ (leafHash innerHash : Bytes → Bytes → Bytes) where
   -- What an inner record says of the tree at a child.
   unfoldable pub childOf : VTree → Child
@@ -115,8 +122,9 @@ module _ (leafHash innerHash : Bytes → Bytes → Bytes) where
   -- The record of the node at a place, not retired.
   abbrev pub recordAt : Place → VTree → List Record
   recordAt p vnone = []
-  recordAt p (vleaf v g) = record { place = p; version = v; retired = 0; body = leafBody (g .key) (g .value) } ∷ []
-  recordAt p (vinner v l r) = record { place = p; version = v; retired = 0; body = innerBody (childOf l) (childOf r) } ∷ []
+  recordAt p (vleaf v g) = record { place = p; version = v; retired = 0; body = leafBody (g .key) (g .value); counts = countsOf (vleaf v g) } ∷ []
+  recordAt p (vinner v l r) =
+      record { place = p; version = v; retired = 0; body = innerBody (childOf l) (childOf r); counts = countsOf (vinner v l r) } ∷ []
 
   -- The records strictly below a node in the order of placing: first all strictly below its left child, then strictly below its right,
   -- then the left child, then the right.
@@ -137,6 +145,7 @@ module _ (leafHash innerHash : Bytes → Bytes → Bytes) where
   -- The store with version `new`, where `old` is the tree before and `now` the tree after.
   unfoldable pub settled : ℕ → VTree → VTree → Store → Store
   settled new old now st = record {
+    form = st .form;
     oldest = st .oldest;
     latest = new;
     slots = placed (newRecords new now) (retire new (recordsOf old) (recordsOf now) (st .slots));

@@ -1,5 +1,5 @@
 -- Document 01, 'The tree of a set of grants' and 'Node versions'. Assumes nothing.
-use Prim.Native.Nat.{ℕ, zero, suc}
+use Prim.Native.Nat.{ℕ, zero, suc, _+_}
 use mathlib.Core.Bool.{Bool, true, false, cond, _&&_}
 use mathlib.Core.List.{List, [], _∷_, _++_}
 use Rattle.terms.specs.Bits.{Bytes, Side, left, right, Place, longer, filter, begins, before, sameBytes}
@@ -80,6 +80,12 @@ abbrev pub topVersion : VTree → ℕ
 topVersion vnone = 0
 topVersion (vleaf v g) = v
 topVersion (vinner v l r) = v
+
+-- The number of leaves of a tree (2026-09).
+abbrev pub leaves : VTree → ℕ
+leaves vnone = 0
+leaves (vleaf v g) = 1
+leaves (vinner v l r) = leaves l + leaves r
 
 -- The child on a side; none below a leaf.
 abbrev pub kid : Side → VTree → VTree

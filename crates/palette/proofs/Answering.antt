@@ -7,6 +7,7 @@ use mathlib.Core.Bool.{Bool, true, false, cond}
 use mathlib.Core.List.{List, _++_}
 use lib.ListN.{length, take, drop}
 use borrow.Author.Tests.{lt-ltb, le-ltb}
+use Rattle.terms.specs.declared.Form.the-variants.{Counted as counted}
 use Rattle.terms.specs.Bits.{Bytes}
 use Rattle.terms.specs.Records.{Proof}
 use Rattle.meaning.specs.Calls.{Answer, refused, accepted, isKept}
@@ -83,7 +84,7 @@ module _ (a : Answer (List Proof)) (len : ℕ) (room : Bytes) (e : togetherLengt
 pub torn-list : {b : Bool} (s : Bytes) (v : ℕ) (ks room : Bytes) → b ≡ wholeKeys ks → b ≡ false → Gives (paletteAnswer s v ks (length room)) room room (Refused 12)
 unfolding paletteAnswer
 torn-list s v ks room e f =
-    gives-refusal 12 room (ap (λ b. cond b (byHeader (headerOf s) (palette (storeOf s) v (keysIn ks) (length room))) (refused 12)) (sym e ∙ f))
+    gives-refusal 12 room (ap (λ b. cond b (byHeader (headerOf counted s) (palette (storeOf s) v (keysIn ks) (length room))) (refused 12)) (sym e ∙ f))
 
 -- in a kept version the single calls give what is planned
 kept-planned : (s : Bytes) (v : ℕ) (ks : Bytes) (room : ℕ) (b : Bool) → isKept (storeOf s) v ≡ b →
@@ -96,11 +97,11 @@ kept-planned s v ks room false e = refl
 
 module _ {b : Bool} (s : Bytes) (v : ℕ) (ks room : Bytes) (e : b ≡ wholeKeys ks) (t : b ≡ true) where
   opened-first : paletteAnswer s v ks (length room)
-      ≡ byHeader (headerOf s) (cond (isKept (storeOf s) v) (fittedTogether (length room) (plannedIn s v ks)) (refused 8))
+      ≡ byHeader (headerOf counted s) (cond (isKept (storeOf s) v) (fittedTogether (length room) (plannedIn s v ks)) (refused 8))
   unfolding paletteAnswer palette
   opened-first =
-      ap (λ c. cond c (byHeader (headerOf s) (palette (storeOf s) v (keysIn ks) (length room))) (refused 12)) (sym e ∙ t)
-      ∙ ap (byHeader (headerOf s)) (kept-planned s v ks (length room) (isKept (storeOf s) v) refl)
+      ap (λ c. cond c (byHeader (headerOf counted s) (palette (storeOf s) v (keysIn ks) (length room))) (refused 12)) (sym e ∙ t)
+      ∙ ap (byHeader (headerOf counted s)) (kept-planned s v ks (length room) (isKept (storeOf s) v) refl)
 
   -- 1, 2, 8
   pub first-refused : {o : declared-opened.Opened} (n : ℕ) → openedSays o ≡ opened s v → o ≡ first.Refused n → Gives (paletteAnswer s v ks (length room)) room room (Refused n)
@@ -127,5 +128,5 @@ pub measured-length : {a : Answer ℕ} {m : declared.Proved} (n : ℕ) → prove
 unfolding provedSays
 measured-length n g h = sym g ∙ ap provedSays h
 
-pub kept-size : {o : declared-opened.Opened} (s : Bytes) (v : ℕ) → openedSays o ≡ opened s v → o ≡ first.Kept → sizeRight (length s) ≡ true
+pub kept-size : {o : declared-opened.Opened} (s : Bytes) (v : ℕ) → openedSays o ≡ opened s v → o ≡ first.Kept → sizeRight counted (length s) ≡ true
 kept-size s v says e = opening.kept-size s v (sym (ap openedSays e) ∙ says)

@@ -4,6 +4,7 @@ use Prim.Native.Nat.{ℕ}
 use mathlib.Core.Bool.{cond}
 use mathlib.Core.List.{List, [], _∷_, _++_}
 use lib.ListN.{length, drop}
+use Rattle.terms.specs.declared.Form.the-variants.{Counted as counted}
 use Rattle.terms.specs.Bits.{Bytes}
 use Rattle.terms.specs.Records.{Proof}
 use Rattle.meaning.specs.Calls.{Answer, refused, accepted}
@@ -16,7 +17,7 @@ use Rattle.read_open.specs.Headed.{byHeader}
 -- The proofs for a list of keys in version v of the store s, into this much room: 12 where the list isn't 0 to 256 whole keys, then 1, 2, 8, what the
 -- single calls are refused with, 9.
 unfoldable pub paletteAnswer : Bytes → ℕ → Bytes → ℕ → Answer (List Proof)
-paletteAnswer s v list room = cond (wholeKeys list) (byHeader (headerOf s) (palette (storeOf s) v (keysIn list) room)) (refused 12)
+paletteAnswer s v list room = cond (wholeKeys list) (byHeader (headerOf counted s) (palette (storeOf s) v (keysIn list) room)) (refused 12)
 
 -- The proofs one after the other.
 abbrev pub proofsBytes : List Proof → Bytes

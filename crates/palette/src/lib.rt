@@ -7,6 +7,7 @@ use read_open::Opened;
 use read_open::open;
 use refusal_numbers::NOT_32_BYTES;
 use refusal_numbers::wide::NO_ROOM;
+use terms::Form;
 ghost use mathlib.Core.Path.{_≡_};
 ghost use mathlib.Core.Bool.{true};
 ghost use lib.ListN.{length};
@@ -34,7 +35,7 @@ fn whole_keys(keys: &[u8]) -> bool
 
 // How long all proofs are together, or the first refusal in the order asked.
 fn measure(store: &[u8], version: u32, keys: &[u8]) -> Proved
-    requires { ⌜ (sizeRight (length (now store)) ≡ true) × (wholeKeys (now keys) ≡ true) ⌝ }
+    requires { ⌜ (sizeRight Form.Counted (length (now store)) ≡ true) × (wholeKeys (now keys) ≡ true) ⌝ }
     ensures { λ r. ⌜ provedSays r ≡ togetherLength (plannedIn (now (store .entry)) version (now (keys .entry))) ⌝ }
 {
     let mut total = 0;
@@ -54,7 +55,7 @@ fn measure(store: &[u8], version: u32, keys: &[u8]) -> Proved
 
 // Writes the proofs one after the other into a part that is as long as all together.
 fn fill(part: &mut [u8], store: &[u8], version: u32, keys: &[u8])
-    requires { ⌜ (sizeRight (length (now store)) ≡ true) × (wholeKeys (now keys) ≡ true) × (togetherLength (plannedIn (now store) version (now keys)) ≡ accepted (length (now part))) ⌝ }
+    requires { ⌜ (sizeRight Form.Counted (length (now store)) ≡ true) × (wholeKeys (now keys) ≡ true) × (togetherLength (plannedIn (now store) version (now keys)) ≡ accepted (length (now part))) ⌝ }
     ensures { λ _. ⌜ now (part .exit) ≡ togetherBytes (plannedIn (now (store .entry)) version (now (keys .entry))) ⌝ }
 {
     let mut start = 0;
@@ -72,7 +73,7 @@ fn fill(part: &mut [u8], store: &[u8], version: u32, keys: &[u8])
 
 // Gives the proofs, len bytes together, if there is room.
 fn give(store: &[u8], version: u32, keys: &[u8], len: u32, room: &mut [u8]) -> Proved
-    requires { ⌜ (sizeRight (length (now store)) ≡ true) × (wholeKeys (now keys) ≡ true) × (togetherLength (plannedIn (now store) version (now keys)) ≡ accepted len) ⌝ }
+    requires { ⌜ (sizeRight Form.Counted (length (now store)) ≡ true) × (wholeKeys (now keys) ≡ true) × (togetherLength (plannedIn (now store) version (now keys)) ≡ accepted len) ⌝ }
     ensures { λ r. ⌜ Gives (fittedTogether (length (now (room .entry))) (plannedIn (now (store .entry)) version (now (keys .entry)))) (now (room .entry)) (now (room .exit)) r ⌝ }
 {
     let end = len as usize;

@@ -3,6 +3,3 @@
 
 // A leaf is shown with at most 32 steps.
 pub const POCKET_STEPS: usize = 32;
-
-// 19: the proof is outside the pocket profile.
-pub const OUTSIDE: u32 = 19;

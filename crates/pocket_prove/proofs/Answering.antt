@@ -4,6 +4,7 @@ use mathlib.Core.Path.{_≡_, refl, ap, sym, _∙_, subst}
 use mathlib.Core.Bool.{Bool, true, false, cond}
 use lib.ListN.{length}
 use borrow.Author.Tests.{eq-eqb, ne-eqb}
+use Rattle.terms.specs.declared.Form.the-variants.{Counted as counted}
 use Rattle.terms.specs.Bits.{Bytes}
 use Rattle.terms.specs.Records.{Proof}
 use Rattle.meaning.specs.Calls.{Answer, refused, isKept}
@@ -42,12 +43,12 @@ module _ (s : Bytes) (v : ℕ) (k room : Bytes) (whole : length k ≡ 32) where
   abbrev planned : Answer Proof
   planned = proveSeen k (seen (scan (storeOf s)) v)
 
-  opened-first : pocketAnswer s v k (length room) ≡ byHeader (headerOf s) (cond (isKept (storeOf s) v) (fitted (length room) (inProfile planned)) (refused 8))
+  opened-first : pocketAnswer s v k (length room) ≡ byHeader (headerOf counted s) (cond (isKept (storeOf s) v) (fitted (length room) (inProfile planned)) (refused 8))
   unfolding pocketAnswer pocketProve
   opened-first =
-      ap (λ b. cond b (byHeader (headerOf s) (pocketProve (storeOf s) v k (length room))) (refused 12)) (eq-eqb (length k) 32 whole)
-      ∙ ap (λ a. byHeader (headerOf s) (fitted (length room) (inProfile a))) (proof-by-searches (storeOf s) v k)
-      ∙ ap (byHeader (headerOf s)) (fitted-kept (length room) (isKept (storeOf s) v) planned)
+      ap (λ b. cond b (byHeader (headerOf counted s) (pocketProve (storeOf s) v k (length room))) (refused 12)) (eq-eqb (length k) 32 whole)
+      ∙ ap (λ a. byHeader (headerOf counted s) (fitted (length room) (inProfile a))) (proof-by-searches (storeOf s) v k)
+      ∙ ap (byHeader (headerOf counted s)) (fitted-kept (length room) (isKept (storeOf s) v) planned)
 
   -- 1, 2, 8
   pub first-refused : {o : declared-opened.Opened} (n : ℕ) → openedSays o ≡ opened s v → o ≡ first.Refused n →
@@ -71,5 +72,5 @@ module _ (s : Bytes) (v : ℕ) (k room : Bytes) (whole : length k ≡ 32) where
         Gives (pocketAnswer s v k (length room)) room after r
     inside-given {after} {r} h g = subst (λ a. Gives a room after r) (sym (by-plan ∙ ap (fitted (length room)) (inside-plan s k x h))) g
 
-pub kept-size : {o : declared-opened.Opened} (s : Bytes) (v : ℕ) → openedSays o ≡ opened s v → o ≡ first.Kept → sizeRight (length s) ≡ true
+pub kept-size : {o : declared-opened.Opened} (s : Bytes) (v : ℕ) → openedSays o ≡ opened s v → o ≡ first.Kept → sizeRight counted (length s) ≡ true
 kept-size s v says e = opening.kept-size s v (sym (ap openedSays e) ∙ says)

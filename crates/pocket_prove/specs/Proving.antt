@@ -4,6 +4,7 @@ use Prim.Native.Nat.{ℕ}
 use mathlib.Core.Bool.{cond}
 use lib.ListN.{length}
 use lib.Dec.{eqb}
+use Rattle.terms.specs.declared.Form.the-variants.{Counted as counted}
 use Rattle.terms.specs.Bits.{Bytes}
 use Rattle.terms.specs.Records.{Proof}
 use Rattle.meaning.specs.Calls.{Answer, refused}
@@ -14,4 +15,4 @@ use Rattle.read_open.specs.Headed.{byHeader}
 
 -- The proof for key k in version v of the store s, into this much room: 12 where the key isn't 32 bytes, then 1, 2, 8, 14, 3 or 17, 19, 9.
 unfoldable pub pocketAnswer : Bytes → ℕ → Bytes → ℕ → Answer Proof
-pocketAnswer s v k room = cond (eqb (length k) 32) (byHeader (headerOf s) (pocketProve (storeOf s) v k room)) (refused 12)
+pocketAnswer s v k room = cond (eqb (length k) 32) (byHeader (headerOf counted s) (pocketProve (storeOf s) v k room)) (refused 12)

@@ -4,7 +4,6 @@ ghost use lib.ListN.{length};
 ghost use Rattle.prove.specs.Parts.{Gives};
 ghost use Rattle.pocket_prove.specs.Parts.{wayShort, oneLong, planOutside};
 ghost use Rattle.pocket_prove.specs.Proving.{pocketAnswer};
-use pocket::OUTSIDE;
 use pocket::POCKET_STEPS;
 use prove::Proved;
 use prove::give;
@@ -16,6 +15,7 @@ use prove_plan::plan_of;
 use read_open::Opened;
 use read_open::open;
 use refusal_numbers::NOT_32_BYTES;
+use refusal_numbers::wide::OUTSIDE_POCKET;
 
 // Whether the neighbour that a search found, if any, has at most 32 steps.
 fn is_short(n: Sought) -> bool
@@ -70,7 +70,7 @@ pub fn pocket_prove(store: &[u8], version: u32, key: &[u8], room: &mut [u8]) -> 
     }
     let plan = plan_of(store, version, key);
     if is_outside(plan) {
-        return Proved::Refused(OUTSIDE as u64);
+        return Proved::Refused(OUTSIDE_POCKET);
     }
     give(store, key, plan, room)
 }

@@ -8,12 +8,12 @@ ghost use Rattle.verify.specs.Says.{says};
 ghost use Rattle.pocket_verify.specs.Verify.{outside, pocketVerified};
 use fields::get_u16;
 use fields::get_u32;
-use pocket::OUTSIDE;
 use pocket::POCKET_STEPS;
 use proofrecords::ABSENCE_HEAD;
 use proofrecords::FLAGS_AT;
 use proofrecords::STEPS_AT;
 use refusal_numbers::NOT_32_BYTES;
+use refusal_numbers::OUTSIDE_POCKET;
 use verify::Checked;
 use verify::verify;
 use verify_form::is_absence;
@@ -67,7 +67,7 @@ pub fn pocket_verify(root: &[u8], key: &[u8], proof: &[u8]) -> Checked
         return Checked::Refused(NOT_32_BYTES);
     }
     if is_outside(proof) {
-        return Checked::Refused(OUTSIDE);
+        return Checked::Refused(OUTSIDE_POCKET);
     }
     verify(root, key, proof)
 }

@@ -2,18 +2,20 @@
 -- Assumes nothing.
 use Prim.Native.Nat.{ℕ, _<_}
 use native.Mathlib.Omega.{arith}
-use mathlib.Core.Path.{_≡_, refl, ap, sym, _∙_}
+use mathlib.Core.Path.{_≡_, refl, ap, sym, _∙_, subst}
 use mathlib.Core.Logic.{⊎-elim}
 use lib.ListN.{length, getD}
+use Rattle.terms.specs.declared.Form.the-variants.{Counted as counted}
 use Rattle.terms.specs.Bits.{Bytes, Byte, All}
 use Rattle.terms.specs.Records.{Slot, free, used, spoiled, Store}
+use Rattle.terms.specs.Form.{FormedAs}
 use Rattle.terms.proofs.Lists.{all-of}
 use Rattle.meaning.specs.Sound.{At, Sound}
 use Rattle.meaning.specs.Calls.{Answer, refused, accepted, Result}
 use Rattle.nodehash.specs.Node.{leafHash, innerHash}
 use Rattle.layout.specs.Headers.{Headed, refusal, header, headerOf}
 use Rattle.layout.specs.Slots.{SlotForm}
-use Rattle.layout.specs.Stores.{storeOf, storeBytes, HeaderWithin, StoreForm}
+use Rattle.layout.specs.Stores.{storeIn, storeBytes, HeaderWithin, StoreForm}
 use Rattle.layout.proofs.Headers.{header-refused, accepted as header-accepted}
 use Rattle.layout.proofs.Stores.{store-back}
 use Rattle.promises.specs.Check.{Checked}
@@ -21,28 +23,28 @@ use Rattle.promises.specs.Check as check
 use Rattle.promises.specs.Calls.{SoundBytes, Does, wrong-header, not-sound, refuses, accepts, Exports, exports-refusal, exports-answer}
 
 -- a header is not refused with 0
-no-refusal : (s : Bytes) → headerOf s ≡ refusal 0 → ⊥
-no-refusal s e = ⊎-elim (λ z. omega arith) (λ z. omega arith) (header-refused s 0 e)
+no-refusal : (s : Bytes) → headerOf counted s ≡ refusal 0 → ⊥
+no-refusal s e = ⊎-elim (λ z. omega arith) (λ z. omega arith) (header-refused counted s 0 e)
 
 -- a sound store is in form
-pub sound-form : (st : Store) → Sound leafHash innerHash st → StoreForm st
+pub sound-form : (st : Store) → st .form ≡ counted → Sound leafHash innerHash st → StoreForm st
 unfolding At
-sound-form st w =
+sound-form st counts w =
     record {
       some = w .size .0;
       fits = w .size .1;
       ordered = w .header .0;
       number = w .header .1;
-      each = all-of SlotForm (st .slots) free (λ i h. go i h (getD (st .slots) i free) refl);
+      each = all-of (SlotForm (st .form)) (st .slots) free (λ i h. go i h (getD (st .slots) i free) refl);
     }
   where
-    go : (i : ℕ) → i < length (st .slots) → (x : Slot) → getD (st .slots) i free ≡ x → SlotForm x
+    go : (i : ℕ) → i < length (st .slots) → (x : Slot) → getD (st .slots) i free ≡ x → SlotForm (st .form) x
     go i h free e = tt
-    go i h (used r) e = w .formed i r (h, e)
+    go i h (used r) e = (w .formed i r (h, e), subst (λ f. FormedAs f r) (sym counts) tt)
     go i h (spoiled x) e = absurd (w .whole i x h e)
 
 module _ {s : Bytes} where
-  pub checked-sound : {r : ℕ} → Checked s r → r ≡ 0 → SoundBytes s
+  pub checked-sound : {r : ℕ} → Checked counted s r → r ≡ 0 → SoundBytes s
   checked-sound (check.refused m e) z = absurd (no-refusal s (e ∙ ap refusal z))
   checked-sound (check.unsound c o l e g) z = absurd (omega arith)
   checked-sound (check.sound c o l e w) z = record { capacity = c; oldest = o; latest = l; headed = e; sound = w }
@@ -51,7 +53,7 @@ module _ {s : Bytes} where
   sound-long w = omega (arith, header-accepted s (w .capacity) (w .oldest) (w .latest) (w .headed) .size)
 
   -- the bytes are those of the store
-  pub sound-back : SoundBytes s → All Byte s → storeBytes (storeOf s) ≡ s
+  pub sound-back : SoundBytes s → All Byte s → storeBytes (storeIn counted s) ≡ s
   sound-back w h = store-back s (w .capacity) (w .oldest) (w .latest) h (header-accepted s (w .capacity) (w .oldest) (w .latest) (w .headed))
 
 -- a header is refused or accepted, an answer too
@@ -65,7 +67,7 @@ not-answered : {A B : Type 0} {a : Answer A} {m : ℕ} {k : A} → a ≡ refused
 not-answered e f = let g = sym e ∙ f in let z : _≡_ {A = ℕ} 0 1 = cc in absurd (omega arith)
 
 module _ {A : Type 0} {call : Store → Result A} {s : Bytes} where
-  pub checked-refuses : {r : ℕ} → Checked s r → (r ≡ 0 → ⊥) → Does call s (refused r) s
+  pub checked-refuses : {r : ℕ} → Checked counted s r → (r ≡ 0 → ⊥) → Does call s (refused r) s
   checked-refuses (check.refused m e) f = wrong-header e
   checked-refuses (check.unsound c o l e g) f = not-sound e g
   checked-refuses (check.sound c o l e w) f = absurd (f refl)

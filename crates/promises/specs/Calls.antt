@@ -2,32 +2,33 @@
 -- then the call's own, as the definition says them of a sound store. Assumes nothing.
 use Prim.Native.Nat.{ℕ}
 use mathlib.Core.Path.{_≡_}
+use Rattle.terms.specs.declared.Form.the-variants.{Counted as counted}
 use Rattle.terms.specs.Bits.{Bytes}
 use Rattle.terms.specs.Records.{Store}
 use Rattle.meaning.specs.Sound.{Sound}
 use Rattle.meaning.specs.Calls.{Answer, refused, accepted, Result}
 use Rattle.nodehash.specs.Node.{leafHash, innerHash}
 use Rattle.layout.specs.Headers.{refusal, header, headerOf}
-use Rattle.layout.specs.Stores.{storeOf, storeBytes}
+use Rattle.layout.specs.Stores.{storeIn, storeBytes}
 
 -- The bytes hold a sound store: size and header are right, and the store is sound.
 pub record SoundBytes (s : Bytes) : Type 0 where
   pub capacity : ℕ
   pub oldest : ℕ
   pub latest : ℕ
-  pub headed : headerOf s ≡ header capacity oldest latest
-  pub sound : Sound leafHash innerHash (storeOf s)
+  pub headed : headerOf counted s ≡ header capacity oldest latest
+  pub sound : Sound leafHash innerHash (storeIn counted s)
 
 -- The call on the bytes s gives this answer and leaves these bytes.
 pub data Does {A : Type 0} (call : Store → Result A) (s : Bytes) : Answer A → Bytes → Type 0 where
   -- 1 or 2, by size and header; nothing is written
-  wrong-header : {m : ℕ} → headerOf s ≡ refusal m → Does call s (refused m) s
+  wrong-header : {m : ℕ} → headerOf counted s ≡ refusal m → Does call s (refused m) s
   -- 3: not sound; nothing is written
-  not-sound : {c o l : ℕ} → headerOf s ≡ header c o l → (Sound leafHash innerHash (storeOf s) → ⊥) → Does call s (refused 3) s
+  not-sound : {c o l : ℕ} → headerOf counted s ≡ header c o l → (Sound leafHash innerHash (storeIn counted s) → ⊥) → Does call s (refused 3) s
   -- the store is sound, and the call is refused; nothing is written
-  refuses : {m : ℕ} → SoundBytes s → call (storeOf s) .answer ≡ refused m → Does call s (refused m) s
+  refuses : {m : ℕ} → SoundBytes s → call (storeIn counted s) .answer ≡ refused m → Does call s (refused m) s
   -- else the answer, and the bytes are those of the store that the call leaves
-  accepts : {a : A} → SoundBytes s → call (storeOf s) .answer ≡ accepted a → Does call s (accepted a) (storeBytes (call (storeOf s) .store))
+  accepts : {a : A} → SoundBytes s → call (storeIn counted s) .answer ≡ accepted a → Does call s (accepted a) (storeBytes (call (storeIn counted s) .store))
 
 -- The same call for C: it answers 0 where it is accepted, else the number of refusal; what is told goes to the array f, which a refused call
 -- leaves.

@@ -4,6 +4,7 @@ use mathlib.Core.Path.{_≡_, refl, ap, sym, _∙_, subst}
 use mathlib.Core.Bool.{Bool, true, false, cond}
 use lib.ListN.{length}
 use borrow.Author.Tests.{eq-eqb, ne-eqb}
+use Rattle.terms.specs.declared.Form.the-variants.{Counted as counted}
 use Rattle.terms.specs.Bits.{Bytes}
 use Rattle.terms.specs.Records.{Proof}
 use Rattle.meaning.specs.Calls.{Answer, refused, isKept}
@@ -43,16 +44,16 @@ fitted-kept n false a = refl
 pub wrong-key : (s : Bytes) (v : ℕ) (k room : Bytes) → (length k ≡ 32 → ⊥) → Answers s v k room room (Refused 12)
 unfolding proveAnswer
 wrong-key s v k room f =
-    answers s v k room room (Refused 12) (gives-refusal 12 room refl) (sym (ap (λ b. cond b (byHeader (headerOf s) (prove (storeOf s) v k (length room))) (refused 12)) (ne-eqb (length k) 32 f)))
+    answers s v k room room (Refused 12) (gives-refusal 12 room refl) (sym (ap (λ b. cond b (byHeader (headerOf counted s) (prove (storeOf s) v k (length room))) (refused 12)) (ne-eqb (length k) 32 f)))
 
 module _ (s : Bytes) (v : ℕ) (k room : Bytes) (whole : length k ≡ 32) where
   opened-first : proveAnswer s v k (length room)
-      ≡ byHeader (headerOf s) (cond (isKept (storeOf s) v) (fitted (length room) (proveSeen k (seen (scan (storeOf s)) v))) (refused 8))
+      ≡ byHeader (headerOf counted s) (cond (isKept (storeOf s) v) (fitted (length room) (proveSeen k (seen (scan (storeOf s)) v))) (refused 8))
   unfolding proveAnswer prove
   opened-first =
-      ap (λ b. cond b (byHeader (headerOf s) (prove (storeOf s) v k (length room))) (refused 12)) (eq-eqb (length k) 32 whole)
-      ∙ ap (λ a. byHeader (headerOf s) (fitted (length room) a)) (proof-by-searches (storeOf s) v k)
-      ∙ ap (byHeader (headerOf s)) (fitted-kept (length room) (isKept (storeOf s) v) (proveSeen k (seen (scan (storeOf s)) v)))
+      ap (λ b. cond b (byHeader (headerOf counted s) (prove (storeOf s) v k (length room))) (refused 12)) (eq-eqb (length k) 32 whole)
+      ∙ ap (λ a. byHeader (headerOf counted s) (fitted (length room) a)) (proof-by-searches (storeOf s) v k)
+      ∙ ap (byHeader (headerOf counted s)) (fitted-kept (length room) (isKept (storeOf s) v) (proveSeen k (seen (scan (storeOf s)) v)))
 
   -- 1, 2, 8
   pub first-refused : {o : declared-opened.Opened} (n : ℕ) → openedSays o ≡ opened s v → o ≡ first.Refused n → Answers s v k room room (Refused n)
@@ -67,5 +68,5 @@ module _ (s : Bytes) (v : ℕ) (k room : Bytes) (whole : length k ≡ 32) where
       (ap (fitted (length room)) (plan .says)
       ∙ sym (opened-first ∙ opening.rest-decides (fitted (length room) (proveSeen k (seen (scan (storeOf s)) v))) s v (sym (ap openedSays e) ∙ says)))
 
-pub kept-size : {o : declared-opened.Opened} (s : Bytes) (v : ℕ) → openedSays o ≡ opened s v → o ≡ first.Kept → sizeRight (length s) ≡ true
+pub kept-size : {o : declared-opened.Opened} (s : Bytes) (v : ℕ) → openedSays o ≡ opened s v → o ≡ first.Kept → sizeRight counted (length s) ≡ true
 kept-size s v says e = opening.kept-size s v (sym (ap openedSays e) ∙ says)

@@ -5,6 +5,7 @@ use mathlib.Core.Bool.{cond}
 use mathlib.Core.List.{_++_}
 use lib.ListN.{length, drop}
 use lib.Dec.{eqb}
+use Rattle.terms.specs.declared.Form.the-variants.{Counted as counted}
 use Rattle.terms.specs.Bits.{Bytes}
 use Rattle.terms.specs.Records.{Proof}
 use Rattle.meaning.specs.Calls.{Answer, refused, accepted}
@@ -16,7 +17,7 @@ use Rattle.read_open.specs.Headed.{byHeader}
 
 -- The proof for key k in version v of the store s, into this much room: 12 where the key isn't 32 bytes, then 1, 2, 8, 14, 3 or 17, 9.
 unfoldable pub proveAnswer : Bytes → ℕ → Bytes → ℕ → Answer Proof
-proveAnswer s v k room = cond (eqb (length k) 32) (byHeader (headerOf s) (prove (storeOf s) v k room)) (refused 12)
+proveAnswer s v k room = cond (eqb (length k) 32) (byHeader (headerOf counted s) (prove (storeOf s) v k room)) (refused 12)
 
 -- An accepted proof fills the front of the buffer, the rest stays; a refusal writes nothing.
 abbrev pub roomAfter : Answer Proof → Bytes → Bytes

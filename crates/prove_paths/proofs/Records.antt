@@ -6,6 +6,7 @@ use mathlib.Core.Path.{_≡_, refl, ap, ap₂, sym, _∙_}
 use mathlib.Core.Bool.{not}
 use mathlib.Core.List.{List, [], _∷_, _++_}
 use lib.ListN.{length, getD, take, drop, length-append, length-take, length-drop}
+use Rattle.terms.specs.declared.Form.the-variants.{Counted as counted}
 use Rattle.terms.specs.Bits.{Bytes, left, Place}
 use Rattle.terms.specs.Fields.{le, flat}
 use Rattle.terms.specs.Records.{Child}
@@ -16,6 +17,7 @@ use Rattle.place.specs.Place.{placeOf}
 use Rattle.layout.specs.Slots.{keyIn, valueIn, grantIn}
 use Rattle.layout.specs.Stores.{slotIn, SlotWithin}
 use Rattle.slots.proofs.Parts.{grant-parts, key-long, value-long, grant-long, kid-long}
+use Rattle.layout.proofs.Headers.{size-long}
 use Rattle.store.proofs.Slots.{slot-long}
 use Rattle.proofrecords.specs.ProofBytes.{stepsBytes, presenceBytes}
 use Rattle.read_step.specs.Walk.{kidIn}
@@ -43,15 +45,15 @@ pub steps-count : (s : Bytes) (slots : List ℕ) (p : Place) (n : ℕ) → lengt
 steps-count s slots p zero = refl
 steps-count s slots p (suc n) = ap suc (steps-count s slots p n)
 
-steps-long : (s : Bytes) (slots : List ℕ) (p : Place) (n : ℕ) → ((j : ℕ) → j < n → SlotWithin (getD slots j 0) s) →
+steps-long : (s : Bytes) (slots : List ℕ) (p : Place) (n : ℕ) → ((j : ℕ) → j < n → SlotWithin counted (getD slots j 0) s) →
     length (stepsBytes (stepsOf s slots p n)) ≡ 33 * n
 unfolding stepAt kidIn
 steps-long s slots p zero h = refl
 steps-long s slots p (suc n) h =
     let b = not (getD p n left) in
-    let x = slotIn (getD slots n 0) s in
+    let x = slotIn counted (getD slots n 0) s in
     let k : length (kidIn (getD slots n 0) s b .hash) ≡ 32 =
-    ap (λ (c : Child). length (c .hash)) (sym (kid-is b x)) ∙ kid-long x (slot-long (getD slots n 0) s (h n (omega arith))) b
+    ap (λ (c : Child). length (c .hash)) (sym (kid-is b x)) ∙ kid-long x (size-long counted x (slot-long counted (getD slots n 0) s (h n (omega arith)))) b
     in
     let r = steps-long s slots p n (λ j l. h j (omega arith)) in
     simp length-append (omega arith)
@@ -81,15 +83,15 @@ presence-filled {a} {b} {c} {g} {y} {z} {len} {count} x n f part l el ec lg lf e
     ∙ ap (λ u. flat (le 4 (72 + 33 * n) ∷ le 2 16 ∷ le 2 n ∷ []) ++ u) (sym (flat-append (keyIn x ∷ valueIn x ∷ []) (f ∷ [])))
 
 pub presence-put : {a b c g x y z : Bytes} (s : Bytes) (p : declared-path.Path) (part : Bytes) → PathIn s p → length part ≡ 72 + 33 * p .place .count →
-    a ≡ written 0 (le 4 (length part)) part → b ≡ written 4 (le 2 16) a → c ≡ written 6 (le 2 (p .place .count)) b → x ≡ slotIn (p .at) s →
+    a ≡ written 0 (le 4 (length part)) part → b ≡ written 4 (le 2 16) a → c ≡ written 6 (le 2 (p .place .count)) b → x ≡ slotIn counted (p .at) s →
     g ≡ grantIn x → y ≡ g → z ≡ stepsBytes (pathSteps s p) → given 72 (length part) (given 8 72 c y) z ≡ presenceBytes (presenceAt s p)
 unfolding presenceBytes presenceAt pathSteps
 presence-put {a} {b} {c} {g} {x} s p part w l ea eb ec ex eg ey ez =
     let steps = stepsOf s (p .slots) (placeOf (p .place)) (p .place .count) in
     let n : p .place .count ≡ length steps = sym (steps-count s (p .slots) (placeOf (p .place)) (p .place .count)) in
-    let e : g ≡ grantIn (slotIn (p .at) s) = eg ∙ ap grantIn ex in
-    let lg : length g ≡ 64 = ap length e ∙ grant-long (slotIn (p .at) s) (slot-long (p .at) s (w .end)) in
-    presence-filled (slotIn (p .at) s) (length steps) (stepsBytes steps) part (l ∙ ap (λ (k : ℕ). 72 + 33 * k) n) refl n lg
+    let e : g ≡ grantIn (slotIn counted (p .at) s) = eg ∙ ap grantIn ex in
+    let lg : length g ≡ 64 = ap length e ∙ grant-long (slotIn counted (p .at) s) (size-long counted (slotIn counted (p .at) s) (slot-long counted (p .at) s (w .end))) in
+    presence-filled (slotIn counted (p .at) s) (length steps) (stepsBytes steps) part (l ∙ ap (λ (k : ℕ). 72 + 33 * k) n) refl n lg
     (steps-long s (p .slots) (placeOf (p .place)) (p .place .count) (w .above) ∙ ap (33 *_) n) ea eb ec e ey ez
 
 pub presence-long : (s : Bytes) (p : declared-path.Path) → PathIn s p → length (presenceBytes (presenceAt s p)) ≡ 72 + 33 * p .place .count
@@ -97,8 +99,8 @@ unfolding presenceBytes presenceAt pathSteps
 presence-long s p w =
     let n = p .place .count in
     let steps = stepsOf s (p .slots) (placeOf (p .place)) n in
-    let x = slotIn (p .at) s in
-    let h = slot-long (p .at) s (w .end) in
+    let x = slotIn counted (p .at) s in
+    let h = size-long counted (slotIn counted (p .at) s) (slot-long counted (p .at) s (w .end)) in
     let fs = le 4 (72 + 33 * length steps) ∷ le 2 16 ∷ le 2 (length steps) ∷ keyIn x ∷ valueIn x ∷ stepsBytes steps ∷ [] in
     let k = steps-long s (p .slots) (placeOf (p .place)) n (w .above) in
     let sized : Sized (4 ∷ 2 ∷ 2 ∷ 32 ∷ 32 ∷ 33 * n ∷ []) fs =

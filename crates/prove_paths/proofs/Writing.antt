@@ -7,6 +7,7 @@ use mathlib.Core.Bool.{not}
 use mathlib.Core.List.{List, [], _∷_, _++_, append-assoc, append-nil}
 use lib.ListN.{length, getD, take, drop, set, drop-of-length-le, length-append, length-take, length-drop}
 use lib.Seq.{take-all, take-at, getD-take}
+use Rattle.terms.specs.declared.Form.the-variants.{Counted as counted}
 use Rattle.terms.specs.Bits.{Bytes, Side, left, bits, bit, digit}
 use Rattle.terms.specs.Records.{Child}
 use Rattle.layout.specs.Stores.{slotIn}
@@ -18,12 +19,12 @@ use Rattle.prove_paths.specs.Paths.{stepBytes, stepAt, stepsOf}
 use Rattle.prove_paths.proofs.Records.{given}
 
 -- a side and a hash fill the 33 bytes of a step
-pub step-put : {x h y : Bytes} {d : ℕ} (part s : Bytes) (i : ℕ) (b : Side) → length part ≡ 33 → d ≡ digit b → x ≡ slotIn i s → h ≡ kidOn (not b) x .hash →
+pub step-put : {x h y : Bytes} {d : ℕ} (part s : Bytes) (i : ℕ) (b : Side) → length part ≡ 33 → d ≡ digit b → x ≡ slotIn counted i s → h ≡ kidOn (not b) x .hash →
     y ≡ h → set (given 1 33 part y) 0 d ≡ stepBytes (stepAt s i b)
 unfolding stepBytes stepAt kidIn
 step-put [] s i b l e f g k = absurd (omega arith)
 step-put {x} {h} {y} {d} (z ∷ part) s i b l e f g k =
-    ap₂ _∷_ e (ap (y ++_) (drop-of-length-le part {i = 32} (omega arith)) ∙ append-nil y ∙ k ∙ g ∙ ap (λ u. kidOn (not b) u .hash) f ∙ ap (λ (c : Child). c .hash) (kid-is (not b) (slotIn i s)))
+    ap₂ _∷_ e (ap (y ++_) (drop-of-length-le part {i = 32} (omega arith)) ∙ append-nil y ∙ k ∙ g ∙ ap (λ u. kidOn (not b) u .hash) f ∙ ap (λ (c : Child). c .hash) (kid-is (not b) (slotIn counted i s)))
 
 -- the part of a path's steps, of which those below depth are written, up to start
 pub record Steps (s : Bytes) (slots : List ℕ) (b : Bytes) (n : ℕ) (part : Bytes) (depth start : ℕ) : Type 0 where

@@ -4,6 +4,7 @@ use Prim.Native.Nat.{ℕ, zero, suc, _<_}
 use mathlib.Core.Bool.{not}
 use mathlib.Core.List.{List, [], _∷_}
 use lib.ListN.{getD}
+use Rattle.terms.specs.declared.Form.the-variants.{Counted as counted}
 use Rattle.terms.specs.Bits.{Bytes, Side, left, Place, digit}
 use Rattle.terms.specs.Records.{Step, Presence}
 use Rattle.meaning.specs.Proving.{step, presenceOf}
@@ -31,10 +32,10 @@ pathSteps s p = stepsOf s (p .slots) (placeOf (p .place)) (p .place .count)
 
 -- The presence proof of the leaf at the end of a path.
 unfoldable pub presenceAt : Bytes → declared.Path → Presence
-presenceAt s p = presenceOf (keyIn (slotIn (p .at) s)) (valueIn (slotIn (p .at) s)) (pathSteps s p)
+presenceAt s p = presenceOf (keyIn (slotIn counted (p .at) s)) (valueIn (slotIn counted (p .at) s)) (pathSteps s p)
 
 -- A path within a store: each slot on it is one of the store's, and its place is proper.
 pub record PathIn (s : Bytes) (p : declared.Path) : Type 0 where
   pub proper : Proper (p .place)
-  pub above : (j : ℕ) → j < p .place .count → SlotWithin (getD (p .slots) j 0) s
-  pub end : SlotWithin (p .at) s
+  pub above : (j : ℕ) → j < p .place .count → SlotWithin counted (getD (p .slots) j 0) s
+  pub end : SlotWithin counted (p .at) s

@@ -11,6 +11,7 @@ use read_step::Trouble;
 use slots::child_hash;
 use slots::grant_of;
 use store::slot_of;
+use terms::Form;
 ghost use mathlib.Core.Path.{_≡_};
 ghost use Prim.Native.Nat.{_+_, _*_, _≤_};
 ghost use lib.ListN.{length};
@@ -39,12 +40,12 @@ fn digit(side: bool) -> u8
 
 // Writes the step up from the child on a side of the inner node in slot i: the side, and the hash of the sibling as the node has it.
 fn put_step(part: &mut [u8], store: &[u8], i: usize, side: bool)
-    requires { ⌜ (length (now part) ≡ stepSize) × SlotWithin i (now store) ⌝ }
+    requires { ⌜ (length (now part) ≡ stepSize) × SlotWithin Form.Counted i (now store) ⌝ }
     ensures { λ _. ⌜ now (part .exit) ≡ stepBytes (stepAt (now (store .entry)) i side) ⌝ }
 {
     copy(
         &mut part[1..STEP_SIZE],
-        child_hash(slot_of(store, i), !side),
+        child_hash(slot_of(Form::Counted, store, i), !side),
     );
     part[0] = digit(side);
 }
@@ -80,7 +81,10 @@ pub fn put_presence(part: &mut [u8], store: &[u8], path: Path)
     put_u32(part, 0, len as u32);
     put_u16(part, 4, PRESENCE_KIND);
     put_u16(part, 6, count);
-    copy(&mut part[8..PRESENCE_HEAD], grant_of(slot_of(store, at)));
+    copy(
+        &mut part[8..PRESENCE_HEAD],
+        grant_of(slot_of(Form::Counted, store, at)),
+    );
     put_steps(&mut part[PRESENCE_HEAD..len], store, path);
 }
 

@@ -8,6 +8,7 @@ use mathlib.Core.Logic.{⊎-elim}
 use mathlib.Core.List.{[], _∷_, map}
 use types.Run.{OneOf}
 use denote.Enum.Declared.{tagOf}
+use Rattle.terms.specs.declared.Form.the-variants.{Counted as counted}
 use Rattle.terms.specs.Bits.{Bytes, Side, left, right, sameBytes}
 use Rattle.terms.specs.Records.{Proof, presence}
 use Rattle.meaning.specs.Calls.{Answer, refused, accepted}
@@ -37,11 +38,11 @@ plans-of : {s k : Bytes} {a b : Answer Proof} {p : declared.Plan} → a ≡ b �
 plans-of e w = record { says = w .says ∙ e; within = w .within }
 
 -- by the leaf's key
-by-key : {x l : Bytes} {d : Bool} (s k : Bytes) (w : declared-walked.Walked) (i : ℕ) (c : Bool) → x ≡ slotIn i s → l ≡ keyIn x → d ≡ sameBytes k l → d ≡ c →
+by-key : {x l : Bytes} {d : Bool} (s k : Bytes) (w : declared-walked.Walked) (i : ℕ) (c : Bool) → x ≡ slotIn counted i s → l ≡ keyIn x → d ≡ sameBytes k l → d ≡ c →
     cond c (presentAt s w i) (absentFrom s k w) ≡ provedAt s k w i
 by-key s k w i c slot its e t = ap (λ b. cond b (presentAt s w i) (absentFrom s k w)) (sym (sym (e ∙ ap (sameBytes k) (its ∙ ap keyIn slot)) ∙ t))
 
-module _ {x l : Bytes} {d : Bool} (s k : Bytes) (w : declared-walked.Walked) (i : ℕ) (slot : x ≡ slotIn i s) (its : l ≡ keyIn x) (e : d ≡ sameBytes k l) where
+module _ {x l : Bytes} {d : Bool} (s k : Bytes) (w : declared-walked.Walked) (i : ℕ) (slot : x ≡ slotIn counted i s) (its : l ≡ keyIn x) (e : d ≡ sameBytes k l) where
   pub another-key : {p : declared.Plan} → d ≡ false → Plans s k (absentFrom s k w) p → Plans s k (provedAt s k w i) p
   another-key t g = plans-of (by-key s k w i false slot its e t) g
 
@@ -64,15 +65,15 @@ module _ (s : Bytes) (v : ℕ) (k : Bytes) (w : declared-walked.Walked) (h : Wal
   from-fork : (b : Side) → fromTrail b (h .walking .passes) ≡ forkSays s (w .trail .slots) b (forkOn b (w .left) (w .right))
   from-fork b = h .walking .found b
 
-  leaf-presence : (i : ℕ) → presenceOf (keyIn (slotIn i s)) (valueIn (slotIn i s)) (map stepUp (h .walking .passes)) ≡ presenceAt s (pathOf (w .trail) i)
+  leaf-presence : (i : ℕ) → presenceOf (keyIn (slotIn counted i s)) (valueIn (slotIn counted i s)) (map stepUp (h .walking .passes)) ≡ presenceAt s (pathOf (w .trail) i)
   unfolding presenceAt pathSteps stepsBy
-  leaf-presence i = ap (presenceOf (keyIn (slotIn i s)) (valueIn (slotIn i s))) (h .walking .steps)
+  leaf-presence i = ap (presenceOf (keyIn (slotIn counted i s)) (valueIn (slotIn counted i s))) (h .walking .steps)
 
   leaf-neighbour : (i : ℕ) (b : Side) → w .trail .seen ≡ Leaf i →
-      neighbour b k (atLeaf (keyIn (slotIn i s)) (valueIn (slotIn i s)) (h .walking .passes)) ≡ neighbourSays s k w b
+      neighbour b k (atLeaf (keyIn (slotIn counted i s)) (valueIn (slotIn counted i s)) (h .walking .passes)) ≡ neighbourSays s k w b
   unfolding neighbourSays
   leaf-neighbour i b e =
-      ap₂ (λ p x. cond (beyond b (keyIn (slotIn i s)) k) (somebody p) x) (leaf-presence i) (from-fork b)
+      ap₂ (λ p x. cond (beyond b (keyIn (slotIn counted i s)) k) (somebody p) x) (leaf-presence i) (from-fork b)
       ∙ sym (ap (λ y. endSays s k (w .trail) b y (forkSays s (w .trail .slots) b (forkOn b (w .left) (w .right)))) e)
 
   gap-neighbour : (b : Side) → w .trail .seen ≡ Gap → neighbour b k (atGap (h .walking .passes)) ≡ neighbourSays s k w b
@@ -85,7 +86,7 @@ module _ (s : Bytes) (v : ℕ) (k : Bytes) (w : declared-walked.Walked) (h : Wal
   unfolding leafAt absenceAt
   at-leaf i e =
       prove-at (Leaf i) e
-      ∙ ap₂ (λ p a. cond (sameBytes k (keyIn (slotIn i s))) (accepted (presence p)) a) (leaf-presence i)
+      ∙ ap₂ (λ p a. cond (sameBytes k (keyIn (slotIn counted i s))) (accepted (presence p)) a) (leaf-presence i)
       (ap₂ (absenceFrom k) (leaf-neighbour i left e) (leaf-neighbour i right e))
 
   at-gap : w .trail .seen ≡ Gap → proveSeen k (seen (scan (storeOf s)) v) ≡ absentFrom s k w

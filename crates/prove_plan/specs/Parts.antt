@@ -1,6 +1,7 @@
 -- What the helpers of planning promise each other. No public promise reaches this file. Assumes nothing.
 use Prim.Native.Nat.{ℕ}
 use mathlib.Core.Bool.{cond}
+use Rattle.terms.specs.declared.Form.the-variants.{Counted as counted}
 use Rattle.terms.specs.Bits.{Bytes, left, right, sameBytes}
 use Rattle.terms.specs.Records.{Proof, presence}
 use Rattle.meaning.specs.Calls.{Answer, accepted}
@@ -47,4 +48,4 @@ abbrev pub absentFrom : Bytes → Bytes → declared-walked.Walked → Answer Pr
 absentFrom s k w = absenceFrom k (neighbourSays s k w left) (neighbourSays s k w right)
 
 abbrev pub provedAt : Bytes → Bytes → declared-walked.Walked → ℕ → Answer Proof
-provedAt s k w i = cond (sameBytes k (keyIn (slotIn i s))) (presentAt s w i) (absentFrom s k w)
+provedAt s k w i = cond (sameBytes k (keyIn (slotIn counted i s))) (presentAt s w i) (absentFrom s k w)

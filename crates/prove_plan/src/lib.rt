@@ -16,6 +16,7 @@ use read_step::refusal;
 use refusal_numbers::wide::EMPTY_VERSION;
 use slots::key_of;
 use store::slot_of;
+use terms::Form;
 ghost use mathlib.Core.Path.{_≡_};
 ghost use mathlib.Core.Bool.{true};
 ghost use lib.ListN.{length};
@@ -115,7 +116,7 @@ fn at_leaf(store: &[u8], key: &[u8], walked: Walked, i: usize) -> Plan
     requires { ⌜ WalkedIn (now store) walked × (walked .trail .seen ≡ Leaf i) ⌝ }
     ensures { λ r. ⌜ Plans (now (store .entry)) (now (key .entry)) (provedAt (now (store .entry)) (now (key .entry)) walked i) r ⌝ }
 {
-    if !same(key, key_of(slot_of(store, i))) {
+    if !same(key, key_of(slot_of(Form::Counted, store, i))) {
         return absent(store, key, walked);
     }
     let trail = walked.trail;
@@ -126,7 +127,7 @@ fn at_leaf(store: &[u8], key: &[u8], walked: Walked, i: usize) -> Plan
 
 // Plans the proof of a key in a version that is kept.
 pub fn plan_of(store: &[u8], version: u32, key: &[u8]) -> Plan
-    requires { ⌜ (sizeRight (length (now store)) ≡ true) × (length (now key) ≡ 32) ⌝ }
+    requires { ⌜ (sizeRight Form.Counted (length (now store)) ≡ true) × (length (now key) ≡ 32) ⌝ }
     ensures { λ r. ⌜ Plans (now (store .entry)) (now (key .entry)) (proveSeen (now (key .entry)) (seen (scan (storeOf (now (store .entry)))) version)) r ⌝ }
 {
     let walked = walk(store, version, key);

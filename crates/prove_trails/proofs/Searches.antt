@@ -10,6 +10,7 @@ use mathlib.Core.Logic.{⊎-elim}
 use types.Run.{OneOf}
 use denote.Enum.Declared.{tagOf}
 use lib.Dec.{eqb}
+use Rattle.terms.specs.declared.Form.the-variants.{Counted as counted}
 use Rattle.terms.specs.Bits.{Bytes, Side, longer}
 use Rattle.terms.specs.Records.{Step}
 use Rattle.meaning.specs.Sight.{scan}
@@ -39,8 +40,8 @@ use Rattle.prove_trails.proofs.Trails.{kidsAt, gap-test, steps-further,
 pub path-in : (s : Bytes) (t : declared.Trail) (i : ℕ) → TrailIn s t → t .seen ≡ Leaf i → PathIn s (pathOf t i)
 path-in s t i w e = record {
   proper = w .proper;
-  above = λ j h. slot-fits s (w .size) (getD (t .slots) j 0) (w .above j h);
-  end = slot-fits s (w .size) i (subst (SeenIn s (placeOf (t .place))) e (w .seen));
+  above = λ j h. slot-fits counted s (w .size) (getD (t .slots) j 0) (w .above j h);
+  end = slot-fits counted s (w .size) i (subst (SeenIn s (placeOf (t .place))) e (w .seen));
 }
 
 -- the turn of a descent
@@ -153,7 +154,7 @@ module _ (s k : Bytes) (w : declared-walked.Walked) (b : Side) where
   end-elsewhere {f} {r} o e d =
       subst (λ x. Finds s x r) (ap (forkSays s (w .trail .slots) b) e ∙ sym (not-leaf s k (w .trail) b (w .trail .seen) fromFork o)) d
 
-  module _ {x y : Bytes} {d : Bool} (i : ℕ) (here : w .trail .seen ≡ Leaf i) (ex : x ≡ slotIn i s) (ey : y ≡ keyIn x) (ed : d ≡ beyond b y k) where
+  module _ {x y : Bytes} {d : Bool} (i : ℕ) (here : w .trail .seen ≡ Leaf i) (ex : x ≡ slotIn counted i s) (ey : y ≡ keyIn x) (ed : d ≡ beyond b y k) where
     leaf-says : neighbourSays s k w b ≡ cond d (somebody (presenceAt s (pathOf (w .trail) i))) fromFork
     unfolding neighbourSays
     leaf-says =
@@ -175,5 +176,5 @@ module _ (s k : Bytes) (w : declared-walked.Walked) (b : Side) where
         (ap (forkSays s (w .trail .slots) b) e ∙ sym (leaf-says ∙ ap (λ c. cond c (somebody (presenceAt s (pathOf (w .trail) i))) fromFork) t)) n
 
 -- the leaf's slot is one of the store's
-pub leaf-fits : (s : Bytes) (t : declared.Trail) (i : ℕ) → TrailIn s t → t .seen ≡ Leaf i → SlotWithin i s
+pub leaf-fits : (s : Bytes) (t : declared.Trail) (i : ℕ) → TrailIn s t → t .seen ≡ Leaf i → SlotWithin counted i s
 leaf-fits s t i w e = path-in s t i w e .end

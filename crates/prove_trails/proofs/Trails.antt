@@ -9,6 +9,7 @@ use lib.ListN.{length, getD, set, length-set, List·getD-append}
 use lib.Seq.{getD-set-same, getD-set-other, getD-append-seam}
 use lib.Dec.{eqb}
 use borrow.Author.Count.{below-more}
+use Rattle.terms.specs.declared.Form.the-variants.{Counted as counted}
 use Rattle.terms.specs.Bits.{Bytes, Side, left, Place, longer, begins}
 use Rattle.terms.specs.Records.{Child, Body, leafBody, innerBody}
 use Rattle.terms.proofs.Places.{length-longer}
@@ -84,7 +85,7 @@ kid-seen s b p c =
     ap (λ (m : ℕ). seenAt m (scan (storeOf s)) (longer b p) c) n
 
 -- the trail at the root
-pub started : (s : Bytes) (v : ℕ) (x : declared-seen.Seen) (a : List ℕ) (p : declared-place.Place) → sizeRight (length s) ≡ true → length a ≡ 256 → Stands [] 0 p →
+pub started : (s : Bytes) (v : ℕ) (x : declared-seen.Seen) (a : List ℕ) (p : declared-place.Place) → sizeRight counted (length s) ≡ true → length a ≡ 256 → Stands [] 0 p →
     Sees s [] (seen (scan (storeOf s)) v) x → Started s v (record { seen = x; slots = a; place = p })
 unfolding shownBy
 started s v x a p size long w e = record {
@@ -107,8 +108,8 @@ unfolding shownBy
 gone-further s t i b p x w g e =
     let n = t .place .count in
     let h : n < length (t .slots) = omega (arith, w .short, w .long) in
-    let below : (j : ℕ) → j < n + 1 → getD (set (t .slots) n i) j 0 < roomOf (length s) =
-    below-more (λ (j : ℕ). getD (set (t .slots) n i) j 0 < roomOf (length s)) n (λ j l. rw (set-below (t .slots) n i j l) (w .above j l)) (rw (getD-set-same (t .slots) n i 0 h) (w .inside))
+    let below : (j : ℕ) → j < n + 1 → getD (set (t .slots) n i) j 0 < roomOf counted (length s) =
+    below-more (λ (j : ℕ). getD (set (t .slots) n i) j 0 < roomOf counted (length s)) n (λ j l. rw (set-below (t .slots) n i j l) (w .above j l)) (rw (getD-set-same (t .slots) n i 0 h) (w .inside))
     in
     record {
       trail = record {

@@ -2,6 +2,7 @@
 use Prim.Native.Nat.{ℕ}
 use mathlib.Core.Path.{_≡_}
 use mathlib.Core.Bool.{cond}
+use Rattle.terms.specs.declared.Form.the-variants.{Counted as counted}
 use Rattle.terms.specs.Bits.{Bytes, Side}
 use Rattle.meaning.specs.Proving.{raisedBy, descend, Sought, somebody, sought, beyond}
 use Rattle.layout.specs.Slots.{keyIn}
@@ -42,7 +43,7 @@ pub record WalkedIn (s : Bytes) (w : declared-walked.Walked) : Type 0 where
 abbrev pub endSays : Bytes → Bytes → declared.Trail → Side → declared-seen.Seen → Sought → Sought
 endSays s k t b Gap x = x
 endSays s k t b (Lost u) x = x
-endSays s k t b (Leaf i) x = cond (beyond b (keyIn (slotIn i s)) k) (somebody (presenceAt s (pathOf t i))) x
+endSays s k t b (Leaf i) x = cond (beyond b (keyIn (slotIn counted i s)) k) (somebody (presenceAt s (pathOf t i))) x
 endSays s k t b (Inner i) x = x
 
 -- The neighbour of key k on side b where a walk has ended.

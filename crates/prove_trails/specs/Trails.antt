@@ -5,6 +5,7 @@ use mathlib.Core.Bool.{true, false, cond, _&&_, not, Bool·beq}
 use mathlib.Core.List.{List, [], _∷_, map}
 use lib.ListN.{length, getD, set}
 use lib.Dec.{eqb}
+use Rattle.terms.specs.declared.Form.the-variants.{Counted as counted}
 use Rattle.terms.specs.Bits.{Bytes, Side, Place, longer}
 use Rattle.terms.specs.Records.{Step}
 use Rattle.meaning.specs.Sight.{scan}
@@ -34,8 +35,8 @@ shownAt s p (Inner i) = forkAt i s p
 abbrev pub SeenIn : Bytes → Place → declared-seen.Seen → Type 0
 SeenIn s p Gap = Unit {0}
 SeenIn s p (Lost t) = Unit {0}
-SeenIn s p (Leaf i) = i < roomOf (length s)
-SeenIn s p (Inner i) = (i < roomOf (length s)) × (length p < 256)
+SeenIn s p (Leaf i) = i < roomOf counted (length s)
+SeenIn s p (Inner i) = (i < roomOf counted (length s)) × (length p < 256)
 
 -- What is seen at the end of a trail, and the steps from there upwards.
 unfoldable pub shownBy : Bytes → declared.Trail → Seen
@@ -46,19 +47,19 @@ stepsBy s t = stepsOf s (t .slots) (placeOf (t .place)) (t .place .count)
 
 -- A trail within a store: its place is proper and each slot on it is one of the store's.
 pub record TrailIn (s : Bytes) (t : declared.Trail) : Type 0 where
-  pub size : sizeRight (length s) ≡ true
+  pub size : sizeRight counted (length s) ≡ true
   pub proper : Proper (t .place)
   pub long : length (t .slots) ≡ 256
-  pub above : (j : ℕ) → j < t .place .count → getD (t .slots) j 0 < roomOf (length s)
+  pub above : (j : ℕ) → j < t .place .count → getD (t .slots) j 0 < roomOf counted (length s)
   pub seen : SeenIn s (placeOf (t .place)) (t .seen)
 
 -- A trail that goes on at the inner node in slot i.
 pub record AtInner (s : Bytes) (t : declared.Trail) (i : ℕ) : Type 0 where
-  pub size : sizeRight (length s) ≡ true
+  pub size : sizeRight counted (length s) ≡ true
   pub proper : Proper (t .place)
   pub long : length (t .slots) ≡ 256
-  pub above : (j : ℕ) → j < t .place .count → getD (t .slots) j 0 < roomOf (length s)
-  pub inside : i < roomOf (length s)
+  pub above : (j : ℕ) → j < t .place .count → getD (t .slots) j 0 < roomOf counted (length s)
+  pub inside : i < roomOf counted (length s)
   pub short : t .place .count < 256
 
 -- The trail at the root of a version.

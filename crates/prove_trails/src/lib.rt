@@ -13,6 +13,7 @@ use read_step::child_version;
 use read_step::root;
 use slots::key_of;
 use store::slot_of;
+use terms::Form;
 ghost use mathlib.Core.Path.{_≡_};
 ghost use mathlib.Core.Bool.{true, false, cond, not};
 ghost use Prim.Native.Nat.{_<_};
@@ -47,7 +48,7 @@ pub struct Walked {
 
 // At the root of a version.
 fn start(store: &[u8], version: u32) -> Trail
-    requires { ⌜ sizeRight (length (now store)) ≡ true ⌝ }
+    requires { ⌜ sizeRight Form.Counted (length (now store)) ≡ true ⌝ }
     ensures { λ r. ⌜ Started (now (store .entry)) version r ⌝ }
 {
     let seen = root(store, version);
@@ -75,7 +76,7 @@ fn further(store: &[u8], trail: Trail, i: usize, side: bool) -> Trail
 
 // The deepest fork towards a side, where the walk takes a turn at the inner node in slot i: this node, if it turns away and a child is there.
 fn deepest(store: &[u8], fork: Fork, place: Place, i: usize, turn: bool, side: bool) -> Fork
-    requires { ⌜ (sizeRight (length (now store)) ≡ true) × (i < roomOf (length (now store))) ⌝ }
+    requires { ⌜ (sizeRight Form.Counted (length (now store)) ≡ true) × (i < roomOf Form.Counted (length (now store))) ⌝ }
     ensures { λ r. ⌜ r ≡ forkAfter (now (store .entry)) i place turn side fork ⌝ }
 {
     if turn == side {
@@ -89,7 +90,7 @@ fn deepest(store: &[u8], fork: Fork, place: Place, i: usize, turn: bool, side: b
 
 // Walks by the key's bits from the root of a version to a leaf or a missing child, or until it is stopped.
 pub fn walk(store: &[u8], version: u32, key: &[u8]) -> Walked
-    requires { ⌜ (sizeRight (length (now store)) ≡ true) × (length (now key) ≡ 32) ⌝ }
+    requires { ⌜ (sizeRight Form.Counted (length (now store)) ≡ true) × (length (now key) ≡ 32) ⌝ }
     ensures { λ r. ⌜ Walks (now (store .entry)) version (now (key .entry)) r ⌝ }
 {
     let top = Place::top();
@@ -132,7 +133,7 @@ fn answer(trail: Trail, way: Way, i: usize) -> Sought
 
 // Where a descent goes on from the inner node in slot i: to a side where there is a child on that side, else to the other.
 fn towards(store: &[u8], i: usize, to: bool) -> bool
-    requires { ⌜ (sizeRight (length (now store)) ≡ true) × (i < roomOf (length (now store))) ⌝ }
+    requires { ⌜ (sizeRight Form.Counted (length (now store)) ≡ true) × (i < roomOf Form.Counted (length (now store))) ⌝ }
     ensures { λ r. ⌜ r ≡ cond (eqb (kidIn i (now (store .entry)) to .version) 0) (not to) to ⌝ }
 {
     if child_version(store, i, to) == 0 {
@@ -213,7 +214,7 @@ pub fn neighbour(store: &[u8], key: &[u8], walked: Walked, side: bool) -> Sought
     let Seen::Leaf(i) = seen else {
         return from_fork(store, trail, fork, side);
     };
-    if beyond(key_of(slot_of(store, i)), key, side) {
+    if beyond(key_of(slot_of(Form::Counted, store, i)), key, side) {
         return answer(trail, Way::Somebody, i);
     }
     from_fork(store, trail, fork, side)

@@ -4,6 +4,7 @@ use store::latest_of;
 use store::oldest_of;
 use store::retired_at;
 use store::slot_count;
+use terms::Form;
 ghost use mathlib.Core.Path.{_≡_};
 ghost use Rattle.meaning.specs.Calls.{isKept};
 ghost use Rattle.layout.specs.Stores.{storeOf, HeaderWithin, SlotWithin};
@@ -22,18 +23,18 @@ pub fn is_kept(store: &[u8], version: u32) -> bool
 
 // Frees slot i if its retired-since is the version or earlier; answers how many records it freed.
 fn free_slot(store: &mut [u8], i: usize, version: u32) -> u32
-    requires { ⌜ SlotWithin i (now store) ⌝ }
+    requires { ⌜ SlotWithin Form.Counted i (now store) ⌝ }
     ensures count { λ r. ⌜ r ≡ freedCount version i (now (store .entry)) ⌝ }
     ensures bytes { λ _. ⌜ now (store .exit) ≡ freedSlot version i (now (store .entry)) ⌝ }
 {
-    let since = retired_at(store, i);
+    let since = retired_at(Form::Counted, store, i);
     if since == 0 {
         return 0;
     }
     if version < since {
         return 0;
     }
-    clear_slot_at(store, i);
+    clear_slot_at(Form::Counted, store, i);
     1
 }
 
@@ -42,7 +43,7 @@ pub fn free_retired(store: &mut [u8], version: u32) -> u32
     requires { ⌜ Readable (now store) ⌝ }
     ensures { λ r. ⌜ Frees version (now (store .entry)) r (now (store .exit)) ⌝ }
 {
-    let slots = slot_count(store);
+    let slots = slot_count(Form::Counted, store);
     let mut freed = 0;
     let mut i = 0;
     while i < slots {

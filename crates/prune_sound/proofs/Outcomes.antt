@@ -1,7 +1,7 @@
 -- The outcome of each way through the call: the header and soundness first, then whether the version is kept; freeing the retired records
 -- and setting oldest is pruning. Assumes nothing.
 use Prim.Native.Nat.{ℕ}
-use mathlib.Core.Path.{_≡_, ap, sym, _∙_, subst}
+use mathlib.Core.Path.{_≡_, refl, ap, sym, _∙_, subst}
 use mathlib.Core.Bool.{true, false}
 use Rattle.terms.specs.Bits.{Bytes, Byte, All}
 use Rattle.meaning.specs.Calls.{refused, accepted, refuse, isKept, prune}
@@ -14,7 +14,7 @@ use Rattle.prune_sound.specs.Prune.{PruneDoes}
 
 module _ {s : Bytes} (w : SoundBytes s) where
   pub sound-readable : All Byte s → Readable s
-  sound-readable h = record { form = sound-form (storeOf s) (w .sound); back = sound-back w h; whole = w .sound .whole }
+  sound-readable h = record { form = sound-form (storeOf s) refl (w .sound); back = sound-back w h; whole = w .sound .whole }
 
   pub refused-8 : (n : ℕ) → isKept (storeOf s) n ≡ false → PruneDoes n s (refused 8) s
   unfolding prune refuse

@@ -3,6 +3,7 @@ use Prim.Native.Nat.{ℕ}
 use mathlib.Core.Path.{_≡_, refl}
 use mathlib.Core.Bool.{Bool, true, false}
 use mathlib.Core.List.{List, [], _∷_}
+use Rattle.terms.specs.declared.Form.the-variants.{Counted as counted}
 use Rattle.terms.specs.Bits.{Bytes}
 use Rattle.terms.specs.Records.{Store}
 use Rattle.meaning.specs.Calls.{isKept}
@@ -47,7 +48,7 @@ ranges : List Bool
 ranges = rangeRight long 1 1024 ∷ rangeRight long 1 1025 ∷ []
   where
     long : Store
-    long = record { oldest = 0; latest = 2000; slots = [] }
+    long = record { form = counted; oldest = 0; latest = 2000; slots = [] }
 
 ranges-right : ranges ≡ true ∷ false ∷ []
 unfolding ranges rangeRight isKept

@@ -4,6 +4,7 @@ use mathlib.Core.Path.{_≡_, ap, sym, _∙_}
 use mathlib.Core.Bool.{true}
 use lib.ListN.{length}
 use borrow.Author.Tests.{eq-eqb, ne-eqb}
+use Rattle.terms.specs.declared.Form.the-variants.{Counted as counted}
 use Rattle.terms.specs.Bits.{Bytes}
 use Rattle.meaning.specs.Sight.{rootSight}
 use Rattle.meaning.specs.Calls.{refused, accepted}
@@ -31,7 +32,7 @@ module _ (s : Bytes) (v : ℕ) {o : declared-opened.Opened} (says : openedSays o
   first-kept : o ≡ Kept → accepted tt ≡ opened s v
   first-kept e = sym (ap openedSays e) ∙ says
 
-  pub size-kept : o ≡ Kept → sizeRight (length s) ≡ true
+  pub size-kept : o ≡ Kept → sizeRight counted (length s) ≡ true
   size-kept e = opening.kept-size s v (first-kept e)
 
   pub root-refused : {n : ℕ} → o ≡ Refused n → rootSays (root.Refused n) ≡ rootAnswer s v

@@ -5,6 +5,7 @@ use mathlib.Core.Logic.{_↔_}
 use mathlib.Core.List.{[]}
 use lib.ListN.{length}
 use borrow.Author.Tests.{eq-eqb}
+use Rattle.terms.specs.declared.Form.the-variants.{Counted as counted}
 use Rattle.terms.specs.Bits.{Bytes, Whole32}
 use Rattle.terms.specs.Records.{grant}
 use Rattle.meaning.specs.Tree.{grants, hash, unversioned, grantsIn}
@@ -22,7 +23,7 @@ use Rattle.read.specs.Reads.{rootAnswer, keyAnswer}
 use Rattle.read.proofs.Granted.{Among, answered-among, among-answered}
 
 -- Bytes with a right header that hold a sound store, and a kept version:
-module _ (s : Bytes) {n o l : ℕ} (right : headerOf s ≡ header n o l) (ok : Sound leafHash innerHash (storeOf s)) (v : ℕ)
+module _ (s : Bytes) {n o l : ℕ} (right : headerOf counted s ≡ header n o l) (ok : Sound leafHash innerHash (storeOf s)) (v : ℕ)
     (kept : Kept (storeOf s) v) where
   -- The root read answers the hash of the version's tree.
   pub root-read-of-sound : rootAnswer s v ≡ accepted (hash leafHash innerHash (unversioned (treeAtVersion (storeOf s) v)))

@@ -4,6 +4,7 @@ use Prim.Native.Nat.{ℕ}
 use mathlib.Core.Bool.{cond}
 use lib.ListN.{length}
 use lib.Dec.{eqb}
+use Rattle.terms.specs.declared.Form.the-variants.{Counted as counted}
 use Rattle.terms.specs.Bits.{Bytes}
 use Rattle.meaning.specs.Calls.{Answer, refused}
 use Rattle.meaning.specs.Reading.{Verdict, readRoot, readKey}
@@ -14,8 +15,8 @@ use Rattle.read_open.specs.Headed.{byHeader}
 
 -- A root read answers the hash of the root record alone, or zeros: 1, 2, 8, and 3 where the root is spoilt.
 unfoldable pub rootAnswer : Bytes → ℕ → Answer Bytes
-rootAnswer s v = byHeader (headerOf s) (readRoot leafHash innerHash (storeOf s) v)
+rootAnswer s v = byHeader (headerOf counted s) (readRoot leafHash innerHash (storeOf s) v)
 
 -- A key read answers the value or "absent": 12 where the key isn't 32 bytes, then 1, 2, 8, 3 or 17.
 unfoldable pub keyAnswer : Bytes → ℕ → Bytes → Answer Verdict
-keyAnswer s v k = cond (eqb (length k) 32) (byHeader (headerOf s) (readKey (storeOf s) v k)) (refused 12)
+keyAnswer s v k = cond (eqb (length k) 32) (byHeader (headerOf counted s) (readKey (storeOf s) v k)) (refused 12)

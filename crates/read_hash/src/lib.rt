@@ -6,6 +6,7 @@ use nodehash::leaf_hash;
 use slots::child_hash;
 use slots::grant_of;
 use slots::is_leaf;
+use terms::Form;
 ghost use mathlib.Core.Path.{_≡_};
 ghost use lib.ListN.{length};
 ghost use Rattle.meaning.specs.Reading.{bodyHash};
@@ -16,7 +17,7 @@ ghost use Rattle.read_step.specs.Walk.{bodyIn};
 
 // The hash of a record, from what it holds.
 pub fn record_hash(slot: &[u8]) -> Hash
-    requires { ⌜ length (now slot) ≡ slotSize ⌝ }
+    requires { ⌜ length (now slot) ≡ slotSize Form.Counted ⌝ }
     ensures { λ r. ⌜ hashBytes r ≡ bodyHash leafHash innerHash (bodyIn (now (slot .entry))) ⌝ }
 {
     if is_leaf(slot) {

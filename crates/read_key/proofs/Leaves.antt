@@ -5,6 +5,7 @@ use mathlib.Core.Path.{_≡_, ap, sym, _∙_}
 use mathlib.Core.Bool.{Bool, true, false}
 use lib.ListN.{take, drop}
 use lib.Seq.{take-take}
+use Rattle.terms.specs.declared.Form.the-variants.{Counted as counted}
 use Rattle.terms.specs.Bits.{Bytes, sameBytes}
 use Rattle.terms.specs.Fields.{slice}
 use Rattle.meaning.specs.Calls.{accepted}
@@ -24,8 +25,8 @@ slice-whole i n x = take-take n n (drop i x) (omega arith)
 value-whole : (x : Bytes) → take 32 (valueIn x) ≡ valueIn x
 value-whole x = slice-whole _ 32 x
 
-module _ (i : ℕ) (s k : Bytes) {x l : Bytes} (slot : x ≡ slotIn i s) (its : l ≡ keyIn x) where
-  key-is : {b : Bool} → b ≡ sameBytes k l → sameBytes k (keyIn (slotIn i s)) ≡ b
+module _ (i : ℕ) (s k : Bytes) {x l : Bytes} (slot : x ≡ slotIn counted i s) (its : l ≡ keyIn x) where
+  key-is : {b : Bool} → b ≡ sameBytes k l → sameBytes k (keyIn (slotIn counted i s)) ≡ b
   key-is e = ap (λ y. sameBytes k (keyIn y)) (sym slot) ∙ ap (sameBytes k) (sym its) ∙ sym e
 
   pub leaf-present : {b : Bool} {y : Bytes} (h : Hash) → b ≡ sameBytes k l → b ≡ true → y ≡ valueIn x →

@@ -7,6 +7,7 @@ use mathlib.Core.Path.{_≡_, refl, ap, sym, _∙_, subst}
 use mathlib.Core.Bool.{true}
 use mathlib.Core.List.{List, [], _∷_}
 use lib.ListN.{length}
+use Rattle.terms.specs.declared.Form.the-variants.{Counted as counted}
 use Rattle.terms.specs.Bits.{Bytes, Side, longer, bit}
 use Rattle.meaning.specs.Sight.{scan}
 use Rattle.meaning.specs.Calls.{Answer, refused}
@@ -42,7 +43,7 @@ one-turn k i hashes kids = trail-unread k (suc i) (record { turn = bit i k; hash
 
 -- The walk by k has come to the place p, where r was seen.
 pub record Walked (s : Bytes) (v : ℕ) (k : Bytes) (p : declared-place.Place) (r : declared.Seen) : Type 0 where
-  pub size : sizeRight (length s) ≡ true
+  pub size : sizeRight counted (length s) ≡ true
   pub whole : length k ≡ 32
   pub proper : Proper p
   pub here : Seen
@@ -50,7 +51,7 @@ pub record Walked (s : Bytes) (v : ℕ) (k : Bytes) (p : declared-place.Place) (
   pub rest : walkRead s v k ≡ saidFrom k (p .count) here
 
 -- at the root
-pub set-out : {s : Bytes} {v : ℕ} {k : Bytes} {p : declared-place.Place} {r : declared.Seen} → sizeRight (length s) ≡ true →
+pub set-out : {s : Bytes} {v : ℕ} {k : Bytes} {p : declared-place.Place} {r : declared.Seen} → sizeRight counted (length s) ≡ true →
     length k ≡ 32 → Stands [] 0 p → Sees s [] (seen (scan (storeOf s)) v) r → Walked s v k p r
 unfolding walkRead
 set-out {s} {v} {k} {p} {r} size whole top sees = record {
@@ -77,7 +78,7 @@ module _ {s : Bytes} {v : ℕ} {k : Bytes} {p : declared-place.Place} {r : decla
   unfolding readSays
   ends-lost t e f = ap refused f ∙ said (sees-as e)
 
-  pub leaf-inside : {i : ℕ} → r ≡ Leaf i → i < roomOf (length s)
+  pub leaf-inside : {i : ℕ} → r ≡ Leaf i → i < roomOf counted (length s)
   leaf-inside e = sees-as e .0
 
   pub ends-at-leaf : (i : ℕ) → r ≡ Leaf i → leafRead i s k ≡ walkRead s v k

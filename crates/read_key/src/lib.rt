@@ -11,6 +11,7 @@ use read_step::refusal;
 use slots::key_of;
 use slots::value_of;
 use store::slot_of;
+use terms::Form;
 ghost use mathlib.Core.Path.{_≡_};
 ghost use mathlib.Core.Bool.{true};
 ghost use Prim.Native.Nat.{_<_};
@@ -29,10 +30,10 @@ pub enum KeyRead {
 
 // What the leaf in slot i says of a key: its value if the key is its own.
 fn leaf_read(store: &[u8], i: usize, key: &[u8]) -> KeyRead
-    requires { ⌜ (sizeRight (length (now store)) ≡ true) × (i < roomOf (length (now store))) ⌝ }
+    requires { ⌜ (sizeRight Form.Counted (length (now store)) ≡ true) × (i < roomOf Form.Counted (length (now store))) ⌝ }
     ensures { λ r. ⌜ readSays r ≡ leafRead i (now (store .entry)) (now (key .entry)) ⌝ }
 {
-    let slot = slot_of(store, i);
+    let slot = slot_of(Form::Counted, store, i);
     if same(key, key_of(slot)) {
         let value = hash_at(value_of(slot), 0);
         return KeyRead::Present(value);
@@ -42,7 +43,7 @@ fn leaf_read(store: &[u8], i: usize, key: &[u8]) -> KeyRead
 
 // Walks by the key's bits from the root of a version to a leaf or a missing child.
 pub fn walk_read(store: &[u8], version: u32, key: &[u8]) -> KeyRead
-    requires { ⌜ (sizeRight (length (now store)) ≡ true) × (length (now key) ≡ 32) ⌝ }
+    requires { ⌜ (sizeRight Form.Counted (length (now store)) ≡ true) × (length (now key) ≡ 32) ⌝ }
     ensures { λ r. ⌜ readSays r ≡ walkRead (now (store .entry)) version (now (key .entry)) ⌝ }
 {
     let mut place = Place::top();

@@ -2,6 +2,7 @@
 use layout::Header;
 use layout::read_header;
 use refusal_numbers::NOT_KEPT;
+use terms::Form;
 ghost use mathlib.Core.Path.{_≡_};
 ghost use Rattle.read_open.specs.Opening.{opened, openedSays};
 
@@ -15,7 +16,7 @@ pub enum Opened {
 pub fn open(store: &[u8], version: u32) -> Opened
     ensures { λ r. ⌜ openedSays r ≡ opened (now (store .entry)) version ⌝ }
 {
-    let header = read_header(store);
+    let header = read_header(Form::Counted, store);
     match header {
         Header::Refused(n) => Opened::Refused(n),
         Header::Accepted {

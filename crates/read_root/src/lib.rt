@@ -7,6 +7,7 @@ use read_step::refusal;
 use sights::Sight;
 use sights::look_root;
 use store::slot_of;
+use terms::Form;
 ghost use mathlib.Core.Path.{_≡_};
 ghost use mathlib.Core.Bool.{true};
 ghost use lib.ListN.{length};
@@ -26,13 +27,13 @@ pub enum RootRead {
 
 // The hash of a version's root record, or zeros; refused where it is spoilt.
 pub fn root_hash(store: &[u8], version: u32) -> RootRead
-    requires { ⌜ sizeRight (length (now store)) ≡ true ⌝ }
+    requires { ⌜ sizeRight Form.Counted (length (now store)) ≡ true ⌝ }
     ensures { λ r. ⌜ rootSays r ≡ rootRead leafHash innerHash (rootSight (storeOf (now (store .entry))) version) ⌝ }
 {
     let sight = look_root(store, version);
     match sight {
         Sight::Matches(i) => {
-            let hash = record_hash(slot_of(store, i));
+            let hash = record_hash(slot_of(Form::Counted, store, i));
             RootRead::Hash(hash)
         }
         Sight::Nothing => {

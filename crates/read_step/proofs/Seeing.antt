@@ -6,6 +6,7 @@ use mathlib.Core.Path.{_≡_, refl, ap, sym, _∙_, subst}
 use mathlib.Core.Bool.{Bool, true, false, cond}
 use mathlib.Core.List.{[]}
 use lib.ListN.{length}
+use Rattle.terms.specs.declared.Form.the-variants.{Counted as counted}
 use Rattle.terms.specs.Bits.{Bytes, Byte, All, Side, Place, longer, begins}
 use Rattle.terms.specs.Records.{Child, leafBody, innerBody, Record, used}
 use Rattle.terms.specs.Form.{RecordForm, placeLimit}
@@ -93,8 +94,8 @@ module _ (s : Bytes) (o : Sight) {r : declared-sight.Sight} (sighted : Sighted (
     pub spoilt-sighted : o ≡ spoilt i
     spoilt-sighted = is-spoilt .1
 
-    pub spoilt-small : sizeRight (length s) ≡ true → i < 65536
-    spoilt-small size = let h = rw (slots-many s) at (is-spoilt .0) in omega (arith, size-says (length s) size)
+    pub spoilt-small : sizeRight counted (length s) ≡ true → i < 65536
+    spoilt-small size = let h = rw (slots-many counted s) at (is-spoilt .0) in omega (arith, size-says counted (length s) size)
 
     pub root-spoilt : (v : ℕ) → rootSight (storeOf s) v ≡ o → seen (scan (storeOf s)) v ≡ lost (spoiltRecord i)
     root-spoilt v e = shown.root-spoilt (scan (storeOf s)) v i (e ∙ spoilt-sighted)
@@ -108,22 +109,22 @@ module _ (s : Bytes) (o : Sight) {r : declared-sight.Sight} (sighted : Sighted (
     found : Sighted (storeOf s .slots) o (sight.Matches i)
     found = subst (Sighted (storeOf s .slots) o) at-i sighted
 
-    pub inside : i < roomOf (length s)
-    inside = rw (slots-many s) at (found .0)
+    pub inside : i < roomOf counted (length s)
+    inside = rw (slots-many counted s) at (found .0)
 
-    slot-is : slotOf (slotIn i s) ≡ used (found .1 .0)
-    slot-is = sym (slot-at s i inside) ∙ found .1 .1
+    slot-is : slotOf (slotIn counted i s) ≡ used (found .1 .0)
+    slot-is = sym (slot-at counted s i inside) ∙ found .1 .1
 
-    body : found .1 .0 .body ≡ bodyIn (slotIn i s)
-    body = body-is (slotIn i s) (found .1 .0) slot-is
+    body : found .1 .0 .body ≡ bodyIn (slotIn counted i s)
+    body = body-is (slotIn counted i s) (found .1 .0) slot-is
 
     pub root-hash : (leafHash innerHash : Bytes → Bytes → Bytes) →
-        accepted (bodyHash leafHash innerHash (bodyIn (slotIn i s))) ≡ rootRead leafHash innerHash o
+        accepted (bodyHash leafHash innerHash (bodyIn (slotIn counted i s))) ≡ rootRead leafHash innerHash o
     root-hash leafHash innerHash =
         ap (λ b. accepted (bodyHash leafHash innerHash b)) (sym body) ∙ ap (rootRead leafHash innerHash) (sym (found .1 .2))
 
 -- and at its place
-module _ (s : Bytes) (size : sizeRight (length s) ≡ true) (bytes : All Byte s) (p : declared-place.Place) (proper : Proper p)
+module _ (s : Bytes) (size : sizeRight counted (length s) ≡ true) (bytes : All Byte s) (p : declared-place.Place) (proper : Proper p)
     {o : Sight} (placed : PlacedAt o p) {r : declared-sight.Sight} (sighted : Sighted (storeOf s .slots) o r) {i : ℕ} (at-i : r ≡ sight.Matches i) where
   abbrev it : Record
   it = found s o sighted at-i .1 .0
@@ -131,21 +132,21 @@ module _ (s : Bytes) (size : sizeRight (length s) ≡ true) (bytes : All Byte s)
   is-found : o ≡ matches it
   is-found = found s o sighted at-i .1 .2
 
-  has : Has s i
+  has : Has counted s i
   has = record { size = size; inside = inside s o sighted at-i }
 
   form : RecordForm it
-  form = subst SlotForm (slot-is s o sighted at-i) (slot-formed has bytes)
+  form = subst (SlotForm counted) (slot-is s o sighted at-i) (slot-formed has bytes) .0
 
-  holds : it .body ≡ bodyIn (slotIn i s)
+  holds : it .body ≡ bodyIn (slotIn counted i s)
   holds = body s o sighted at-i
 
   place : it .place ≡ placeOf p
   place = placed it is-found
 
-  short : isLeaf (slotIn i s) ≡ false → length (placeOf p) ≤ 255
+  short : isLeaf (slotIn counted i s) ≡ false → length (placeOf p) ≤ 255
   short e =
-      let limit : placeLimit (it .body) ≡ 255 = ap placeLimit (holds ∙ inner-body (slotIn i s) e) in
+      let limit : placeLimit (it .body) ≡ 255 = ap placeLimit (holds ∙ inner-body (slotIn counted i s) e) in
       omega (arith, form .short, ap length place)
 
   pub holds-found : SlotHolds s i p
@@ -159,30 +160,30 @@ module _ (s : Bytes) (size : sizeRight (length s) ≡ true) (bytes : All Byte s)
     root-is : rootSight (storeOf s) v ≡ matches it
     root-is = root ∙ is-found
 
-    root-leaf-is : isLeaf (slotIn i s) ≡ true → seen (scan (storeOf s)) v ≡ bodySeen s (placeOf p) (bodyIn (slotIn i s))
+    root-leaf-is : isLeaf (slotIn counted i s) ≡ true → seen (scan (storeOf s)) v ≡ bodySeen s (placeOf p) (bodyIn (slotIn counted i s))
     unfolding begins
     root-leaf-is e =
-        let k = keyIn (slotIn i s) in
-        let y = valueIn (slotIn i s) in
-        let b = leaf-body (slotIn i s) e in
+        let k = keyIn (slotIn counted i s) in
+        let y = valueIn (slotIn counted i s) in
+        let b = leaf-body (slotIn counted i s) e in
         root-leaf (scan (storeOf s)) v it k y root-is (holds ∙ b)
         ∙ ap (λ q. cond (begins q k) (leafSeen k y) (lost strayLeaf)) (sym top)
         ∙ ap (bodySeen s (placeOf p)) (sym b)
 
-    root-fork-is : isLeaf (slotIn i s) ≡ false → seen (scan (storeOf s)) v ≡ bodySeen s (placeOf p) (bodyIn (slotIn i s))
+    root-fork-is : isLeaf (slotIn counted i s) ≡ false → seen (scan (storeOf s)) v ≡ bodySeen s (placeOf p) (bodyIn (slotIn counted i s))
     root-fork-is e =
         let n = 255 - length (placeOf p) in
-        let l = leftIn (slotIn i s) in
-        let m = rightIn (slotIn i s) in
-        let b = inner-body (slotIn i s) e in
+        let l = leftIn (slotIn counted i s) in
+        let m = rightIn (slotIn counted i s) in
+        let b = inner-body (slotIn counted i s) e in
         let w : 255 - length (placeOf p) ≡ 255 = omega (arith, ap length top) in
         root-fork (scan (storeOf s)) v n it l m w root-is (holds ∙ b)
         ∙ ap (λ q. fork (λ c. childOn c l m .hash) (λ c. seenAt n (scan (storeOf s)) (longer c q) (childOn c l m))) (sym top)
         ∙ ap (bodySeen s (placeOf p)) (sym b)
 
-    pub root-sees : (t : declared.Seen) → Sees s (placeOf p) (bodySeen s (placeOf p) (bodyIn (slotIn i s))) t → Sees s [] (seen (scan (storeOf s)) v) t
+    pub root-sees : (t : declared.Seen) → Sees s (placeOf p) (bodySeen s (placeOf p) (bodyIn (slotIn counted i s))) t → Sees s [] (seen (scan (storeOf s)) v) t
     root-sees t h =
-        let e = by-kind (isLeaf (slotIn i s)) root-leaf-is root-fork-is in
+        let e = by-kind (isLeaf (slotIn counted i s)) root-leaf-is root-fork-is in
         subst (λ q. Sees s q (seen (scan (storeOf s)) v) t) top (subst (λ y. Sees s (placeOf p) y t) (sym e) h)
 
   -- a child
@@ -190,22 +191,22 @@ module _ (s : Bytes) (size : sizeRight (length s) ≡ true) (bytes : All Byte s)
     child-is : nodeSight (storeOf s) (c .version) (placeOf p) ≡ matches it
     child-is = child ∙ is-found
 
-    child-leaf-is : isLeaf (slotIn i s) ≡ true → seenBelow s (placeOf p) c ≡ bodySeen s (placeOf p) (bodyIn (slotIn i s))
+    child-leaf-is : isLeaf (slotIn counted i s) ≡ true → seenBelow s (placeOf p) c ≡ bodySeen s (placeOf p) (bodyIn (slotIn counted i s))
     unfolding seenBelow
     child-leaf-is e =
-        let b = leaf-body (slotIn i s) e in
+        let b = leaf-body (slotIn counted i s) e in
         rw b (child-leaf (scan (storeOf s)) (placeOf p) c (256 - length (placeOf p)) it _ _ present child-is (holds ∙ b))
 
-    child-fork-is : isLeaf (slotIn i s) ≡ false → seenBelow s (placeOf p) c ≡ bodySeen s (placeOf p) (bodyIn (slotIn i s))
+    child-fork-is : isLeaf (slotIn counted i s) ≡ false → seenBelow s (placeOf p) c ≡ bodySeen s (placeOf p) (bodyIn (slotIn counted i s))
     unfolding seenBelow
     child-fork-is e =
-        let b = inner-body (slotIn i s) e in
+        let b = inner-body (slotIn counted i s) e in
         let n : 256 - length (placeOf p) ≡ suc (255 - length (placeOf p)) = omega (arith, short e) in
         rw (b, n) (child-fork (scan (storeOf s)) (placeOf p) c (255 - length (placeOf p)) it _ _ present child-is (holds ∙ b))
 
-    pub child-sees : (t : declared.Seen) → Sees s (placeOf p) (bodySeen s (placeOf p) (bodyIn (slotIn i s))) t →
+    pub child-sees : (t : declared.Seen) → Sees s (placeOf p) (bodySeen s (placeOf p) (bodyIn (slotIn counted i s))) t →
         Sees s (placeOf p) (seenBelow s (placeOf p) c) t
-    child-sees t h = subst (λ y. Sees s (placeOf p) y t) (sym (by-kind (isLeaf (slotIn i s)) child-leaf-is child-fork-is)) h
+    child-sees t h = subst (λ y. Sees s (placeOf p) y t) (sym (by-kind (isLeaf (slotIn counted i s)) child-leaf-is child-fork-is)) h
 
 -- what an inner node has on a side is what is seen at the child's place
 pub kid-seen : {b : Side} {p q : declared-place.Place} (s : Bytes) (c : Child) → Grown b p q →
@@ -224,22 +225,22 @@ child-none s p c e = child-gap (scan (storeOf s)) p c (256 - length p) e
 module _ {s : Bytes} {i : ℕ} {p : declared-place.Place} (h : SlotHolds s i p) where
   -- What is seen there.
   abbrev Here : declared.Seen → Type 0
-  Here t = Sees s (placeOf p) (bodySeen s (placeOf p) (bodyIn (slotIn i s))) t
+  Here t = Sees s (placeOf p) (bodySeen s (placeOf p) (bodyIn (slotIn counted i s))) t
 
-  pub inner-seen : {x : Bytes} {b : Bool} → x ≡ slotIn i s → b ≡ isLeaf x → b ≡ false → Here (Inner i)
+  pub inner-seen : {x : Bytes} {b : Bool} → x ≡ slotIn counted i s → b ≡ isLeaf x → b ≡ false → Here (Inner i)
   unfolding forkAt kidIn
   inner-seen q d e =
       let f = ap isLeaf (sym q) ∙ sym d ∙ e in (
         h .slotted .inside,
         omega (arith, h .short f, proper-count p (h .slotted .proper)),
-        ap (bodySeen s (placeOf p)) (inner-body (slotIn i s) f),
+        ap (bodySeen s (placeOf p)) (inner-body (slotIn counted i s) f),
       )
 
-  module _ {x k : Bytes} {b : Bool} (q : x ≡ slotIn i s) (d : b ≡ isLeaf x) (e : b ≡ true) (key : k ≡ keyIn x) where
-    its-body : bodyIn (slotIn i s) ≡ leafBody (keyIn (slotIn i s)) (valueIn (slotIn i s))
-    its-body = leaf-body (slotIn i s) (ap isLeaf (sym q) ∙ sym d ∙ e)
+  module _ {x k : Bytes} {b : Bool} (q : x ≡ slotIn counted i s) (d : b ≡ isLeaf x) (e : b ≡ true) (key : k ≡ keyIn x) where
+    its-body : bodyIn (slotIn counted i s) ≡ leafBody (keyIn (slotIn counted i s)) (valueIn (slotIn counted i s))
+    its-body = leaf-body (slotIn counted i s) (ap isLeaf (sym q) ∙ sym d ∙ e)
 
-    its-key : {a : Bool} → a ≡ begins (placeOf p) k → begins (placeOf p) (keyIn (slotIn i s)) ≡ a
+    its-key : {a : Bool} → a ≡ begins (placeOf p) k → begins (placeOf p) (keyIn (slotIn counted i s)) ≡ a
     its-key f = ap (λ y. begins (placeOf p) (keyIn y)) (sym q) ∙ ap (begins (placeOf p)) (sym key) ∙ sym f
 
     pub leaf-lost : {a : Bool} → a ≡ begins (placeOf p) k → a ≡ false → Here (Lost trouble.Stray)

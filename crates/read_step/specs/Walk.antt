@@ -3,6 +3,7 @@ use Prim.Native.Nat.{ℕ, _-_, _<_}
 use mathlib.Core.Path.{_≡_}
 use mathlib.Core.Bool.{true, false, cond}
 use lib.ListN.{length}
+use Rattle.terms.specs.declared.Form.the-variants.{Counted as counted}
 use Rattle.terms.specs.Bits.{Bytes, Side, Place, longer}
 use Rattle.terms.specs.Records.{Child, Body}
 use Rattle.meaning.specs.Store.{childOn}
@@ -25,7 +26,7 @@ bodyIn x = cond (isLeaf x) (leafIn x) (innerIn x)
 
 -- What the inner record in slot i says of its child on a side.
 unfoldable pub kidIn : ℕ → Bytes → Side → Child
-kidIn i s b = childOn b (leftIn (slotIn i s)) (rightIn (slotIn i s))
+kidIn i s b = childOn b (leftIn (slotIn counted i s)) (rightIn (slotIn counted i s))
 
 -- What is seen at a child that stands at a place.
 unfoldable pub seenBelow : Bytes → Place → Child → Seen
@@ -37,7 +38,7 @@ bodySeen s p b = seenBody p b (λ c d. seenAt (255 - length p) (scan (storeOf s)
 
 -- The leaf in slot i; the inner node in slot i, which stands at a place.
 unfoldable pub leafAt : ℕ → Bytes → Seen
-leafAt i s = leafSeen (keyIn (slotIn i s)) (valueIn (slotIn i s))
+leafAt i s = leafSeen (keyIn (slotIn counted i s)) (valueIn (slotIn counted i s))
 
 unfoldable pub forkAt : ℕ → Bytes → Place → Seen
 forkAt i s p = fork (λ b. kidIn i s b .hash) (λ b. seenAt (255 - length p) (scan (storeOf s)) (longer b p) (kidIn i s b))
@@ -53,16 +54,16 @@ troubleSays trouble.Stray = strayLeaf
 abbrev pub Sees : Bytes → Place → Seen → declared.Seen → Type 0
 Sees s p x Gap = x ≡ gap
 Sees s p x (Lost t) = x ≡ lost (troubleSays t)
-Sees s p x (Leaf i) = (i < roomOf (length s)) × (x ≡ leafAt i s)
-Sees s p x (Inner i) = (i < roomOf (length s)) × (length p < 256) × (x ≡ forkAt i s p)
+Sees s p x (Leaf i) = (i < roomOf counted (length s)) × (x ≡ leafAt i s)
+Sees s p x (Inner i) = (i < roomOf counted (length s)) × (length p < 256) × (x ≡ forkAt i s p)
 
 -- A slot of a store of the right size, and a place.
 pub record Slotted (s : Bytes) (i : ℕ) (p : declared-place.Place) : Type 0 where
-  pub size : sizeRight (length s) ≡ true
-  pub inside : i < roomOf (length s)
+  pub size : sizeRight counted (length s) ≡ true
+  pub inside : i < roomOf counted (length s)
   pub proper : Proper p
 
 -- Slot i holds a leaf, or an inner node whose place is shorter than a key.
 pub record SlotHolds (s : Bytes) (i : ℕ) (p : declared-place.Place) : Type 0 where
   pub slotted : Slotted s i p
-  pub short : isLeaf (slotIn i s) ≡ false → p .count < 256
+  pub short : isLeaf (slotIn counted i s) ≡ false → p .count < 256

@@ -11,6 +11,7 @@ use slots::is_leaf;
 use slots::key_of;
 use store::child_version_at;
 use store::slot_of;
+use terms::Form;
 ghost use mathlib.Core.Path.{_≡_};
 ghost use mathlib.Core.Bool.{true};
 ghost use mathlib.Core.List.{[]};
@@ -59,9 +60,9 @@ pub enum Seen {
 // What is seen at a place whose record was found in slot i.
 fn seen_in(store: &[u8], i: usize, place: Place) -> Seen
     requires { ⌜ SlotHolds (now store) i place ⌝ }
-    ensures { λ r. ⌜ Sees (now (store .entry)) (placeOf place) (bodySeen (now (store .entry)) (placeOf place) (bodyIn (slotIn i (now (store .entry))))) r ⌝ }
+    ensures { λ r. ⌜ Sees (now (store .entry)) (placeOf place) (bodySeen (now (store .entry)) (placeOf place) (bodyIn (slotIn Form.Counted i (now (store .entry))))) r ⌝ }
 {
-    let slot = slot_of(store, i);
+    let slot = slot_of(Form::Counted, store, i);
     if !is_leaf(slot) {
         return Seen::Inner(i);
     }
@@ -73,7 +74,7 @@ fn seen_in(store: &[u8], i: usize, place: Place) -> Seen
 
 // What is seen at the root of a version.
 pub fn root(store: &[u8], version: u32) -> Seen
-    requires { ⌜ sizeRight (length (now store)) ≡ true ⌝ }
+    requires { ⌜ sizeRight Form.Counted (length (now store)) ≡ true ⌝ }
     ensures { λ r. ⌜ Sees (now (store .entry)) [] (seen (scan (storeOf (now (store .entry)))) version) r ⌝ }
 {
     let top = Place::top();
@@ -90,10 +91,10 @@ pub fn root(store: &[u8], version: u32) -> Seen
 
 // The version of the child on a side of the inner node in slot i.
 pub fn child_version(store: &[u8], i: usize, right: bool) -> u32
-    requires { ⌜ (sizeRight (length (now store)) ≡ true) × (i < roomOf (length (now store))) ⌝ }
+    requires { ⌜ (sizeRight Form.Counted (length (now store)) ≡ true) × (i < roomOf Form.Counted (length (now store))) ⌝ }
     ensures { λ r. ⌜ r ≡ kidIn i (now (store .entry)) right .version ⌝ }
 {
-    child_version_at(store, i, right)
+    child_version_at(Form::Counted, store, i, right)
 }
 
 // What is seen on a side of the inner node in slot i; the place is the child's, one bit longer than the node's.

@@ -1,7 +1,7 @@
 // The numbers by which a call refuses, each once and in the documents' words. 0 is acceptance.
 pub mod wide;
 
-// 1: the store's length isn't 24 + 120n, n in 1 to 16,384.
+// 1: the store's length isn't 24 + 128n, n in 1 to 16,384.
 pub const WRONG_SIZE: u32 = 1;
 
 // 2: a header field isn't as it should be, its capacity isn't n, or oldest is above latest.
@@ -40,8 +40,23 @@ pub const TOO_MANY_VISITS: u32 = 13;
 // 14: proving in an empty version: there is no neighbour to show.
 pub const EMPTY_VERSION: u32 = 14;
 
+// 15: a raw key or value has another length, or doesn't hash to what the proof holds.
+pub const NOT_RAW: u32 = 15;
+
+// 16: the table of slot numbers isn't right.
+pub const WRONG_INDEX: u32 = 16;
+
 // 17: no slot matches a present child.
 pub const LOST: u32 = 17;
 
 // 18: the number is not above latest.
 pub const NOT_ABOVE: u32 = 18;
+
+// 19: a leaf is shown with more than 32 steps, outside the pocket profile.
+pub const OUTSIDE_POCKET: u32 = 19;
+
+// 20: the position isn't below the number of grants.
+pub const PAST_NUMBER: u32 = 20;
+
+// 21: a shelf has at most 12 bits.
+pub const TOO_MANY_BITS: u32 = 21;

@@ -6,6 +6,7 @@ use mathlib.Core.Logic.{inl, inr}
 use mathlib.Core.Bool.{Bool, true, false, cond, true≢false}
 use lib.ListN.{length}
 use borrow.Author.Tests.{eqb-true, eq-eqb, leb-true, le-leb}
+use Rattle.terms.specs.declared.Form.the-variants.{Counted as counted}
 use Rattle.terms.specs.Bits.{Bytes, Byte, All}
 use Rattle.terms.specs.Fields.{field, slice, zeroBytes, allZero}
 use Rattle.terms.specs.Records.{free}
@@ -25,45 +26,45 @@ use Rattle.refusals.specs.Exactly.{NoneOf}
 use Rattle.refusals.proofs.Exactly.{First}
 
 -- row 1 by the test of the length
-pub length-wrong : (s : Bytes) → sizeRight (length s) ≡ false → WrongLength s
-length-wrong s e n least most size = true≢false (sym (size-right-of (length s) n size least most) ∙ e)
+pub length-wrong : (s : Bytes) → sizeRight counted (length s) ≡ false → WrongLength s
+length-wrong s e n least most size = true≢false (sym (size-right-of counted (length s) n size least most) ∙ e)
 
-pub length-right : (s : Bytes) → sizeRight (length s) ≡ true → WrongLength s → ⊥
-length-right s e w = let z = size-says (length s) e in w (roomOf (length s)) (z .1) (z .2) (z .0)
+pub length-right : (s : Bytes) → sizeRight counted (length s) ≡ true → WrongLength s → ⊥
+length-right s e w = let z = size-says counted (length s) e in w (roomOf counted (length s)) (z .1) (z .2) (z .0)
 
 -- row 2 by the tests of the fields
-module _ (s : Bytes) (size : sizeRight (length s) ≡ true) where
+module _ (s : Bytes) (size : sizeRight counted (length s) ≡ true) where
   zero-said : (i n : ℕ) → i + n ≤ 144 → allZero (slice i n s) ≡ true → slice i n s ≡ zeroBytes n
   zero-said i n h e =
-      let long = size-least (length s) size in
+      let long = size-least counted (length s) size in
       zero-bytes (slice i n s) e ∙ ap zeroBytes (length-slice i n s (omega arith))
 
-  header-said : headerRight s ≡ true → RightHeader s
+  header-said : headerRight counted s ≡ true → RightHeader s
   unfolding headerRight
   header-said e =
-      let t = all-of-tests (headerTests s) e in
-      let c = eqb-true (field 8 4 s) (roomOf (length s)) (t .1 .1 .1 .0) in
+      let t = all-of-tests (headerTests counted s) e in
+      let c = eqb-true (field 8 4 s) (roomOf counted (length s)) (t .1 .1 .1 .0) in
       record {
         says-24 = eqb-true (field 0 4 s) 24 (t .0);
-        kind = eqb-true (field 4 2 s) 1 (t .1 .0);
+        kind = eqb-true (field 4 2 s) 4 (t .1 .0);
         two-zero = zero-said 6 2 (omega arith) (t .1 .1 .0);
-        capacity = omega (arith, size-says (length s) size .0, c);
+        capacity = omega (arith, size-says counted (length s) size .0, c);
         ordered = leb-true (field 12 4 s) (field 16 4 s) (t .1 .1 .1 .1 .0);
         four-zero = zero-said 20 4 (omega arith) (t .1 .1 .1 .1 .1 .0);
       }
 
-  said-header : RightHeader s → headerRight s ≡ true
+  said-header : RightHeader s → headerRight counted s ≡ true
   unfolding headerRight
   said-header w =
-      let room = room-of (length s) (field 8 4 s) (w .capacity) in
-      tests-all (headerTests s) (
+      let room = room-of counted (length s) (field 8 4 s) (w .capacity) in
+      tests-all (headerTests counted s) (
         eq-eqb (field 0 4 s) 24 (w .says-24),
         (
-          eq-eqb (field 4 2 s) 1 (w .kind),
+          eq-eqb (field 4 2 s) 4 (w .kind),
           (
             ap allZero (w .two-zero) ∙ all-zero 2,
             (
-              eq-eqb (field 8 4 s) (roomOf (length s)) (sym room),
+              eq-eqb (field 8 4 s) (roomOf counted (length s)) (sym room),
               (le-leb (field 12 4 s) (field 16 4 s) (w .ordered), (ap allZero (w .four-zero) ∙ all-zero 4, tt)),
             ),
           ),
@@ -76,25 +77,25 @@ pub data Header (s : Bytes) : Headed → Type 0 where
   wrong-header : (WrongLength s → ⊥) → WrongHeader s → Header s (refusal 2)
   right : {c o l : ℕ} → (WrongLength s → ⊥) → (WrongHeader s → ⊥) → Header s (header c o l)
 
-pub header-is : (s : Bytes) → Header s (headerOf s)
+pub header-is : (s : Bytes) → Header s (headerOf counted s)
 unfolding headerOf
-header-is s = go (sizeRight (length s)) (headerRight s) refl refl
+header-is s = go (sizeRight counted (length s)) (headerRight counted s) refl refl
   where
-    go : (a b : Bool) → sizeRight (length s) ≡ a → headerRight s ≡ b →
+    go : (a b : Bool) → sizeRight counted (length s) ≡ a → headerRight counted s ≡ b →
         Header s (cond a (cond b (header (field 8 4 s) (field 12 4 s) (field 16 4 s)) (refusal 2)) (refusal 1))
     go false b e f = wrong-length (length-wrong s e)
     go true false e f = wrong-header (length-right s e) (λ w. true≢false (sym (said-header s e w) ∙ f))
     go true true e f = right (length-right s e) (λ w. w (header-said s e f))
 
 -- the rows of a right header do not hold, and others come after them
-pub after-header : (s : Bytes) {c o l : ℕ} → headerOf s ≡ header c o l → NoneOf (headerRows s)
+pub after-header : (s : Bytes) {c o l : ℕ} → headerOf counted s ≡ header c o l → NoneOf (headerRows s)
 after-header s {c} {o} {l} e = go (subst (Header s) e (header-is s))
   where
     go : Header s (header c o l) → NoneOf (headerRows s)
     go (right a b) = (a, (b, tt))
 
 -- a refused header is refused by its row
-pub header-row : (s : Bytes) {m : ℕ} → headerOf s ≡ refusal m → First (headerRows s) m × (m ≡ 0 → ⊥)
+pub header-row : (s : Bytes) {m : ℕ} → headerOf counted s ≡ refusal m → First (headerRows s) m × (m ≡ 0 → ⊥)
 header-row s {m} e = go (subst (Header s) e (header-is s))
   where
     go : {n : ℕ} → Header s (refusal n) → First (headerRows s) n × (n ≡ 0 → ⊥)
@@ -102,7 +103,7 @@ header-row s {m} e = go (subst (Header s) e (header-is s))
     go (wrong-header a w) = (inr (a, inl (w, refl)), λ z. omega arith)
 
 -- the records that bytes with a right header hold are in form
-pub records-formed : (s : Bytes) {c o l : ℕ} → All Byte s → headerOf s ≡ header c o l → Formed (storeOf s)
+pub records-formed : (s : Bytes) {c o l : ℕ} → All Byte s → headerOf counted s ≡ header c o l → Formed (storeOf s)
 unfolding At
 records-formed s {c} {o} {l} h e i r (k, d) =
-    subst SlotForm d (all-at SlotForm (storeOf s .slots) free i (store-form s c o l h (accepted s c o l e) .each) k)
+    subst (SlotForm counted) d (all-at (SlotForm counted) (storeOf s .slots) free i (store-form s c o l h (accepted s c o l e) .each) k) .0

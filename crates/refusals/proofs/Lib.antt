@@ -7,3 +7,4 @@ pub mod Palettes
 pub mod Proofs
 pub mod Changes
 pub mod Rescues
+pub mod Positions

@@ -5,6 +5,7 @@ use mathlib.Core.Path.{_≡_, refl, sym, _∙_, subst}
 use mathlib.Core.Logic.{inl, inr}
 use mathlib.Core.Bool.{true}
 use lib.ListN.{length}
+use Rattle.terms.specs.declared.Form.the-variants.{Counted as counted}
 use Rattle.terms.specs.Bits.{Bytes}
 use Rattle.meaning.specs.Calls.{Answer}
 use Rattle.meaning.specs.Answers.{numberOf}
@@ -18,12 +19,12 @@ use Rattle.refusals.proofs.Exactly.{First}
 
 module _ (s old : Bytes) where
   sizes-wrong : (SameSize s old → ⊥) → WrongSizes s old
-  sizes-wrong f n a b e g = f (record { source = size-right-of (length s) n e a b; target = size-right-of (length old) n g a b; equal = e ∙ sym g })
+  sizes-wrong f n a b e g = f (record { source = size-right-of counted (length s) n e a b; target = size-right-of counted (length old) n g a b; equal = e ∙ sym g })
 
   sizes-right : SameSize s old → WrongSizes s old → ⊥
   sizes-right w f =
-      let k = size-says (length s) (w .source) in
-      f (roomOf (length s)) (k .1) (k .2) (k .0) (sym (w .equal) ∙ k .0)
+      let k = size-says counted (length s) (w .source) in
+      f (roomOf counted (length s)) (k .1) (k .2) (k .0) (sym (w .equal) ∙ k .0)
 
   rescue-case : (oldest latest : ℕ) (a : Answer Report) {t : Bytes} → Rescues oldest latest s old a t → First (rescueRows s old oldest latest) (numberOf a)
   rescue-case oldest latest a (wrong-size f) = inl (sizes-wrong f, refl)

@@ -44,7 +44,7 @@ module _ (s : Bytes) (v : ℕ) (k room : Bytes) where
     three-before-nine : (EmptyVersion s v → ⊥) → (Lost (StopsProve s v k) → ⊥) → Unsound (StopsProve s v k) → First (proofRows s v k room) 3
     three-before-nine some found a = inr (kept, inr (some, inr (found, inl (a, refl))))
 
-clash : {A : Type 0} → _≡_ {A = ℕ} 0 1 → A
+pub clash : {A : Type 0} → _≡_ {A = ℕ} 0 1 → A
 clash e = absurd (omega arith)
 
 -- row 8 by its test
@@ -77,7 +77,7 @@ by-kept {later = later} {stops = stops} s v a w = go (isKept (storeOf s) v) refl
     go false e = tested (inl (not-kept s v e, refl)) (λ z. absurd (omega arith))
 
 -- refusals of one answer
-one-refusal : {A : Type 0} {a : Answer A} (t u : Trouble) → a ≡ refused (refusalOf t) → a ≡ refused (refusalOf u) → t ≡ u
+pub one-refusal : {A : Type 0} {a : Answer A} (t u : Trouble) → a ≡ refused (refusalOf t) → a ≡ refused (refusalOf u) → t ≡ u
 one-refusal t u e f = one-trouble t u (let g = sym e ∙ f in cc)
 
 -- the root read

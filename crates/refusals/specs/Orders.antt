@@ -1,10 +1,10 @@
--- Document 01, 'Numbers of refusal', 14 of 2026-03, 17 of 2026-07 and 18 of 2026-13: rows in the order in which they are tested, as far as the calls
+-- Document 01, 'Numbers of refusal', 14 of 2026-03, 17 of 2026-07, 18 of 2026-13 and 20 of 2026-09: rows in the order in which they are tested, as far as the calls
 -- share them or the definitions of `meaning` test them. Assumes nothing.
 use Prim.Native.Nat.{ℕ}
 use mathlib.Core.List.{List, [], _∷_}
 use Rattle.terms.specs.Bits.{Bytes}
 use Rattle.refusals.specs.Exactly.{Table}
-use Rattle.refusals.specs.Rows.{WrongLength, WrongHeader, StopsRoot, StopsGet, StopsProve, Lost, Unsound, BatchOffForm, NotAscending, NotAbove, TooFewFree, NotKept, TooLong, ProofOffForm, DoesNotHold, EmptyVersion, NotBothKept, TooManyVisits, ListTooLong, AskedOfEmpty, StopsPalette, TooLongTogether, WrongSizes, OldestAbove, NoVersion}
+use Rattle.refusals.specs.Rows.{WrongLength, WrongHeader, StopsRoot, StopsGet, StopsProve, StopsAt, PastNumber, Lost, Unsound, BatchOffForm, NotAscending, NotAbove, TooFewFree, NotKept, TooLong, ProofOffForm, DoesNotHold, EmptyVersion, NotBothKept, TooManyVisits, ListTooLong, AskedOfEmpty, StopsPalette, TooLongTogether, WrongSizes, OldestAbove, NoVersion}
 
 -- 1, 2.
 abbrev pub headerRows : Bytes → Table
@@ -27,6 +27,15 @@ lookupRows s v = (8, NotKept s v) ∷ (3, Unsound (StopsRoot s v)) ∷ []
 -- Of a key: 8, then 17 or 3.
 abbrev pub keyRows : Bytes → ℕ → Bytes → Table
 keyRows s v k = (8, NotKept s v) ∷ (17, Lost (StopsGet s v k)) ∷ (3, Unsound (StopsGet s v k)) ∷ []
+
+-- Of a position (document 02, 2026-09): 8; then the root's lookup, by whose number 20 is given; then 17 or 3. A root that is spoilt has no
+-- number, so that 20 is after its 3; and what is met below the root is met where the position is below the number.
+abbrev pub placingRows : Bytes → ℕ → ℕ → Table
+placingRows s v i = (8, NotKept s v) ∷ (20, PastNumber s v i) ∷ []
+
+abbrev pub positionRows : Bytes → ℕ → ℕ → Table
+positionRows s v i =
+    (8, NotKept s v) ∷ (20, PastNumber s v i) ∷ (17, Lost (StopsAt s v i)) ∷ (3, Unsound (StopsAt s v i)) ∷ []
 
 -- Proving: 8, 14, then 17 or 3, 9.
 abbrev pub provingRows : Bytes → ℕ → Table

@@ -1,10 +1,11 @@
--- Document 01, 'Numbers of refusal', 14 of 2026-03, 17 of 2026-07 and 18 of 2026-13: the rows, each a proposition in its words. Assumes nothing.
+-- Document 01, 'Numbers of refusal', 14 of 2026-03, 17 of 2026-07, 18 of 2026-13 and 20 of 2026-09: the rows, each a proposition in its words. Assumes nothing.
 use Prim.Native.Nat.{ℕ, _+_, _*_, _≤_, _<_}
 use mathlib.Core.Path.{_≡_}
 use mathlib.Core.Logic.{_⊎_}
 use mathlib.Core.Bool.{false}
 use mathlib.Core.List.{List, []}
 use lib.ListN.{length}
+use Rattle.terms.specs.declared.Form.the-variants.{Counted as counted}
 use Rattle.terms.specs.Bits.{Bytes, All}
 use Rattle.terms.specs.Fields.{field, slice, flat, zeroBytes}
 use Rattle.terms.specs.Records.{Ask, Proof}
@@ -12,8 +13,8 @@ use Rattle.terms.specs.Form.{AskForm}
 use Rattle.meaning.specs.Tree.{nextTree}
 use Rattle.meaning.specs.Store.{treeAtVersion, freeSlots, newRecords}
 use Rattle.meaning.specs.Sound.{Kept, Sound}
-use Rattle.meaning.specs.Calls.{accepted, ascending}
-use Rattle.meaning.specs.Reading.{Trouble, lostRecord, spoiltRecord, strayLeaf, Verdict}
+use Rattle.meaning.specs.Calls.{refused, accepted, ascending}
+use Rattle.meaning.specs.Reading.{Trouble, lostRecord, spoiltRecord, strayLeaf, refusalOf, Verdict}
 use Rattle.meaning.specs.Proving.{proof, proofLength}
 use Rattle.palette_rules.specs.Palette.{keySize, mostKeys, lengthTogether}
 use Rattle.palette_rules.specs.Claims.{ProofOfEach, FirstAsked}
@@ -22,6 +23,7 @@ use Rattle.changed.specs.Compare.{changesOf, visitsOf}
 use Rattle.checker.specs.Holding.{Holds}
 use Rattle.ways.specs.Ways as ways
 use Rattle.ways.specs.Ways.{RootStopped, KeyStopped, ProofStopped}
+use Rattle.ways.specs.Positions.{Number, Position}
 use Rattle.rescue_bytes.specs.Rescues.{NoRun}
 use Rattle.nodehash.specs.Node.{leafHash, innerHash}
 use Rattle.proofrecords.specs.ProofBytes.{proofBytes, ProofForm}
@@ -30,16 +32,16 @@ use Rattle.layout.specs.Stores.{storeOf}
 use Rattle.batch.specs.Sizes.{mostRecords}
 use Rattle.batch.specs.Batch.{asks, asksBytes}
 
--- 1: the store's length isn't 24 + 120n, n in 1 to 16,384.
+-- 1: the store's length isn't 24 + 128n, n in 1 to 16,384.
 abbrev pub WrongLength : Bytes → Type 0
-WrongLength s = (n : ℕ) → 1 ≤ n → n ≤ mostSlots → length s ≡ headerSize + slotSize * n → ⊥
+WrongLength s = (n : ℕ) → 1 ≤ n → n ≤ mostSlots → length s ≡ headerSize + slotSize counted * n → ⊥
 
 -- 2: a header field isn't as 'Bytes' says, its capacity isn't n, or oldest is above latest.
 pub record RightHeader (s : Bytes) : Type 0 where
   pub says-24 : field 0 4 s ≡ headerSize
-  pub kind : field kindAt 2 s ≡ headerKind
+  pub kind : field kindAt 2 s ≡ headerKind counted
   pub two-zero : slice 6 2 s ≡ zeroBytes 2
-  pub capacity : length s ≡ headerSize + slotSize * field capacityAt 4 s
+  pub capacity : length s ≡ headerSize + slotSize counted * field capacityAt 4 s
   pub ordered : field oldestAt 4 s ≤ field latestAt 4 s
   pub four-zero : slice 20 4 s ≡ zeroBytes 4
 
@@ -59,6 +61,15 @@ StopsGet s v k t = KeyStopped (storeOf s) v k t
 
 abbrev pub StopsProve : Bytes → ℕ → Bytes → Trouble → Type 0
 StopsProve s v k t = ProofStopped (storeOf s) v k t
+
+-- What stops the read of a position (2026-09): the root's lookup, or the descent by counts. A missing child that it meets and a leaf with a
+-- position left over give 3 and name no slot, as a leaf does whose key doesn't begin with its place.
+abbrev pub StopsAt : Bytes → ℕ → ℕ → Trouble → Type 0
+StopsAt s v i t = Position (storeOf s) v i (refused (refusalOf t))
+
+-- 20 (2026-09): the root's lookup gives the number of grants, and the position isn't below it.
+abbrev pub PastNumber : Bytes → ℕ → ℕ → Type 0
+PastNumber s v i = (n : ℕ) × Number (storeOf s) v (accepted n) × (n ≤ i)
 
 -- 17: a present child that no slot matches, the first that is met.
 abbrev pub Lost : (Trouble → Type 0) → Type 0
@@ -154,7 +165,7 @@ TooLongTogether s v keys room = (ps : List Proof) × ProofOfEach (proof (storeOf
 
 -- 1 of a rescue (document 02, 2026-08): a size that is wrong or not equal.
 abbrev pub WrongSizes : Bytes → Bytes → Type 0
-WrongSizes s old = (n : ℕ) → 1 ≤ n → n ≤ mostSlots → length s ≡ headerSize + slotSize * n → length old ≡ headerSize + slotSize * n → ⊥
+WrongSizes s old = (n : ℕ) → 1 ≤ n → n ≤ mostSlots → length s ≡ headerSize + slotSize counted * n → length old ≡ headerSize + slotSize counted * n → ⊥
 
 -- 2 of a rescue: oldest above latest.
 abbrev pub OldestAbove : ℕ → ℕ → Type 0

@@ -5,6 +5,7 @@ use mathlib.Core.Path.{_≡_, refl, ap, sym, _∙_, subst}
 use mathlib.Core.Bool.{true, false, true≢false}
 use mathlib.Core.List.{[]}
 use lib.ListN.{length}
+use Rattle.terms.specs.declared.Form.the-variants.{Counted as counted}
 use Rattle.terms.specs.Bits.{Bytes, Byte, All}
 use Rattle.terms.specs.Form.{top32}
 use Rattle.meaning.specs.Calls.{Answer, refused, accepted}
@@ -21,15 +22,15 @@ use Rattle.rescue_step.specs.Step.{joinsTop, lowestTop, Stops, rootless, apart,
 use Rattle.rescue_fill.specs.Fill.{Fillable, Filled}
 
 module _ (oldest latest : ℕ) (s old : Bytes) where
-  pub wrong-source : sizeRight (length s) ≡ false → Rescues oldest latest s old (refused 1) old
+  pub wrong-source : sizeRight counted (length s) ≡ false → Rescues oldest latest s old (refused 1) old
   wrong-source e = wrong-size (λ h. true≢false (sym (h .source) ∙ e))
 
   pub wrong-target : (length old ≡ length s → ⊥) → Rescues oldest latest s old (refused 1) old
   wrong-target f = wrong-size (λ h. f (sym (h .equal)))
 
-  module _ (size : sizeRight (length s) ≡ true) (equal : length old ≡ length s) where
+  module _ (size : sizeRight counted (length s) ≡ true) (equal : length old ≡ length s) where
     same-size : SameSize s old
-    same-size = record { source = size; target = subst (λ n. sizeRight n ≡ true) (sym equal) size; equal = sym equal }
+    same-size = record { source = size; target = subst (λ n. sizeRight counted n ≡ true) (sym equal) size; equal = sym equal }
 
     pub disordered : latest < oldest → Rescues oldest latest s old (refused 2) old
     disordered h = out-of-order same-size h

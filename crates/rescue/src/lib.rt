@@ -8,6 +8,7 @@ use rescue_count::count;
 use rescue_fill::fill;
 use rescue_step::Stepped;
 use rescue_step::step;
+use terms::Form;
 ghost use Rattle.rescue_bytes.specs.Rescues.{Rescues};
 ghost use Rattle.rescue.specs.Answer.{rescuedSays};
 
@@ -21,7 +22,7 @@ pub enum Rescued {
 pub fn rescue(source: &[u8], oldest: u32, latest: u32, target: &mut [u8]) -> Rescued
     ensures { λ r. ⌜ Rescues oldest latest (now (source .entry)) (now (target .entry)) (rescuedSays r) (now (target .exit)) ⌝ }
 {
-    if !size_right(source.len()) {
+    if !size_right(Form::Counted, source.len()) {
         return Rescued::Refused(WRONG_SIZE);
     }
     if target.len() != source.len() {

@@ -5,6 +5,7 @@ use native.Mathlib.Omega.{arith}
 use mathlib.Core.Path.{_≡_, refl, ap, sym, _∙_, subst, subst₂}
 use mathlib.Core.Bool.{true}
 use lib.ListN.{length}
+use Rattle.terms.specs.declared.Form.the-variants.{Counted as counted}
 use Rattle.terms.specs.Bits.{Bytes, Byte, All}
 use Rattle.terms.specs.Form.{top32}
 use Rattle.terms.specs.Records.{Store}
@@ -25,7 +26,7 @@ use Rattle.rescue_bytes.specs.Rescues.{slotsIn, SameSize, Report, Rescue
 use Rattle.rescue_bytes.specs.Claims.{AllRooted, AsItWas}
 use Rattle.rescue_bytes.proofs.Readable.{readable}
 use Rattle.rescue_bytes.proofs.Outcomes.{one-rescue}
-use Rattle.rescue_bytes.proofs.Worth.{sound-form, target-is}
+use Rattle.rescue_bytes.proofs.Worth.{sound-form, rescued-form, target-is}
 
 -- the report of a rescue that gave back its source
 abbrev pub GaveBack : ℕ → Bytes → Answer Report → Bytes → Type 0
@@ -44,14 +45,14 @@ gave-back {s = s} ok size o l e w =
     (y, (_, x, refl, nothing-changed s ok))
 
 -- A sound store whose versions all have a root, rescued with its own oldest and latest, comes back.
-pub sound-comes-back : {s old t : Bytes} {a : Answer Report} {c o l : ℕ} → All Byte s → headerOf s ≡ header c o l → Sound leafHash innerHash (storeOf s) →
+pub sound-comes-back : {s old t : Bytes} {a : Answer Report} {c o l : ℕ} → All Byte s → headerOf counted s ≡ header c o l → Sound leafHash innerHash (storeOf s) →
     AllRooted s → length s ≡ length old → Rescues (storeOf s .oldest) (storeOf s .latest) s old a t → GaveBack (storeOf s .oldest) s a t
 sound-comes-back {s} {old} {c = c} {o = o} {l = l} h head ok rooted e w =
     let x = headers.accepted s c o l head in
-    let right = size-right-of (length s) c (x .size) (x .some) (x .fits) in
-    gave-back ok (record { source = right; target = subst (λ n. sizeRight n ≡ true) e right; equal = e }) (ok .header .0)
-    (sound-longest leafHash innerHash (storeOf s) ok rooted)
-    (sym (ap storeBytes (sound-stays leafHash innerHash (storeOf s) ok rooted) ∙ store-back s c o l h x)) w
+    let right = size-right-of counted (length s) c (x .size) (x .some) (x .fits) in
+    gave-back ok (record { source = right; target = subst (λ n. sizeRight counted n ≡ true) e right; equal = e }) (ok .header .0)
+    (sound-longest leafHash innerHash (storeOf s) refl ok rooted)
+    (sym (ap storeBytes (sound-stays leafHash innerHash (storeOf s) refl ok rooted) ∙ store-back s c o l h x)) w
 
 -- A rescued store, rescued with the same oldest and latest, comes back; and so it does with its own.
 pub rescued-comes-back : {oldest latest : ℕ} {s old t : Bytes} {r : Report} → All Byte s → latest ≤ top32 → Rescues oldest latest s old (accepted r) t →
@@ -60,11 +61,12 @@ pub rescued-comes-back : {oldest latest : ℕ} {s old t : Bytes} {r : Report} �
 rescued-comes-back {oldest} {latest} {s} h n (rescues {f = f} {m = m} {t = t} size o l e) {old₂} k =
     let z = readable s h (size .source) latest n in
     let st = rescued (slotsIn s) f m in
+    let its = rescued-form (slotsIn s) f m in
     let sound = rescued-sound leafHash innerHash (slotsIn s) oldest latest f m z l in
     let said : storeOf t ≡ st = ap storeOf e ∙ target-is oldest latest (slotsIn s) z f m l in
     let ok : Sound leafHash innerHash (storeOf t) = subst (Sound leafHash innerHash) (sym said) sound in
-    let right : sizeRight (length t) ≡ true = subst (λ x. sizeRight (length x) ≡ true) (sym e) (store-size st (sound-form st sound)) in
-    let same : SameSize t old₂ = record { source = right; target = subst (λ x. sizeRight x ≡ true) k right; equal = k } in
+    let right : sizeRight counted (length t) ≡ true = subst (λ x. sizeRight counted (length x) ≡ true) (sym e) (subst (λ y. sizeRight y (length (storeBytes st)) ≡ true) its (store-size st (sound-form st its sound))) in
+    let same : SameSize t old₂ = record { source = right; target = subst (λ x. sizeRight counted x ≡ true) k right; equal = k } in
     let bytes : t ≡ storeBytes (rescued (slotsIn t) f m) =
     e ∙ ap storeBytes (sym (rescued-stays leafHash innerHash (slotsIn s) oldest latest f m z l)) ∙ ap (λ x. storeBytes (rescued (x .slots) f m)) (sym said) in (
       gave-back ok same o (subst (λ x. Longest leafHash innerHash (x .slots) oldest latest f m) (sym said) (again-longest leafHash innerHash (slotsIn s) oldest latest f m z l)) bytes,

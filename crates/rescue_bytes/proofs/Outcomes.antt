@@ -4,6 +4,7 @@ use native.Mathlib.Omega.{arith}
 use mathlib.Core.Path.{_≡_, refl, ap, ap₂, sym, _∙_, subst}
 use mathlib.Core.Bool.{true}
 use lib.ListN.{length}
+use Rattle.terms.specs.declared.Form.the-variants.{Counted as counted}
 use Rattle.terms.specs.Bits.{Bytes}
 use Rattle.meaning.specs.Calls.{Answer, refused, accepted}
 use Rattle.nodehash.specs.Node.{leafHash, innerHash}
@@ -77,7 +78,7 @@ module _ {oldest latest : ℕ} {s old : Bytes} where
 
 -- the same rescue into another target of the same length
 same-size : {s old new : Bytes} → length old ≡ length new → SameSize s old → SameSize s new
-same-size e w = record { source = w .source; target = subst (λ n. sizeRight n ≡ true) e (w .target); equal = w .equal ∙ e }
+same-size e w = record { source = w .source; target = subst (λ n. sizeRight counted n ≡ true) e (w .target); equal = w .equal ∙ e }
 
 module _ {oldest latest : ℕ} {s old new : Bytes} (e : length old ≡ length new) where
   accepted-there : {r : Report} {t : Bytes} → Rescues oldest latest s old (accepted r) t → Rescues oldest latest s new (accepted r) t

@@ -7,8 +7,9 @@ use mathlib.Core.Bool.{true}
 use mathlib.Core.List.{List}
 use mathlib.Core.Option.{some}
 use lib.ListN.{length, getD}
+use Rattle.terms.specs.declared.Form.the-variants.{Counted as counted}
 use Rattle.terms.specs.Bits.{Bytes, Byte, All, Place}
-use Rattle.terms.specs.Form.{top32}
+use Rattle.terms.specs.Form.{FormedAs, top32}
 use Rattle.terms.specs.Records.{Record, Slot, free, used, spoiled, Store}
 use Rattle.terms.proofs.Members.{In, all-in}
 use Rattle.meaning.specs.Store.{freeSlots, marked, rootOf, treeAtVersion}
@@ -17,9 +18,9 @@ use Rattle.meaning.specs.Calls.{accepted}
 use Rattle.histories.proofs.Whole.{Whole, sound-whole}
 use Rattle.nodehash.specs.Node.{leafHash, innerHash}
 use Rattle.layout.specs.Slots.{SlotForm}
-use Rattle.layout.specs.Stores.{storeOf, storeBytes, StoreForm}
+use Rattle.layout.specs.Stores.{storeIn, storeOf, storeBytes, StoreForm}
 use Rattle.layout.proofs.Stores.{store-said}
-use Rattle.rescue_rules.specs.Rescue.{sourceTree, inRun, fresh, taken, rescued, counts, Run, Longest}
+use Rattle.rescue_rules.specs.Rescue.{sourceTree, inRun, fresh, taken, runStore, rescued, counts, Run, Longest}
 use Rattle.rescue_laws.proofs.Runs.{Readable}
 use Rattle.rescue_laws.proofs.Taken.{length-taken}
 use Rattle.rescue_laws.proofs.Steps.{slots-kept}
@@ -31,20 +32,27 @@ use Rattle.rescue_bytes.specs.Claims.{Worth}
 use Rattle.rescue_bytes.proofs.Readable.{readable}
 
 -- a sound store is in form
-pub sound-form : (st : Store) → Sound leafHash innerHash st → StoreForm st
-sound-form st ok =
+pub sound-form : (st : Store) → st .form ≡ counted → Sound leafHash innerHash st → StoreForm st
+sound-form st its ok =
     let w = sound-whole leafHash innerHash st ok in
-    record { some = w .size .0; fits = w .size .1; ordered = w .header .0; number = w .header .1; each = all-in SlotForm (st .slots) (λ x h. go w x h) }
+    record { some = w .size .0; fits = w .size .1; ordered = w .header .0; number = w .header .1; each = all-in (SlotForm (st .form)) (st .slots) (λ x h. go w x h) }
   where
-    go : Whole leafHash innerHash st → (x : Slot) → In x (st .slots) → SlotForm x
+    go : Whole leafHash innerHash st → (x : Slot) → In x (st .slots) → SlotForm (st .form) x
     go w free h = tt
-    go w (used r) h = w .formed r h
+    go w (used r) h = (w .formed r h, subst (λ y. FormedAs y r) (sym its) tt)
     go w (spoiled x) h = absurd (w .whole x h)
+
+-- a rescue writes the counted form
+pub rescued-form : (s : List Slot) (f m : ℕ) → rescued s f m .form ≡ counted
+unfolding rescued runStore
+rescued-form s f m = refl
 
 module _ (oldest latest : ℕ) (s : List Slot) (z : Readable s latest) (f m : ℕ) (l : Longest leafHash innerHash s oldest latest f m) where
   -- the target's bytes hold the rescued store
   pub target-is : storeOf (storeBytes (rescued s f m)) ≡ rescued s f m
-  target-is = store-said (rescued s f m) (sound-form (rescued s f m) (rescued-sound leafHash innerHash s oldest latest f m z l))
+  target-is =
+      ap (λ y. storeIn y (storeBytes (rescued s f m))) (sym (rescued-form s f m))
+      ∙ store-said (rescued s f m) (sound-form (rescued s f m) (rescued-form s f m) (rescued-sound leafHash innerHash s oldest latest f m z l))
 
   -- a record of it is that of its slot in the source
   kept-slots : (i : ℕ) (q : Record) → At (rescued s f m) i q →

@@ -5,6 +5,7 @@ use mathlib.Core.Path.{_≡_}
 use mathlib.Core.Bool.{true}
 use mathlib.Core.List.{List, _++_}
 use lib.ListN.{length}
+use Rattle.terms.specs.declared.Form.the-variants.{Counted as counted}
 use Rattle.terms.specs.Bits.{Bytes}
 use Rattle.terms.specs.Fields.{le}
 use Rattle.terms.specs.Records.{Slot}
@@ -20,8 +21,8 @@ slotsIn s = storeOf s .slots
 
 -- Source and target have a store's size, the same.
 pub record SameSize (s old : Bytes) : Type 0 where
-  pub source : sizeRight (length s) ≡ true
-  pub target : sizeRight (length old) ≡ true
+  pub source : sizeRight counted (length s) ≡ true
+  pub target : sizeRight counted (length old) ≡ true
   pub equal : length s ≡ length old
 
 -- No run of the source ends at latest and begins at oldest or later.

@@ -8,6 +8,7 @@ use lib.ListN.{length, drop, drop-of-length-le}
 use lib.Seq.{drop-cons}
 use lib.Dec.{eqb}
 use borrow.Author.Tests.{eq-eqb, ne-eqb}
+use Rattle.terms.specs.declared.Form.the-variants.{Counted as counted}
 use Rattle.terms.specs.Bits.{Bytes, Byte, All}
 use Rattle.terms.specs.Fields.{allZero}
 use Rattle.terms.specs.Records.{Record, Slot, free, used, spoiled}
@@ -51,38 +52,38 @@ module _ (y z : Slot) (c : declared.Counts) where
 -- a slot of both, by its bytes
 module _ {s t : Bytes} {i : ℕ} {c : declared.Counts} (w : Countable s t i c) where
   abbrev After : Counts
-  After = compared (slotNo i s) (slotNo i t) (countsSay c)
+  After = compared (slotNo counted i s) (slotNo counted i t) (countsSay c)
 
-  module _ {x y : Bytes} (is-s : x ≡ slotIn i s) (is-t : y ≡ slotIn i t) where
-    at-s : slotNo i s ≡ slotOf x
+  module _ {x y : Bytes} (is-s : x ≡ slotIn counted i s) (is-t : y ≡ slotIn counted i t) where
+    at-s : slotNo counted i s ≡ slotOf x
     at-s = slot-is (w .before) ∙ ap slotOf (sym is-s)
 
-    at-t : slotNo i t ≡ slotOf y
+    at-t : slotNo counted i t ≡ slotOf y
     at-t = slot-is (w .after) ∙ ap slotOf (sym is-t)
 
     pub counts-free : {a : Bool} → a ≡ allZero x → a ≡ true → countsSay c ≡ After
-    counts-free e k = free-none (slotNo i s) (slotNo i t) c (at-s ∙ zero-free x (sym e ∙ k))
+    counts-free e k = free-none (slotNo counted i s) (slotNo counted i t) c (at-s ∙ zero-free x (sym e ∙ k))
 
     pub counts-spoiled : {a b : Bool} → a ≡ allZero x → a ≡ false → b ≡ isUsed (slotOf x) → b ≡ false → Told (c .same) (c .other) (c .out + 1) ≡ After
     counts-spoiled e k f l =
-        left-out (slotNo i s) (slotNo i t) c (λ z. true≢false (sym (free-zero x (sym at-s ∙ z)) ∙ sym e ∙ k))
+        left-out (slotNo counted i s) (slotNo counted i t) c (λ z. true≢false (sym (free-zero x (sym at-s ∙ z)) ∙ sym e ∙ k))
         (λ u. absurd (true≢false (sym u ∙ ap isUsed at-s ∙ sym f ∙ l)))
 
     module _ {b d : Bool} (f : b ≡ isUsed (slotOf x)) (l : b ≡ true) (g : d ≡ isUsed (slotOf y)) where
       pub counts-out : d ≡ false → Told (c .same) (c .other) (c .out + 1) ≡ After
       counts-out m =
-          left-out (slotNo i s) (slotNo i t) c (λ z. true≢false (sym (ap isUsed at-s ∙ sym f ∙ l) ∙ ap isUsed z)) (λ u. ap isUsed at-t ∙ sym g ∙ m)
+          left-out (slotNo counted i s) (slotNo counted i t) c (λ z. true≢false (sym (ap isUsed at-s ∙ sym f ∙ l) ∙ ap isUsed z)) (λ u. ap isUsed at-t ∙ sym g ∙ m)
 
-      module _ (m : d ≡ true) (bytes-s : All Byte s) (bytes-t : All Byte t) {j k : ℕ} (since-s : j ≡ sinceIn (slotIn i s)) (since-t : k ≡ sinceIn (slotIn i t)) where
+      module _ (m : d ≡ true) (bytes-s : All Byte s) (bytes-t : All Byte t) {j k : ℕ} (since-s : j ≡ sinceIn (slotIn counted i s)) (since-t : k ≡ sinceIn (slotIn counted i t)) where
         source-record : (r : Record) × (slotOf x ≡ used r)
         source-record = used-or (slotOf x) (sym f ∙ l)
 
         target-record : (r : Record) × (slotOf y ≡ used r)
         target-record = used-or (slotOf y) (sym g ∙ m)
 
-        own : (n : Bytes) (h : Has n i) → All Byte n → (r : Record) → slotOf (slotIn i n) ≡ used r → sinceIn (slotIn i n) ≡ r .retired
+        own : (n : Bytes) (h : Has counted n i) → All Byte n → (r : Record) → slotOf (slotIn counted i n) ≡ used r → sinceIn (slotIn counted i n) ≡ r .retired
         own n h b r e =
-            let q = says (slotIn i n) (slot-long i n (slot-within h)) (slot-bytes i n b) r e in ap sinceIn (sym (q .bytes)) ∙ retired-says r (q .form)
+            let q = says (slotIn counted i n) (slot-long counted i n (slot-within h)) (slot-bytes counted i n b) r e in ap sinceIn (sym (q .bytes)) ∙ retired-says counted r (q .form)
 
         source-since : j ≡ source-record .0 .retired
         source-since = since-s ∙ own s (w .before) bytes-s (source-record .0) (ap slotOf (sym is-s) ∙ source-record .1)
@@ -92,7 +93,7 @@ module _ {s t : Bytes} {i : ℕ} {c : declared.Counts} (w : Countable s t i c) w
 
         both-counted : (b : Bool) → eqb j k ≡ b → After ≡ cond b (Told (suc (c .same)) (c .other) (c .out)) (Told (c .same) (suc (c .other)) (c .out))
         both-counted b e =
-            both-used (slotNo i s) (slotNo i t) c (source-record .0) (target-record .0) (at-s ∙ source-record .1) (at-t ∙ target-record .1)
+            both-used (slotNo counted i s) (slotNo counted i t) c (source-record .0) (target-record .0) (at-s ∙ source-record .1) (at-t ∙ target-record .1)
             ∙ ap (λ m. cond m (Told (suc (c .same)) (c .other) (c .out)) (Told (c .same) (suc (c .other)) (c .out)))
             (ap₂ eqb (sym source-since) (sym target-since) ∙ e)
 
@@ -122,27 +123,27 @@ compared-few (spoiled z) y c = omega arith
 -- the slots from i on are counted
 pub record Counted (s t : Bytes) (n : ℕ) (c : declared.Counts) (i : ℕ) : Type 0 where
   pub pair : Pair s t
-  pub room : n ≡ roomOf (length s)
+  pub room : n ≡ roomOf counted (length s)
   pub small : n ≤ 16384
   pub within : i ≤ n
   pub few : c .same + c .other + c .out + i ≤ n
   pub told : countsSay c ≡ counts (drop i (storeOf s .slots)) (drop i (storeOf t .slots))
 
 module _ {s t : Bytes} where
-  same-room : Pair s t → roomOf (length t) ≡ roomOf (length s)
-  same-room p = ap roomOf (p .equal)
+  same-room : Pair s t → roomOf counted (length t) ≡ roomOf counted (length s)
+  same-room p = ap (roomOf counted) (p .equal)
 
-  pub counted-start : {n : ℕ} → Pair s t → n ≡ roomOf (length s) → (c : declared.Counts) → c .same ≡ 0 → c .other ≡ 0 → c .out ≡ 0 → Counted s t n c n
+  pub counted-start : {n : ℕ} → Pair s t → n ≡ roomOf counted (length s) → (c : declared.Counts) → c .same ≡ 0 → c .other ≡ 0 → c .out ≡ 0 → Counted s t n c n
   counted-start {n} p e c x y z = record {
     pair = p;
     room = e;
-    small = omega (arith, size-says (length s) (p .size));
+    small = omega (arith, size-says counted (length s) (p .size));
     within = omega arith;
     few = omega arith;
     told =
         told-zero (c .same) (c .other) (c .out) x y z
-        ∙ sym (ap₂ counts (drop-of-length-le (storeOf s .slots) {i = n} (omega (arith, slots-many s)))
-        (drop-of-length-le (storeOf t .slots) {i = n} (omega (arith, slots-many t, same-room p))));
+        ∙ sym (ap₂ counts (drop-of-length-le (storeOf s .slots) {i = n} (omega (arith, slots-many counted s)))
+        (drop-of-length-le (storeOf t .slots) {i = n} (omega (arith, slots-many counted t, same-room p))));
   }
     where
       told-zero : (a b d : ℕ) → a ≡ 0 → b ≡ 0 → d ≡ 0 → Told a b d ≡ Told 0 0 0
@@ -152,24 +153,24 @@ module _ {s t : Bytes} where
     pub counted-slot : 0 < i → Countable s t (i - 1) c
     counted-slot h = record {
       before = record { size = w .pair .size; inside = omega (arith, w .room, w .within) };
-      after = record { size = subst (λ m. sizeRight m ≡ true) (sym (w .pair .equal)) (w .pair .size); inside = omega (arith, w .room, w .within, same-room (w .pair)) };
+      after = record { size = subst (λ m. sizeRight counted m ≡ true) (sym (w .pair .equal)) (w .pair .size); inside = omega (arith, w .room, w .within, same-room (w .pair)) };
       few = omega (arith, w .few, w .small);
     }
 
-    pub counted-next : 0 < i → (r : declared.Counts) → countsSay r ≡ compared (slotNo (i - 1) s) (slotNo (i - 1) t) (countsSay c) → Counted s t n r (i - 1)
+    pub counted-next : 0 < i → (r : declared.Counts) → countsSay r ≡ compared (slotNo counted (i - 1) s) (slotNo counted (i - 1) t) (countsSay c) → Counted s t n r (i - 1)
     counted-next h r e =
-        let l : compared (slotNo (i - 1) s) (slotNo (i - 1) t) (countsSay c) .same + compared (slotNo (i - 1) s) (slotNo (i - 1) t) (countsSay c) .other
-        + compared (slotNo (i - 1) s) (slotNo (i - 1) t) (countsSay c) .out ≤ suc (c .same + c .other + c .out) =
-        compared-few (slotNo (i - 1) s) (slotNo (i - 1) t) (countsSay c) in
+        let l : compared (slotNo counted (i - 1) s) (slotNo counted (i - 1) t) (countsSay c) .same + compared (slotNo counted (i - 1) s) (slotNo counted (i - 1) t) (countsSay c) .other
+        + compared (slotNo counted (i - 1) s) (slotNo counted (i - 1) t) (countsSay c) .out ≤ suc (c .same + c .other + c .out) =
+        compared-few (slotNo counted (i - 1) s) (slotNo counted (i - 1) t) (countsSay c) in
         record {
           pair = w .pair;
           room = w .room;
           small = w .small;
           within = omega (arith, w .within);
           few = omega (arith, w .few, l, ap (λ (k : Counts). k .same) e, ap (λ (k : Counts). k .other) e, ap (λ (k : Counts). k .out) e);
-          told = e ∙ ap (compared (slotNo (i - 1) s) (slotNo (i - 1) t)) (w .told ∙ up)
-              ∙ sym (ap₂ counts (drop-cons (storeOf s .slots) (i - 1) free (omega (arith, slots-many s, w .room, w .within)))
-              (drop-cons (storeOf t .slots) (i - 1) free (omega (arith, slots-many t, same-room (w .pair), w .room, w .within))));
+          told = e ∙ ap (compared (slotNo counted (i - 1) s) (slotNo counted (i - 1) t)) (w .told ∙ up)
+              ∙ sym (ap₂ counts (drop-cons (storeOf s .slots) (i - 1) free (omega (arith, slots-many counted s, w .room, w .within)))
+              (drop-cons (storeOf t .slots) (i - 1) free (omega (arith, slots-many counted t, same-room (w .pair), w .room, w .within))));
         }
       where
         up : counts (drop i (storeOf s .slots)) (drop i (storeOf t .slots)) ≡ counts (drop (suc (i - 1)) (storeOf s .slots)) (drop (suc (i - 1)) (storeOf t .slots))

@@ -5,6 +5,7 @@ use lookup::holds_record;
 use store::retired_at;
 use store::slot_count;
 use store::slot_of;
+use terms::Form;
 ghost use mathlib.Core.Path.{_≡_};
 ghost use Rattle.layout.specs.Stores.{storeOf, slotNo};
 ghost use Rattle.rescue_rules.specs.Rescue.{compared, counts};
@@ -19,10 +20,10 @@ pub struct Counts {
 // Counts slot i.
 fn count_slot(source: &[u8], target: &[u8], i: usize, c: Counts) -> Counts
     requires { ⌜ Countable (now source) (now target) i c ⌝ }
-    ensures { λ r. ⌜ countsSay r ≡ compared (slotNo i (now (source .entry))) (slotNo i (now (target .entry))) (countsSay c) ⌝ }
+    ensures { λ r. ⌜ countsSay r ≡ compared (slotNo Form.Counted i (now (source .entry))) (slotNo Form.Counted i (now (target .entry))) (countsSay c) ⌝ }
 {
-    let before = slot_of(source, i);
-    let after = slot_of(target, i);
+    let before = slot_of(Form::Counted, source, i);
+    let after = slot_of(Form::Counted, target, i);
     let mut now = c;
     if all_zero(before) {
         return now;
@@ -35,7 +36,7 @@ fn count_slot(source: &[u8], target: &[u8], i: usize, c: Counts) -> Counts
         now.out = now.out + 1;
         return now;
     }
-    if retired_at(source, i) == retired_at(target, i) {
+    if retired_at(Form::Counted, source, i) == retired_at(Form::Counted, target, i) {
         now.same = now.same + 1;
         return now;
     }
@@ -48,7 +49,7 @@ pub fn count(source: &[u8], target: &[u8]) -> Counts
     requires { ⌜ Pair (now source) (now target) ⌝ }
     ensures { λ r. ⌜ countsSay r ≡ counts (storeOf (now (source .entry)) .slots) (storeOf (now (target .entry)) .slots) ⌝ }
 {
-    let n = slot_count(source);
+    let n = slot_count(Form::Counted, source);
     let mut c = Counts {
         same: 0,
         other: 0,

@@ -6,6 +6,7 @@ use mathlib.Core.Bool.{true}
 use mathlib.Core.List.{List, [], _∷_}
 use lib.ListN.{length, getD, set, length-set}
 use lib.Seq.{getD-set-same}
+use Rattle.terms.specs.declared.Form.the-variants.{Counted as counted}
 use Rattle.terms.specs.Bits.{Bytes, Byte, All, Place}
 use Rattle.terms.specs.Fields.{le}
 use Rattle.terms.specs.Records.{Record, Slot, free, used, Store}
@@ -36,7 +37,7 @@ pub put-none : (s t : Bytes) (n : ℕ) {f : found.Found} → Target s t → f �
 put-none s t n h e = record { target = h; puts = λ v p l. nothing (subst (LowestIn (storeOf s .slots) v p) e l) }
 
 -- the slot of a record lies in both
-pub held-slot : (s t : Bytes) {f : found.Found} {i : ℕ} → Target s t → Held s f → f ≡ At i → SlotWithin i s × SlotWithin i t
+pub held-slot : (s t : Bytes) {f : found.Found} {i : ℕ} → Target s t → Held s f → f ≡ At i → SlotWithin counted i s × SlotWithin counted i t
 held-slot s t {f} {i} h k e =
     let x = subst (Held s) e k in
     let w = slot-within (x .0) in
@@ -49,17 +50,17 @@ module _ (s t : Bytes) (target : Target s t) {f : found.Found} {i : ℕ} (held :
   abbrev r : Record
   r = it .1 .0
 
-  says : slotOf (slotIn i s) ≡ used r
+  says : slotOf (slotIn counted i s) ≡ used r
   says = sym (slot-is (it .0)) ∙ it .1 .1
 
-  form : RecordForm r
-  form = subst SlotForm says (slot-formed (it .0) bytes)
+  form : SlotForm counted (used r)
+  form = subst (SlotForm counted) says (slot-formed (it .0) bytes)
 
-  own-bytes : slotBytes (used r) ≡ slotIn i s
-  own-bytes = ap slotBytes (sym says) ∙ slot-back (slotIn i s) (slot-long i s (slot-within (it .0))) (slot-bytes i s bytes)
+  own-bytes : slotBytes counted (used r) ≡ slotIn counted i s
+  own-bytes = ap (slotBytes counted) (sym says) ∙ slot-back counted (slotIn counted i s) (slot-long counted i s (slot-within (it .0))) (slot-bytes counted i s bytes)
 
   inside : i < length (storeOf t .slots)
-  inside = omega (arith, slots-many t, ap roomOf (target .equal), it .0 .inside)
+  inside = omega (arith, slots-many counted t, ap (roomOf counted) (target .equal), it .0 .inside)
 
   abbrev one : Store
   one = putSlot i (used r) (storeOf t)
@@ -67,7 +68,7 @@ module _ (s t : Bytes) (target : Target s t) {f : found.Found} {i : ℕ} (held :
   one-form : StoreForm one
   one-form = slot-put-form (storeOf t) (target .form) i (used r) form inside
 
-  one-bytes : withBytes i (slotIn i s) t ≡ storeBytes one
+  one-bytes : withBytes i (slotIn counted i s) t ≡ storeBytes one
   one-bytes =
       ap₂ (λ x y. withBytes i x y) (sym own-bytes) (target .bytes) ∙ sym (slot-put-bytes (storeOf t) (target .form) i (used r) form inside)
 
@@ -80,29 +81,32 @@ module _ (s t : Bytes) (target : Target s t) {f : found.Found} {i : ℕ} (held :
   one-slot = getD-set-same (storeOf t .slots) i (used r) free inside
 
   abbrev mark : Slot
-  mark = used (recordOf (r .place) (r .version) n (r .body))
+  mark = used (recordOf (r .place) (r .version) n (r .body) (r .counts))
 
-  mark-form : SlotForm mark
-  mark-form = record { short = form .short; versioned = form .versioned; number = small; body = form .body }
+  mark-form : SlotForm counted mark
+  mark-form = (record { short = form .0 .short; versioned = form .0 .versioned; number = small; body = form .0 .body; counts = form .0 .counts }, tt)
 
   abbrev two : Store
   two = putSlot i mark one
 
   two-form : StoreForm two
+  unfolding putSlot
   two-form = slot-put-form one one-form i mark mark-form one-inside
 
   two-slots : two .slots ≡ set (storeOf t .slots) i (used (marked n r))
   unfolding putSlot marked
   two-slots = set-twice (storeOf t .slots) i (used r) mark
 
-  module _ {t₁ t₂ x : Bytes} (slot : x ≡ slotIn i s) (copied : t₁ ≡ withBytes i x t) (set-since : t₂ ≡ withSince i n t₁) (same : length t₂ ≡ length t) where
+  module _ {t₁ t₂ x : Bytes} (slot : x ≡ slotIn counted i s) (copied : t₁ ≡ withBytes i x t) (set-since : t₂ ≡ withSince counted i n t₁) (same : length t₂ ≡ length t) where
     after : t₂ ≡ storeBytes two
+    unfolding putSlot
     after =
         set-since
-        ∙ ap (withSince i n) (copied ∙ ap (λ y. withBytes i y t) slot ∙ one-bytes)
+        ∙ ap (withSince counted i n) (copied ∙ ap (λ y. withBytes i y t) slot ∙ one-bytes)
         ∙ sym (retired-put-bytes one one-form i r n one-inside one-slot form small)
 
     after-store : storeOf t₂ ≡ two
+    unfolding putSlot
     after-store = ap storeOf after ∙ store-said two two-form
 
     pub put-at : Puts s f n t t₂

@@ -5,6 +5,7 @@ use mathlib.Core.Path.{_≡_, refl, ap, ap₂, sym, _∙_, subst}
 use mathlib.Core.Bool.{true}
 use mathlib.Core.List.{List}
 use lib.ListN.{length}
+use Rattle.terms.specs.declared.Form.the-variants.{Counted as counted}
 use Rattle.terms.specs.Bits.{Bytes, Byte, All, Side, left, right, Place, longer}
 use Rattle.terms.specs.Records.{Record, Slot, free, used}
 use Rattle.terms.proofs.Members.{in-getD}
@@ -27,14 +28,14 @@ use Rattle.rescue_look.proofs.Looking.{its-form}
 use Rattle.rescue_enter.specs.Enter.{Target, Held, Puts, Entering, Enters}
 
 -- the records of bytes are in form
-slots-formed : (s : Bytes) → sizeRight (length s) ≡ true → All Byte s → Formed (storeOf s .slots)
+slots-formed : (s : Bytes) → sizeRight counted (length s) ≡ true → All Byte s → Formed (storeOf s .slots)
 slots-formed s z b r h =
     let k = in-getD (storeOf s .slots) free (used r) h in
-    its-form s b (k .0) (record { size = z; inside = omega (arith, k .1, slots-many s) }) r (k .2)
+    its-form s b (k .0) (record { size = z; inside = omega (arith, k .1, slots-many counted s) }) r (k .2)
 
 -- what was found is held
-pub held-of : (s : Bytes) (z : sizeRight (length s) ≡ true) (v : ℕ) (p : Place) (f : found.Found) → LowestIn (storeOf s .slots) v p f → Held s f
-held-of s z v p (At i) h = (record { size = z; inside = omega (arith, h .0, slots-many s) }, (h .1 .0, h .1 .1 .at))
+pub held-of : (s : Bytes) (z : sizeRight counted (length s) ≡ true) (v : ℕ) (p : Place) (f : found.Found) → LowestIn (storeOf s .slots) v p f → Held s f
+held-of s z v p (At i) h = (record { size = z; inside = omega (arith, h .0, slots-many counted s) }, (h .1 .0, h .1 .1 .at))
 held-of s z v p Nothing h = tt
 
 module _ (s : Bytes) (bytes : All Byte s) (n : ℕ) (p : place.Place) (a b : ℕ) where

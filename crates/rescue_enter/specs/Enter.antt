@@ -3,6 +3,7 @@ use Prim.Native.Nat.{ℕ, _-_}
 use mathlib.Core.Path.{_≡_}
 use mathlib.Core.Bool.{true}
 use lib.ListN.{length}
+use Rattle.terms.specs.declared.Form.the-variants.{Counted as counted}
 use Rattle.terms.specs.Bits.{Bytes, Place}
 use Rattle.terms.specs.Records.{Record, used}
 use Rattle.place.specs.declared.Place as place
@@ -16,14 +17,14 @@ use Rattle.rescue_look.specs.Look.{LowestIn}
 
 -- A source of the right size, and a target of the same, which is in form.
 pub record Target (s t : Bytes) : Type 0 where
-  pub size : sizeRight (length s) ≡ true
+  pub size : sizeRight counted (length s) ≡ true
   pub equal : length t ≡ length s
   pub bytes : t ≡ storeBytes (storeOf t)
   pub form : StoreForm (storeOf t)
 
 -- What was found is a record of the source.
 abbrev pub Held : Bytes → found.Found → Type 0
-Held s (At i) = Has s i × ((r : Record) × (slotNo i s ≡ used r))
+Held s (At i) = Has counted s i × ((r : Record) × (slotNo counted i s ≡ used r))
 Held s Nothing = Unit {0}
 
 -- What was found is put into its slot of the target, retired since n.

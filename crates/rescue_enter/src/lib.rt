@@ -7,6 +7,7 @@ use rescue_look::lowest;
 use store::put_retired_at;
 use store::slot_of;
 use store_copy::copy_slot;
+use terms::Form;
 ghost use Rattle.rescue_enter.specs.Enter.{Target, Held, Puts, Entering, Enters};
 
 // Writes the record that was found in the source to its slot of the target, with another retired-since.
@@ -17,8 +18,8 @@ fn put(source: &[u8], found: Found, since: u32, target: &mut [u8])
     let Found::At(i) = found else {
         return;
     };
-    copy_slot(target, i, slot_of(source, i));
-    put_retired_at(target, i, since);
+    copy_slot(target, i, slot_of(Form::Counted, source, i));
+    put_retired_at(Form::Counted, target, i, since);
 }
 
 // Enters the nodes of the tree of version a at a place that the tree of version b lacks.

@@ -8,6 +8,7 @@ use mathlib.Core.List.{List, [], _∷_, _++_}
 use mathlib.Core.Option.{Option, none, some}
 use lib.ListN.{length, replicate, drop, length-replicate}
 use lib.Seq.{drop-at}
+use Rattle.terms.specs.declared.Form.the-variants.{Counted as counted}
 use Rattle.terms.specs.Bits.{Bytes, Byte, All, Place}
 use Rattle.terms.specs.Records.{Record, Slot, free, Store}
 use Rattle.terms.specs.Form.{top32, mostSlots}
@@ -44,46 +45,47 @@ over : (x y z : Bytes) → length x ≡ length y → written 0 x (y ++ z) ≡ x 
 unfolding written
 over x y z e = let k : length y ≡ 0 + length x = omega (arith, e) in ap (x ++_) (drop-at y z (0 + length x) k)
 
-pub header-over : (t : Bytes) {u : Bytes} {n : ℕ} (first latest : ℕ) → Shaped t → n ≡ roomOf (length t) → u ≡ written 0 (headerBytes n first latest) t →
+pub header-over : (t : Bytes) {u : Bytes} {n : ℕ} (first latest : ℕ) → Shaped t → n ≡ roomOf counted (length t) → u ≡ written 0 (headerBytes counted n first latest) t →
     u ≡ bounded first latest t
 unfolding storeBytes
 header-over t {u} {n} first latest h e k =
     k
-    ∙ ap (written 0 (headerBytes n first latest)) (h .bytes)
-    ∙ over (headerBytes n first latest) (headerBytes (length (storeOf t .slots)) (storeOf t .oldest) (storeOf t .latest)) (slotsBytes (storeOf t .slots))
-    (length-header n first latest ∙ sym (length-header (length (storeOf t .slots)) (storeOf t .oldest) (storeOf t .latest)))
-    ∙ ap (λ m. headerBytes m first latest ++ slotsBytes (storeOf t .slots)) (e ∙ sym (slots-many t))
+    ∙ ap (written 0 (headerBytes counted n first latest)) (h .bytes)
+    ∙ over (headerBytes counted n first latest) (headerBytes counted (length (storeOf t .slots)) (storeOf t .oldest) (storeOf t .latest)) (slotsBytes counted (storeOf t .slots))
+    (length-header counted n first latest ∙ sym (length-header counted (length (storeOf t .slots)) (storeOf t .oldest) (storeOf t .latest)))
+    ∙ ap (λ m. headerBytes counted m first latest ++ slotsBytes counted (storeOf t .slots)) (e ∙ sym (slots-many counted t))
 
 pub shaped : (s t : Bytes) → Target s t → Shaped t
-shaped s t h = record { size = subst (λ n. sizeRight n ≡ true) (sym (h .equal)) (h .size); bytes = h .bytes }
+shaped s t h = record { size = subst (λ n. sizeRight counted n ≡ true) (sym (h .equal)) (h .size); bytes = h .bytes }
 
 -- a formatted target
-free-slots : (n : ℕ) → All SlotForm (replicate n free)
+free-slots : (n : ℕ) → All (SlotForm counted) (replicate n free)
 free-slots zero = tt
 free-slots (suc n) = (tt, free-slots n)
 
-module _ (s t : Bytes) (size : sizeRight (length s) ≡ true) (equal : length t ≡ length s) {u : Bytes} (e : u ≡ formatBytes t) (long : length u ≡ length t) where
-  t-size : sizeRight (length t) ≡ true
-  t-size = subst (λ n. sizeRight n ≡ true) (sym equal) size
+module _ (s t : Bytes) (size : sizeRight counted (length s) ≡ true) (equal : length t ≡ length s) {u : Bytes} (e : u ≡ formatBytes t) (long : length u ≡ length t) where
+  t-size : sizeRight counted (length t) ≡ true
+  t-size = subst (λ n. sizeRight counted n ≡ true) (sym equal) size
 
-  is-formatted : u ≡ storeBytes (formatted (roomOf (length t)))
+  is-formatted : u ≡ storeBytes (formatted (roomOf counted (length t)))
   unfolding formatBytes
   is-formatted = e ∙ rw t-size
 
-  its-form : StoreForm (formatted (roomOf (length t)))
+  its-form : StoreForm (formatted (roomOf counted (length t)))
   unfolding formatted
   its-form =
-      let z = size-says (length t) t-size in
+      let z = size-says counted (length t) t-size in
       record {
-        some = rw (length-replicate (roomOf (length t)) free) (z .1);
-        fits = rw (length-replicate (roomOf (length t)) free) (z .2);
+        some = rw (length-replicate (roomOf counted (length t)) free) (z .1);
+        fits = rw (length-replicate (roomOf counted (length t)) free) (z .2);
         ordered = omega arith;
         number = omega arith;
-        each = free-slots (roomOf (length t));
+        each = free-slots (roomOf counted (length t));
       }
 
-  store-is : storeOf u ≡ formatted (roomOf (length t))
-  store-is = ap storeOf is-formatted ∙ store-said (formatted (roomOf (length t))) its-form
+  store-is : storeOf u ≡ formatted (roomOf counted (length t))
+  unfolding formatted
+  store-is = ap storeOf is-formatted ∙ store-said (formatted (roomOf counted (length t))) its-form
 
   pub format-target : Target s u
   format-target = record {
@@ -96,7 +98,7 @@ module _ (s t : Bytes) (size : sizeRight (length s) ≡ true) (equal : length t 
   pub format-slots : storeOf u .slots ≡ replicate (length (storeOf s .slots)) free
   unfolding formatted
   format-slots =
-      ap (λ (x : Store). x .slots) store-is ∙ ap (λ n. replicate n free) (ap roomOf equal ∙ sym (slots-many s))
+      ap (λ (x : Store). x .slots) store-is ∙ ap (λ n. replicate n free) (ap (roomOf counted) equal ∙ sym (slots-many counted s))
 
 -- the root of a version isn't newer than the version
 root-not-above : (s : List Slot) (v : ℕ) → rootVersion s v ≤ v
@@ -122,7 +124,7 @@ pub record State (s : Bytes) (oldest latest b low : ℕ) (t : Bytes) : Type 0 wh
   pub root-in : b ≤ at
   pub low-in : low ≤ at
 
-module _ (s : Bytes) (bytes : All Byte s) (oldest latest : ℕ) (number : latest ≤ top32) (size : sizeRight (length s) ≡ true) where
+module _ (s : Bytes) (bytes : All Byte s) (oldest latest : ℕ) (number : latest ≤ top32) (size : sizeRight counted (length s) ≡ true) where
   abbrev S : List Slot
   S = storeOf s .slots
 
@@ -172,8 +174,8 @@ module _ (s : Bytes) (bytes : All Byte s) (oldest latest : ℕ) (number : latest
         up : (x y : ℕ) → x ≤ y → y ≡ x + (y - x)
         up x y h = omega arith
 
-        same : record { oldest = f; latest = latest; slots = storeOf t .slots } ≡ rescued S f (latest - f)
-        same = ap₂ (λ n xs. record { oldest = f; latest = n; slots = xs }) (up f latest (back .high)) (back .slots)
+        same : record { oldest = f; latest = latest; slots = storeOf t .slots; form = counted } ≡ rescued S f (latest - f)
+        same = ap₂ (λ n xs. record { oldest = f; latest = n; slots = xs; form = counted }) (up f latest (back .high)) (back .slots)
 
     pub fills-oldest : {u : Bytes} {r : ℕ} → f ≤ oldest → r ≡ f → u ≡ bounded f latest t → Filled s oldest latest r u
     fills-oldest h e k =

@@ -3,6 +3,7 @@ use Prim.Native.Nat.{ℕ, _-_, _≤_}
 use mathlib.Core.Path.{_≡_}
 use mathlib.Core.Bool.{true}
 use lib.ListN.{length}
+use Rattle.terms.specs.declared.Form.the-variants.{Counted as counted}
 use Rattle.terms.specs.Bits.{Bytes}
 use Rattle.terms.specs.Records.{Store}
 use Rattle.nodehash.specs.Node.{leafHash, innerHash}
@@ -13,16 +14,16 @@ use Rattle.rescue_step.specs.Step.{Joins}
 
 -- The target's bytes with other bounds.
 abbrev pub bounded : ℕ → ℕ → Bytes → Bytes
-bounded oldest latest t = storeBytes (record { oldest = oldest; latest = latest; slots = storeOf t .slots })
+bounded oldest latest t = storeBytes (record { oldest = oldest; latest = latest; slots = storeOf t .slots; form = counted })
 
 -- Bytes of the right size that are those of the store they are read as.
 pub record Shaped (t : Bytes) : Type 0 where
-  pub size : sizeRight (length t) ≡ true
+  pub size : sizeRight counted (length t) ≡ true
   pub bytes : t ≡ storeBytes (storeOf t)
 
 -- The tree of latest has passed.
 pub record Fillable (s : Bytes) (oldest latest root low : ℕ) (t : Bytes) : Type 0 where
-  pub size : sizeRight (length s) ≡ true
+  pub size : sizeRight counted (length s) ≡ true
   pub equal : length t ≡ length s
   pub ordered : oldest ≤ latest
   pub joins : Joins s latest 0 0 0 root low

@@ -8,6 +8,7 @@ use rescue_enter::enter;
 use rescue_step::Stepped;
 use rescue_step::step;
 use store::slot_count;
+use terms::Form;
 ghost use mathlib.Core.Path.{_≡_};
 ghost use Rattle.rescue_fill.specs.Fill.{bounded, Shaped, Fillable, Filled};
 
@@ -17,8 +18,8 @@ fn finish(target: &mut [u8], first: u32, latest: u32) -> u32
     ensures answer { λ r. ⌜ r ≡ first ⌝ }
     ensures bytes { λ _. ⌜ now (target .exit) ≡ bounded first latest (now (target .entry)) ⌝ }
 {
-    let n = slot_count(target) as u32;
-    put_header(target, n, first, latest);
+    let n = slot_count(Form::Counted, target) as u32;
+    put_header(Form::Counted, target, n, first, latest);
     first
 }
 

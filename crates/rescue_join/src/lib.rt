@@ -4,6 +4,7 @@ use place::Place;
 use rescue_look::kid;
 use rescue_look::lowest;
 use rescue_look::record_right;
+use terms::Form;
 ghost use mathlib.Core.Path.{_≡_};
 ghost use mathlib.Core.Bool.{true, _||_};
 ghost use lib.ListN.{length};
@@ -41,7 +42,7 @@ pub enum Joined {
 
 // Joins the node of version a at a place, and all below it, to the node of version b in the tree of the version `next`.
 pub fn join(source: &[u8], next: u32, place: Place, a: u32, b: u32) -> Joined
-    requires { ⌜ (sizeRight (length (now source)) ≡ true) × Proper place ⌝ }
+    requires { ⌜ (sizeRight Form.Counted (length (now source)) ≡ true) × Proper place ⌝ }
     ensures { λ r. ⌜ JoinSays (now (source .entry)) next place a b r ⌝ }
 {
     if a == b {

@@ -9,6 +9,7 @@ use mathlib.Core.List.{List, [], _∷_}
 use mathlib.Core.Option.{some}
 use lib.Dec.{leb}
 use borrow.Author.Tests.{leb-true, leb-false}
+use Rattle.terms.specs.declared.Form.the-variants.{Counted as counted}
 use Rattle.terms.specs.Bits.{Bytes}
 use Rattle.terms.specs.Records.{Record, Slot, Store}
 use Rattle.meaning.specs.Tree.{topVersion}
@@ -55,6 +56,10 @@ module _ (leafHash innerHash : Bytes → Bytes → Bytes) (s : List Slot) (oldes
     chain = run-joins leafHash innerHash s f n (l .run)
 
     -- the rescued store is sound
+    rescued-form : st .form ≡ counted
+    unfolding rescued runStore
+    rescued-form = refl
+
     pub rescued-sound : Sound leafHash innerHash st
     rescued-sound = chain-sound leafHash innerHash s f n z-run chain
 
@@ -75,14 +80,14 @@ module _ (leafHash innerHash : Bytes → Bytes → Bytes) (s : List Slot) (oldes
 
     -- rescued again it stays as it is
     pub rescued-stays : rescued (st .slots) f n ≡ st
-    rescued-stays = subst₂ (λ x y. rescued (st .slots) x y ≡ st) (bounds s f n .0) more-is (sound-stays leafHash innerHash st rescued-sound rescued-rooted)
+    rescued-stays = subst₂ (λ x y. rescued (st .slots) x y ≡ st) (bounds s f n .0) more-is (sound-stays leafHash innerHash st rescued-form rescued-sound rescued-rooted)
 
     -- its versions are the longest run from its first on
     pub again-own : Longest leafHash innerHash (st .slots) f latest f n
     again-own =
         subst₂ (λ x y. Longest leafHash innerHash (st .slots) f x f y) (bounds s f n .1 ∙ l .ends) more-is
         (subst (λ x. Longest leafHash innerHash (st .slots) x (st .latest) x (st .latest - st .oldest)) (bounds s f n .0)
-        (sound-longest leafHash innerHash st rescued-sound rescued-rooted))
+        (sound-longest leafHash innerHash st rescued-form rescued-sound rescued-rooted))
 
     whole : Whole leafHash innerHash st
     whole = sound-whole leafHash innerHash st rescued-sound

@@ -44,7 +44,7 @@ counts-add-up nodes set (spoiled x ∷ s) = let h = counts-add-up nodes set s in
 -- kept as it was
 pub same-is-same : (r : Record) (n : ℕ) → r .retired ≡ n → marked n r ≡ r
 unfolding marked
-same-is-same r n e = λ j. record { place = r .place; version = r .version; retired = sym e j; body = r .body }
+same-is-same r n e = λ j. record { place = r .place; version = r .version; retired = sym e j; body = r .body; counts = r .counts }
 
 -- slots without damage compared with themselves: nothing changed and nothing left out
 pub counts-same : (s : List Slot) → ((x : Bytes) → In (spoiled x) s → ⊥) → (counts s s .other ≡ 0) × (counts s s .out ≡ 0)

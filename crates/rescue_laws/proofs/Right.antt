@@ -9,19 +9,23 @@ use mathlib.Core.List.{List}
 use mathlib.Core.Option.{Option, none, some, Option·some-injective}
 use lib.ListN.{length}
 use borrow.Author.Tests.{eqb-true, eq-eqb, ne-eqb}
+use Rattle.terms.specs.declared.Form.the-variants.{Counted as counted}
 use Rattle.terms.specs.Bits.{Bytes, Side, left, right, Place, longer, sameBytes}
-use Rattle.terms.specs.Records.{Child, Body, leafBody, innerBody, Record, Slot}
-use Rattle.terms.specs.Form.{ChildForm, placeLimit, BodyForm}
+use Rattle.terms.specs.Records.{Child, Body, leafBody, innerBody, tally, Record, Slot, free, used}
+use Rattle.terms.specs.Form.{ChildForm, placeLimit, BodyForm, CountsForm}
 use Rattle.terms.proofs.Tests.{and-left, and-right, same-bytes, bytes-same}
-use Rattle.meaning.specs.Tree.{hash, VTree, vnone, vleaf, vinner, topVersion, kid, unversioned}
+use Rattle.terms.proofs.Members.{getD-in}
+use Rattle.meaning.specs.Tree.{hash, VTree, vnone, vleaf, vinner, topVersion, leaves, kid, unversioned}
 use Rattle.meaning.specs.Store.{find, treeBelow, treeFound, treeFrom, childOf}
-use Rattle.meaning.specs.Sound.{Found, Stands, onlyLeaf}
+use Rattle.meaning.specs.Sound.{At, Found, Tallied, Stands, onlyLeaf}
 use Rattle.meaning.specs.Reading.{bodyHash}
-use Rattle.meaning.specs.Local.{childVersion}
+use Rattle.meaning.specs.Local.{childVersion, weighed, countsBy}
 use Rattle.meaning.proofs.Finding.{isNode-eq}
+use Rattle.meaning.proofs.Counts.{found-counts, stands-weighs}
 use Rattle.histories.proofs.Slots.{find-has, none-find}
 use Rattle.histories.proofs.Standing.{Formed}
-use Rattle.local.specs.Test.{loneLeaf}
+use Rattle.local.specs.Test.{loneLeaf, countsAre}
+use Rattle.local.proofs.InForm.{tally-says}
 use Rattle.local.proofs.Slots.{kidsFrom, no-version}
 use Rattle.rescue_rules.specs.Joining.{source, kidOf, linked, bodyRight, recordRight}
 
@@ -181,15 +185,24 @@ module _ (leafHash innerHash : Bytes → Bytes → Bytes) (s : List Slot) (z : F
   miss-none : (n v : ℕ) (p : Place) → find v p s ≡ none → treeFrom n s v p ≡ vnone
   miss-none n v p e = tree-found s z n v p ∙ ap (λ o. treeFound o (kidsFrom n s p)) e
 
+  -- what is found at the top of a right tree says how many leaves it has
+  weighs : (v : ℕ) (p : Place) (t : VTree) → RightAt v p t → weighed (find v p s) ≡ leaves t
+  unfolding At
+  weighs v p t r =
+      ap (λ x. weighed (find x p s)) (sym (r .version)) ∙ stands-weighs leafHash innerHash (source s) refl versions p t (r .stands)
+    where
+      versions : (i : ℕ) (q : Record) → At (source s) i q → 1 ≤ q .version
+      versions i q a = z q (getD-in s i free (used q) (a .0) (a .1)) .versioned .0
+
   body-into : (n v : ℕ) (p : Place) → length p + n ≡ 256 → (r : Record) → find v p s ≡ some r → (c : Body) → r .body ≡ c →
-      bodyRight leafHash innerHash s p c ≡ true → ((b : Side) → RightAt (childVersion b c) (longer b p) (kidsFrom n s p b (childVersion b c))) →
+      bodyRight leafHash innerHash s p c ≡ true → r .counts ≡ countsBy s p c → ((b : Side) → RightAt (childVersion b c) (longer b p) (kidsFrom n s p b (childVersion b c))) →
       RightAt v p (treeBelow (r .version) c (kidsFrom n s p))
-  unfolding Found
-  body-into n v p len r e (leafBody k x) g h kids =
+  unfolding Found Tallied
+  body-into n v p len r e (leafBody k x) g h m kids =
       let w = find-has v p s r e in
       record { version = w .1; stands = ((r, ap (λ y. find y p s) (w .1) ∙ e, g), h) }
-  body-into zero v p len r e (innerBody c d) g h kids = absurd (omega (arith, inner-length v p r c d e g))
-  body-into (suc n) v p len r e (innerBody c d) g h kids =
+  body-into zero v p len r e (innerBody c d) g h m kids = absurd (omega (arith, inner-length v p r c d e g))
+  body-into (suc n) v p len r e (innerBody c d) g h m kids =
       let w = find-has v p s r e in
       let form : BodyForm (innerBody c d) = subst BodyForm g (z r (w .0) .body) in
       let t = treeFrom n s (c .version) (longer left p) in
@@ -205,6 +218,7 @@ module _ (leafHash innerHash : Bytes → Bytes → Bytes) (s : List Slot) (z : F
           only-leaf t u c d (kids left .version) (kids right .version) (a .1) (b .1),
           kids left .stands,
           kids right .stands,
+          (r, ap (λ y. find y p s) (w .1) ∙ e, m ∙ ap₂ tally (weighs (c .version) (longer left p) t (kids left)) (weighs (d .version) (longer right p) u (kids right))),
         );
       }
 
@@ -213,8 +227,11 @@ module _ (leafHash innerHash : Bytes → Bytes → Bytes) (s : List Slot) (z : F
 
   body-back : (n v : ℕ) (p : Place) → length p + n ≡ 256 → (r : Record) → find v p s ≡ some r → (c : Body) → r .body ≡ c →
       RightAt v p (treeBelow (r .version) c (kidsFrom n s p)) →
-      (bodyRight leafHash innerHash s p c ≡ true) × ((b : Side) → RightAt (childVersion b c) (longer b p) (kidsFrom n s p b (childVersion b c)))
-  body-back n v p len r e (leafBody k x) g h = (h .stands .1, no-kids-right n v p len)
+      (bodyRight leafHash innerHash s p c ≡ true)
+      × (r .counts ≡ countsBy s p c)
+      × ((b : Side) → RightAt (childVersion b c) (longer b p) (kidsFrom n s p b (childVersion b c)))
+  body-back n v p len r e (leafBody k x) g h =
+      (h .stands .1, subst (λ o. CountsForm o (r .counts)) g (z r (find-has v p s r e .0) .counts), no-kids-right n v p len)
   body-back zero v p len r e (innerBody c d) g h = absurd (omega (arith, inner-length v p r c d e g))
   body-back (suc n) v p len r e (innerBody c d) g h = go
     where
@@ -240,12 +257,14 @@ module _ (leafHash innerHash : Bytes → Bytes → Bytes) (s : List Slot) (z : F
       two = record { version = sym (unfold-child u) ∙ sym (ap (λ y. y .version) (same .1)); stands = h .stands .3 }
 
       go : (bodyRight leafHash innerHash s p (innerBody c d) ≡ true)
+          × (r .counts ≡ countsBy s p (innerBody c d))
           × ((b : Side) → RightAt (childVersion b (innerBody c d)) (longer b p) (treeFrom n s (childVersion b (innerBody c d)) (longer b p)))
       go = (
         rw (link-back (longer left p) c d (form .0) t (miss-none n (c .version) (longer left p)) (sym (same .0)) one
             (not-lone t u d (h .stands .1) (two .version) (none-top (d .version) (longer right p) u two)))
             (link-back (longer right p) d c (form .1) u (miss-none n (d .version) (longer right p)) (sym (same .1)) two
             (not-lone u t c (leaf-sym u t ∙ h .stands .1) (one .version) (none-top (c .version) (longer left p) t one))),
+        found-counts (source s) refl (r .version) p _ r (ap (λ y. find y p s) (h .version) ∙ e) (h .stands .4) ∙ sym (ap₂ tally (weighs (c .version) (longer left p) t one) (weighs (d .version) (longer right p) u two)),
         λ b. elim b as (λ b. RightAt (childVersion b (innerBody c d)) (longer b p) (treeFrom n s (childVersion b (innerBody c d)) (longer b p)))
             [ true ↦ two | false ↦ one ],
       )
@@ -261,4 +280,13 @@ module _ (leafHash innerHash : Bytes → Bytes → Bytes) (s : List Slot) (z : F
           RightAt v p (treeFound o (kidsFrom n s p))
           ↔ ((recordRight leafHash innerHash s v p o ≡ true) × ((b : Side) → RightAt (kidOf b o) (longer b p) (kidsFrom n s p b (kidOf b o))))
       go none e = (λ r. (eq-eqb v 0 (sym (r .version)), no-kids-right n v p len), λ h. record { version = sym (eqb-true v 0 (h .0)); stands = tt })
-      go (some r) e = (body-back n v p len r e (r .body) refl, λ h. body-into n v p len r e (r .body) refl (h .0) (h .1))
+      go (some r) e = (
+        λ h.
+            let b = body-back n v p len r e (r .body) refl h in
+            (rw (b .0) (tally-says (r .counts) (countsBy s p (r .body)) .passes (b .1)), b .2),
+        λ h.
+            let right = bodyRight leafHash innerHash s p (r .body) in
+            let counted = countsAre counted (r .counts) (countsBy s p (r .body)) in
+            body-into n v p len r e (r .body) refl (and-left right counted (h .0))
+            (tally-says (r .counts) (countsBy s p (r .body)) .passed (and-right right counted (h .0))) (h .1),
+      )

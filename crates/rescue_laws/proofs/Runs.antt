@@ -180,13 +180,17 @@ module _ (leafHash innerHash : Bytes → Bytes → Bytes) (s : List Slot) (f n :
             let (z, h, k, o, l) = lives-there (suc v) (omega arith) b q g x p m in
             next z h k o (subst (λ y. Lives y z) (omega arith) l) _ refl
 
+  run-form : (setting : ℕ → Place → ℕ) → runStore s f n setting .form ≡ source s .form
+  unfolding runStore
+  run-form setting = refl
+
   -- the trees of a sound store's run are right and join, whatever the setting
   pub run-joins : Run leafHash innerHash s f n → Chain leafHash innerHash s f n
   run-joins run =
       let w = sound-whole leafHash innerHash _ (run .sound) in record {
         good = λ v a b. let (r, e) = run .roots v a b in record {
           root = (r, e);
-          stands = stands-alike leafHash innerHash _ (source s) [] (sourceTree s v) (alike-source s f n (run .setting) v a b) (stands-run (run .setting) w v a b r e);
+          stands = stands-alike leafHash innerHash (runStore s f n (run .setting)) (source s) (run-form (run .setting)) [] (sourceTree s v) (alike-source s f n (run .setting) v a b) (stands-run (run .setting) w v a b r e);
           versions = λ x q m. let (y, h, i, g, l) = lives-there (run .setting) w v a b r e x q m in
               omega (arith, l .0, i, begins-kept (run .setting) w v a b r e .1);
         };
@@ -255,7 +259,7 @@ module _ (leafHash innerHash : Bytes → Bytes → Bytes) (s : List Slot) (f n :
             let u = set-at (q .version) (q .place) m in
             let o = z .formed q k in
             subst Kin (sym e) (record {
-              form = record { short = o .short; versioned = o .versioned; number = below (q .version) (q .place) u; body = o .body };
+              form = record { short = o .short; versioned = o .versioned; number = below (q .version) (q .place) u; body = o .body; counts = o .counts };
               set = u;
               retired = refl;
             })
@@ -343,7 +347,7 @@ module _ (leafHash innerHash : Bytes → Bytes → Bytes) (s : List Slot) (f n :
           (k .form .versioned .0, omega (arith, chain .good (u .t) (u .low) (u .high) .versions (r .version) (r .place) (u .there), u .high));
       lifetimes = λ r h. kin-life r (kin r h);
       stands = λ v k. rw (run-tree v (k .0) (k .1))
-          (stands-alike leafHash innerHash (source s) (rescued s f n) [] (sourceTree s v) (alike-run s f n (fresh s f n) v (k .0) (k .1)) (chain .good v (k .0) (k .1) .stands));
+          (stands-alike leafHash innerHash (source s) (rescued s f n) refl [] (sourceTree s v) (alike-run s f n (fresh s f n) v (k .0) (k .1)) (chain .good v (k .0) (k .1) .stands));
       exact = λ v k r h. rw (run-tree v (k .0) (k .1)) (kin-exact v (k .0) (k .1) r (kin r h));
     }
 

@@ -10,6 +10,7 @@ use mathlib.Core.List.{List, [], _∷_}
 use mathlib.Core.Option.{Option, none, some, Option·some-ne-none, Option·some-injective}
 use lib.Dec.{eqb, leb}
 use borrow.Author.Tests.{eq-eqb, ne-eqb, leb-true, leb-false}
+use Rattle.terms.specs.declared.Form.the-variants.{Counted as counted}
 use Rattle.terms.specs.Bits.{Bytes}
 use Rattle.terms.specs.Records.{Record, Slot, free, used, spoiled, Store}
 use Rattle.terms.proofs.Tests.{is-false}
@@ -157,7 +158,8 @@ module _ (leafHash innerHash : Bytes → Bytes → Bytes) (st : Store) (w : Whol
       same-slots : taken (inRun (st .slots) (st .oldest) n) (fresh (st .slots) (st .oldest) n) (st .slots) ≡ st .slots
       same-slots = taken-all _ _ (st .slots) (w .unique) (w .whole) as-it-is
 
-module _ (leafHash innerHash : Bytes → Bytes → Bytes) (st : Store) (ok : Sound leafHash innerHash st) (rooted : Rooted st) where
+module _ (leafHash innerHash : Bytes → Bytes → Bytes) (st : Store) (form : st .form ≡ counted) (ok : Sound leafHash innerHash st)
+    (rooted : Rooted st) where
   w : Whole leafHash innerHash st
   w = sound-whole leafHash innerHash st ok
 
@@ -171,7 +173,7 @@ module _ (leafHash innerHash : Bytes → Bytes → Bytes) (st : Store) (ok : Sou
   pub sound-stays : rescued (st .slots) (st .oldest) more ≡ st
   unfolding rescued runStore
   sound-stays =
-      λ j. record { oldest = st .oldest; latest = sym all-kept j; slots = same-slots leafHash innerHash st w rooted more all-kept j }
+      λ j. record { form = sym form j; oldest = st .oldest; latest = sym all-kept j; slots = same-slots leafHash innerHash st w rooted more all-kept j }
 
   -- and all its versions are the longest run from its oldest on
   pub sound-longest : Longest leafHash innerHash (st .slots) (st .oldest) (st .latest) (st .oldest) more

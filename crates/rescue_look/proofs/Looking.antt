@@ -8,23 +8,26 @@ use mathlib.Core.Option.{Option, none, some}
 use lib.ListN.{length, getD, take, drop}
 use lib.Seq.{take-all}
 use lib.Dec.{eqb}
+use Rattle.terms.specs.declared.Form.the-variants.{Counted as counted}
 use Rattle.terms.specs.Bits.{Bytes, Byte, All, Side, left, right, Place, longer, begins, sameBytes}
-use Rattle.terms.specs.Records.{Child, Body, leafBody, innerBody, Record, Slot, free, used, spoiled}
-use Rattle.terms.specs.Form.{RecordForm, placeLimit}
-use Rattle.terms.proofs.Tests.{is-false}
+use Rattle.terms.specs.Records.{Child, Body, leafBody, innerBody, noTally, countOn, Record, Slot, free, used, spoiled}
+use Rattle.terms.specs.Form.{RecordForm, CountsForm, placeLimit}
+use Rattle.terms.proofs.Tests.{is-false, and-true}
 use Rattle.meaning.specs.Store.{find, isNode}
 use Rattle.meaning.specs.Reading.{bodyHash}
-use Rattle.meaning.specs.Local.{childVersion}
+use Rattle.meaning.specs.Counting.{weight}
+use Rattle.meaning.specs.Local.{childVersion, weighed, countsBy}
 use Rattle.meaning.proofs.Finding.{free-used, found-in, hit, Hit, hits}
-use Rattle.local.specs.Test.{byRecord, loneLeaf}
+use Rattle.local.specs.Test.{byRecord, loneLeaf, countsAre}
 use Rattle.nodehash.specs.Node.{leafHash, innerHash}
 use Rattle.place.specs.declared.Place as place
 use Rattle.place.specs.Place.{placeOf, Proper, Grown}
 use Rattle.place.proofs.Places.{proper-count}
 use Rattle.layout.specs.Sizes.{roomOf}
 use Rattle.layout.specs.Headers.{sizeRight}
-use Rattle.layout.specs.Slots.{countIn, bitsIn, versionIn, isLeaf, keyIn, valueIn, leafIn, leftIn, rightIn, kidOn, innerIn, slotOf, SlotForm}
+use Rattle.layout.specs.Slots.{countIn, bitsIn, versionIn, isLeaf, keyIn, valueIn, leafIn, countsIn, leftIn, rightIn, kidOn, innerIn, recordIn, slotOf, SlotForm}
 use Rattle.layout.specs.Stores.{slotIn, storeOf, slotNo, Has}
+use Rattle.layout.proofs.Slots.{record-is}
 use Rattle.store.proofs.Slots.{slots-many, slot-is, slot-formed}
 use Rattle.store.proofs.Scans.{Scan, Each, scan-many, scan-slot, scan-inside, each-from, each-passed, each-next}
 use Rattle.lookup.specs.declared.Found as found
@@ -36,7 +39,7 @@ use Rattle.check_kin.proofs.Holding.{other-version, other-count, other-bits, no
 use Rattle.read_step.specs.Walk.{bodyIn}
 use Rattle.read_step.proofs.Seeing.{kid-is, body-is}
 use Rattle.rescue_rules.specs.Joining.{kidOf, linked, bodyRight, recordRight}
-use Rattle.rescue_look.specs.Look.{StandsSay, LowestIn, Sought, Inside, KidSays, linkedAt}
+use Rattle.rescue_look.specs.Look.{StandsSay, LowestIn, Sought, Inside, KidSays, linkedAt, WeighsSay, weighsAt, tiedAt}
 
 -- the first slot that holds the node is found
 find-lowest : (s : List Slot) (v : ℕ) (p : Place) (i : ℕ) (r : Record) → getD s i free ≡ used r → isNode v p r ≡ true →
@@ -78,9 +81,9 @@ abbrev NoHolder : ℕ → Place → Slot → Type 0
 NoHolder v p y = (q : Record) → y ≡ used q → isNode v p q ≡ false
 
 abbrev pub Passed : Bytes → ℕ → Place → ℕ → ℕ → Type 0
-Passed s v p n i = Scan s (Each s (NoHolder v p)) n i
+Passed s v p n i = Scan counted s (Each counted s (NoHolder v p)) n i
 
-pub passed-start : (s : Bytes) (v : ℕ) (p : Place) {n : ℕ} → sizeRight (length s) ≡ true → n ≡ roomOf (length s) → Passed s v p n 0
+pub passed-start : (s : Bytes) (v : ℕ) (p : Place) {n : ℕ} → sizeRight counted (length s) ≡ true → n ≡ roomOf counted (length s) → Passed s v p n 0
 passed-start s v p e m = each-from s (NoHolder v p) e m (omega arith) (λ j l. absurd (omega arith))
 
 pub passed-end : (s : Bytes) (v : ℕ) (p : Place) {n i : ℕ} → Passed s v p n i → n ≤ i → LowestIn (storeOf s .slots) v p Nothing
@@ -88,71 +91,75 @@ passed-end s v p w h = find-none (storeOf s .slots) v p (λ j q l u. each-passed
 
 -- at a place by value
 module _ {s : Bytes} (v : ℕ) (p : place.Place) {n i : ℕ} (w : Passed s v (placeOf p) n i) where
-  passed-by : i < n → byRecord 0 (countNode v (placeOf p)) (slotNo i s) ≡ 0 → Passed s v (placeOf p) n (i + 1)
-  passed-by h z = each-next (NoHolder v (placeOf p)) w h (no-holder v (placeOf p) (slotNo i s) z)
+  passed-by : i < n → byRecord 0 (countNode v (placeOf p)) (slotNo counted i s) ≡ 0 → Passed s v (placeOf p) n (i + 1)
+  passed-by h z = each-next (NoHolder v (placeOf p)) w h (no-holder v (placeOf p) (slotNo counted i s) z)
 
-  pub passed-version : (bytes : All Byte s) → Proper p → (h : i < n) → {c : ℕ} → c ≡ versionIn (slotIn i s) → (c ≡ v → ⊥) → Passed s v (placeOf p) n (i + 1)
+  pub passed-version : (bytes : All Byte s) → Proper p → (h : i < n) → {c : ℕ} → c ≡ versionIn (slotIn counted i s) → (c ≡ v → ⊥) → Passed s v (placeOf p) n (i + 1)
   passed-version bytes proper h e f = passed-by h (sym (other-version (scan-slot w h) bytes v p proper (λ k. f (e ∙ k))))
 
-  module _ (h : i < n) {c : ℕ} (e : c ≡ versionIn (slotIn i s)) (k : c ≡ v) {t : Bool} (say : StandsSay s i p t) where
+  module _ (h : i < n) {c : ℕ} (e : c ≡ versionIn (slotIn counted i s)) (k : c ≡ v) {t : Bool} (say : StandsSay s i p t) where
     pub passed-next : t ≡ false → Passed s v (placeOf p) n (i + 1)
     passed-next f = passed-by h (sym (say v (sym e ∙ k)) ∙ (let z : _≡_ {A = ℕ} (cond t 1 0) 0 = rw f in z))
 
     pub passed-found : t ≡ true → LowestIn (storeOf s .slots) v (placeOf p) (At i)
     passed-found f =
         let one : _≡_ {A = ℕ} (cond t 1 0) 1 = rw f in
-        let x = holder-is v (placeOf p) (slotNo i s) (λ z. absurd (omega (arith, one, say v (sym e ∙ k), z))) in
-        let none-yet : (j : ℕ) (q : Record) → j < i → slotNo j s ≡ used q → isNode v (placeOf p) q ≡ false = λ j q l u. each-passed (NoHolder v (placeOf p)) w j l q u in (
+        let x = holder-is v (placeOf p) (slotNo counted i s) (λ z. absurd (omega (arith, one, say v (sym e ∙ k), z))) in
+        let none-yet : (j : ℕ) (q : Record) → j < i → slotNo counted j s ≡ used q → isNode v (placeOf p) q ≡ false = λ j q l u. each-passed (NoHolder v (placeOf p)) w j l q u in (
           scan-inside w h,
           (x .0, record { at = x .1; found = find-lowest (storeOf s .slots) v (placeOf p) i (x .0) (x .1) (x .2) none-yet; lowest = none-yet }),
         )
 
 -- one slot, where its version is right
-module _ {s : Bytes} {i : ℕ} (h : Has s i) (bytes : All Byte s) (p : place.Place) (proper : Proper p) where
-  pub stands-count : (countIn (slotIn i s) ≡ p .count → ⊥) → StandsSay s i p false
+module _ {s : Bytes} {i : ℕ} (h : Has counted s i) (bytes : All Byte s) (p : place.Place) (proper : Proper p) where
+  pub stands-count : (countIn (slotIn counted i s) ≡ p .count → ⊥) → StandsSay s i p false
   stands-count f v e = other-count h bytes v p proper f
 
-  pub stands-bits : {x y : Bytes} → x ≡ slotIn i s → y ≡ bitsIn x → sameBytes y (p .bits) ≡ false → StandsSay s i p false
+  pub stands-bits : {x y : Bytes} → x ≡ slotIn counted i s → y ≡ bitsIn x → sameBytes y (p .bits) ≡ false → StandsSay s i p false
   stands-bits a b f v e = other-bits h bytes v p proper a b f
 
-  pub stands-not : {x : Bytes} → x ≡ slotIn i s → isUsed (slotOf x) ≡ false → StandsSay s i p false
+  pub stands-not : {x : Bytes} → x ≡ slotIn counted i s → isUsed (slotOf x) ≡ false → StandsSay s i p false
   stands-not a f v e = no-record h bytes v p proper a f
 
-  pub stands : {x y : Bytes} → x ≡ slotIn i s → y ≡ bitsIn x → countIn (slotIn i s) ≡ p .count → sameBytes y (p .bits) ≡ true → isUsed (slotOf x) ≡ true →
+  pub stands : {x y : Bytes} → x ≡ slotIn counted i s → y ≡ bitsIn x → countIn (slotIn counted i s) ≡ p .count → sameBytes y (p .bits) ≡ true → isUsed (slotOf x) ≡ true →
       StandsSay s i p true
   stands a b c d u v e = held h bytes v p proper a b e c d u
 
 -- the record in a slot
-module _ (s : Bytes) (bytes : All Byte s) (i : ℕ) (has : Has s i) (r : Record) (e : slotNo i s ≡ used r) where
-  says : slotOf (slotIn i s) ≡ used r
+module _ (s : Bytes) (bytes : All Byte s) (i : ℕ) (has : Has counted s i) (r : Record) (e : slotNo counted i s ≡ used r) where
+  says : slotOf (slotIn counted i s) ≡ used r
   says = sym (slot-is has) ∙ e
 
   pub its-form : RecordForm r
-  its-form = subst SlotForm says (slot-formed has bytes)
+  its-form = subst (SlotForm counted) says (slot-formed has bytes) .0
 
-  pub its-body : r .body ≡ bodyIn (slotIn i s)
-  its-body = body-is (slotIn i s) r says
+  pub its-body : r .body ≡ bodyIn (slotIn counted i s)
+  its-body = body-is (slotIn counted i s) r says
 
-  pub leaf-is : isLeaf (slotIn i s) ≡ true → r .body ≡ leafBody (keyIn (slotIn i s)) (valueIn (slotIn i s))
+  pub leaf-is : isLeaf (slotIn counted i s) ≡ true → r .body ≡ leafBody (keyIn (slotIn counted i s)) (valueIn (slotIn counted i s))
   leaf-is t = its-body ∙ unfold bodyIn leafIn in rw t
 
-  pub inner-is : isLeaf (slotIn i s) ≡ false → r .body ≡ innerBody (leftIn (slotIn i s)) (rightIn (slotIn i s))
+  pub inner-is : isLeaf (slotIn counted i s) ≡ false → r .body ≡ innerBody (leftIn (slotIn counted i s)) (rightIn (slotIn counted i s))
   inner-is t = its-body ∙ unfold bodyIn innerIn in rw t
 
+  pub inner-counts : isLeaf (slotIn counted i s) ≡ false → r .counts ≡ countsIn (slotIn counted i s)
+  unfolding recordIn
+  inner-counts t = ap (λ (q : Record). q .counts) (sym (rw t at (record-is (slotIn counted i s) r says)))
+
 -- version 0 is no node
-pub no-version : (s : Bytes) → sizeRight (length s) ≡ true → All Byte s → (v : ℕ) (p : Place) → v ≡ 0 → LowestIn (storeOf s .slots) v p Nothing
+pub no-version : (s : Bytes) → sizeRight counted (length s) ≡ true → All Byte s → (v : ℕ) (p : Place) → v ≡ 0 → LowestIn (storeOf s .slots) v p Nothing
 no-version s z b v p e = go _ refl
   where
     go : (o : Option Record) → find v p (storeOf s .slots) ≡ o → o ≡ none
     go none k = refl
     go (some r) k =
         let f = found-in (storeOf s .slots) v p r k in
-        let h : Has s (f .0) = record { size = z; inside = omega (arith, f .1 .0, slots-many s) } in
+        let h : Has counted s (f .0) = record { size = z; inside = omega (arith, f .1 .0, slots-many counted s) } in
         absurd (omega (arith, its-form s b (f .0) h r (f .1 .1) .versioned .0, f .2))
 
 -- what was found is in a slot
-pub inside-of : (s : Bytes) (z : sizeRight (length s) ≡ true) (v : ℕ) (p : Place) (f : found.Found) → LowestIn (storeOf s .slots) v p f → Inside s f
-inside-of s z v p (At i) h = record { size = z; inside = omega (arith, h .0, slots-many s) }
+pub inside-of : (s : Bytes) (z : sizeRight counted (length s) ≡ true) (v : ℕ) (p : Place) (f : found.Found) → LowestIn (storeOf s .slots) v p f → Inside s f
+inside-of s z v p (At i) h = record { size = z; inside = omega (arith, h .0, slots-many counted s) }
 inside-of s z v p Nothing h = tt
 
 -- the child's version
@@ -160,7 +167,7 @@ module _ (s : Bytes) {f : found.Found} (b : Side) where
   pub kid-nothing : f ≡ Nothing → KidSays s f b 0
   kid-nothing e v p h = sym (ap (kidOf b) (subst (LowestIn (storeOf s .slots) v p) e h))
 
-  module _ (bytes : All Byte s) {i : ℕ} (has : Has s i) (e : f ≡ At i) where
+  module _ (bytes : All Byte s) {i : ℕ} (has : Has counted s i) (e : f ≡ At i) where
     module _ (v : ℕ) (p : Place) (h : LowestIn (storeOf s .slots) v p f) where
       at-i : LowestIn (storeOf s .slots) v p (At i)
       at-i = subst (LowestIn (storeOf s .slots) v p) e h
@@ -168,47 +175,82 @@ module _ (s : Bytes) {f : found.Found} (b : Side) where
       kid-by : (y : Body) → at-i .1 .0 .body ≡ y → kidOf b (find v p (storeOf s .slots)) ≡ childVersion b y
       kid-by y k = ap (kidOf b) (at-i .1 .1 .found) ∙ ap (childVersion b) k
 
-    pub kid-leaf : {x : Bytes} {t : Bool} → x ≡ slotIn i s → t ≡ isLeaf x → t ≡ true → KidSays s f b 0
+    pub kid-leaf : {x : Bytes} {t : Bool} → x ≡ slotIn counted i s → t ≡ isLeaf x → t ≡ true → KidSays s f b 0
     kid-leaf q d t v p h =
         sym (kid-by v p h _ (leaf-is s bytes i has (at-i v p h .1 .0) (at-i v p h .1 .1 .at) (ap isLeaf (sym q) ∙ sym d ∙ t)))
 
-    pub kid-inner : {x : Bytes} {t : Bool} {r : ℕ} → x ≡ slotIn i s → t ≡ isLeaf x → t ≡ false → r ≡ kidOn b (slotIn i s) .version → KidSays s f b r
+    pub kid-inner : {x : Bytes} {t : Bool} {r : ℕ} → x ≡ slotIn counted i s → t ≡ isLeaf x → t ≡ false → r ≡ kidOn b (slotIn counted i s) .version → KidSays s f b r
     kid-inner q d t k v p h =
         k
-        ∙ ap (λ (c : Child). c .version) (kid-is b (slotIn i s))
+        ∙ ap (λ (c : Child). c .version) (kid-is b (slotIn counted i s))
         ∙ sym (kid-by v p h _ (inner-is s bytes i has (at-i v p h .1 .0) (at-i v p h .1 .1 .at) (ap isLeaf (sym q) ∙ sym d ∙ t)))
 
+-- the count on a side, and what was found there
+module _ (s : Bytes) (i : ℕ) (b : Side) {f : found.Found} {c : ℕ} (e : c ≡ countOn b (countsIn (slotIn counted i s))) where
+  pub weighs-nothing : f ≡ Nothing → WeighsSay s i b f (eqb c 0)
+  weighs-nothing k v p h = ap₂ eqb e (sym (ap weighed (subst (LowestIn (storeOf s .slots) v p) k h)))
+
+  pub weighs-found : {j n : ℕ} → f ≡ At j → ((q : Record) → slotNo counted j s ≡ used q → n ≡ weight q) → WeighsSay s i b f (eqb c n)
+  weighs-found {j} k w v p h =
+      let x : LowestIn (storeOf s .slots) v p (At j) = subst (LowestIn (storeOf s .slots) v p) k h in
+      ap₂ eqb e (w (x .1 .0) (x .1 .1 .at) ∙ sym (ap weighed (x .1 .1 .found)))
+
+-- two tests on each of two sides
+both-sides : (a b x y : Bool) → ((a && b) && (x && y)) ≡ ((x && a) && (y && b))
+both-sides true true true y = elim y as (λ z. z ≡ z && true) [ true ↦ refl | false ↦ refl ]
+both-sides true true false y = refl
+both-sides true false true true = refl
+both-sides true false true false = refl
+both-sides true false false y = refl
+both-sides false b true y = refl
+both-sides false b false y = refl
+
+-- both tests of the child on a side
+module _ (s : Bytes) (i : ℕ) (b : Side) (p : Place) {v : ℕ} (f : found.Found) (k : v ≡ kidOn b (slotIn counted i s) .version)
+    (h : LowestIn (storeOf s .slots) v p f) where
+  weighs-is : {m : Bool} → WeighsSay s i b f m → m ≡ weighsAt s i b p
+  unfolding weighsAt
+  weighs-is say = say v p h ∙ ap (λ w. eqb (countOn b (countsIn (slotIn counted i s))) (weighed (find w p (storeOf s .slots)))) k
+
+  pub tied-off : {m : Bool} → WeighsSay s i b f m → m ≡ false → false ≡ tiedAt s i b p
+  unfolding tiedAt
+  tied-off say e = ap (_&& linkedAt s i b p) (sym e ∙ weighs-is say)
+
+  pub tied-on : {m r : Bool} → WeighsSay s i b f m → m ≡ true → r ≡ linkedAt s i b p → r ≡ tiedAt s i b p
+  unfolding tiedAt
+  tied-on say e g = g ∙ ap (_&& linkedAt s i b p) (sym e ∙ weighs-is say)
+
 -- the child on a side, sought at a place
-module _ (s : Bytes) (i : ℕ) (b : Side) (p : Place) {v : ℕ} {f : found.Found} (k : v ≡ kidOn b (slotIn i s) .version)
+module _ (s : Bytes) (i : ℕ) (b : Side) (p : Place) {v : ℕ} {f : found.Found} (k : v ≡ kidOn b (slotIn counted i s) .version)
     (h : LowestIn (storeOf s .slots) v p f) where
   pub link-nothing : f ≡ Nothing → eqb v 0 ≡ linkedAt s i b p
   unfolding linkedAt
   link-nothing e =
-      let n : find (kidOn b (slotIn i s) .version) p (storeOf s .slots) ≡ none =
+      let n : find (kidOn b (slotIn counted i s) .version) p (storeOf s .slots) ≡ none =
       ap (λ w. find w p (storeOf s .slots)) (sym k) ∙ subst (LowestIn (storeOf s .slots) v p) e h in
       rw n (ap (λ w. eqb w 0) k)
 
-  module _ (size : sizeRight (length s) ≡ true) (bytes : All Byte s) {j : ℕ} (e : f ≡ At j) where
+  module _ (size : sizeRight counted (length s) ≡ true) (bytes : All Byte s) {j : ℕ} (e : f ≡ At j) where
     at-j : LowestIn (storeOf s .slots) v p (At j)
     at-j = subst (LowestIn (storeOf s .slots) v p) e h
 
-    pub has-j : Has s j
-    has-j = record { size = size; inside = omega (arith, at-j .0, slots-many s) }
+    pub has-j : Has counted s j
+    has-j = record { size = size; inside = omega (arith, at-j .0, slots-many counted s) }
 
     linked-found : linkedAt s i b p
-        ≡ (sameBytes (bodyHash leafHash innerHash (bodyIn (slotIn j s))) (kidOn b (slotIn i s) .hash)
-        && not (loneLeaf (kidOn (not b) (slotIn i s)) (bodyIn (slotIn j s))))
+        ≡ (sameBytes (bodyHash leafHash innerHash (bodyIn (slotIn counted j s))) (kidOn b (slotIn counted i s) .hash)
+        && not (loneLeaf (kidOn (not b) (slotIn counted i s)) (bodyIn (slotIn counted j s))))
     unfolding linkedAt
     linked-found =
-        let n : find (kidOn b (slotIn i s) .version) p (storeOf s .slots) ≡ some (at-j .1 .0) =
+        let n : find (kidOn b (slotIn counted i s) .version) p (storeOf s .slots) ≡ some (at-j .1 .0) =
         ap (λ w. find w p (storeOf s .slots)) (sym k) ∙ at-j .1 .1 .found in
         rw n
-        (ap (λ y. sameBytes (bodyHash leafHash innerHash y) (kidOn b (slotIn i s) .hash) && not (loneLeaf (kidOn (not b) (slotIn i s)) y))
+        (ap (λ y. sameBytes (bodyHash leafHash innerHash y) (kidOn b (slotIn counted i s) .hash) && not (loneLeaf (kidOn (not b) (slotIn counted i s)) y))
         (its-body s bytes j has-j (at-j .1 .0) (at-j .1 .1 .at)))
 
-    module _ {x y z l r : Bytes} {t : Bool} (slot : x ≡ slotIn j s) (own : l ≡ bodyHash leafHash innerHash (bodyIn x))
-        (from : y ≡ slotIn i s) (part : z ≡ kidOn b y .hash) (long : length z ≡ 32) (stored : r ≡ take 32 (drop 0 z)) (same : t ≡ sameBytes l r) where
-      same-is : sameBytes (bodyHash leafHash innerHash (bodyIn (slotIn j s))) (kidOn b (slotIn i s) .hash) ≡ t
+    module _ {x y z l r : Bytes} {t : Bool} (slot : x ≡ slotIn counted j s) (own : l ≡ bodyHash leafHash innerHash (bodyIn x))
+        (from : y ≡ slotIn counted i s) (part : z ≡ kidOn b y .hash) (long : length z ≡ 32) (stored : r ≡ take 32 (drop 0 z)) (same : t ≡ sameBytes l r) where
+      same-is : sameBytes (bodyHash leafHash innerHash (bodyIn (slotIn counted j s))) (kidOn b (slotIn counted i s) .hash) ≡ t
       same-is = sym (same ∙ ap₂ sameBytes (own ∙ ap (λ w. bodyHash leafHash innerHash (bodyIn w)) slot)
           (stored ∙ take-all 32 z (omega arith) ∙ part ∙ ap (λ w. kidOn b w .hash) from))
 
@@ -220,7 +262,7 @@ module _ (s : Bytes) (i : ℕ) (b : Side) (p : Place) {v : ℕ} {f : found.Found
         unfolding bodyIn innerIn
         link-inner u = sym (linked-found ∙ rw (same-is, right-hash, ap isLeaf (sym slot) ∙ sym kind ∙ u))
 
-        pub link-leaf : {o : ℕ} → q ≡ true → o ≡ kidOn (not b) (slotIn i s) .version → not (eqb o 0) ≡ linkedAt s i b p
+        pub link-leaf : {o : ℕ} → q ≡ true → o ≡ kidOn (not b) (slotIn counted i s) .version → not (eqb o 0) ≡ linkedAt s i b p
         unfolding bodyIn leafIn
         link-leaf u w = sym (linked-found ∙ rw (same-is, right-hash, ap isLeaf (sym slot) ∙ sym kind ∙ u) (ap (λ n. not (eqb n 0)) (sym w)))
 
@@ -237,22 +279,28 @@ module _ (s : Bytes) (v : ℕ) (p : place.Place) {f : found.Found} (w : Sought s
     at-slot : LowestIn (storeOf s .slots) v (placeOf p) (At i)
     at-slot = subst (LowestIn (storeOf s .slots) v (placeOf p)) e (w .lowest)
 
-    pub sought-has : Has s i
-    sought-has = record { size = w .size; inside = omega (arith, at-slot .0, slots-many s) }
+    pub sought-has : Has counted s i
+    sought-has = record { size = w .size; inside = omega (arith, at-slot .0, slots-many counted s) }
 
-    right-by : (y : Body) → at-slot .1 .0 .body ≡ y → Right ≡ bodyRight leafHash innerHash (storeOf s .slots) (placeOf p) y
+    right-by : (y : Body) → at-slot .1 .0 .body ≡ y → Right
+        ≡ (bodyRight leafHash innerHash (storeOf s .slots) (placeOf p) y && countsAre counted (at-slot .1 .0 .counts) (countsBy (storeOf s .slots) (placeOf p) y))
     right-by y k =
         ap (recordRight leafHash innerHash (storeOf s .slots) v (placeOf p)) (at-slot .1 .1 .found)
-        ∙ ap (bodyRight leafHash innerHash (storeOf s .slots) (placeOf p)) k
+        ∙ ap (λ z. bodyRight leafHash innerHash (storeOf s .slots) (placeOf p) z
+        && countsAre counted (at-slot .1 .0 .counts) (countsBy (storeOf s .slots) (placeOf p) z)) k
 
-    module _ {x : Bytes} {t : Bool} (slot : x ≡ slotIn i s) (kind : t ≡ isLeaf x) where
+    module _ {x : Bytes} {t : Bool} (slot : x ≡ slotIn counted i s) (kind : t ≡ isLeaf x) where
       pub right-leaf : {z : Bytes} {r : Bool} → t ≡ true → z ≡ keyIn x → r ≡ begins (placeOf p) z → r ≡ Right
       right-leaf u k g =
+          let y = keyIn (slotIn counted i s) in
+          let body = leaf-is s bytes i sought-has (at-slot .1 .0) (at-slot .1 .1 .at) (ap isLeaf (sym slot) ∙ sym kind ∙ u) in
+          let form = its-form s bytes i sought-has (at-slot .1 .0) (at-slot .1 .1 .at) in
+          let none-there : at-slot .1 .0 .counts ≡ noTally = subst (λ z. CountsForm z (at-slot .1 .0 .counts)) body (form .counts) in
           g
           ∙ ap (begins (placeOf p)) (k ∙ ap keyIn slot)
-          ∙ sym (right-by _ (leaf-is s bytes i sought-has (at-slot .1 .0) (at-slot .1 .1 .at) (ap isLeaf (sym slot) ∙ sym kind ∙ u)))
+          ∙ sym (right-by _ body ∙ ap (λ c. begins (placeOf p) y && countsAre counted c noTally) none-there ∙ and-true (begins (placeOf p) y))
 
-      inner-body-is : t ≡ false → at-slot .1 .0 .body ≡ innerBody (leftIn (slotIn i s)) (rightIn (slotIn i s))
+      inner-body-is : t ≡ false → at-slot .1 .0 .body ≡ innerBody (leftIn (slotIn counted i s)) (rightIn (slotIn counted i s))
       inner-body-is u = inner-is s bytes i sought-has (at-slot .1 .0) (at-slot .1 .1 .at) (ap isLeaf (sym slot) ∙ sym kind ∙ u)
 
       pub inner-short : t ≡ false → p .count < 256
@@ -263,15 +311,19 @@ module _ (s : Bytes) (v : ℕ) (p : place.Place) {f : found.Found} (w : Sought s
           omega (arith, form .short, ap length there, proper-count p (w .proper))
 
       module _ (u : t ≡ false) {l : place.Place} (on-left : Grown left p l) where
-        sides : Right ≡ (linkedAt s i left (placeOf l) && linkedAt s i right (longer right (placeOf p)))
-        unfolding linkedAt
-        sides = right-by _ (inner-body-is u)
-            ∙ ap (λ y. linked leafHash innerHash (find (leftIn (slotIn i s) .version) y (storeOf s .slots)) (leftIn (slotIn i s)) (rightIn (slotIn i s))
-            && linked leafHash innerHash (find (rightIn (slotIn i s) .version) (longer right (placeOf p)) (storeOf s .slots)) (rightIn (slotIn i s)) (leftIn (slotIn i s)))
-            (sym (on-left .place))
+        sides : Right ≡ (tiedAt s i left (placeOf l) && tiedAt s i right (longer right (placeOf p)))
+        unfolding tiedAt weighsAt linkedAt
+        sides =
+            let b = innerBody (leftIn (slotIn counted i s)) (rightIn (slotIn counted i s)) in
+            right-by b (inner-body-is u)
+            ∙ ap (λ c. bodyRight leafHash innerHash (storeOf s .slots) (placeOf p) b && countsAre counted c (countsBy (storeOf s .slots) (placeOf p) b))
+            (inner-counts s bytes i sought-has (at-slot .1 .0) (at-slot .1 .1 .at) (ap isLeaf (sym slot) ∙ sym kind ∙ u))
+            ∙ both-sides (linkedAt s i left (longer left (placeOf p))) (linkedAt s i right (longer right (placeOf p)))
+            (weighsAt s i left (longer left (placeOf p))) (weighsAt s i right (longer right (placeOf p)))
+            ∙ ap (λ y. tiedAt s i left y && tiedAt s i right (longer right (placeOf p))) (sym (on-left .place))
 
-        pub left-off : {m : Bool} → m ≡ linkedAt s i left (placeOf l) → m ≡ false → false ≡ Right
+        pub left-off : {m : Bool} → m ≡ tiedAt s i left (placeOf l) → m ≡ false → false ≡ Right
         left-off d n = sym (sides ∙ rw (sym d ∙ n))
 
-        pub right-on : {m o : Bool} {r : place.Place} → m ≡ linkedAt s i left (placeOf l) → m ≡ true → Grown right p r → o ≡ linkedAt s i right (placeOf r) → o ≡ Right
-        right-on d n g k = k ∙ ap (linkedAt s i right) (g .place) ∙ sym (sides ∙ rw (sym d ∙ n))
+        pub right-on : {m o : Bool} {r : place.Place} → m ≡ tiedAt s i left (placeOf l) → m ≡ true → Grown right p r → o ≡ tiedAt s i right (placeOf r) → o ≡ Right
+        right-on d n g k = k ∙ ap (tiedAt s i right) (g .place) ∙ sym (sides ∙ rw (sym d ∙ n))

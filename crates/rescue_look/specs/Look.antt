@@ -2,19 +2,22 @@
 -- Assumes nothing.
 use Prim.Native.Nat.{ℕ, _<_}
 use mathlib.Core.Path.{_≡_}
-use mathlib.Core.Bool.{Bool, true, not, cond}
+use mathlib.Core.Bool.{Bool, true, not, cond, _&&_}
 use mathlib.Core.Option.{Option, none}
 use mathlib.Core.List.{List}
 use lib.ListN.{length}
+use lib.Dec.{eqb}
+use Rattle.terms.specs.declared.Form.the-variants.{Counted as counted}
 use Rattle.terms.specs.Bits.{Bytes, Side, Place}
-use Rattle.terms.specs.Records.{Record, Slot}
+use Rattle.terms.specs.Records.{Record, Slot, countOn}
 use Rattle.meaning.specs.Store.{find}
+use Rattle.meaning.specs.Local.{weighed}
 use Rattle.local.specs.Test.{byRecord}
 use Rattle.nodehash.specs.Node.{leafHash, innerHash}
 use Rattle.place.specs.declared.Place as place
 use Rattle.place.specs.Place.{placeOf, Proper}
 use Rattle.layout.specs.Headers.{sizeRight}
-use Rattle.layout.specs.Slots.{versionIn, kidOn}
+use Rattle.layout.specs.Slots.{versionIn, countsIn, kidOn}
 use Rattle.layout.specs.Stores.{slotIn, storeOf, slotNo, Has}
 use Rattle.lookup.specs.declared.Found as found
 use Rattle.lookup.specs.declared.Found.the-variants.{At, Nothing}
@@ -24,7 +27,7 @@ use Rattle.rescue_rules.specs.Entering.{LowestAt}
 
 -- Where slot i has the version v, it holds the node at a place or it doesn't.
 abbrev pub StandsSay : Bytes → ℕ → place.Place → Bool → Type 0
-StandsSay s i p r = (v : ℕ) → versionIn (slotIn i s) ≡ v → cond r 1 0 ≡ byRecord 0 (countNode v (placeOf p)) (slotNo i s)
+StandsSay s i p r = (v : ℕ) → versionIn (slotIn counted i s) ≡ v → cond r 1 0 ≡ byRecord 0 (countNode v (placeOf p)) (slotNo counted i s)
 
 -- What a search for a node found: its lowest slot, or nothing.
 abbrev pub LowestIn : List Slot → ℕ → Place → found.Found → Type 0
@@ -33,13 +36,13 @@ LowestIn s v p Nothing = find v p s ≡ none
 
 -- A search for a node in a source of the right size.
 pub record Sought (s : Bytes) (v : ℕ) (p : place.Place) (r : found.Found) : Type 0 where
-  pub size : sizeRight (length s) ≡ true
+  pub size : sizeRight counted (length s) ≡ true
   pub proper : Proper p
   pub lowest : LowestIn (storeOf s .slots) v (placeOf p) r
 
 -- What is found is in a slot of the source.
 abbrev pub Inside : Bytes → found.Found → Type 0
-Inside s (At i) = Has s i
+Inside s (At i) = Has counted s i
 Inside s Nothing = Unit {0}
 
 -- The version of the child on a side of whatever node was sought.
@@ -49,4 +52,16 @@ KidSays s f b r = (v : ℕ) (p : Place) → LowestIn (storeOf s .slots) v p f �
 -- Whether the child on a side of the inner record in slot i, sought at a place, is linked.
 unfoldable pub linkedAt : Bytes → ℕ → Side → Place → Bool
 linkedAt s i b p =
-    linked leafHash innerHash (find (kidOn b (slotIn i s) .version) p (storeOf s .slots)) (kidOn b (slotIn i s)) (kidOn (not b) (slotIn i s))
+    linked leafHash innerHash (find (kidOn b (slotIn counted i s) .version) p (storeOf s .slots)) (kidOn b (slotIn counted i s)) (kidOn (not b) (slotIn counted i s))
+
+-- Whether the count on a side is that of the leaves at whatever child was sought.
+abbrev pub WeighsSay : Bytes → ℕ → Side → found.Found → Bool → Type 0
+WeighsSay s i b f r =
+    (v : ℕ) (p : Place) → LowestIn (storeOf s .slots) v p f → r ≡ eqb (countOn b (countsIn (slotIn counted i s))) (weighed (find v p (storeOf s .slots)))
+
+unfoldable pub weighsAt : Bytes → ℕ → Side → Place → Bool
+weighsAt s i b p = eqb (countOn b (countsIn (slotIn counted i s))) (weighed (find (kidOn b (slotIn counted i s) .version) p (storeOf s .slots)))
+
+-- It is linked, and its count is right.
+unfoldable pub tiedAt : Bytes → ℕ → Side → Place → Bool
+tiedAt s i b p = weighsAt s i b p && linkedAt s i b p

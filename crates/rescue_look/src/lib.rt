@@ -1,5 +1,6 @@
 // The records of a source of any contents, document 02, request 2026-08: the lowest slot of a node, the children that its record names, and
 // whether the record is right by itself.
+use check_counts::weight_at;
 use hash::hash_at;
 use hash::same_hash;
 use lookup::Found;
@@ -12,11 +13,13 @@ use slots::bits_of;
 use slots::child_hash;
 use slots::is_leaf;
 use slots::key_of;
+use store::child_count_at;
 use store::child_version_at;
 use store::count_at;
 use store::slot_count;
 use store::slot_of;
 use store::version_at;
+use terms::Form;
 ghost use mathlib.Core.Path.{_≡_};
 ghost use mathlib.Core.Bool.{true};
 ghost use lib.ListN.{length};
@@ -26,18 +29,18 @@ ghost use Rattle.place.specs.Place.{placeOf, Proper};
 ghost use Rattle.layout.specs.Headers.{sizeRight};
 ghost use Rattle.layout.specs.Stores.{storeOf, Has};
 ghost use Rattle.rescue_rules.specs.Joining.{recordRight};
-ghost use Rattle.rescue_look.specs.Look.{StandsSay, LowestIn, Sought, Inside, KidSays, linkedAt};
+ghost use Rattle.rescue_look.specs.Look.{StandsSay, LowestIn, Sought, Inside, KidSays, WeighsSay, tiedAt};
 
 // Whether slot i, where its version is right, holds the node at a place.
 fn stands_at(source: &[u8], i: usize, place: Place) -> bool
-    requires { ⌜ Has (now source) i × Proper place ⌝ }
+    requires { ⌜ Has Form.Counted (now source) i × Proper place ⌝ }
     ensures { λ r. ⌜ StandsSay (now (source .entry)) i place r ⌝ }
 {
-    if count_at(source, i) as usize != place.count {
+    if count_at(Form::Counted, source, i) as usize != place.count {
         return false;
     }
     let bits = place.bits;
-    let s = slot_of(source, i);
+    let s = slot_of(Form::Counted, source, i);
     if !same(bits_of(s), &bits) {
         return false;
     }
@@ -49,19 +52,19 @@ fn stands_at(source: &[u8], i: usize, place: Place) -> bool
 
 // The lowest slot that holds the node (version, place); version 0 is no node.
 pub fn lowest(source: &[u8], version: u32, place: Place) -> Found
-    requires { ⌜ (sizeRight (length (now source)) ≡ true) × Proper place ⌝ }
+    requires { ⌜ (sizeRight Form.Counted (length (now source)) ≡ true) × Proper place ⌝ }
     ensures { λ r. ⌜ LowestIn (storeOf (now (source .entry)) .slots) version (placeOf place) r ⌝ }
 {
     if version == 0 {
         return Found::Nothing;
     }
-    let n = slot_count(source);
+    let n = slot_count(Form::Counted, source);
     let mut i = 0;
     'slots: loop {
         if n <= i {
             break 'slots Found::Nothing;
         }
-        if version_at(source, i) != version {
+        if version_at(Form::Counted, source, i) != version {
             i += 1;
             continue 'slots;
         }
@@ -80,25 +83,41 @@ pub fn kid(source: &[u8], found: Found, right: bool) -> u32
     let Found::At(i) = found else {
         return 0;
     };
-    if is_leaf(slot_of(source, i)) {
+    if is_leaf(slot_of(Form::Counted, source, i)) {
         return 0;
     }
-    child_version_at(source, i, right)
+    child_version_at(Form::Counted, source, i, right)
 }
 
-// Whether the child on a side of the inner record in slot i is missing, or found at its place with the stored hash and no lone leaf.
-fn linked(source: &[u8], i: usize, right: bool, place: Place) -> bool
-    requires { ⌜ Has (now source) i × Proper place ⌝ }
-    ensures { λ r. ⌜ r ≡ linkedAt (now (source .entry)) i right (placeOf place) ⌝ }
+// Whether the count on a side of the inner record in slot i is that of the leaves at the child found, 0 for none.
+fn weighs(source: &[u8], i: usize, right: bool, found: Found) -> bool
+    requires { ⌜ Has Form.Counted (now source) i × Inside (now source) found ⌝ }
+    ensures { λ r. ⌜ WeighsSay (now (source .entry)) i right found r ⌝ }
 {
-    let version = child_version_at(source, i, right);
-    let other = child_version_at(source, i, !right);
-    let hash = hash_at(child_hash(slot_of(source, i), right), 0);
+    let count = child_count_at(Form::Counted, source, i, right);
+    let Found::At(j) = found else {
+        return count == 0;
+    };
+    count as u64 == weight_at(Form::Counted, source, j)
+}
+
+// Whether the child on a side of the inner record in slot i is missing, or found at its place with the stored hash and no lone leaf,
+// and the count on that side is right.
+fn linked(source: &[u8], i: usize, right: bool, place: Place) -> bool
+    requires { ⌜ Has Form.Counted (now source) i × Proper place ⌝ }
+    ensures { λ r. ⌜ r ≡ tiedAt (now (source .entry)) i right (placeOf place) ⌝ }
+{
+    let version = child_version_at(Form::Counted, source, i, right);
+    let other = child_version_at(Form::Counted, source, i, !right);
+    let hash = hash_at(child_hash(slot_of(Form::Counted, source, i), right), 0);
     let found = lowest(source, version, place);
+    if !weighs(source, i, right, found) {
+        return false;
+    }
     let Found::At(j) = found else {
         return version == 0;
     };
-    let slot = slot_of(source, j);
+    let slot = slot_of(Form::Counted, source, j);
     if !same_hash(record_hash(slot), hash) {
         return false;
     }
@@ -116,7 +135,7 @@ pub fn record_right(source: &[u8], version: u32, place: Place, found: Found) -> 
     let Found::At(i) = found else {
         return version == 0;
     };
-    let slot = slot_of(source, i);
+    let slot = slot_of(Form::Counted, source, i);
     if is_leaf(slot) {
         return begins(key_of(slot), place);
     }

@@ -9,6 +9,7 @@ use mathlib.Core.Option.{Option, none, some}
 use lib.ListN.{length, getD, drop}
 use lib.Dec.{leb, ltb}
 use borrow.Author.Tests.{leb-true, leb-false, ltb-true, ltb-false, lt-ltb, le-ltb, le-leb, lt-leb}
+use Rattle.terms.specs.declared.Form.the-variants.{Counted as counted}
 use Rattle.terms.specs.Bits.{Bytes, Byte, All, Place, samePlace}
 use Rattle.terms.specs.Fields.{field}
 use Rattle.terms.specs.Records.{Record, Slot, free, used, spoiled}
@@ -48,48 +49,48 @@ is-top [] e = refl
 is-top (b ∷ p) e = absurd (omega arith)
 
 -- one slot
-module _ {s : Bytes} {i : ℕ} (h : Has s i) (bytes : All Byte s) where
-  long : length (slotIn i s) ≡ slotSize
-  long = slot-long i s (slot-within h)
+module _ {s : Bytes} {i : ℕ} (h : Has counted s i) (bytes : All Byte s) where
+  long : length (slotIn counted i s) ≡ slotSize counted
+  long = slot-long counted i s (slot-within h)
 
-  own : (r : Record) → slotNo i s ≡ used r → slotOf (slotIn i s) ≡ used r
+  own : (r : Record) → slotNo counted i s ≡ used r → slotOf (slotIn counted i s) ≡ used r
   own r e = sym (slot-is h) ∙ e
 
-  pub version-own : (r : Record) → slotNo i s ≡ used r → versionIn (slotIn i s) ≡ r .version
-  version-own r e = version-is (slotIn i s) long (slot-bytes i s bytes) r (own r e)
+  pub version-own : (r : Record) → slotNo counted i s ≡ used r → versionIn (slotIn counted i s) ≡ r .version
+  version-own r e = version-is counted (slotIn counted i s) long (slot-bytes counted i s bytes) r (own r e)
 
-  pub since-own : (r : Record) → slotNo i s ≡ used r → sinceIn (slotIn i s) ≡ r .retired
+  pub since-own : (r : Record) → slotNo counted i s ≡ used r → sinceIn (slotIn counted i s) ≡ r .retired
   since-own r e =
-      let x = says (slotIn i s) long (slot-bytes i s bytes) r (own r e) in ap sinceIn (sym (x .bytes)) ∙ retired-says r (x .form)
+      let x = says (slotIn counted i s) long (slot-bytes counted i s bytes) r (own r e) in ap sinceIn (sym (x .bytes)) ∙ retired-says counted r (x .form)
 
-  pub form-own : (r : Record) → slotNo i s ≡ used r → RecordForm r
-  form-own r e = says (slotIn i s) long (slot-bytes i s bytes) r (own r e) .form
+  pub form-own : (r : Record) → slotNo counted i s ≡ used r → RecordForm r
+  form-own r e = says {fm = counted} (slotIn counted i s) long (slot-bytes counted i s bytes) r (own r e) .form
 
-  count-own : (r : Record) → slotNo i s ≡ used r → countIn (slotIn i s) ≡ length (r .place)
+  count-own : (r : Record) → slotNo counted i s ≡ used r → countIn (slotIn counted i s) ≡ length (r .place)
   unfolding countIn
-  count-own r e = count-is (slotIn i s) long (slot-bytes i s bytes) r (own r e)
+  count-own r e = count-is counted (slotIn counted i s) long (slot-bytes counted i s bytes) r (own r e)
 
-  module _ (above v : ℕ) {w : ℕ} (k : w ≡ versionIn (slotIn i s)) where
-    pub not-newer : w ≤ above → false ≡ byRecord false (rootAbove above v) (slotNo i s)
+  module _ (above v : ℕ) {w : ℕ} (k : w ≡ versionIn (slotIn counted i s)) where
+    pub not-newer : w ≤ above → false ≡ byRecord false (rootAbove above v) (slotNo counted i s)
     unfolding rootAbove
-    not-newer l = not-such (rootAbove above v) (slotNo i s) (λ r e. rw (le-ltb above (r .version) (omega (arith, k ∙ version-own r e))))
+    not-newer l = not-such (rootAbove above v) (slotNo counted i s) (λ r e. rw (le-ltb above (r .version) (omega (arith, k ∙ version-own r e))))
 
-    pub too-new : v < w → false ≡ byRecord false (rootAbove above v) (slotNo i s)
+    pub too-new : v < w → false ≡ byRecord false (rootAbove above v) (slotNo counted i s)
     unfolding rootAbove rootUpTo
-    too-new l = not-such (rootAbove above v) (slotNo i s) (λ r e.
+    too-new l = not-such (rootAbove above v) (slotNo counted i s) (λ r e.
         both (ltb above (r .version)) _ (both (samePlace (r .place) []) _ (lt-leb (r .version) v (omega (arith, k ∙ version-own r e)))))
 
-    pub no-top : (countIn (slotIn i s) ≡ 0 → ⊥) → false ≡ byRecord false (rootAbove above v) (slotNo i s)
+    pub no-top : (countIn (slotIn counted i s) ≡ 0 → ⊥) → false ≡ byRecord false (rootAbove above v) (slotNo counted i s)
     unfolding rootAbove rootUpTo
-    no-top f = not-such (rootAbove above v) (slotNo i s) (λ r e.
+    no-top f = not-such (rootAbove above v) (slotNo counted i s) (λ r e.
         both (ltb above (r .version)) _ (rw (not-top (r .place) (λ z. f (count-own r e ∙ z)))))
 
-    pub such : above < w → w ≤ v → countIn (slotIn i s) ≡ 0 → {x : Bytes} {t : Bool} → x ≡ slotIn i s → t ≡ isUsed (slotOf x) →
-        t ≡ byRecord false (rootAbove above v) (slotNo i s)
+    pub such : above < w → w ≤ v → countIn (slotIn counted i s) ≡ 0 → {x : Bytes} {t : Bool} → x ≡ slotIn counted i s → t ≡ isUsed (slotOf x) →
+        t ≡ byRecord false (rootAbove above v) (slotNo counted i s)
     unfolding rootAbove rootUpTo
-    such a b c d e = e ∙ ap (λ y. isUsed (slotOf y)) d ∙ go (slotOf (slotIn i s)) (slot-is h)
+    such a b c d e = e ∙ ap (λ y. isUsed (slotOf y)) d ∙ go (slotOf (slotIn counted i s)) (slot-is h)
       where
-        go : (y : Slot) → slotNo i s ≡ y → isUsed y ≡ byRecord false (rootAbove above v) (slotNo i s)
+        go : (y : Slot) → slotNo counted i s ≡ y → isUsed y ≡ byRecord false (rootAbove above v) (slotNo counted i s)
         go free u = sym (ap (byRecord false (rootAbove above v)) u)
         go (used r) u =
             let n = k ∙ version-own r u in
@@ -137,9 +138,9 @@ pub record Best (s : Bytes) (v n : ℕ) (best : found.Found) (above i : ℕ) : T
   pub it : Option Record
   pub located : Located (storeOf s .slots) it best
   pub version : above ≡ versionOf it
-  pub scan : Scan s (λ xs ys. newestRoot v (storeOf s .slots) ≡ orNewer it (newestRoot v ys)) n i
+  pub scan : Scan counted s (λ xs ys. newestRoot v (storeOf s .slots) ≡ orNewer it (newestRoot v ys)) n i
 
-pub best-start : (s : Bytes) (v : ℕ) {n : ℕ} → sizeRight (length s) ≡ true → n ≡ roomOf (length s) → Best s v n Nothing 0 0
+pub best-start : (s : Bytes) (v : ℕ) {n : ℕ} → sizeRight counted (length s) ≡ true → n ≡ roomOf counted (length s) → Best s v n Nothing 0 0
 best-start s v e m = record {
   it = none;
   located = refl;
@@ -148,7 +149,7 @@ best-start s v e m = record {
 }
 
 module _ {s : Bytes} {v n : ℕ} {best : found.Found} {above i : ℕ} (w : Best s v n best above i) where
-  pub best-has : i < n → Has s i
+  pub best-has : i < n → Has counted s i
   best-has h = scan-slot (w .scan) h
 
   pub best-end : n ≤ i → Located (storeOf s .slots) (newestRoot v (storeOf s .slots)) best
@@ -159,22 +160,22 @@ module _ {s : Bytes} {v n : ℕ} {best : found.Found} {above i : ℕ} (w : Best 
     rest = newestRoot v (drop (i + 1) (storeOf s .slots))
 
     -- a slot that is no newer root
-    pub best-past : {t : Bool} → t ≡ byRecord false (rootAbove above v) (slotNo i s) → t ≡ false → Best s v n best above (i + 1)
+    pub best-past : {t : Bool} → t ≡ byRecord false (rootAbove above v) (slotNo counted i s) → t ≡ false → Best s v n best above (i + 1)
     best-past e f = record {
       it = w .it;
       located = w .located;
       version = w .version;
       scan = scan-next (w .scan) h (λ xs ys. newestRoot v (storeOf s .slots) ≡ orNewer (w .it) (newestRoot v ys))
-          (scan-here (w .scan) h ∙ go (slotNo i s) refl);
+          (scan-here (w .scan) h ∙ go (slotNo counted i s) refl);
     }
       where
-        by : (r : Record) → slotNo i s ≡ used r → (b : Bool) → rootUpTo v r ≡ b →
+        by : (r : Record) → slotNo counted i s ≡ used r → (b : Bool) → rootUpTo v r ≡ b →
             orNewer (w .it) (cond b (newerRoot r rest) rest) ≡ orNewer (w .it) rest
         by r u true k =
             or-past (w .it) r rest (form-own (best-has h) bytes r u .versioned .0)
             (omega (arith, w .version, ltb-false above (r .version) (test r u k)))
           where
-            test : (r : Record) → slotNo i s ≡ used r → rootUpTo v r ≡ true → ltb above (r .version) ≡ false
+            test : (r : Record) → slotNo counted i s ≡ used r → rootUpTo v r ≡ true → ltb above (r .version) ≡ false
             test r u k = go _ refl
               where
                 off : rootAbove above v r ≡ false
@@ -185,17 +186,17 @@ module _ {s : Bytes} {v n : ℕ} {best : found.Found} {above i : ℕ} (w : Best 
                 go true z = let on : rootAbove above v r ≡ true = unfold rootAbove in rw (z, k) in absurd (true≢false (sym on ∙ off))
         by r u false k = refl
 
-        go : (y : Slot) → slotNo i s ≡ y → orNewer (w .it) (newestRoot v (y ∷ drop (i + 1) (storeOf s .slots))) ≡ orNewer (w .it) rest
+        go : (y : Slot) → slotNo counted i s ≡ y → orNewer (w .it) (newestRoot v (y ∷ drop (i + 1) (storeOf s .slots))) ≡ orNewer (w .it) rest
         go free u = refl
         go (used r) u = by r u (rootUpTo v r) refl
         go (spoiled x) u = refl
 
     -- a newer root
-    pub best-next : {t : Bool} {m : ℕ} → t ≡ byRecord false (rootAbove above v) (slotNo i s) → t ≡ true → m ≡ versionIn (slotIn i s) →
+    pub best-next : {t : Bool} {m : ℕ} → t ≡ byRecord false (rootAbove above v) (slotNo counted i s) → t ≡ true → m ≡ versionIn (slotIn counted i s) →
         Best s v n (At i) m (i + 1)
-    best-next {t} {m} e f k = go (slotNo i s) refl
+    best-next {t} {m} e f k = go (slotNo counted i s) refl
       where
-        go : (y : Slot) → slotNo i s ≡ y → Best s v n (At i) m (i + 1)
+        go : (y : Slot) → slotNo counted i s ≡ y → Best s v n (At i) m (i + 1)
         go free u = absurd (true≢false (sym f ∙ e ∙ ap (byRecord false (rootAbove above v)) u))
         go (spoiled x) u = absurd (true≢false (sym f ∙ e ∙ ap (byRecord false (rootAbove above v)) u))
         go (used r) u = record {
@@ -222,7 +223,7 @@ module _ {s : Bytes} {v n : ℕ} {best : found.Found} {above i : ℕ} (w : Best 
                 (or-over (w .it) r rest (omega (arith, w .version, ltb-true above (r .version) (first (ltb above (r .version)) (rootUpTo v r) on))))
 
 -- the root of a version, from the newest
-module _ (s : Bytes) (v : ℕ) (size : sizeRight (length s) ≡ true) (bytes : All Byte s) {f : found.Found}
+module _ (s : Bytes) (v : ℕ) (size : sizeRight counted (length s) ≡ true) (bytes : All Byte s) {f : found.Found}
     (l : Located (storeOf s .slots) (newestRoot v (storeOf s .slots)) f) where
   pub root-none : f ≡ Nothing → 0 ≡ rootVersion (storeOf s .slots) v
   unfolding rootVersion sourceRoot
@@ -232,15 +233,15 @@ module _ (s : Bytes) (v : ℕ) (size : sizeRight (length s) ≡ true) (bytes : A
     at-i : Located (storeOf s .slots) (newestRoot v (storeOf s .slots)) (At i)
     at-i = subst (Located (storeOf s .slots) (newestRoot v (storeOf s .slots))) e l
 
-    pub root-has : Has s i
-    root-has = record { size = size; inside = omega (arith, at-i .0, slots-many s) }
+    pub root-has : Has counted s i
+    root-has = record { size = size; inside = omega (arith, at-i .0, slots-many counted s) }
 
     root-by : (b : Bool) → retiredBy v (at-i .1 .0) ≡ b → rootVersion (storeOf s .slots) v ≡ versionOf (cond b none (some (at-i .1 .0)))
     unfolding rootVersion sourceRoot
     root-by b k =
         ap (λ o. versionOf (unlessRetired v o)) (at-i .1 .2) ∙ ap (λ t. versionOf (cond t none (some (at-i .1 .0)))) k
 
-    module _ {m n : ℕ} (version : m ≡ versionIn (slotIn i s)) (since : n ≡ sinceIn (slotIn i s)) where
+    module _ {m n : ℕ} (version : m ≡ versionIn (slotIn counted i s)) (since : n ≡ sinceIn (slotIn counted i s)) where
       retired-is : n ≡ at-i .1 .0 .retired
       retired-is = since ∙ since-own root-has bytes (at-i .1 .0) (at-i .1 .1)
 

@@ -6,6 +6,7 @@ use store::retired_at;
 use store::slot_count;
 use store::slot_of;
 use store::version_at;
+use terms::Form;
 ghost use mathlib.Core.Path.{_≡_};
 ghost use mathlib.Core.Bool.{true, false};
 ghost use lib.ListN.{length};
@@ -19,28 +20,28 @@ ghost use Rattle.rescue_root.specs.Roots.{rootAbove};
 
 // Whether slot i holds a root record of a version above `above` and not above `version`.
 fn newer_root(source: &[u8], i: usize, above: u32, version: u32) -> bool
-    requires { ⌜ Has (now source) i ⌝ }
-    ensures { λ r. ⌜ r ≡ byRecord false (rootAbove above version) (slotNo i (now (source .entry))) ⌝ }
+    requires { ⌜ Has Form.Counted (now source) i ⌝ }
+    ensures { λ r. ⌜ r ≡ byRecord false (rootAbove above version) (slotNo Form.Counted i (now (source .entry))) ⌝ }
 {
-    let v = version_at(source, i);
+    let v = version_at(Form::Counted, source, i);
     if v <= above {
         return false;
     }
     if version < v {
         return false;
     }
-    if count_at(source, i) != 0 {
+    if count_at(Form::Counted, source, i) != 0 {
         return false;
     }
-    holds_record(slot_of(source, i))
+    holds_record(slot_of(Form::Counted, source, i))
 }
 
 // The slot of the newest root record not above a version, the lowest of its version.
 fn newest_root(source: &[u8], version: u32) -> Found
-    requires { ⌜ sizeRight (length (now source)) ≡ true ⌝ }
+    requires { ⌜ sizeRight Form.Counted (length (now source)) ≡ true ⌝ }
     ensures { λ r. ⌜ Located (storeOf (now (source .entry)) .slots) (newestRoot version (storeOf (now (source .entry)) .slots)) r ⌝ }
 {
-    let n = slot_count(source);
+    let n = slot_count(Form::Counted, source);
     let mut best = Found::Nothing;
     let mut above = 0;
     let mut i = 0;
@@ -52,7 +53,7 @@ fn newest_root(source: &[u8], version: u32) -> Found
             i += 1;
             continue 'slots;
         }
-        above = version_at(source, i);
+        above = version_at(Form::Counted, source, i);
         best = Found::At(i);
         i += 1;
     }
@@ -60,15 +61,15 @@ fn newest_root(source: &[u8], version: u32) -> Found
 
 // The version of the root record of a version; 0 where there is none, or where the newest one was retired by then.
 pub fn root_version(source: &[u8], version: u32) -> u32
-    requires { ⌜ sizeRight (length (now source)) ≡ true ⌝ }
+    requires { ⌜ sizeRight Form.Counted (length (now source)) ≡ true ⌝ }
     ensures { λ r. ⌜ r ≡ rootVersion (storeOf (now (source .entry)) .slots) version ⌝ }
 {
     let newest = newest_root(source, version);
     let Found::At(i) = newest else {
         return 0;
     };
-    let since = retired_at(source, i);
-    let v = version_at(source, i);
+    let since = retired_at(Form::Counted, source, i);
+    let v = version_at(Form::Counted, source, i);
     if since == 0 {
         return v;
     }

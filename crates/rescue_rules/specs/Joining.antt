@@ -6,18 +6,19 @@ use mathlib.Core.Bool.{Bool, true, false, cond, _&&_, _||_, not}
 use mathlib.Core.List.{List, []}
 use mathlib.Core.Option.{Option, none, some}
 use lib.Dec.{eqb, leb, ltb}
+use Rattle.terms.specs.declared.Form.the-variants.{Counted as counted}
 use Rattle.terms.specs.Bits.{Bytes, Side, left, right, Place, longer, begins, sameBytes}
 use Rattle.terms.specs.Records.{Child, Body, leafBody, innerBody, Record, Slot, Store}
 use Rattle.meaning.specs.Store.{find}
 use Rattle.meaning.specs.Sound.{NodeOf, Stands}
 use Rattle.meaning.specs.Reading.{bodyHash}
-use Rattle.meaning.specs.Local.{childVersion}
-use Rattle.local.specs.Test.{loneLeaf}
+use Rattle.meaning.specs.Local.{childVersion, countsBy}
+use Rattle.local.specs.Test.{loneLeaf, countsAre}
 use Rattle.rescue_rules.specs.Rescue.{sourceRoot, sourceTree, sameNode}
 
 -- The source as a store, for what is said of slots alone.
 abbrev pub source : List Slot → Store
-source s = record { oldest = 0; latest = 0; slots = s }
+source s = record { form = counted; oldest = 0; latest = 0; slots = s }
 
 -- What is in the tree of the version after u and not in that of u has that version.
 abbrev pub Joins : List Slot → ℕ → Type 0
@@ -96,10 +97,10 @@ module _ (leafHash innerHash : Bytes → Bytes → Bytes) where
   bodyRight s p (innerBody l r) =
       linked (find (l .version) (longer left p) s) l r && linked (find (r .version) (longer right p) s) r l
 
-  -- No node was asked for, or it is found and right by itself.
+  -- No node was asked for, or it is found and right by itself, and each of its counts is what the record found as that child says (2026-09).
   abbrev pub recordRight : List Slot → ℕ → Place → Option Record → Bool
   recordRight s v p none = eqb v 0
-  recordRight s v p (some r) = bodyRight s p (r .body)
+  recordRight s v p (some r) = bodyRight s p (r .body) && countsAre counted (r .counts) (countsBy s p (r .body))
 
   -- The node of version a joins that of version b in the next version's tree, at a place n bits short of a key, and so does all below: what
   -- the first tree alone has is right, what the second alone has is of the version `next`.

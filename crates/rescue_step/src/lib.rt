@@ -4,6 +4,7 @@ use place::Place;
 use rescue_join::Joined;
 use rescue_join::join;
 use rescue_root::root_version;
+use terms::Form;
 ghost use mathlib.Core.Path.{_≡_};
 ghost use mathlib.Core.Bool.{true};
 ghost use lib.ListN.{length};
@@ -18,7 +19,7 @@ pub enum Stepped {
 
 // Whether version v joins the tree of the version `next`, whose root is of version b; b is 0 where there is none.
 pub fn step(source: &[u8], v: u32, next: u32, b: u32, low: u32) -> Stepped
-    requires { ⌜ sizeRight (length (now source)) ≡ true ⌝ }
+    requires { ⌜ sizeRight Form.Counted (length (now source)) ≡ true ⌝ }
     ensures { λ r. ⌜ StepSays (now (source .entry)) v next b low r ⌝ }
 {
     let a = root_version(source, v);

@@ -1,4 +1,4 @@
-// What the slots of a store hold, read byte by byte as document 01 has it. A store of n slots has 24 + 120n bytes.
+// What the slots of a store hold, read byte by byte as document 01 has it. A store of n slots has 24 + 128n bytes.
 use crate::say;
 ghost use Prim.Native.Nat.{_≤_};
 
@@ -7,10 +7,10 @@ fn field(store: &[u8], i: usize, at: usize) -> u32 {
     if 16384 <= i {
         return 0;
     }
-    if 120 <= at {
+    if 128 <= at {
         return 0;
     }
-    let from = 24 + 120 * i + at;
+    let from = 24 + 128 * i + at;
     if store.len() < from + 4 {
         return 0;
     }
@@ -34,7 +34,7 @@ fn say_bits(store: &[u8], i: usize, n: usize) {
     }
 }
 
-// A used slot: its number, leaf or inner (kinds 2 and 3), its place.
+// A used slot: its number, leaf or inner (kinds 2 and 5), its place.
 fn say_slot(store: &[u8], i: usize) {
     let head = field(store, i, 4);
     say::text(b"  slot ");
@@ -94,7 +94,7 @@ fn inner_levels(store: &[u8], slots: usize) -> usize
     let mut n = 0;
     let mut count = 0;
     while count < 256 {
-        n += tally(counted(store, slots, 4, 3 + count * 65536) == 1);
+        n += tally(counted(store, slots, 4, 5 + count * 65536) == 1);
         count += 1;
     }
     n

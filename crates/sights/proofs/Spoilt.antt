@@ -7,6 +7,7 @@ use mathlib.Core.List.{List, [], _∷_, _++_}
 use mathlib.Core.Option.{Option, none, some}
 use lib.ListN.{length, take, drop, length-append}
 use borrow.Author.Tests.{eq-eqb, ne-eqb}
+use Rattle.terms.specs.declared.Form.the-variants.{Counted as counted}
 use Rattle.terms.specs.Bits.{Bytes, Place, pack, sameBytes}
 use Rattle.terms.specs.Fields.{allZero, allOf}
 use Rattle.terms.specs.Records.{Record, Slot, free, used, spoiled}
@@ -55,12 +56,12 @@ module _ (test : Bytes → Bool) (x : Bytes) where
       go (are-inner z n t f) = rw f (and-false c)
       go (are-spoiled z n m f) = rw f (and-true c ∙ sym e)
 
-module _ {s : Bytes} {i : ℕ} (has : Has s i) (test : Bytes → Bool) where
-  pub apart : test (slotIn i s) ≡ false → false ≡ spoiltBy test (slotNo i s)
-  apart e = tested test (slotIn i s) false e ∙ ap (spoiltBy test) (sym (slot-is has))
+module _ {s : Bytes} {i : ℕ} (has : Has counted s i) (test : Bytes → Bool) where
+  pub apart : test (slotIn counted i s) ≡ false → false ≡ spoiltBy test (slotNo counted i s)
+  apart e = tested test (slotIn counted i s) false e ∙ ap (spoiltBy test) (sym (slot-is has))
 
-  pub agreed : test (slotIn i s) ≡ true → isSpoilt (slotOf (slotIn i s)) ≡ spoiltBy test (slotNo i s)
-  agreed e = tested test (slotIn i s) true e ∙ ap (spoiltBy test) (sym (slot-is has))
+  pub agreed : test (slotIn counted i s) ≡ true → isSpoilt (slotOf (slotIn counted i s)) ≡ spoiltBy test (slotNo counted i s)
+  agreed e = tested test (slotIn counted i s) true e ∙ ap (spoiltBy test) (sym (slot-is has))
 
 -- a node agrees by version, bit count and bits
 module _ (v : ℕ) (p : declared-place.Place) (proper : Proper p) (x : Bytes) where
@@ -114,21 +115,21 @@ here test n free ys e = absurd (false≢true e)
 here test n (used r) ys e = absurd (false≢true e)
 here test n (spoiled x) ys e = rw e
 
-pub spoilt-start : (test : Bytes → Bool) (s : Bytes) {n : ℕ} → sizeRight (length s) ≡ true → n ≡ roomOf (length s) → Scan s (Ahead test s) n 0
+pub spoilt-start : (test : Bytes → Bool) (s : Bytes) {n : ℕ} → sizeRight counted (length s) ≡ true → n ≡ roomOf counted (length s) → Scan counted s (Ahead test s) n 0
 spoilt-start test s e m = scan-start s (Ahead test s) e m refl
 
-module _ (test : Bytes → Bool) {s : Bytes} {n i : ℕ} (w : Scan s (Ahead test s) n i) where
-  pub spoilt-next : i < n → spoiltBy test (slotNo i s) ≡ false → Scan s (Ahead test s) n (i + 1)
+module _ (test : Bytes → Bool) {s : Bytes} {n i : ℕ} (w : Scan counted s (Ahead test s) n i) where
+  pub spoilt-next : i < n → spoiltBy test (slotNo counted i s) ≡ false → Scan counted s (Ahead test s) n (i + 1)
   spoilt-next h e =
       let xs = take i (storeOf s .slots) in
       let ys = drop (i + 1) (storeOf s .slots) in
-      let more : suc (length xs) ≡ length (xs ++ slotNo i s ∷ []) = simp length-append (omega arith) in
-      scan-next w h (Ahead test s) (scan-here w h ∙ past test (length xs) (slotNo i s) ys e ∙ ap (λ m. lowestSpoilt test m ys) more)
+      let more : suc (length xs) ≡ length (xs ++ slotNo counted i s ∷ []) = simp length-append (omega arith) in
+      scan-next w h (Ahead test s) (scan-here w h ∙ past test (length xs) (slotNo counted i s) ys e ∙ ap (λ m. lowestSpoilt test m ys) more)
 
-  pub spoilt-found : i < n → spoiltBy test (slotNo i s) ≡ true → SpoiltIn test (storeOf s .slots) (At i)
+  pub spoilt-found : i < n → spoiltBy test (slotNo counted i s) ≡ true → SpoiltIn test (storeOf s .slots) (At i)
   spoilt-found h e =
       let xs = take i (storeOf s .slots) in
-      (scan-inside w h, scan-here w h ∙ here test (length xs) (slotNo i s) (drop (i + 1) (storeOf s .slots)) e ∙ ap some (scan-passed w))
+      (scan-inside w h, scan-here w h ∙ here test (length xs) (slotNo counted i s) (drop (i + 1) (storeOf s .slots)) e ∙ ap some (scan-passed w))
 
   pub spoilt-nowhere : n ≤ i → SpoiltIn test (storeOf s .slots) Nothing
   spoilt-nowhere h = scan-end w h

@@ -13,6 +13,7 @@ use store::retired_at;
 use store::slot_count;
 use store::slot_of;
 use store::version_at;
+use terms::Form;
 ghost use mathlib.Core.Path.{_≡_};
 ghost use mathlib.Core.Bool.{true};
 ghost use lib.ListN.{length};
@@ -32,9 +33,9 @@ pub enum Sight {
     Spoilt(usize),
 }
 
-// Whether 120 bytes are neither free nor a record in form.
+// Whether a slot's bytes are neither free nor a record in form.
 fn is_spoilt(s: &[u8]) -> bool
-    requires { ⌜ length (now s) ≡ slotSize ⌝ }
+    requires { ⌜ length (now s) ≡ slotSize Form.Counted ⌝ }
     ensures { λ r. ⌜ r ≡ isSpoilt (slotOf (now (s .entry))) ⌝ }
 {
     if holds_record(s) {
@@ -45,18 +46,18 @@ fn is_spoilt(s: &[u8]) -> bool
 
 // Whether slot i is spoilt and its version, bit count and bits fields agree: the cheap fields first.
 fn node_spoilt(store: &[u8], i: usize, version: u32, place: Place) -> bool
-    requires { ⌜ Has (now store) i × Proper place ⌝ }
-    ensures { λ r. ⌜ r ≡ spoiltBy (agrees version (placeOf place)) (slotNo i (now (store .entry))) ⌝ }
+    requires { ⌜ Has Form.Counted (now store) i × Proper place ⌝ }
+    ensures { λ r. ⌜ r ≡ spoiltBy (agrees version (placeOf place)) (slotNo Form.Counted i (now (store .entry))) ⌝ }
 {
-    if version_at(store, i) != version {
+    if version_at(Form::Counted, store, i) != version {
         return false;
     }
     let bits = place.bits;
     let count = place.count;
-    if count_at(store, i) as usize != count {
+    if count_at(Form::Counted, store, i) as usize != count {
         return false;
     }
-    let slot = slot_of(store, i);
+    let slot = slot_of(Form::Counted, store, i);
     if !same(bits_of(slot), &bits) {
         return false;
     }
@@ -65,10 +66,10 @@ fn node_spoilt(store: &[u8], i: usize, version: u32, place: Place) -> bool
 
 // The lowest spoilt slot that agrees with a version and place.
 fn find_spoilt(store: &[u8], version: u32, place: Place) -> Found
-    requires { ⌜ (sizeRight (length (now store)) ≡ true) × Proper place ⌝ }
+    requires { ⌜ (sizeRight Form.Counted (length (now store)) ≡ true) × Proper place ⌝ }
     ensures { λ r. ⌜ SpoiltIn (agrees version (placeOf place)) (storeOf (now (store .entry)) .slots) r ⌝ }
 {
-    let n = slot_count(store);
+    let n = slot_count(Form::Counted, store);
     let mut i = 0;
     while i < n {
         if node_spoilt(store, i, version, place) {
@@ -81,10 +82,10 @@ fn find_spoilt(store: &[u8], version: u32, place: Place) -> Found
 
 // What is found of a version and place.
 pub fn look(store: &[u8], version: u32, place: Place) -> Sight
-    requires { ⌜ (sizeRight (length (now store)) ≡ true) × Proper place ⌝ }
+    requires { ⌜ (sizeRight Form.Counted (length (now store)) ≡ true) × Proper place ⌝ }
     ensures { λ r. ⌜ Sighted (storeOf (now (store .entry)) .slots) (nodeSight (storeOf (now (store .entry))) version (placeOf place)) r ⌝ }
 {
-    let found = find(store, version, place);
+    let found = find(Form::Counted, store, version, place);
     if let Found::At(i) = found {
         return Sight::Matches(i);
     }
@@ -97,16 +98,20 @@ pub fn look(store: &[u8], version: u32, place: Place) -> Sight
 
 // Whether slot i is spoilt and agrees with a root by empty place and a lifetime that covers a version: the cheap fields first.
 fn root_spoilt(store: &[u8], i: usize, version: u32) -> bool
-    requires { ⌜ Has (now store) i ⌝ }
-    ensures { λ r. ⌜ r ≡ spoiltBy (agreesRoot version) (slotNo i (now (store .entry))) ⌝ }
+    requires { ⌜ Has Form.Counted (now store) i ⌝ }
+    ensures { λ r. ⌜ r ≡ spoiltBy (agreesRoot version) (slotNo Form.Counted i (now (store .entry))) ⌝ }
 {
-    if count_at(store, i) != 0 {
+    if count_at(Form::Counted, store, i) != 0 {
         return false;
     }
-    if !covers(version_at(store, i), retired_at(store, i), version) {
+    if !covers(
+        version_at(Form::Counted, store, i),
+        retired_at(Form::Counted, store, i),
+        version,
+    ) {
         return false;
     }
-    let slot = slot_of(store, i);
+    let slot = slot_of(Form::Counted, store, i);
     if !all_zero(bits_of(slot)) {
         return false;
     }
@@ -115,10 +120,10 @@ fn root_spoilt(store: &[u8], i: usize, version: u32) -> bool
 
 // The lowest spoilt slot that agrees with a root for a version.
 fn find_spoilt_root(store: &[u8], version: u32) -> Found
-    requires { ⌜ sizeRight (length (now store)) ≡ true ⌝ }
+    requires { ⌜ sizeRight Form.Counted (length (now store)) ≡ true ⌝ }
     ensures { λ r. ⌜ SpoiltIn (agreesRoot version) (storeOf (now (store .entry)) .slots) r ⌝ }
 {
-    let n = slot_count(store);
+    let n = slot_count(Form::Counted, store);
     let mut j = 0;
     while j < n {
         if root_spoilt(store, j, version) {
@@ -131,10 +136,10 @@ fn find_spoilt_root(store: &[u8], version: u32) -> Found
 
 // What is found of the root of a version.
 pub fn look_root(store: &[u8], version: u32) -> Sight
-    requires { ⌜ sizeRight (length (now store)) ≡ true ⌝ }
+    requires { ⌜ sizeRight Form.Counted (length (now store)) ≡ true ⌝ }
     ensures { λ r. ⌜ Sighted (storeOf (now (store .entry)) .slots) (rootSight (storeOf (now (store .entry))) version) r ⌝ }
 {
-    let found = find_root(store, version);
+    let found = find_root(Form::Counted, store, version);
     if let Found::At(i) = found {
         return Sight::Matches(i);
     }

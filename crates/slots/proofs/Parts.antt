@@ -9,8 +9,8 @@ use Rattle.terms.specs.Bits.{Bytes, Side}
 use Rattle.terms.specs.Fields.{slice, flat}
 use Rattle.terms.proofs.Lists.{drop-take}
 use Rattle.terms.proofs.Fields.{length-slice, flat-front}
-use Rattle.layout.specs.Sizes.{slotSize, grantSize, keyAt, valueAt}
-use Rattle.layout.specs.Slots.{keyIn, valueIn, grantIn, childIn, kidOn}
+use Rattle.layout.specs.Sizes.{grantSize, keyAt, valueAt}
+use Rattle.layout.specs.Slots.{keyIn, valueIn, grantIn, childIn, kidOn, SlotLong}
 
 module _ (x : Bytes) where
   -- the first half of a grant is the key, the second the value
@@ -26,7 +26,7 @@ module _ (x : Bytes) where
   unfolding slice
   grant-parts = sym (flat-front (32 ∷ 32 ∷ []) keyAt x)
 
-  module _ (l : length x ≡ slotSize) where
+  module _ (l : SlotLong x) where
     pub key-long : length (keyIn x) ≡ 32
     key-long = length-slice keyAt 32 x (omega arith)
 

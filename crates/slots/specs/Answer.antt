@@ -1,12 +1,12 @@
--- Document 01, 'Forms to follow': what a slot that was read says, case by case; its hashes are four numbers, its key and value stay in its
--- bytes. Assumes nothing.
+-- Document 01, 'Forms to follow': what a slot that was read says, case by case; its hashes are four numbers, its key, value and counts stay in
+-- its bytes. Assumes nothing.
 use mathlib.Core.Path.{_≡_}
 use Rattle.terms.specs.Bits.{Bytes}
 use Rattle.terms.specs.Fields.{slice}
 use Rattle.terms.specs.Records.{Child, child, Body, leafBody, innerBody, Record, Slot, free, used, spoiled}
 use Rattle.hash.specs.Hash.{hashBytes}
 use Rattle.place.specs.Place.{placeOf, Proper}
-use Rattle.layout.specs.Slots.{leafIn, recordOf, recordIn, slotOf}
+use Rattle.layout.specs.Slots.{leafIn, countsIn, recordOf, recordIn, slotOf}
 use Rattle.slots.specs.declared.Child as declared-child
 use Rattle.slots.specs.declared.Kind as declared-kind
 use Rattle.slots.specs.declared.Kind.the-variants.{Free, Leaf, Inner, Spoiled}
@@ -16,15 +16,15 @@ use Rattle.slots.specs.declared.Slot as declared
 unfoldable pub childSays : declared-child.Child → Child
 childSays c = child (c .version) (hashBytes (c .hash))
 
--- The record with this body that a slot says.
-unfoldable pub recordSays : declared.Slot → Body → Record
-recordSays r b = recordOf (placeOf (r .place)) (r .version) (r .retired) b
+-- The record with this body that a slot says that was read from the bytes x; its counts stay in them.
+unfoldable pub recordSays : declared.Slot → Bytes → Body → Record
+recordSays r x b = recordOf (placeOf (r .place)) (r .version) (r .retired) b (countsIn x)
 
 -- What a slot says that was read from the bytes x.
 unfoldable pub kindSays : declared-kind.Kind → declared.Slot → Bytes → Slot
 kindSays Free r x = free
-kindSays Leaf r x = used (recordSays r (leafIn x))
-kindSays (Inner a b) r x = used (recordSays r (innerBody (childSays a) (childSays b)))
+kindSays Leaf r x = used (recordSays r x (leafIn x))
+kindSays (Inner a b) r x = used (recordSays r x (innerBody (childSays a) (childSays b)))
 kindSays Spoiled r x = spoiled x
 
 unfoldable pub slotSays : declared.Slot → Bytes → Slot
@@ -38,7 +38,7 @@ pub record Made (k : declared-kind.Kind) (r : declared.Slot) : Type 0 where
 -- A slot of a kind that says what the head of the bytes x says.
 pub record Held (k : declared-kind.Kind) (x : Bytes) (r : declared.Slot) : Type 0 where
   pub made : Made k r
-  pub says : (b : Body) → recordSays r b ≡ recordIn x b
+  pub says : (b : Body) → recordSays r x b ≡ recordIn x b
 
 -- The slot that was read from the bytes x: what it says is what they are, and its place is proper.
 pub record Read (x : Bytes) (r : declared.Slot) : Type 0 where

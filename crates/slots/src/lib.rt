@@ -1,4 +1,5 @@
-// Slots in lent memory, document 01, 'Bytes': reading any 120 bytes, and their parts. A leaf and an inner record share their head.
+// Slots in lent memory, document 01, 'Bytes', and the counted form of 2026-09: reading the bytes of any slot, and their parts. How many they
+// are, 120 or 128, tells the form. A leaf and an inner record share their head.
 use fields::all_zero;
 use fields::get_u16;
 use fields::get_u32;
@@ -14,8 +15,8 @@ ghost use Prim.Native.Nat.{_+_, _≤_};
 ghost use lib.ListN.{length, drop};
 ghost use Rattle.terms.specs.Bits.{bits, noneSet};
 ghost use Rattle.terms.specs.Fields.{allOf};
-ghost use Rattle.layout.specs.Sizes.{slotSize, grantSize, childSize};
-ghost use Rattle.layout.specs.Slots.{bitsIn, countIn, keyIn, valueIn, grantIn, childIn, kidOn, headTests, isLeaf, childRight, isInner};
+ghost use Rattle.layout.specs.Sizes.{plainSize, innerKind, grantSize, childSize};
+ghost use Rattle.layout.specs.Slots.{bitsIn, countIn, keyIn, valueIn, grantIn, childIn, kidOn, headTests, isLeaf, childRight, isInner, SlotLong};
 ghost use Rattle.slots.specs.Answer.{childSays, Made, Held, Read};
 
 // What an inner record says of a child; version 0: there is no child.
@@ -32,7 +33,7 @@ pub enum Kind {
     Spoiled,
 }
 
-// What 120 bytes hold; of a free or spoiled slot the kind is all that counts.
+// What the bytes of a slot hold; of a free or spoiled slot the kind is all that counts.
 pub struct Slot {
     pub kind: Kind,
     pub place: Place,
@@ -42,7 +43,7 @@ pub struct Slot {
 
 // Whether the head of a record is in form: its length and kind, a bit count up to a limit, unused bits zero, version at least 1.
 fn head_right(s: &[u8], len: u32, kind: u16, limit: u16) -> bool
-    requires { ⌜ length (now s) ≡ slotSize ⌝ }
+    requires { ⌜ SlotLong (now s) ⌝ }
     ensures { λ r. ⌜ r ≡ allOf (headTests len kind limit (now (s .entry))) ⌝ }
 {
     if get_u32(s, 0) != len {
@@ -61,15 +62,26 @@ fn head_right(s: &[u8], len: u32, kind: u16, limit: u16) -> bool
     1 <= get_u32(s, sizes::VERSION_AT)
 }
 
-// Whether the 120 bytes are a leaf in form.
+// Whether the bytes of a slot are a leaf in form.
 pub fn is_leaf(s: &[u8]) -> bool
-    requires { ⌜ length (now s) ≡ slotSize ⌝ }
+    requires { ⌜ SlotLong (now s) ⌝ }
     ensures { λ r. ⌜ r ≡ isLeaf (now (s .entry)) ⌝ }
 {
     if !head_right(s, sizes::LEAF_LENGTH, sizes::LEAF_KIND, sizes::LEAF_BITS) {
         return false;
     }
-    all_zero(&s[sizes::TAIL_AT..sizes::SLOT_SIZE])
+    let end = s.len();
+    all_zero(&s[sizes::TAIL_AT..end])
+}
+
+// The kind of an inner record in a slot of n bytes.
+pub fn inner_kind(n: usize) -> u16
+    ensures { λ r. ⌜ r ≡ innerKind n ⌝ }
+{
+    if n == sizes::PLAIN_SIZE {
+        return sizes::PLAIN_INNER_KIND;
+    }
+    sizes::COUNTED_INNER_KIND
 }
 
 // Whether a child that is missing has no hash.
@@ -87,10 +99,12 @@ fn child_right(s: &[u8], at: usize) -> bool
 
 // Whether they are an inner record in form.
 pub fn is_inner(s: &[u8]) -> bool
-    requires { ⌜ length (now s) ≡ slotSize ⌝ }
+    requires { ⌜ SlotLong (now s) ⌝ }
     ensures { λ r. ⌜ r ≡ isInner (now (s .entry)) ⌝ }
 {
-    if !head_right(s, sizes::INNER_LENGTH, sizes::INNER_KIND, sizes::INNER_BITS) {
+    let size = s.len();
+    let kind = inner_kind(size);
+    if !head_right(s, size as u32, kind, sizes::INNER_BITS) {
         return false;
     }
     if !child_right(s, sizes::LEFT_AT) {
@@ -129,7 +143,7 @@ fn bare(kind: Kind) -> Slot
 
 // A slot of a kind with place, version and retired-since as the bytes have them.
 fn held(s: &[u8], kind: Kind) -> Slot
-    requires { ⌜ (length (now s) ≡ slotSize) × (countIn (now s) ≤ 256) × (noneSet (drop (countIn (now s)) (bits (bitsIn (now s)))) ≡ true) ⌝ }
+    requires { ⌜ SlotLong (now s) × (countIn (now s) ≤ 256) × (noneSet (drop (countIn (now s)) (bits (bitsIn (now s)))) ≡ true) ⌝ }
     ensures { λ r. ⌜ Held kind (now (s .entry)) r ⌝ }
 {
     let count = get_u16(s, sizes::COUNT_AT);
@@ -144,9 +158,9 @@ fn held(s: &[u8], kind: Kind) -> Slot
     }
 }
 
-// Reads the 120 bytes of a slot.
+// Reads the bytes of a slot.
 pub fn read_slot(s: &[u8]) -> Slot
-    requires { ⌜ length (now s) ≡ slotSize ⌝ }
+    requires { ⌜ SlotLong (now s) ⌝ }
     ensures { λ r. ⌜ Read (now (s .entry)) r ⌝ }
 {
     if all_zero(s) {
@@ -165,7 +179,7 @@ pub fn read_slot(s: &[u8]) -> Slot
 
 // The grant of a leaf, in the slot's own bytes: key and value.
 pub fn grant_of(s: &[u8]) -> &[u8]
-    requires { ⌜ length (now s) ≡ slotSize ⌝ }
+    requires { ⌜ SlotLong (now s) ⌝ }
     ensures { λ r. ⌜ (now r ≡ grantIn (now (s .entry))) × (length (now r) ≡ grantSize) ⌝ }
 {
     &s[sizes::KEY_AT..sizes::TAIL_AT]
@@ -173,7 +187,7 @@ pub fn grant_of(s: &[u8]) -> &[u8]
 
 // Its key alone.
 pub fn key_of(s: &[u8]) -> &[u8]
-    requires { ⌜ length (now s) ≡ slotSize ⌝ }
+    requires { ⌜ SlotLong (now s) ⌝ }
     ensures { λ r. ⌜ (now r ≡ keyIn (now (s .entry))) × (length (now r) ≡ 32) ⌝ }
 {
     &s[sizes::KEY_AT..sizes::VALUE_AT]
@@ -181,7 +195,7 @@ pub fn key_of(s: &[u8]) -> &[u8]
 
 // Its value alone.
 pub fn value_of(s: &[u8]) -> &[u8]
-    requires { ⌜ length (now s) ≡ slotSize ⌝ }
+    requires { ⌜ SlotLong (now s) ⌝ }
     ensures { λ r. ⌜ (now r ≡ valueIn (now (s .entry))) × (length (now r) ≡ 32) ⌝ }
 {
     &s[sizes::VALUE_AT..sizes::TAIL_AT]
@@ -189,7 +203,7 @@ pub fn value_of(s: &[u8]) -> &[u8]
 
 // The bits of a record's place, in 32 bytes.
 pub fn bits_of(s: &[u8]) -> &[u8]
-    requires { ⌜ length (now s) ≡ slotSize ⌝ }
+    requires { ⌜ SlotLong (now s) ⌝ }
     ensures { λ r. ⌜ (now r ≡ bitsIn (now (s .entry))) × (length (now r) ≡ 32) ⌝ }
 {
     &s[sizes::BITS_AT..sizes::VERSION_AT]
@@ -197,11 +211,11 @@ pub fn bits_of(s: &[u8]) -> &[u8]
 
 // The hash that an inner record has of its left or right child.
 pub fn child_hash(s: &[u8], right: bool) -> &[u8]
-    requires { ⌜ length (now s) ≡ slotSize ⌝ }
+    requires { ⌜ SlotLong (now s) ⌝ }
     ensures { λ r. ⌜ (now r ≡ kidOn right (now (s .entry)) .hash) × (length (now r) ≡ 32) ⌝ }
 {
     if right {
-        return &s[sizes::RIGHT_HASH_AT..sizes::SLOT_SIZE];
+        return &s[sizes::RIGHT_HASH_AT..sizes::PLAIN_SIZE];
     }
     &s[sizes::LEFT_HASH_AT..sizes::RIGHT_AT]
 }

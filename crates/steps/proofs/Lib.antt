@@ -10,4 +10,5 @@ pub mod Marking
 pub mod Writing
 pub mod Root
 pub mod Idle
+pub mod Leaves
 pub mod Desk

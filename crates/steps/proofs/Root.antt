@@ -180,7 +180,7 @@ module _ (leafHash innerHash : Bytes → Bytes → Bytes) where
     pub steps-settle : stepped leafHash innerHash new batch st ≡ settled leafHash innerHash new latestTree (nextTree new latestTree batch) st
     unfolding stepped settled
     steps-settle =
-        ap₂ (λ rs slots. record { oldest = st .oldest; latest = new; slots = placed rs slots })
+        ap₂ (λ rs slots. record { form = st .form; oldest = st .oldest; latest = new; slots = placed rs slots })
         (step-places-new-records new latestTree batch shaped older form up)
         (step-marks-what-retires new latestTree batch shaped older form up (st .slots))
 

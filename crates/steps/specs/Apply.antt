@@ -16,6 +16,7 @@ module _ (leafHash innerHash : Bytes → Bytes → Bytes) where
   -- The store with version `new`.
   unfoldable pub stepped : ℕ → List Ask → Store → Store
   stepped new batch st = record {
+    form = st .form;
     oldest = st .oldest;
     latest = new;
     slots = written new (stepRoot leafHash innerHash new (treeAtVersion st (st .latest)) batch) (st .slots);

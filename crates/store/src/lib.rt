@@ -1,32 +1,35 @@
-// A store in lent memory by what it holds, document 01, 'Bytes': its slots by their number, slot i the 120 bytes from 24 + 120 i on, and the
-// kept versions of its header. Above this room nobody knows a size or an offset; proofs/Scans has the law of a loop over the slots.
+// A store in lent memory by what it holds, document 01, 'Bytes': its slots by their number, slot i the 120 bytes from 24 + 120 i on, or in the
+// counted form the 128 from 24 + 128 i on, and the kept versions of its header. Above this room nobody knows a size or an offset; proofs/Scans has the law of a loop over the slots.
 use fields::get_u16;
 use fields::get_u32;
 use fields::put_u32;
 use layout::sizes;
+use layout::slot_size;
+use layout::slot_start;
 use place::Place;
 use slots::Child;
 use slots_put::clear_slot;
 use slots_put::put_inner;
 use slots_put::put_leaf;
+use terms::Form;
 ghost use mathlib.Core.Path.{_≡_};
 ghost use mathlib.Core.Bool.{true};
 ghost use lib.ListN.{length};
 ghost use Rattle.terms.specs.Fields.{field};
-ghost use Rattle.terms.specs.Records.{used, free, innerBody};
+ghost use Rattle.terms.specs.Records.{used, free, innerBody, countOn, tally, noTally};
 ghost use Rattle.place.specs.Place.{placeOf, Proper};
 ghost use Rattle.layout.specs.Sizes.{slotSize, grantSize, kindAt, roomOf};
 ghost use Rattle.layout.specs.Headers.{sizeRight};
-ghost use Rattle.layout.specs.Slots.{countIn, versionIn, sinceIn, kidOn, recordOf};
+ghost use Rattle.layout.specs.Slots.{countIn, versionIn, sinceIn, kidOn, countsIn, recordOf, SlotLong};
 ghost use Rattle.layout.specs.Stores.{slotIn, storeOf, HeaderWithin, SlotWithin, withSlot, withSince, withOldest, withLatest};
 ghost use Rattle.slots.specs.Answer.{childSays, grantBody};
 
 // How many slots a store of the right size has.
-pub fn slot_count(store: &[u8]) -> usize
-    requires { ⌜ sizeRight (length (now store)) ≡ true ⌝ }
-    ensures { λ r. ⌜ r ≡ roomOf (length (now (store .entry))) ⌝ }
+pub fn slot_count(form: Form, store: &[u8]) -> usize
+    requires { ⌜ sizeRight form (length (now store)) ≡ true ⌝ }
+    ensures { λ r. ⌜ r ≡ roomOf form (length (now (store .entry))) ⌝ }
 {
-    (store.len() - sizes::HEADER_SIZE) / sizes::SLOT_SIZE
+    (store.len() - sizes::HEADER_SIZE) / slot_size(form)
 }
 
 // The first and the last version kept.
@@ -58,63 +61,81 @@ pub fn put_latest(store: &mut [u8], version: u32)
     put_u32(store, sizes::LATEST_AT, version);
 }
 
-// The 120 bytes of slot i of a store.
-pub fn slot_of(store: &[u8], i: usize) -> &[u8]
-    requires { ⌜ SlotWithin i (now store) ⌝ }
-    ensures { λ r. ⌜ (now r ≡ slotIn i (now (store .entry))) × (length (now r) ≡ slotSize) ⌝ }
+// The bytes of slot i of a store.
+pub fn slot_of(form: Form, store: &[u8], i: usize) -> &[u8]
+    requires { ⌜ SlotWithin form i (now store) ⌝ }
+    ensures { λ r. ⌜ (now r ≡ slotIn form i (now (store .entry))) × (length (now r) ≡ slotSize form) × SlotLong (now r) ⌝ }
 {
-    let start = sizes::HEADER_SIZE + sizes::SLOT_SIZE * i;
-    let end = start + sizes::SLOT_SIZE;
+    let start = slot_start(form, i);
+    let end = start + slot_size(form);
     &store[start..end]
 }
 
 // Single fields of slot i, for searches.
-pub fn version_at(store: &[u8], i: usize) -> u32
-    requires { ⌜ SlotWithin i (now store) ⌝ }
-    ensures { λ r. ⌜ r ≡ versionIn (slotIn i (now (store .entry))) ⌝ }
+pub fn version_at(form: Form, store: &[u8], i: usize) -> u32
+    requires { ⌜ SlotWithin form i (now store) ⌝ }
+    ensures { λ r. ⌜ r ≡ versionIn (slotIn form i (now (store .entry))) ⌝ }
 {
-    let at = sizes::HEADER_SIZE + sizes::SLOT_SIZE * i + sizes::VERSION_AT;
+    let at = slot_start(form, i) + sizes::VERSION_AT;
     get_u32(store, at)
 }
 
-pub fn retired_at(store: &[u8], i: usize) -> u32
-    requires { ⌜ SlotWithin i (now store) ⌝ }
-    ensures { λ r. ⌜ r ≡ sinceIn (slotIn i (now (store .entry))) ⌝ }
+pub fn retired_at(form: Form, store: &[u8], i: usize) -> u32
+    requires { ⌜ SlotWithin form i (now store) ⌝ }
+    ensures { λ r. ⌜ r ≡ sinceIn (slotIn form i (now (store .entry))) ⌝ }
 {
-    let at = sizes::HEADER_SIZE + sizes::SLOT_SIZE * i + sizes::RETIRED_AT;
+    let at = slot_start(form, i) + sizes::RETIRED_AT;
     get_u32(store, at)
 }
 
-pub fn count_at(store: &[u8], i: usize) -> u16
-    requires { ⌜ SlotWithin i (now store) ⌝ }
-    ensures { λ r. ⌜ r ≡ countIn (slotIn i (now (store .entry))) ⌝ }
+pub fn count_at(form: Form, store: &[u8], i: usize) -> u16
+    requires { ⌜ SlotWithin form i (now store) ⌝ }
+    ensures { λ r. ⌜ r ≡ countIn (slotIn form i (now (store .entry))) ⌝ }
 {
-    let at = sizes::HEADER_SIZE + sizes::SLOT_SIZE * i + sizes::COUNT_AT;
+    let at = slot_start(form, i) + sizes::COUNT_AT;
     get_u16(store, at)
 }
 
-pub fn kind_at(store: &[u8], i: usize) -> u16
-    requires { ⌜ SlotWithin i (now store) ⌝ }
-    ensures { λ r. ⌜ r ≡ field kindAt 2 (slotIn i (now (store .entry))) ⌝ }
+pub fn kind_at(form: Form, store: &[u8], i: usize) -> u16
+    requires { ⌜ SlotWithin form i (now store) ⌝ }
+    ensures { λ r. ⌜ r ≡ field kindAt 2 (slotIn form i (now (store .entry))) ⌝ }
 {
-    let at = sizes::HEADER_SIZE + sizes::SLOT_SIZE * i + sizes::KIND_AT;
+    let at = slot_start(form, i) + sizes::KIND_AT;
     get_u16(store, at)
 }
 
 // The version that slot i has at its left or right child, were it an inner record.
-pub fn child_version_at(store: &[u8], i: usize, right: bool) -> u32
-    requires { ⌜ SlotWithin i (now store) ⌝ }
-    ensures { λ r. ⌜ r ≡ kidOn right (slotIn i (now (store .entry))) .version ⌝ }
+pub fn child_version_at(form: Form, store: &[u8], i: usize, right: bool) -> u32
+    requires { ⌜ SlotWithin form i (now store) ⌝ }
+    ensures { λ r. ⌜ r ≡ kidOn right (slotIn form i (now (store .entry))) .version ⌝ }
 {
-    let at = sizes::HEADER_SIZE + sizes::SLOT_SIZE * i;
+    let at = slot_start(form, i);
     if right {
         return get_u32(store, at + sizes::RIGHT_AT);
     }
     get_u32(store, at + sizes::LEFT_AT)
 }
 
-// Writing slot i of a store writes its 120 bytes and nothing else.
+// The count that slot i has of the leaves at its left or right child; in the plain form there is none, which reads as 0.
+pub fn child_count_at(form: Form, store: &[u8], i: usize, right: bool) -> u32
+    requires { ⌜ SlotWithin form i (now store) ⌝ }
+    ensures { λ r. ⌜ r ≡ countOn right (countsIn (slotIn form i (now (store .entry)))) ⌝ }
+{
+    let at = slot_start(form, i);
+    match form {
+        Form::Plain => 0,
+        Form::Counted => {
+            if right {
+                return get_u32(store, at + sizes::RIGHT_COUNT_AT);
+            }
+            get_u32(store, at + sizes::LEFT_COUNT_AT)
+        }
+    }
+}
+
+// Writing slot i of a store writes its bytes and nothing else.
 pub fn put_leaf_at(
+    form: Form,
     store: &mut [u8],
     i: usize,
     place: Place,
@@ -122,15 +143,16 @@ pub fn put_leaf_at(
     retired: u32,
     grant: &[u8],
 )
-    requires { ⌜ (SlotWithin i (now store)) × Proper place × (length (now grant) ≡ grantSize) ⌝ }
-    ensures { λ _. ⌜ now (store .exit) ≡ withSlot i (used (recordOf (placeOf place) version retired (grantBody (now (grant .entry))))) (now (store .entry)) ⌝ }
+    requires { ⌜ (SlotWithin form i (now store)) × Proper place × (length (now grant) ≡ grantSize) ⌝ }
+    ensures { λ _. ⌜ now (store .exit) ≡ withSlot form i (used (recordOf (placeOf place) version retired (grantBody (now (grant .entry))) noTally)) (now (store .entry)) ⌝ }
 {
-    let start = sizes::HEADER_SIZE + sizes::SLOT_SIZE * i;
-    let end = start + sizes::SLOT_SIZE;
+    let start = slot_start(form, i);
+    let end = start + slot_size(form);
     put_leaf(&mut store[start..end], place, version, retired, grant);
 }
 
 pub fn put_inner_at(
+    form: Form,
     store: &mut [u8],
     i: usize,
     place: Place,
@@ -138,28 +160,39 @@ pub fn put_inner_at(
     retired: u32,
     left: Child,
     right: Child,
+    lefts: u32,
+    rights: u32,
 )
-    requires { ⌜ (SlotWithin i (now store)) × Proper place ⌝ }
-    ensures { λ _. ⌜ now (store .exit) ≡ withSlot i (used (recordOf (placeOf place) version retired (innerBody (childSays left) (childSays right)))) (now (store .entry)) ⌝ }
+    requires { ⌜ (SlotWithin form i (now store)) × Proper place ⌝ }
+    ensures { λ _. ⌜ now (store .exit) ≡ withSlot form i (used (recordOf (placeOf place) version retired (innerBody (childSays left) (childSays right)) (tally lefts rights))) (now (store .entry)) ⌝ }
 {
-    let start = sizes::HEADER_SIZE + sizes::SLOT_SIZE * i;
-    let end = start + sizes::SLOT_SIZE;
-    put_inner(&mut store[start..end], place, version, retired, left, right);
+    let start = slot_start(form, i);
+    let end = start + slot_size(form);
+    put_inner(
+        &mut store[start..end],
+        place,
+        version,
+        retired,
+        left,
+        right,
+        lefts,
+        rights,
+    );
 }
 
-pub fn clear_slot_at(store: &mut [u8], i: usize)
-    requires { ⌜ SlotWithin i (now store) ⌝ }
-    ensures { λ _. ⌜ now (store .exit) ≡ withSlot i free (now (store .entry)) ⌝ }
+pub fn clear_slot_at(form: Form, store: &mut [u8], i: usize)
+    requires { ⌜ SlotWithin form i (now store) ⌝ }
+    ensures { λ _. ⌜ now (store .exit) ≡ withSlot form i free (now (store .entry)) ⌝ }
 {
-    let start = sizes::HEADER_SIZE + sizes::SLOT_SIZE * i;
-    let end = start + sizes::SLOT_SIZE;
+    let start = slot_start(form, i);
+    let end = start + slot_size(form);
     clear_slot(&mut store[start..end]);
 }
 
-pub fn put_retired_at(store: &mut [u8], i: usize, since: u32)
-    requires { ⌜ SlotWithin i (now store) ⌝ }
-    ensures { λ _. ⌜ now (store .exit) ≡ withSince i since (now (store .entry)) ⌝ }
+pub fn put_retired_at(form: Form, store: &mut [u8], i: usize, since: u32)
+    requires { ⌜ SlotWithin form i (now store) ⌝ }
+    ensures { λ _. ⌜ now (store .exit) ≡ withSince form i since (now (store .entry)) ⌝ }
 {
-    let at = sizes::HEADER_SIZE + sizes::SLOT_SIZE * i + sizes::RETIRED_AT;
+    let at = slot_start(form, i) + sizes::RETIRED_AT;
     put_u32(store, at, since);
 }

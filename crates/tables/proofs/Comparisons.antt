@@ -198,13 +198,13 @@ module _ (leafHash innerHash : Bytes → Bytes → Bytes) where
       ∷ leafSlot (true ∷ false ∷ []) 16 0 (keyOf 144 0) (valueOf 2)
       ∷ leafSlot (true ∷ true ∷ []) 16 0 (keyOf 255 0) (valueOf 3)
       ∷ leafSlot (false ∷ []) 16 0 (keyOf 64 0) (valueOf 1)
-      ∷ innerSlot ([]) 9 11 1 h0 1 h1
-      ∷ innerSlot ([]) 11 12 1 h0 1 h1
+      ∷ innerSlot ([]) 9 11 1 h0 1 h1 1 1
+      ∷ innerSlot ([]) 11 12 1 h0 1 h1 1 1
       ∷ leafSlot (false ∷ []) 12 16 (keyOf 64 0) (valueOf 3)
       ∷ leafSlot (true ∷ []) 12 16 (keyOf 144 0) (valueOf 4)
-      ∷ innerSlot ([]) 12 16 12 h2 12 h3
-      ∷ innerSlot (true ∷ []) 16 0 16 h4 16 h5
-      ∷ innerSlot ([]) 16 0 16 h6 16 h7
+      ∷ innerSlot ([]) 12 16 12 h2 12 h3 1 1
+      ∷ innerSlot (true ∷ []) 16 0 16 h4 16 h5 1 1
+      ∷ innerSlot ([]) 16 0 16 h6 16 h7 1 2
       ∷ [])
 
   abbrev kept1 : Store
@@ -213,8 +213,8 @@ module _ (leafHash innerHash : Bytes → Bytes → Bytes) where
       (leafSlot ([]) 1 4 (keyOf 96 0) (valueOf 2)
       ∷ leafSlot (false ∷ false ∷ []) 4 0 (keyOf 8 0) (valueOf 1)
       ∷ leafSlot (false ∷ true ∷ []) 4 0 (keyOf 96 0) (valueOf 2)
-      ∷ innerSlot (false ∷ []) 4 0 4 h8 4 h9
-      ∷ innerSlot ([]) 4 0 4 h10 0 zeros
+      ∷ innerSlot (false ∷ []) 4 0 4 h8 4 h9 1 1
+      ∷ innerSlot ([]) 4 0 4 h10 0 zeros 2 0
       ∷ free
       ∷ free
       ∷ free
@@ -235,8 +235,8 @@ module _ (leafHash innerHash : Bytes → Bytes → Bytes) where
       ∷ leafSlot (true ∷ false ∷ []) 5 0 (keyOf 144 0) (valueOf 4)
       ∷ leafSlot (true ∷ true ∷ []) 5 0 (keyOf 254 0) (valueOf 2)
       ∷ leafSlot (false ∷ []) 5 0 (keyOf 64 0) (valueOf 1)
-      ∷ innerSlot (true ∷ []) 5 0 5 h3 5 h11
-      ∷ innerSlot ([]) 5 0 5 h6 5 h12
+      ∷ innerSlot (true ∷ []) 5 0 5 h3 5 h11 1 1
+      ∷ innerSlot ([]) 5 0 5 h6 5 h12 1 2
       ∷ free
       ∷ free
       ∷ free
@@ -283,15 +283,15 @@ module _ (leafHash innerHash : Bytes → Bytes → Bytes) where
       storeOf 2 7
       (leafSlot (false ∷ false ∷ false ∷ false ∷ []) 4 5 (keyOf 8 0) (valueOf 2)
       ∷ leafSlot (false ∷ false ∷ false ∷ true ∷ []) 4 7 (keyOf 16 0) (valueOf 2)
-      ∷ innerSlot (false ∷ false ∷ false ∷ []) 4 5 4 h13 4 h14
-      ∷ innerSlot (false ∷ false ∷ []) 4 5 4 h15 0 zeros
-      ∷ innerSlot (false ∷ []) 4 5 4 h16 0 zeros
-      ∷ innerSlot ([]) 4 5 4 h17 0 zeros
+      ∷ innerSlot (false ∷ false ∷ false ∷ []) 4 5 4 h13 4 h14 1 1
+      ∷ innerSlot (false ∷ false ∷ []) 4 5 4 h15 0 zeros 2 0
+      ∷ innerSlot (false ∷ []) 4 5 4 h16 0 zeros 2 0
+      ∷ innerSlot ([]) 4 5 4 h17 0 zeros 2 0
       ∷ leafSlot (false ∷ false ∷ false ∷ false ∷ []) 5 7 (keyOf 8 0) (valueOf 3)
-      ∷ innerSlot (false ∷ false ∷ false ∷ []) 5 7 5 h18 4 h14
-      ∷ innerSlot (false ∷ false ∷ []) 5 7 5 h19 0 zeros
-      ∷ innerSlot (false ∷ []) 5 7 5 h20 0 zeros
-      ∷ innerSlot ([]) 5 7 5 h21 0 zeros
+      ∷ innerSlot (false ∷ false ∷ false ∷ []) 5 7 5 h18 4 h14 1 1
+      ∷ innerSlot (false ∷ false ∷ []) 5 7 5 h19 0 zeros 2 0
+      ∷ innerSlot (false ∷ []) 5 7 5 h20 0 zeros 2 0
+      ∷ innerSlot ([]) 5 7 5 h21 0 zeros 2 0
       ∷ leafSlot ([]) 7 0 (keyOf 8 0) (valueOf 3)
       ∷ free
       ∷ free
@@ -363,7 +363,7 @@ module _ (leafHash innerHash : Bytes → Bytes → Bytes) where
       storeOf 6 16
       (leafSlot (false ∷ []) 15 16 (keyOf 16 0) (valueOf 3)
       ∷ leafSlot (true ∷ []) 15 16 (keyOf 128 0) (valueOf 2)
-      ∷ innerSlot ([]) 15 16 15 h22 15 h23
+      ∷ innerSlot ([]) 15 16 15 h22 15 h23 1 1
       ∷ leafSlot ([]) 16 0 (keyOf 16 0) (valueOf 3)
       ∷ [])
 
@@ -372,8 +372,8 @@ module _ (leafHash innerHash : Bytes → Bytes → Bytes) where
       storeOf 0 4
       (leafSlot (true ∷ false ∷ []) 3 4 (keyOf 144 0) (valueOf 2)
       ∷ leafSlot (true ∷ true ∷ []) 3 4 (keyOf 254 0) (valueOf 1)
-      ∷ innerSlot (true ∷ []) 3 4 3 h4 3 h24
-      ∷ innerSlot ([]) 3 4 0 zeros 3 h25
+      ∷ innerSlot (true ∷ []) 3 4 3 h4 3 h24 1 1
+      ∷ innerSlot ([]) 3 4 0 zeros 3 h25 0 2
       ∷ [])
 
   abbrev kept10 : Store
@@ -381,16 +381,16 @@ module _ (leafHash innerHash : Bytes → Bytes → Bytes) where
       storeOf 0 12
       (leafSlot (false ∷ false ∷ []) 4 0 (keyOf 16 0) (valueOf 3)
       ∷ leafSlot (false ∷ true ∷ []) 4 0 (keyOf 64 0) (valueOf 4)
-      ∷ innerSlot (false ∷ []) 4 0 4 h22 4 h26
+      ∷ innerSlot (false ∷ []) 4 0 4 h22 4 h26 1 1
       ∷ leafSlot (true ∷ []) 4 6 (keyOf 144 0) (valueOf 1)
-      ∷ innerSlot ([]) 4 5 4 h27 4 h28
-      ∷ innerSlot ([]) 5 6 4 h27 4 h28
+      ∷ innerSlot ([]) 4 5 4 h27 4 h28 2 1
+      ∷ innerSlot ([]) 5 6 4 h27 4 h28 2 1
       ∷ leafSlot (true ∷ false ∷ []) 6 0 (keyOf 144 0) (valueOf 1)
       ∷ leafSlot (true ∷ true ∷ []) 6 0 (keyOf 192 0) (valueOf 1)
-      ∷ innerSlot (true ∷ []) 6 0 6 h28 6 h29
-      ∷ innerSlot ([]) 6 10 4 h27 6 h30
-      ∷ innerSlot ([]) 10 12 4 h27 6 h30
-      ∷ innerSlot ([]) 12 0 4 h27 6 h30
+      ∷ innerSlot (true ∷ []) 6 0 6 h28 6 h29 1 1
+      ∷ innerSlot ([]) 6 10 4 h27 6 h30 2 2
+      ∷ innerSlot ([]) 10 12 4 h27 6 h30 2 2
+      ∷ innerSlot ([]) 12 0 4 h27 6 h30 2 2
       ∷ [])
 
   abbrev kept11 : Store
@@ -552,10 +552,10 @@ module _ (leafHash innerHash : Bytes → Bytes → Bytes) where
       storeOf 0 10
       (leafSlot (false ∷ []) 1 5 (keyOf 16 0) (valueOf 1)
       ∷ leafSlot (true ∷ []) 1 4 (keyOf 144 0) (valueOf 3)
-      ∷ innerSlot ([]) 1 2 1 h31 1 h1
-      ∷ innerSlot ([]) 2 4 1 h31 1 h1
+      ∷ innerSlot ([]) 1 2 1 h31 1 h1 1 1
+      ∷ innerSlot ([]) 2 4 1 h31 1 h1 1 1
       ∷ leafSlot (true ∷ []) 4 5 (keyOf 144 0) (valueOf 4)
-      ∷ innerSlot ([]) 4 5 1 h31 4 h3
+      ∷ innerSlot ([]) 4 5 1 h31 4 h3 1 1
       ∷ leafSlot ([]) 5 9 (keyOf 144 0) (valueOf 4)
       ∷ leafSlot ([]) 9 10 (keyOf 144 0) (valueOf 1)
       ∷ leafSlot ([]) 10 0 (keyOf 144 0) (valueOf 1)
@@ -591,7 +591,7 @@ module _ (leafHash innerHash : Bytes → Bytes → Bytes) where
       (leafSlot ([]) 4294967294 4294967295 (keyOf 192 0) (valueOf 4)
       ∷ leafSlot (false ∷ []) 4294967295 0 (keyOf 16 0) (valueOf 4)
       ∷ leafSlot (true ∷ []) 4294967295 0 (keyOf 192 0) (valueOf 3)
-      ∷ innerSlot ([]) 4294967295 0 4294967295 h32 4294967295 h33
+      ∷ innerSlot ([]) 4294967295 0 4294967295 h32 4294967295 h33 1 1
       ∷ [])
 
   abbrev kept20 : Store
@@ -631,7 +631,7 @@ module _ (leafHash innerHash : Bytes → Bytes → Bytes) where
       (leafSlot ([]) 1 5 (keyOf 16 0) (valueOf 4)
       ∷ leafSlot (false ∷ []) 5 0 (keyOf 16 0) (valueOf 4)
       ∷ leafSlot (true ∷ []) 5 0 (keyOf 128 0) (valueOf 3)
-      ∷ innerSlot ([]) 5 0 5 h32 5 h34
+      ∷ innerSlot ([]) 5 0 5 h32 5 h34 1 1
       ∷ free
       ∷ free
       ∷ free
@@ -642,12 +642,12 @@ module _ (leafHash innerHash : Bytes → Bytes → Bytes) where
   kept24 =
       storeOf 4 7
       (leafSlot (true ∷ false ∷ []) 4 0 (keyOf 144 0) (valueOf 3)
-      ∷ innerSlot ([]) 6 7 4 h35 4 h37
+      ∷ innerSlot ([]) 6 7 4 h35 4 h37 1 2
       ∷ leafSlot (true ∷ true ∷ []) 4 0 (keyOf 254 0) (valueOf 4)
       ∷ leafSlot (false ∷ []) 4 0 (keyOf 96 0) (valueOf 3)
-      ∷ innerSlot (true ∷ []) 4 0 4 h1 4 h36
-      ∷ innerSlot ([]) 4 6 4 h35 4 h37
-      ∷ innerSlot ([]) 7 0 4 h35 4 h37
+      ∷ innerSlot (true ∷ []) 4 0 4 h1 4 h36 1 1
+      ∷ innerSlot ([]) 4 6 4 h35 4 h37 1 2
+      ∷ innerSlot ([]) 7 0 4 h35 4 h37 1 2
       ∷ free
       ∷ free
       ∷ free
@@ -672,10 +672,10 @@ module _ (leafHash innerHash : Bytes → Bytes → Bytes) where
       storeOf 2 8
       (leafSlot (false ∷ []) 6 8 (keyOf 8 0) (valueOf 1)
       ∷ leafSlot (true ∷ []) 6 0 (keyOf 144 0) (valueOf 4)
-      ∷ innerSlot ([]) 6 7 6 h8 6 h3
-      ∷ innerSlot ([]) 7 8 6 h8 6 h3
+      ∷ innerSlot ([]) 6 7 6 h8 6 h3 1 1
+      ∷ innerSlot ([]) 7 8 6 h8 6 h3 1 1
       ∷ leafSlot (false ∷ []) 8 0 (keyOf 8 0) (valueOf 3)
-      ∷ innerSlot ([]) 8 0 8 h18 6 h3
+      ∷ innerSlot ([]) 8 0 8 h18 6 h3 1 1
       ∷ free
       ∷ free
       ∷ free
@@ -732,12 +732,12 @@ module _ (leafHash innerHash : Bytes → Bytes → Bytes) where
       (leafSlot ([]) 1 2 (keyOf 104 0) (valueOf 2)
       ∷ leafSlot (false ∷ []) 2 4 (keyOf 104 0) (valueOf 2)
       ∷ leafSlot (true ∷ []) 2 3 (keyOf 144 0) (valueOf 2)
-      ∷ innerSlot ([]) 2 3 2 h38 2 h4
+      ∷ innerSlot ([]) 2 3 2 h38 2 h4 1 1
       ∷ leafSlot (true ∷ []) 3 4 (keyOf 128 0) (valueOf 1)
-      ∷ innerSlot ([]) 3 4 2 h38 3 h39
+      ∷ innerSlot ([]) 3 4 2 h38 3 h39 1 1
       ∷ leafSlot (false ∷ []) 4 0 (keyOf 104 0) (valueOf 4)
       ∷ leafSlot (true ∷ []) 4 0 (keyOf 128 0) (valueOf 2)
-      ∷ innerSlot ([]) 4 0 4 h40 4 h23
+      ∷ innerSlot ([]) 4 0 4 h40 4 h23 1 1
       ∷ free
       ∷ free
       ∷ free
@@ -752,7 +752,7 @@ module _ (leafHash innerHash : Bytes → Bytes → Bytes) where
       storeOf 0 4
       (leafSlot (false ∷ []) 3 4 (keyOf 96 0) (valueOf 1)
       ∷ leafSlot (true ∷ []) 3 4 (keyOf 128 0) (valueOf 2)
-      ∷ innerSlot ([]) 3 4 3 h41 3 h23
+      ∷ innerSlot ([]) 3 4 3 h41 3 h23 1 1
       ∷ leafSlot ([]) 4 0 (keyOf 128 0) (valueOf 2)
       ∷ free
       ∷ free
@@ -767,11 +767,11 @@ module _ (leafHash innerHash : Bytes → Bytes → Bytes) where
       ∷ leafSlot ([]) 4 9 (keyOf 64 0) (valueOf 2)
       ∷ leafSlot (false ∷ []) 9 12 (keyOf 64 0) (valueOf 2)
       ∷ leafSlot (true ∷ []) 9 0 (keyOf 192 0) (valueOf 4)
-      ∷ innerSlot ([]) 9 12 9 h0 9 h42
+      ∷ innerSlot ([]) 9 12 9 h0 9 h42 1 1
       ∷ leafSlot (false ∷ false ∷ []) 12 0 (keyOf 0 0) (valueOf 2)
       ∷ leafSlot (false ∷ true ∷ []) 12 0 (keyOf 64 0) (valueOf 2)
-      ∷ innerSlot (false ∷ []) 12 0 12 h43 12 h0
-      ∷ innerSlot ([]) 12 0 12 h44 9 h42
+      ∷ innerSlot (false ∷ []) 12 0 12 h43 12 h0 1 1
+      ∷ innerSlot ([]) 12 0 12 h44 9 h42 2 1
       ∷ free
       ∷ free
       ∷ free
@@ -800,12 +800,12 @@ module _ (leafHash innerHash : Bytes → Bytes → Bytes) where
       ∷ leafSlot ([]) 14 16 (keyOf 144 0) (valueOf 2)
       ∷ leafSlot (false ∷ []) 16 19 (keyOf 16 0) (valueOf 1)
       ∷ leafSlot (true ∷ []) 16 18 (keyOf 144 0) (valueOf 2)
-      ∷ innerSlot ([]) 16 18 16 h31 16 h4
+      ∷ innerSlot ([]) 16 18 16 h31 16 h4 1 1
       ∷ leafSlot (true ∷ false ∷ []) 18 0 (keyOf 144 0) (valueOf 2)
       ∷ leafSlot (true ∷ true ∷ []) 18 0 (keyOf 192 0) (valueOf 3)
-      ∷ innerSlot (true ∷ []) 18 0 18 h4 18 h33
-      ∷ innerSlot ([]) 18 19 16 h31 18 h45
-      ∷ innerSlot ([]) 19 0 0 zeros 18 h45
+      ∷ innerSlot (true ∷ []) 18 0 18 h4 18 h33 1 1
+      ∷ innerSlot ([]) 18 19 16 h31 18 h45 1 2
+      ∷ innerSlot ([]) 19 0 0 zeros 18 h45 0 2
       ∷ free
       ∷ free
       ∷ free
@@ -826,7 +826,7 @@ module _ (leafHash innerHash : Bytes → Bytes → Bytes) where
       ∷ leafSlot ([]) 2 3 (keyOf 192 0) (valueOf 1)
       ∷ leafSlot (false ∷ []) 3 0 (keyOf 0 0) (valueOf 3)
       ∷ leafSlot (true ∷ []) 3 0 (keyOf 192 0) (valueOf 2)
-      ∷ innerSlot ([]) 3 0 3 h46 3 h47
+      ∷ innerSlot ([]) 3 0 3 h46 3 h47 1 1
       ∷ free
       ∷ free
       ∷ free
@@ -856,15 +856,15 @@ module _ (leafHash innerHash : Bytes → Bytes → Bytes) where
       ∷ leafSlot ([]) 5 10 (keyOf 64 0) (valueOf 4)
       ∷ leafSlot (false ∷ true ∷ false ∷ []) 10 12 (keyOf 64 0) (valueOf 4)
       ∷ leafSlot (false ∷ true ∷ true ∷ []) 10 12 (keyOf 96 0) (valueOf 2)
-      ∷ innerSlot (false ∷ true ∷ []) 10 12 10 h26 10 h9
-      ∷ innerSlot (false ∷ []) 10 12 0 zeros 10 h48
-      ∷ innerSlot ([]) 10 11 10 h49 0 zeros
-      ∷ innerSlot ([]) 11 12 10 h49 0 zeros
+      ∷ innerSlot (false ∷ true ∷ []) 10 12 10 h26 10 h9 1 1
+      ∷ innerSlot (false ∷ []) 10 12 0 zeros 10 h48 0 2
+      ∷ innerSlot ([]) 10 11 10 h49 0 zeros 2 0
+      ∷ innerSlot ([]) 11 12 10 h49 0 zeros 2 0
       ∷ leafSlot (false ∷ true ∷ false ∷ []) 17 0 (keyOf 64 0) (valueOf 2)
       ∷ leafSlot (false ∷ true ∷ true ∷ []) 17 0 (keyOf 96 0) (valueOf 2)
-      ∷ innerSlot (false ∷ true ∷ []) 17 0 17 h0 17 h9
-      ∷ innerSlot (false ∷ []) 17 0 0 zeros 17 h50
-      ∷ innerSlot ([]) 17 0 17 h51 0 zeros
+      ∷ innerSlot (false ∷ true ∷ []) 17 0 17 h0 17 h9 1 1
+      ∷ innerSlot (false ∷ []) 17 0 0 zeros 17 h50 0 2
+      ∷ innerSlot ([]) 17 0 17 h51 0 zeros 2 0
       ∷ free
       ∷ free
       ∷ free
@@ -875,11 +875,11 @@ module _ (leafHash innerHash : Bytes → Bytes → Bytes) where
       storeOf 2 6
       (leafSlot (true ∷ true ∷ false ∷ []) 4 0 (keyOf 192 0) (valueOf 4)
       ∷ leafSlot (true ∷ true ∷ true ∷ []) 4 0 (keyOf 255 0) (valueOf 4)
-      ∷ innerSlot (true ∷ true ∷ []) 4 0 4 h42 4 h52
-      ∷ innerSlot (true ∷ []) 4 0 0 zeros 4 h53
-      ∷ innerSlot ([]) 4 5 0 zeros 4 h54
-      ∷ innerSlot ([]) 5 6 0 zeros 4 h54
-      ∷ innerSlot ([]) 6 0 0 zeros 4 h54
+      ∷ innerSlot (true ∷ true ∷ []) 4 0 4 h42 4 h52 1 1
+      ∷ innerSlot (true ∷ []) 4 0 0 zeros 4 h53 0 2
+      ∷ innerSlot ([]) 4 5 0 zeros 4 h54 0 2
+      ∷ innerSlot ([]) 5 6 0 zeros 4 h54 0 2
+      ∷ innerSlot ([]) 6 0 0 zeros 4 h54 0 2
       ∷ free
       ∷ [])
 
@@ -891,9 +891,9 @@ module _ (leafHash innerHash : Bytes → Bytes → Bytes) where
       ∷ leafSlot (false ∷ true ∷ false ∷ []) 17 0 (keyOf 64 0) (valueOf 2)
       ∷ leafSlot (false ∷ true ∷ true ∷ []) 17 0 (keyOf 96 0) (valueOf 3)
       ∷ leafSlot (false ∷ false ∷ []) 17 0 (keyOf 0 0) (valueOf 1)
-      ∷ innerSlot (false ∷ true ∷ []) 17 0 17 h0 17 h35
-      ∷ innerSlot (false ∷ []) 17 0 17 h55 17 h56
-      ∷ innerSlot ([]) 17 0 17 h57 0 zeros
+      ∷ innerSlot (false ∷ true ∷ []) 17 0 17 h0 17 h35 1 1
+      ∷ innerSlot (false ∷ []) 17 0 17 h55 17 h56 1 2
+      ∷ innerSlot ([]) 17 0 17 h57 0 zeros 3 0
       ∷ free
       ∷ free
       ∷ free

@@ -316,9 +316,9 @@ module _ (leafHash innerHash : Bytes → Bytes → Bytes) where
       ∷ leafSlot ([]) 6 7 (keyOf 64 0) (valueOf 1)
       ∷ leafSlot (false ∷ []) 7 0 (keyOf 64 0) (valueOf 1)
       ∷ leafSlot (true ∷ []) 7 10 (keyOf 192 0) (valueOf 3)
-      ∷ innerSlot ([]) 7 10 7 h0 7 h1
+      ∷ innerSlot ([]) 7 10 7 h0 7 h1 1 1
       ∷ leafSlot (true ∷ []) 10 0 (keyOf 192 0) (valueOf 4)
-      ∷ innerSlot ([]) 10 0 7 h0 10 h2
+      ∷ innerSlot ([]) 10 0 7 h0 10 h2 1 1
       ∷ free
       ∷ free
       ∷ free
@@ -351,7 +351,7 @@ module _ (leafHash innerHash : Bytes → Bytes → Bytes) where
       (leafSlot ([]) 7 11 (keyOf 8 0) (valueOf 3)
       ∷ leafSlot (false ∷ []) 11 14 (keyOf 8 0) (valueOf 3)
       ∷ leafSlot (true ∷ []) 11 14 (keyOf 255 0) (valueOf 2)
-      ∷ innerSlot ([]) 11 14 11 h6 11 h7
+      ∷ innerSlot ([]) 11 14 11 h6 11 h7 1 1
       ∷ leafSlot ([]) 14 0 (keyOf 255 0) (valueOf 2)
       ∷ free
       ∷ free
@@ -366,7 +366,7 @@ module _ (leafHash innerHash : Bytes → Bytes → Bytes) where
       ∷ free
       ∷ leafSlot (false ∷ []) 4294967295 0 (keyOf 16 0) (valueOf 3)
       ∷ leafSlot (true ∷ []) 4294967295 0 (keyOf 144 0) (valueOf 3)
-      ∷ innerSlot ([]) 4294967295 0 4294967295 h9 4294967295 h10
+      ∷ innerSlot ([]) 4294967295 0 4294967295 h9 4294967295 h10 1 1
       ∷ free
       ∷ free
       ∷ [])
@@ -377,11 +377,11 @@ module _ (leafHash innerHash : Bytes → Bytes → Bytes) where
       (leafSlot (true ∷ false ∷ []) 1 0 (keyOf 144 0) (valueOf 1)
       ∷ leafSlot (true ∷ true ∷ []) 1 2 (keyOf 254 0) (valueOf 3)
       ∷ leafSlot (false ∷ []) 1 0 (keyOf 96 0) (valueOf 1)
-      ∷ innerSlot (true ∷ []) 1 2 1 h12 1 h15
-      ∷ innerSlot ([]) 1 2 1 h16 1 h17
+      ∷ innerSlot (true ∷ []) 1 2 1 h12 1 h15 1 1
+      ∷ innerSlot ([]) 1 2 1 h16 1 h17 1 2
       ∷ leafSlot (true ∷ true ∷ []) 2 0 (keyOf 254 0) (valueOf 4)
-      ∷ innerSlot (true ∷ []) 2 0 1 h12 2 h18
-      ∷ innerSlot ([]) 2 0 1 h16 2 h19
+      ∷ innerSlot (true ∷ []) 2 0 1 h12 2 h18 1 1
+      ∷ innerSlot ([]) 2 0 1 h16 2 h19 1 2
       ∷ [])
 
   abbrev end5 : Store
@@ -389,9 +389,9 @@ module _ (leafHash innerHash : Bytes → Bytes → Bytes) where
       storeOf 0 2
       (leafSlot (false ∷ []) 1 0 (keyOf 64 0) (valueOf 4)
       ∷ leafSlot (true ∷ []) 1 2 (keyOf 255 0) (valueOf 2)
-      ∷ innerSlot ([]) 1 2 1 h22 1 h7
+      ∷ innerSlot ([]) 1 2 1 h22 1 h7 1 1
       ∷ leafSlot (true ∷ []) 2 0 (keyOf 255 0) (valueOf 4)
-      ∷ innerSlot ([]) 2 0 1 h22 2 h23
+      ∷ innerSlot ([]) 2 0 1 h22 2 h23 1 1
       ∷ free
       ∷ free
       ∷ free
@@ -403,8 +403,8 @@ module _ (leafHash innerHash : Bytes → Bytes → Bytes) where
       (leafSlot ([]) 10 14 (keyOf 254 0) (valueOf 3)
       ∷ leafSlot (true ∷ false ∷ []) 14 0 (keyOf 128 0) (valueOf 1)
       ∷ leafSlot (true ∷ true ∷ []) 14 0 (keyOf 254 0) (valueOf 3)
-      ∷ innerSlot (true ∷ []) 14 0 14 h26 14 h15
-      ∷ innerSlot ([]) 14 0 0 zeros 14 h27
+      ∷ innerSlot (true ∷ []) 14 0 14 h26 14 h15 1 1
+      ∷ innerSlot ([]) 14 0 0 zeros 14 h27 0 2
       ∷ free
       ∷ free
       ∷ free
@@ -416,7 +416,7 @@ module _ (leafHash innerHash : Bytes → Bytes → Bytes) where
       (leafSlot (false ∷ []) 4294967294 0 (keyOf 64 0) (valueOf 4)
       ∷ leafSlot (true ∷ []) 4294967294 0 (keyOf 128 0) (valueOf 2)
       ∷ free
-      ∷ innerSlot ([]) 4294967295 0 4294967294 h22 4294967294 h29
+      ∷ innerSlot ([]) 4294967295 0 4294967294 h22 4294967294 h29 1 1
       ∷ [])
 
   abbrev end8 : Store
@@ -442,15 +442,15 @@ module _ (leafHash innerHash : Bytes → Bytes → Bytes) where
       (leafSlot (false ∷ true ∷ false ∷ []) 5 14 (keyOf 64 0) (valueOf 1)
       ∷ leafSlot (false ∷ true ∷ true ∷ []) 5 14 (keyOf 96 0) (valueOf 3)
       ∷ leafSlot (false ∷ false ∷ []) 5 14 (keyOf 0 0) (valueOf 1)
-      ∷ innerSlot (false ∷ true ∷ []) 5 14 5 h0 5 h31
-      ∷ innerSlot (false ∷ []) 5 14 5 h32 5 h33
+      ∷ innerSlot (false ∷ true ∷ []) 5 14 5 h0 5 h31 1 1
+      ∷ innerSlot (false ∷ []) 5 14 5 h32 5 h33 1 2
       ∷ leafSlot (true ∷ []) 5 9 (keyOf 144 0) (valueOf 3)
-      ∷ innerSlot ([]) 5 9 5 h34 5 h10
-      ∷ innerSlot ([]) 9 14 5 h34 0 zeros
+      ∷ innerSlot ([]) 5 9 5 h34 5 h10 3 1
+      ∷ innerSlot ([]) 9 14 5 h34 0 zeros 3 0
       ∷ leafSlot ([]) 14 15 (keyOf 0 0) (valueOf 4)
       ∷ leafSlot (false ∷ []) 15 0 (keyOf 0 0) (valueOf 4)
       ∷ leafSlot (true ∷ []) 15 0 (keyOf 254 0) (valueOf 2)
-      ∷ innerSlot ([]) 15 0 15 h35 15 h36
+      ∷ innerSlot ([]) 15 0 15 h35 15 h36 1 1
       ∷ [])
 
   abbrev end10 : Store
@@ -479,20 +479,20 @@ module _ (leafHash innerHash : Bytes → Bytes → Bytes) where
       storeOf 0 7
       (leafSlot (false ∷ true ∷ false ∷ []) 3 7 (keyOf 64 0) (valueOf 3)
       ∷ leafSlot (false ∷ true ∷ true ∷ []) 3 0 (keyOf 104 0) (valueOf 3)
-      ∷ innerSlot (false ∷ true ∷ []) 3 7 3 h40 3 h41
-      ∷ innerSlot (false ∷ []) 3 7 0 zeros 3 h42
+      ∷ innerSlot (false ∷ true ∷ []) 3 7 3 h40 3 h41 1 1
+      ∷ innerSlot (false ∷ []) 3 7 0 zeros 3 h42 0 2
       ∷ leafSlot (true ∷ []) 3 6 (keyOf 128 0) (valueOf 3)
-      ∷ innerSlot ([]) 3 4 3 h43 3 h44
-      ∷ innerSlot ([]) 4 6 3 h43 3 h44
+      ∷ innerSlot ([]) 3 4 3 h43 3 h44 2 1
+      ∷ innerSlot ([]) 4 6 3 h43 3 h44 2 1
       ∷ leafSlot (true ∷ []) 6 7 (keyOf 128 0) (valueOf 4)
-      ∷ innerSlot ([]) 6 7 3 h43 6 h45
+      ∷ innerSlot ([]) 6 7 3 h43 6 h45 2 1
       ∷ leafSlot (false ∷ true ∷ false ∷ []) 7 0 (keyOf 64 0) (valueOf 2)
-      ∷ innerSlot (false ∷ true ∷ []) 7 0 7 h46 3 h41
+      ∷ innerSlot (false ∷ true ∷ []) 7 0 7 h46 3 h41 1 1
       ∷ leafSlot (true ∷ false ∷ []) 7 0 (keyOf 128 0) (valueOf 4)
       ∷ leafSlot (true ∷ true ∷ []) 7 0 (keyOf 255 0) (valueOf 2)
-      ∷ innerSlot (false ∷ []) 7 0 0 zeros 7 h47
-      ∷ innerSlot (true ∷ []) 7 0 7 h45 7 h7
-      ∷ innerSlot ([]) 7 0 7 h48 7 h49
+      ∷ innerSlot (false ∷ []) 7 0 0 zeros 7 h47 0 2
+      ∷ innerSlot (true ∷ []) 7 0 7 h45 7 h7 1 1
+      ∷ innerSlot ([]) 7 0 7 h48 7 h49 2 2
       ∷ [])
 
   abbrev end12 : Store
@@ -511,23 +511,23 @@ module _ (leafHash innerHash : Bytes → Bytes → Bytes) where
   abbrev end13 : Store
   end13 =
       storeOf 13 18
-      (innerSlot ([]) 18 0 14 h55 9 h56
+      (innerSlot ([]) 18 0 14 h55 9 h56 2 1
       ∷ free
       ∷ free
       ∷ free
       ∷ free
       ∷ leafSlot (false ∷ false ∷ false ∷ false ∷ []) 9 14 (keyOf 8 0) (valueOf 3)
       ∷ leafSlot (false ∷ false ∷ false ∷ true ∷ []) 9 0 (keyOf 16 0) (valueOf 2)
-      ∷ innerSlot (false ∷ false ∷ false ∷ []) 9 14 9 h6 9 h11
-      ∷ innerSlot (false ∷ false ∷ []) 9 14 9 h57 0 zeros
-      ∷ innerSlot (false ∷ []) 9 14 9 h58 0 zeros
+      ∷ innerSlot (false ∷ false ∷ false ∷ []) 9 14 9 h6 9 h11 1 1
+      ∷ innerSlot (false ∷ false ∷ []) 9 14 9 h57 0 zeros 2 0
+      ∷ innerSlot (false ∷ []) 9 14 9 h58 0 zeros 2 0
       ∷ leafSlot (true ∷ []) 9 0 (keyOf 254 0) (valueOf 1)
-      ∷ innerSlot ([]) 9 14 9 h59 9 h56
+      ∷ innerSlot ([]) 9 14 9 h59 9 h56 2 1
       ∷ leafSlot (false ∷ false ∷ false ∷ false ∷ []) 14 0 (keyOf 0 0) (valueOf 1)
-      ∷ innerSlot (false ∷ false ∷ false ∷ []) 14 0 14 h32 9 h11
-      ∷ innerSlot (false ∷ false ∷ []) 14 0 14 h53 0 zeros
-      ∷ innerSlot (false ∷ []) 14 0 14 h54 0 zeros
-      ∷ innerSlot ([]) 14 18 14 h55 9 h56
+      ∷ innerSlot (false ∷ false ∷ false ∷ []) 14 0 14 h32 9 h11 1 1
+      ∷ innerSlot (false ∷ false ∷ []) 14 0 14 h53 0 zeros 2 0
+      ∷ innerSlot (false ∷ []) 14 0 14 h54 0 zeros 2 0
+      ∷ innerSlot ([]) 14 18 14 h55 9 h56 2 1
       ∷ free
       ∷ free
       ∷ free
@@ -540,16 +540,16 @@ module _ (leafHash innerHash : Bytes → Bytes → Bytes) where
   abbrev end14 : Store
   end14 =
       storeOf 2 7
-      (innerSlot (true ∷ []) 7 0 0 zeros 2 h64
+      (innerSlot (true ∷ []) 7 0 0 zeros 2 h64 0 2
       ∷ leafSlot (true ∷ true ∷ false ∷ []) 2 0 (keyOf 192 0) (valueOf 4)
       ∷ leafSlot (true ∷ true ∷ true ∷ []) 2 0 (keyOf 255 0) (valueOf 2)
       ∷ leafSlot (true ∷ false ∷ []) 2 7 (keyOf 128 0) (valueOf 4)
-      ∷ innerSlot (true ∷ true ∷ []) 2 0 2 h2 2 h7
-      ∷ innerSlot (true ∷ []) 2 7 2 h45 2 h64
-      ∷ innerSlot ([]) 2 3 0 zeros 2 h65
-      ∷ innerSlot ([]) 3 4 0 zeros 2 h65
-      ∷ innerSlot ([]) 4 7 0 zeros 2 h65
-      ∷ innerSlot ([]) 7 0 0 zeros 7 h66
+      ∷ innerSlot (true ∷ true ∷ []) 2 0 2 h2 2 h7 1 1
+      ∷ innerSlot (true ∷ []) 2 7 2 h45 2 h64 1 2
+      ∷ innerSlot ([]) 2 3 0 zeros 2 h65 0 3
+      ∷ innerSlot ([]) 3 4 0 zeros 2 h65 0 3
+      ∷ innerSlot ([]) 4 7 0 zeros 2 h65 0 3
+      ∷ innerSlot ([]) 7 0 0 zeros 7 h66 0 2
       ∷ free
       ∷ free
       ∷ free
@@ -580,11 +580,11 @@ module _ (leafHash innerHash : Bytes → Bytes → Bytes) where
       storeOf 1 3
       (leafSlot (false ∷ false ∷ []) 2 3 (keyOf 16 0) (valueOf 1)
       ∷ leafSlot (false ∷ true ∷ []) 2 3 (keyOf 96 0) (valueOf 2)
-      ∷ innerSlot (false ∷ []) 2 3 2 h69 2 h70
+      ∷ innerSlot (false ∷ []) 2 3 2 h69 2 h70 1 1
       ∷ leafSlot (true ∷ []) 2 0 (keyOf 128 0) (valueOf 4)
-      ∷ innerSlot ([]) 2 3 2 h71 2 h45
+      ∷ innerSlot ([]) 2 3 2 h71 2 h45 2 1
       ∷ leafSlot (false ∷ []) 3 0 (keyOf 96 0) (valueOf 2)
-      ∷ innerSlot ([]) 3 0 3 h70 2 h45
+      ∷ innerSlot ([]) 3 0 3 h70 2 h45 1 1
       ∷ free
       ∷ [])
 
@@ -595,9 +595,9 @@ module _ (leafHash innerHash : Bytes → Bytes → Bytes) where
       ∷ leafSlot ([]) 4 9 (keyOf 96 0) (valueOf 1)
       ∷ leafSlot (false ∷ false ∷ []) 9 0 (keyOf 16 0) (valueOf 1)
       ∷ leafSlot (false ∷ true ∷ []) 9 0 (keyOf 96 0) (valueOf 3)
-      ∷ innerSlot (false ∷ []) 9 0 9 h69 9 h31
+      ∷ innerSlot (false ∷ []) 9 0 9 h69 9 h31 1 1
       ∷ leafSlot (true ∷ []) 9 0 (keyOf 255 0) (valueOf 3)
-      ∷ innerSlot ([]) 9 0 9 h74 9 h75
+      ∷ innerSlot ([]) 9 0 9 h74 9 h75 2 1
       ∷ free
       ∷ [])
 
@@ -647,8 +647,8 @@ module _ (leafHash innerHash : Bytes → Bytes → Bytes) where
       ∷ leafSlot ([]) 10 12 (keyOf 104 0) (valueOf 1)
       ∷ leafSlot (false ∷ []) 12 0 (keyOf 104 0) (valueOf 1)
       ∷ leafSlot (true ∷ []) 12 0 (keyOf 128 0) (valueOf 1)
-      ∷ innerSlot ([]) 12 13 12 h77 12 h26
-      ∷ innerSlot ([]) 13 0 12 h77 12 h26
+      ∷ innerSlot ([]) 12 13 12 h77 12 h26 1 1
+      ∷ innerSlot ([]) 13 0 12 h77 12 h26 1 1
       ∷ free
       ∷ free
       ∷ free
@@ -670,11 +670,11 @@ module _ (leafHash innerHash : Bytes → Bytes → Bytes) where
       storeOf 4294967293 4294967295
       (leafSlot (true ∷ false ∷ false ∷ false ∷ []) 4294967295 0 (keyOf 128 0) (valueOf 1)
       ∷ leafSlot (true ∷ false ∷ false ∷ true ∷ []) 4294967295 0 (keyOf 144 0) (valueOf 2)
-      ∷ innerSlot (true ∷ false ∷ false ∷ []) 4294967295 0 4294967295 h26 4294967295 h79
-      ∷ innerSlot (true ∷ false ∷ []) 4294967295 0 4294967295 h80 0 zeros
+      ∷ innerSlot (true ∷ false ∷ false ∷ []) 4294967295 0 4294967295 h26 4294967295 h79 1 1
+      ∷ innerSlot (true ∷ false ∷ []) 4294967295 0 4294967295 h80 0 zeros 2 0
       ∷ leafSlot (false ∷ []) 4294967295 0 (keyOf 64 0) (valueOf 4)
-      ∷ innerSlot (true ∷ []) 4294967295 0 4294967295 h81 0 zeros
-      ∷ innerSlot ([]) 4294967295 0 4294967295 h22 4294967295 h82
+      ∷ innerSlot (true ∷ []) 4294967295 0 4294967295 h81 0 zeros 2 0
+      ∷ innerSlot ([]) 4294967295 0 4294967295 h22 4294967295 h82 1 2
       ∷ free
       ∷ free
       ∷ free
@@ -693,10 +693,10 @@ module _ (leafHash innerHash : Bytes → Bytes → Bytes) where
       ∷ leafSlot ([]) 2 3 (keyOf 255 0) (valueOf 3)
       ∷ leafSlot (false ∷ []) 3 4 (keyOf 104 0) (valueOf 2)
       ∷ leafSlot (true ∷ []) 3 0 (keyOf 255 0) (valueOf 3)
-      ∷ innerSlot ([]) 3 4 3 h84 3 h75
+      ∷ innerSlot ([]) 3 4 3 h84 3 h75 1 1
       ∷ leafSlot (false ∷ []) 4 0 (keyOf 104 0) (valueOf 4)
-      ∷ innerSlot ([]) 4 6 4 h85 3 h75
-      ∷ innerSlot ([]) 6 0 4 h85 3 h75
+      ∷ innerSlot ([]) 4 6 4 h85 3 h75 1 1
+      ∷ innerSlot ([]) 6 0 4 h85 3 h75 1 1
       ∷ [])
 
   abbrev end24 : Store
@@ -760,14 +760,14 @@ module _ (leafHash innerHash : Bytes → Bytes → Bytes) where
       (free
       ∷ leafSlot (false ∷ []) 4 7 (keyOf 0 0) (valueOf 1)
       ∷ leafSlot (true ∷ []) 4 7 (keyOf 144 0) (valueOf 1)
-      ∷ innerSlot ([]) 4 6 4 h32 4 h12
-      ∷ innerSlot ([]) 6 7 4 h32 4 h12
+      ∷ innerSlot ([]) 4 6 4 h32 4 h12 1 1
+      ∷ innerSlot ([]) 6 7 4 h32 4 h12 1 1
       ∷ leafSlot (true ∷ false ∷ []) 7 0 (keyOf 144 0) (valueOf 1)
       ∷ leafSlot (true ∷ true ∷ []) 7 0 (keyOf 192 0) (valueOf 1)
-      ∷ innerSlot (true ∷ []) 7 0 7 h12 7 h89
-      ∷ innerSlot ([]) 7 8 0 zeros 7 h90
-      ∷ innerSlot ([]) 8 9 0 zeros 7 h90
-      ∷ innerSlot ([]) 9 0 0 zeros 7 h90
+      ∷ innerSlot (true ∷ []) 7 0 7 h12 7 h89 1 1
+      ∷ innerSlot ([]) 7 8 0 zeros 7 h90 0 2
+      ∷ innerSlot ([]) 8 9 0 zeros 7 h90 0 2
+      ∷ innerSlot ([]) 9 0 0 zeros 7 h90 0 2
       ∷ free
       ∷ [])
 
@@ -777,11 +777,11 @@ module _ (leafHash innerHash : Bytes → Bytes → Bytes) where
       (free
       ∷ leafSlot (false ∷ false ∷ []) 5 0 (keyOf 16 0) (valueOf 1)
       ∷ leafSlot (false ∷ true ∷ []) 5 0 (keyOf 64 0) (valueOf 1)
-      ∷ innerSlot (false ∷ []) 5 0 5 h69 5 h0
+      ∷ innerSlot (false ∷ []) 5 0 5 h69 5 h0 1 1
       ∷ free
-      ∷ innerSlot ([]) 10 14 5 h93 0 zeros
+      ∷ innerSlot ([]) 10 14 5 h93 0 zeros 2 0
       ∷ leafSlot (true ∷ []) 14 0 (keyOf 128 0) (valueOf 1)
-      ∷ innerSlot ([]) 14 0 5 h93 14 h26
+      ∷ innerSlot ([]) 14 0 5 h93 14 h26 2 1
       ∷ free
       ∷ free
       ∷ free
@@ -794,7 +794,7 @@ module _ (leafHash innerHash : Bytes → Bytes → Bytes) where
       (leafSlot ([]) 8 9 (keyOf 0 0) (valueOf 3)
       ∷ leafSlot (false ∷ []) 9 10 (keyOf 0 0) (valueOf 3)
       ∷ leafSlot (true ∷ []) 9 10 (keyOf 128 0) (valueOf 2)
-      ∷ innerSlot ([]) 9 10 9 h96 9 h29
+      ∷ innerSlot ([]) 9 10 9 h96 9 h29 1 1
       ∷ leafSlot ([]) 10 0 (keyOf 0 0) (valueOf 3)
       ∷ free
       ∷ free

@@ -267,8 +267,8 @@ module _ (leafHash innerHash : Bytes → Bytes → Bytes) where
       storeOf 14 18
       (leafSlot (false ∷ []) 12 18 (keyOf 0 0) (valueOf 3)
       ∷ leafSlot (true ∷ []) 12 18 (keyOf 128 0) (valueOf 1)
-      ∷ innerSlot ([]) 12 17 12 h0 12 h1
-      ∷ innerSlot ([]) 17 18 12 h0 12 h1
+      ∷ innerSlot ([]) 12 17 12 h0 12 h1 1 1
+      ∷ innerSlot ([]) 17 18 12 h0 12 h1 1 1
       ∷ leafSlot ([]) 18 0 (keyOf 128 0) (valueOf 1)
       ∷ free
       ∷ free
@@ -297,7 +297,7 @@ module _ (leafHash innerHash : Bytes → Bytes → Bytes) where
       (leafSlot ([]) 3 4 (keyOf 192 0) (valueOf 2)
       ∷ leafSlot (false ∷ []) 6 0 (keyOf 16 0) (valueOf 4)
       ∷ leafSlot (true ∷ []) 6 0 (keyOf 192 0) (valueOf 4)
-      ∷ innerSlot ([]) 6 0 6 h3 6 h4
+      ∷ innerSlot ([]) 6 0 6 h3 6 h4 1 1
       ∷ free
       ∷ free
       ∷ free
@@ -328,8 +328,8 @@ module _ (leafHash innerHash : Bytes → Bytes → Bytes) where
       ∷ leafSlot ([]) 7 8 (keyOf 64 0) (valueOf 1)
       ∷ leafSlot (false ∷ false ∷ []) 8 0 (keyOf 16 0) (valueOf 2)
       ∷ leafSlot (false ∷ true ∷ []) 8 0 (keyOf 64 0) (valueOf 1)
-      ∷ innerSlot (false ∷ []) 8 0 8 h7 8 h8
-      ∷ innerSlot ([]) 8 0 8 h9 0 zeros
+      ∷ innerSlot (false ∷ []) 8 0 8 h7 8 h8 1 1
+      ∷ innerSlot ([]) 8 0 8 h9 0 zeros 2 0
       ∷ free
       ∷ free
       ∷ free
@@ -376,10 +376,10 @@ module _ (leafHash innerHash : Bytes → Bytes → Bytes) where
       (leafSlot ([]) 5 9 (keyOf 128 0) (valueOf 3)
       ∷ leafSlot (false ∷ []) 9 10 (keyOf 8 0) (valueOf 3)
       ∷ leafSlot (true ∷ []) 9 14 (keyOf 128 0) (valueOf 3)
-      ∷ innerSlot ([]) 9 10 9 h11 9 h12
+      ∷ innerSlot ([]) 9 10 9 h11 9 h12 1 1
       ∷ leafSlot (false ∷ []) 10 14 (keyOf 16 0) (valueOf 1)
-      ∷ innerSlot ([]) 10 13 10 h13 9 h12
-      ∷ innerSlot ([]) 13 14 10 h13 9 h12
+      ∷ innerSlot ([]) 10 13 10 h13 9 h12 1 1
+      ∷ innerSlot ([]) 13 14 10 h13 9 h12 1 1
       ∷ leafSlot ([]) 14 0 (keyOf 128 0) (valueOf 3)
       ∷ free
       ∷ free
@@ -394,10 +394,10 @@ module _ (leafHash innerHash : Bytes → Bytes → Bytes) where
       ∷ leafSlot ([]) 2 3 (keyOf 0 0) (valueOf 1)
       ∷ leafSlot (false ∷ []) 3 0 (keyOf 0 0) (valueOf 1)
       ∷ leafSlot (true ∷ []) 3 0 (keyOf 128 0) (valueOf 3)
-      ∷ innerSlot ([]) 3 4 3 h16 3 h12
-      ∷ innerSlot ([]) 4 5 3 h16 3 h12
-      ∷ innerSlot ([]) 5 6 3 h16 3 h12
-      ∷ innerSlot ([]) 6 0 3 h16 3 h12
+      ∷ innerSlot ([]) 3 4 3 h16 3 h12 1 1
+      ∷ innerSlot ([]) 4 5 3 h16 3 h12 1 1
+      ∷ innerSlot ([]) 5 6 3 h16 3 h12 1 1
+      ∷ innerSlot ([]) 6 0 3 h16 3 h12 1 1
       ∷ free
       ∷ free
       ∷ free
@@ -419,16 +419,16 @@ module _ (leafHash innerHash : Bytes → Bytes → Bytes) where
       (leafSlot ([]) 3 4 (keyOf 8 0) (valueOf 1)
       ∷ leafSlot (false ∷ false ∷ false ∷ false ∷ []) 4 0 (keyOf 8 0) (valueOf 1)
       ∷ leafSlot (false ∷ false ∷ false ∷ true ∷ []) 4 5 (keyOf 16 0) (valueOf 1)
-      ∷ innerSlot (false ∷ false ∷ false ∷ []) 4 5 4 h19 4 h13
-      ∷ innerSlot (false ∷ false ∷ []) 4 5 4 h20 0 zeros
-      ∷ innerSlot (false ∷ []) 4 5 4 h21 0 zeros
-      ∷ innerSlot ([]) 4 5 4 h22 0 zeros
+      ∷ innerSlot (false ∷ false ∷ false ∷ []) 4 5 4 h19 4 h13 1 1
+      ∷ innerSlot (false ∷ false ∷ []) 4 5 4 h20 0 zeros 2 0
+      ∷ innerSlot (false ∷ []) 4 5 4 h21 0 zeros 2 0
+      ∷ innerSlot ([]) 4 5 4 h22 0 zeros 2 0
       ∷ leafSlot (false ∷ false ∷ false ∷ true ∷ []) 5 0 (keyOf 16 0) (valueOf 4)
-      ∷ innerSlot (false ∷ false ∷ false ∷ []) 5 0 4 h19 5 h3
-      ∷ innerSlot (false ∷ false ∷ []) 5 0 5 h23 0 zeros
-      ∷ innerSlot (false ∷ []) 5 0 5 h24 0 zeros
-      ∷ innerSlot ([]) 5 6 5 h25 0 zeros
-      ∷ innerSlot ([]) 6 0 5 h25 0 zeros
+      ∷ innerSlot (false ∷ false ∷ false ∷ []) 5 0 4 h19 5 h3 1 1
+      ∷ innerSlot (false ∷ false ∷ []) 5 0 5 h23 0 zeros 2 0
+      ∷ innerSlot (false ∷ []) 5 0 5 h24 0 zeros 2 0
+      ∷ innerSlot ([]) 5 6 5 h25 0 zeros 2 0
+      ∷ innerSlot ([]) 6 0 5 h25 0 zeros 2 0
       ∷ free
       ∷ free
       ∷ free
@@ -450,13 +450,13 @@ module _ (leafHash innerHash : Bytes → Bytes → Bytes) where
       ∷ leafSlot ([]) 5 10 (keyOf 104 0) (valueOf 2)
       ∷ leafSlot (false ∷ false ∷ []) 10 0 (keyOf 0 0) (valueOf 3)
       ∷ leafSlot (false ∷ true ∷ []) 10 15 (keyOf 104 0) (valueOf 2)
-      ∷ innerSlot (false ∷ []) 10 15 10 h0 10 h28
-      ∷ innerSlot ([]) 10 11 10 h29 0 zeros
-      ∷ innerSlot ([]) 11 15 10 h29 0 zeros
+      ∷ innerSlot (false ∷ []) 10 15 10 h0 10 h28 1 1
+      ∷ innerSlot ([]) 10 11 10 h29 0 zeros 2 0
+      ∷ innerSlot ([]) 11 15 10 h29 0 zeros 2 0
       ∷ leafSlot (false ∷ true ∷ []) 15 0 (keyOf 96 0) (valueOf 1)
-      ∷ innerSlot (false ∷ []) 15 0 10 h0 15 h30
-      ∷ innerSlot ([]) 15 20 15 h31 0 zeros
-      ∷ innerSlot ([]) 20 0 15 h31 0 zeros
+      ∷ innerSlot (false ∷ []) 15 0 10 h0 15 h30 1 1
+      ∷ innerSlot ([]) 15 20 15 h31 0 zeros 2 0
+      ∷ innerSlot ([]) 20 0 15 h31 0 zeros 2 0
       ∷ [])
 
   abbrev end9 : Store
@@ -464,7 +464,7 @@ module _ (leafHash innerHash : Bytes → Bytes → Bytes) where
       storeOf 4294967293 4294967295
       (leafSlot (false ∷ []) 4294967295 0 (keyOf 0 0) (valueOf 2)
       ∷ leafSlot (true ∷ []) 4294967295 0 (keyOf 192 0) (valueOf 3)
-      ∷ innerSlot ([]) 4294967295 0 4294967295 h34 4294967295 h35
+      ∷ innerSlot ([]) 4294967295 0 4294967295 h34 4294967295 h35 1 1
       ∷ free
       ∷ free
       ∷ free
@@ -481,7 +481,7 @@ module _ (leafHash innerHash : Bytes → Bytes → Bytes) where
       storeOf 4294967293 4294967295
       (leafSlot (false ∷ []) 4294967295 0 (keyOf 16 0) (valueOf 2)
       ∷ leafSlot (true ∷ []) 4294967295 0 (keyOf 128 0) (valueOf 2)
-      ∷ innerSlot ([]) 4294967295 0 4294967295 h7 4294967295 h37
+      ∷ innerSlot ([]) 4294967295 0 4294967295 h7 4294967295 h37 1 1
       ∷ free
       ∷ free
       ∷ free
@@ -502,12 +502,12 @@ module _ (leafHash innerHash : Bytes → Bytes → Bytes) where
       storeOf 1 9
       (leafSlot (false ∷ []) 3 4 (keyOf 96 0) (valueOf 3)
       ∷ leafSlot (true ∷ []) 3 8 (keyOf 144 0) (valueOf 1)
-      ∷ innerSlot ([]) 3 4 3 h39 3 h40
+      ∷ innerSlot ([]) 3 4 3 h39 3 h40 1 1
       ∷ leafSlot (false ∷ false ∷ []) 4 9 (keyOf 16 0) (valueOf 3)
       ∷ leafSlot (false ∷ true ∷ []) 4 9 (keyOf 96 0) (valueOf 3)
-      ∷ innerSlot (false ∷ []) 4 9 4 h41 4 h39
-      ∷ innerSlot ([]) 4 8 4 h42 3 h40
-      ∷ innerSlot ([]) 8 9 4 h42 0 zeros
+      ∷ innerSlot (false ∷ []) 4 9 4 h41 4 h39 1 1
+      ∷ innerSlot ([]) 4 8 4 h42 3 h40 2 1
+      ∷ innerSlot ([]) 8 9 4 h42 0 zeros 2 0
       ∷ leafSlot ([]) 9 0 (keyOf 8 0) (valueOf 1)
       ∷ free
       ∷ free
@@ -532,11 +532,11 @@ module _ (leafHash innerHash : Bytes → Bytes → Bytes) where
       (leafSlot (false ∷ []) 7 8 (keyOf 96 0) (valueOf 2)
       ∷ leafSlot (true ∷ false ∷ []) 6 0 (keyOf 144 0) (valueOf 4)
       ∷ leafSlot (true ∷ true ∷ []) 6 0 (keyOf 255 0) (valueOf 2)
-      ∷ innerSlot (true ∷ []) 6 0 6 h46 6 h47
-      ∷ innerSlot ([]) 6 7 0 zeros 6 h48
-      ∷ innerSlot ([]) 7 8 7 h49 6 h48
+      ∷ innerSlot (true ∷ []) 6 0 6 h46 6 h47 1 1
+      ∷ innerSlot ([]) 6 7 0 zeros 6 h48 0 2
+      ∷ innerSlot ([]) 7 8 7 h49 6 h48 1 2
       ∷ leafSlot (false ∷ []) 8 0 (keyOf 96 0) (valueOf 4)
-      ∷ innerSlot ([]) 8 0 8 h50 6 h48
+      ∷ innerSlot ([]) 8 0 8 h50 6 h48 1 2
       ∷ [])
 
   abbrev end13 : Store
@@ -557,8 +557,8 @@ module _ (leafHash innerHash : Bytes → Bytes → Bytes) where
       storeOf 0 6
       (leafSlot (false ∷ []) 1 0 (keyOf 64 0) (valueOf 3)
       ∷ leafSlot (true ∷ []) 1 0 (keyOf 144 0) (valueOf 4)
-      ∷ innerSlot ([]) 1 6 1 h55 1 h46
-      ∷ innerSlot ([]) 6 0 1 h55 1 h46
+      ∷ innerSlot ([]) 1 6 1 h55 1 h46 1 1
+      ∷ innerSlot ([]) 6 0 1 h55 1 h46 1 1
       ∷ [])
 
   abbrev end15 : Store
@@ -568,11 +568,11 @@ module _ (leafHash innerHash : Bytes → Bytes → Bytes) where
       ∷ leafSlot ([]) 2 4 (keyOf 96 0) (valueOf 3)
       ∷ leafSlot (false ∷ true ∷ true ∷ false ∷ false ∷ []) 4 9 (keyOf 96 0) (valueOf 3)
       ∷ leafSlot (false ∷ true ∷ true ∷ false ∷ true ∷ []) 4 9 (keyOf 104 0) (valueOf 1)
-      ∷ innerSlot (false ∷ true ∷ true ∷ false ∷ []) 4 9 4 h39 4 h57
-      ∷ innerSlot (false ∷ true ∷ true ∷ []) 4 9 4 h58 0 zeros
-      ∷ innerSlot (false ∷ true ∷ []) 4 9 0 zeros 4 h59
-      ∷ innerSlot (false ∷ []) 4 9 0 zeros 4 h60
-      ∷ innerSlot ([]) 4 9 4 h61 0 zeros
+      ∷ innerSlot (false ∷ true ∷ true ∷ false ∷ []) 4 9 4 h39 4 h57 1 1
+      ∷ innerSlot (false ∷ true ∷ true ∷ []) 4 9 4 h58 0 zeros 2 0
+      ∷ innerSlot (false ∷ true ∷ []) 4 9 0 zeros 4 h59 0 2
+      ∷ innerSlot (false ∷ []) 4 9 0 zeros 4 h60 0 2
+      ∷ innerSlot ([]) 4 9 4 h61 0 zeros 2 0
       ∷ leafSlot ([]) 9 10 (keyOf 96 0) (valueOf 3)
       ∷ leafSlot ([]) 10 0 (keyOf 96 0) (valueOf 3)
       ∷ free
@@ -664,8 +664,8 @@ module _ (leafHash innerHash : Bytes → Bytes → Bytes) where
       (leafSlot ([]) 2 6 (keyOf 16 0) (valueOf 1)
       ∷ leafSlot (false ∷ false ∷ []) 6 0 (keyOf 16 0) (valueOf 1)
       ∷ leafSlot (false ∷ true ∷ []) 6 0 (keyOf 104 0) (valueOf 3)
-      ∷ innerSlot (false ∷ []) 6 0 6 h13 6 h64
-      ∷ innerSlot ([]) 6 0 6 h65 0 zeros
+      ∷ innerSlot (false ∷ []) 6 0 6 h13 6 h64 1 1
+      ∷ innerSlot ([]) 6 0 6 h65 0 zeros 2 0
       ∷ free
       ∷ free
       ∷ free
@@ -736,9 +736,9 @@ module _ (leafHash innerHash : Bytes → Bytes → Bytes) where
       ∷ leafSlot ([]) 2 3 (keyOf 0 0) (valueOf 3)
       ∷ leafSlot (false ∷ false ∷ []) 3 0 (keyOf 0 0) (valueOf 3)
       ∷ leafSlot (false ∷ true ∷ []) 3 0 (keyOf 96 0) (valueOf 2)
-      ∷ innerSlot (false ∷ []) 3 0 3 h0 3 h49
+      ∷ innerSlot (false ∷ []) 3 0 3 h0 3 h49 1 1
       ∷ leafSlot (true ∷ []) 3 0 (keyOf 254 0) (valueOf 3)
-      ∷ innerSlot ([]) 3 0 3 h68 3 h69
+      ∷ innerSlot ([]) 3 0 3 h68 3 h69 2 1
       ∷ free
       ∷ free
       ∷ free
@@ -755,8 +755,8 @@ module _ (leafHash innerHash : Bytes → Bytes → Bytes) where
       ∷ free
       ∷ leafSlot (false ∷ false ∷ []) 7 0 (keyOf 0 0) (valueOf 4)
       ∷ leafSlot (false ∷ true ∷ []) 7 0 (keyOf 104 0) (valueOf 2)
-      ∷ innerSlot (false ∷ []) 7 0 7 h71 7 h28
-      ∷ innerSlot ([]) 7 0 7 h72 3 h73
+      ∷ innerSlot (false ∷ []) 7 0 7 h71 7 h28 1 1
+      ∷ innerSlot ([]) 7 0 7 h72 3 h73 2 1
       ∷ free
       ∷ free
       ∷ free
@@ -772,8 +772,8 @@ module _ (leafHash innerHash : Bytes → Bytes → Bytes) where
       storeOf 0 5
       (leafSlot (false ∷ []) 1 3 (keyOf 0 0) (valueOf 4)
       ∷ leafSlot (true ∷ []) 1 3 (keyOf 255 0) (valueOf 3)
-      ∷ innerSlot ([]) 1 2 1 h71 1 h76
-      ∷ innerSlot ([]) 2 3 1 h71 1 h76
+      ∷ innerSlot ([]) 1 2 1 h71 1 h76 1 1
+      ∷ innerSlot ([]) 2 3 1 h71 1 h76 1 1
       ∷ [])
 
   abbrev end26 : Store
@@ -798,12 +798,12 @@ module _ (leafHash innerHash : Bytes → Bytes → Bytes) where
       storeOf 0 11
       (leafSlot (false ∷ false ∷ false ∷ false ∷ false ∷ []) 2 11 (keyOf 0 0) (valueOf 1)
       ∷ leafSlot (false ∷ false ∷ false ∷ false ∷ true ∷ []) 2 11 (keyOf 8 0) (valueOf 1)
-      ∷ innerSlot (false ∷ false ∷ false ∷ false ∷ []) 2 11 2 h16 2 h19
-      ∷ innerSlot (false ∷ false ∷ false ∷ []) 2 11 2 h78 0 zeros
-      ∷ innerSlot (false ∷ false ∷ []) 2 11 2 h79 0 zeros
-      ∷ innerSlot (false ∷ []) 2 11 2 h80 0 zeros
-      ∷ innerSlot ([]) 2 6 2 h81 0 zeros
-      ∷ innerSlot ([]) 6 11 2 h81 0 zeros
+      ∷ innerSlot (false ∷ false ∷ false ∷ false ∷ []) 2 11 2 h16 2 h19 1 1
+      ∷ innerSlot (false ∷ false ∷ false ∷ []) 2 11 2 h78 0 zeros 2 0
+      ∷ innerSlot (false ∷ false ∷ []) 2 11 2 h79 0 zeros 2 0
+      ∷ innerSlot (false ∷ []) 2 11 2 h80 0 zeros 2 0
+      ∷ innerSlot ([]) 2 6 2 h81 0 zeros 2 0
+      ∷ innerSlot ([]) 6 11 2 h81 0 zeros 2 0
       ∷ leafSlot ([]) 11 0 (keyOf 8 0) (valueOf 1)
       ∷ free
       ∷ free

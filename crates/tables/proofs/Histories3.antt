@@ -334,14 +334,14 @@ module _ (leafHash innerHash : Bytes → Bytes → Bytes) where
       (leafSlot ([]) 4 8 (keyOf 96 0) (valueOf 2)
       ∷ leafSlot (false ∷ false ∷ false ∷ false ∷ []) 8 0 (keyOf 8 0) (valueOf 4)
       ∷ leafSlot (false ∷ false ∷ false ∷ true ∷ []) 8 0 (keyOf 16 0) (valueOf 3)
-      ∷ innerSlot (false ∷ false ∷ false ∷ []) 8 0 8 h0 8 h1
-      ∷ innerSlot (false ∷ false ∷ []) 8 0 8 h2 0 zeros
+      ∷ innerSlot (false ∷ false ∷ false ∷ []) 8 0 8 h0 8 h1 1 1
+      ∷ innerSlot (false ∷ false ∷ []) 8 0 8 h2 0 zeros 2 0
       ∷ leafSlot (false ∷ true ∷ []) 8 14 (keyOf 96 0) (valueOf 2)
-      ∷ innerSlot (false ∷ []) 8 14 8 h3 8 h4
-      ∷ innerSlot ([]) 8 12 8 h5 0 zeros
-      ∷ innerSlot ([]) 12 14 8 h5 0 zeros
-      ∷ innerSlot (false ∷ []) 14 0 8 h3 0 zeros
-      ∷ innerSlot ([]) 14 0 14 h6 0 zeros
+      ∷ innerSlot (false ∷ []) 8 14 8 h3 8 h4 2 1
+      ∷ innerSlot ([]) 8 12 8 h5 0 zeros 3 0
+      ∷ innerSlot ([]) 12 14 8 h5 0 zeros 3 0
+      ∷ innerSlot (false ∷ []) 14 0 8 h3 0 zeros 2 0
+      ∷ innerSlot ([]) 14 0 14 h6 0 zeros 2 0
       ∷ free
       ∷ [])
 
@@ -352,12 +352,12 @@ module _ (leafHash innerHash : Bytes → Bytes → Bytes) where
       ∷ leafSlot ([]) 4 5 (keyOf 192 0) (valueOf 4)
       ∷ leafSlot (false ∷ []) 5 9 (keyOf 0 0) (valueOf 1)
       ∷ leafSlot (true ∷ []) 5 0 (keyOf 192 0) (valueOf 4)
-      ∷ innerSlot ([]) 5 9 5 h9 5 h10
+      ∷ innerSlot ([]) 5 9 5 h9 5 h10 1 1
       ∷ leafSlot (false ∷ []) 9 11 (keyOf 0 0) (valueOf 2)
-      ∷ innerSlot ([]) 9 10 9 h11 5 h10
-      ∷ innerSlot ([]) 10 11 9 h11 5 h10
+      ∷ innerSlot ([]) 9 10 9 h11 5 h10 1 1
+      ∷ innerSlot ([]) 10 11 9 h11 5 h10 1 1
       ∷ leafSlot (false ∷ []) 11 0 (keyOf 0 0) (valueOf 1)
-      ∷ innerSlot ([]) 11 0 11 h9 5 h10
+      ∷ innerSlot ([]) 11 0 11 h9 5 h10 1 1
       ∷ free
       ∷ free
       ∷ [])
@@ -367,11 +367,11 @@ module _ (leafHash innerHash : Bytes → Bytes → Bytes) where
       storeOf 3 5
       (leafSlot (true ∷ false ∷ false ∷ false ∷ []) 2 0 (keyOf 128 0) (valueOf 3)
       ∷ leafSlot (true ∷ false ∷ false ∷ true ∷ []) 2 0 (keyOf 144 0) (valueOf 3)
-      ∷ innerSlot (true ∷ false ∷ false ∷ []) 2 0 2 h15 2 h16
-      ∷ innerSlot (true ∷ false ∷ []) 2 0 2 h17 0 zeros
-      ∷ innerSlot (true ∷ []) 2 0 2 h18 0 zeros
-      ∷ innerSlot ([]) 2 5 0 zeros 2 h19
-      ∷ innerSlot ([]) 5 0 0 zeros 2 h19
+      ∷ innerSlot (true ∷ false ∷ false ∷ []) 2 0 2 h15 2 h16 1 1
+      ∷ innerSlot (true ∷ false ∷ []) 2 0 2 h17 0 zeros 2 0
+      ∷ innerSlot (true ∷ []) 2 0 2 h18 0 zeros 2 0
+      ∷ innerSlot ([]) 2 5 0 zeros 2 h19 0 2
+      ∷ innerSlot ([]) 5 0 0 zeros 2 h19 0 2
       ∷ free
       ∷ [])
 
@@ -380,12 +380,12 @@ module _ (leafHash innerHash : Bytes → Bytes → Bytes) where
       storeOf 0 9
       (leafSlot (true ∷ false ∷ []) 6 9 (keyOf 128 0) (valueOf 3)
       ∷ leafSlot (true ∷ true ∷ []) 6 9 (keyOf 192 0) (valueOf 4)
-      ∷ innerSlot (true ∷ []) 6 9 6 h15 6 h10
-      ∷ innerSlot ([]) 6 9 0 zeros 6 h21
+      ∷ innerSlot (true ∷ []) 6 9 6 h15 6 h10 1 1
+      ∷ innerSlot ([]) 6 9 0 zeros 6 h21 0 2
       ∷ leafSlot (true ∷ false ∷ []) 9 0 (keyOf 128 0) (valueOf 2)
       ∷ leafSlot (true ∷ true ∷ []) 9 0 (keyOf 192 0) (valueOf 3)
-      ∷ innerSlot (true ∷ []) 9 0 9 h22 9 h23
-      ∷ innerSlot ([]) 9 0 0 zeros 9 h24
+      ∷ innerSlot (true ∷ []) 9 0 9 h22 9 h23 1 1
+      ∷ innerSlot ([]) 9 0 0 zeros 9 h24 0 2
       ∷ [])
 
   abbrev end4 : Store
@@ -393,21 +393,21 @@ module _ (leafHash innerHash : Bytes → Bytes → Bytes) where
       storeOf 0 10
       (leafSlot (false ∷ []) 6 9 (keyOf 96 0) (valueOf 2)
       ∷ leafSlot (true ∷ []) 6 9 (keyOf 192 0) (valueOf 4)
-      ∷ innerSlot ([]) 6 9 6 h4 6 h10
+      ∷ innerSlot ([]) 6 9 6 h4 6 h10 1 1
       ∷ leafSlot (false ∷ true ∷ true ∷ false ∷ false ∷ []) 9 10 (keyOf 96 0) (valueOf 2)
       ∷ leafSlot (false ∷ true ∷ true ∷ false ∷ true ∷ []) 9 10 (keyOf 104 0) (valueOf 1)
-      ∷ innerSlot (false ∷ true ∷ true ∷ false ∷ []) 9 10 9 h4 9 h27
-      ∷ innerSlot (false ∷ true ∷ true ∷ []) 9 10 9 h28 0 zeros
+      ∷ innerSlot (false ∷ true ∷ true ∷ false ∷ []) 9 10 9 h4 9 h27 1 1
+      ∷ innerSlot (false ∷ true ∷ true ∷ []) 9 10 9 h28 0 zeros 2 0
       ∷ leafSlot (false ∷ false ∷ []) 9 0 (keyOf 0 0) (valueOf 3)
-      ∷ innerSlot (false ∷ true ∷ []) 9 10 0 zeros 9 h29
+      ∷ innerSlot (false ∷ true ∷ []) 9 10 0 zeros 9 h29 0 2
       ∷ leafSlot (true ∷ false ∷ []) 9 0 (keyOf 128 0) (valueOf 1)
       ∷ leafSlot (true ∷ true ∷ []) 9 0 (keyOf 192 0) (valueOf 4)
-      ∷ innerSlot (false ∷ []) 9 10 9 h30 9 h31
-      ∷ innerSlot (true ∷ []) 9 0 9 h32 9 h10
-      ∷ innerSlot ([]) 9 10 9 h33 9 h34
+      ∷ innerSlot (false ∷ []) 9 10 9 h30 9 h31 1 2
+      ∷ innerSlot (true ∷ []) 9 0 9 h32 9 h10 1 1
+      ∷ innerSlot ([]) 9 10 9 h33 9 h34 3 2
       ∷ leafSlot (false ∷ true ∷ []) 10 0 (keyOf 104 0) (valueOf 1)
-      ∷ innerSlot (false ∷ []) 10 0 9 h30 10 h27
-      ∷ innerSlot ([]) 10 0 10 h35 9 h34
+      ∷ innerSlot (false ∷ []) 10 0 9 h30 10 h27 1 1
+      ∷ innerSlot ([]) 10 0 10 h35 9 h34 2 2
       ∷ free
       ∷ free
       ∷ free
@@ -423,8 +423,8 @@ module _ (leafHash innerHash : Bytes → Bytes → Bytes) where
       (leafSlot ([]) 1 3 (keyOf 128 0) (valueOf 4)
       ∷ leafSlot (true ∷ false ∷ []) 3 4 (keyOf 128 0) (valueOf 4)
       ∷ leafSlot (true ∷ true ∷ []) 3 4 (keyOf 192 0) (valueOf 1)
-      ∷ innerSlot (true ∷ []) 3 4 3 h39 3 h12
-      ∷ innerSlot ([]) 3 4 0 zeros 3 h40
+      ∷ innerSlot (true ∷ []) 3 4 3 h39 3 h12 1 1
+      ∷ innerSlot ([]) 3 4 0 zeros 3 h40 0 2
       ∷ leafSlot ([]) 4 5 (keyOf 128 0) (valueOf 4)
       ∷ free
       ∷ free
@@ -460,13 +460,13 @@ module _ (leafHash innerHash : Bytes → Bytes → Bytes) where
       storeOf 5 8
       (leafSlot (false ∷ false ∷ []) 1 6 (keyOf 0 0) (valueOf 1)
       ∷ leafSlot (false ∷ true ∷ []) 1 6 (keyOf 64 0) (valueOf 4)
-      ∷ innerSlot (false ∷ []) 1 6 1 h9 1 h42
-      ∷ innerSlot ([]) 1 6 1 h43 0 zeros
+      ∷ innerSlot (false ∷ []) 1 6 1 h9 1 h42 1 1
+      ∷ innerSlot ([]) 1 6 1 h43 0 zeros 2 0
       ∷ leafSlot (false ∷ []) 6 0 (keyOf 0 0) (valueOf 4)
       ∷ leafSlot (true ∷ []) 6 0 (keyOf 128 0) (valueOf 2)
-      ∷ innerSlot ([]) 6 7 6 h44 6 h22
-      ∷ innerSlot ([]) 7 8 6 h44 6 h22
-      ∷ innerSlot ([]) 8 0 6 h44 6 h22
+      ∷ innerSlot ([]) 6 7 6 h44 6 h22 1 1
+      ∷ innerSlot ([]) 7 8 6 h44 6 h22 1 1
+      ∷ innerSlot ([]) 8 0 6 h44 6 h22 1 1
       ∷ free
       ∷ free
       ∷ free
@@ -481,17 +481,17 @@ module _ (leafHash innerHash : Bytes → Bytes → Bytes) where
       storeOf 0 10
       (leafSlot (false ∷ []) 1 0 (keyOf 104 0) (valueOf 4)
       ∷ leafSlot (true ∷ []) 1 2 (keyOf 255 0) (valueOf 2)
-      ∷ innerSlot ([]) 1 2 1 h47 1 h48
+      ∷ innerSlot ([]) 1 2 1 h47 1 h48 1 1
       ∷ leafSlot (true ∷ false ∷ []) 2 3 (keyOf 128 0) (valueOf 4)
       ∷ leafSlot (true ∷ true ∷ []) 2 0 (keyOf 255 0) (valueOf 2)
-      ∷ innerSlot (true ∷ []) 2 3 2 h39 2 h48
-      ∷ innerSlot ([]) 2 3 1 h47 2 h49
+      ∷ innerSlot (true ∷ []) 2 3 2 h39 2 h48 1 1
+      ∷ innerSlot ([]) 2 3 1 h47 2 h49 1 2
       ∷ leafSlot (true ∷ false ∷ []) 3 0 (keyOf 128 0) (valueOf 2)
-      ∷ innerSlot (true ∷ []) 3 0 3 h22 2 h48
-      ∷ innerSlot ([]) 3 4 1 h47 3 h50
-      ∷ innerSlot ([]) 4 9 1 h47 3 h50
-      ∷ innerSlot ([]) 9 10 1 h47 3 h50
-      ∷ innerSlot ([]) 10 0 1 h47 3 h50
+      ∷ innerSlot (true ∷ []) 3 0 3 h22 2 h48 1 1
+      ∷ innerSlot ([]) 3 4 1 h47 3 h50 1 2
+      ∷ innerSlot ([]) 4 9 1 h47 3 h50 1 2
+      ∷ innerSlot ([]) 9 10 1 h47 3 h50 1 2
+      ∷ innerSlot ([]) 10 0 1 h47 3 h50 1 2
       ∷ free
       ∷ free
       ∷ free
@@ -534,8 +534,8 @@ module _ (leafHash innerHash : Bytes → Bytes → Bytes) where
       ∷ leafSlot ([]) 8 13 (keyOf 144 0) (valueOf 4)
       ∷ leafSlot (true ∷ false ∷ []) 13 14 (keyOf 144 0) (valueOf 4)
       ∷ leafSlot (true ∷ true ∷ []) 13 14 (keyOf 254 0) (valueOf 3)
-      ∷ innerSlot (true ∷ []) 13 14 13 h55 13 h56
-      ∷ innerSlot ([]) 13 14 0 zeros 13 h57
+      ∷ innerSlot (true ∷ []) 13 14 13 h55 13 h56 1 1
+      ∷ innerSlot ([]) 13 14 0 zeros 13 h57 0 2
       ∷ leafSlot ([]) 14 0 (keyOf 254 0) (valueOf 3)
       ∷ free
       ∷ free
@@ -590,11 +590,11 @@ module _ (leafHash innerHash : Bytes → Bytes → Bytes) where
       storeOf 4294967293 4294967295
       (leafSlot (false ∷ false ∷ false ∷ false ∷ []) 4294967295 0 (keyOf 8 0) (valueOf 4)
       ∷ leafSlot (false ∷ false ∷ false ∷ true ∷ []) 4294967295 0 (keyOf 16 0) (valueOf 3)
-      ∷ innerSlot (false ∷ false ∷ false ∷ []) 4294967295 0 4294967295 h0 4294967295 h1
-      ∷ innerSlot (false ∷ false ∷ []) 4294967295 0 4294967295 h2 0 zeros
+      ∷ innerSlot (false ∷ false ∷ false ∷ []) 4294967295 0 4294967295 h0 4294967295 h1 1 1
+      ∷ innerSlot (false ∷ false ∷ []) 4294967295 0 4294967295 h2 0 zeros 2 0
       ∷ leafSlot (false ∷ true ∷ []) 4294967295 0 (keyOf 64 0) (valueOf 4)
-      ∷ innerSlot (false ∷ []) 4294967295 0 4294967295 h3 4294967295 h42
-      ∷ innerSlot ([]) 4294967295 0 4294967295 h60 0 zeros
+      ∷ innerSlot (false ∷ []) 4294967295 0 4294967295 h3 4294967295 h42 2 1
+      ∷ innerSlot ([]) 4294967295 0 4294967295 h60 0 zeros 3 0
       ∷ free
       ∷ free
       ∷ free
@@ -630,18 +630,18 @@ module _ (leafHash innerHash : Bytes → Bytes → Bytes) where
   abbrev end15 : Store
   end15 =
       storeOf 2 6
-      (innerSlot ([]) 6 0 0 zeros 5 h64
+      (innerSlot ([]) 6 0 0 zeros 5 h64 0 2
       ∷ leafSlot ([]) 2 3 (keyOf 192 0) (valueOf 3)
       ∷ leafSlot (true ∷ true ∷ false ∷ []) 3 5 (keyOf 192 0) (valueOf 1)
       ∷ leafSlot (true ∷ true ∷ true ∷ []) 3 0 (keyOf 255 0) (valueOf 1)
-      ∷ innerSlot (true ∷ true ∷ []) 3 5 3 h12 3 h62
-      ∷ innerSlot (true ∷ []) 3 5 0 zeros 3 h65
-      ∷ innerSlot ([]) 3 4 0 zeros 3 h66
-      ∷ innerSlot ([]) 4 5 0 zeros 3 h66
+      ∷ innerSlot (true ∷ true ∷ []) 3 5 3 h12 3 h62 1 1
+      ∷ innerSlot (true ∷ []) 3 5 0 zeros 3 h65 0 2
+      ∷ innerSlot ([]) 3 4 0 zeros 3 h66 0 2
+      ∷ innerSlot ([]) 4 5 0 zeros 3 h66 0 2
       ∷ leafSlot (true ∷ true ∷ false ∷ []) 5 0 (keyOf 192 0) (valueOf 3)
-      ∷ innerSlot (true ∷ true ∷ []) 5 0 5 h23 3 h62
-      ∷ innerSlot (true ∷ []) 5 0 0 zeros 5 h63
-      ∷ innerSlot ([]) 5 6 0 zeros 5 h64
+      ∷ innerSlot (true ∷ true ∷ []) 5 0 5 h23 3 h62 1 1
+      ∷ innerSlot (true ∷ []) 5 0 0 zeros 5 h63 0 2
+      ∷ innerSlot ([]) 5 6 0 zeros 5 h64 0 2
       ∷ [])
 
   abbrev end16 : Store
@@ -688,7 +688,7 @@ module _ (leafHash innerHash : Bytes → Bytes → Bytes) where
       (leafSlot ([]) 6 7 (keyOf 104 0) (valueOf 1)
       ∷ leafSlot (false ∷ []) 7 0 (keyOf 104 0) (valueOf 1)
       ∷ leafSlot (true ∷ []) 7 0 (keyOf 254 0) (valueOf 1)
-      ∷ innerSlot ([]) 7 0 7 h27 7 h58
+      ∷ innerSlot ([]) 7 0 7 h27 7 h58 1 1
       ∷ [])
 
   abbrev end19 : Store
@@ -696,12 +696,12 @@ module _ (leafHash innerHash : Bytes → Bytes → Bytes) where
       storeOf 5 6
       (leafSlot (false ∷ false ∷ []) 2 0 (keyOf 16 0) (valueOf 1)
       ∷ leafSlot (false ∷ true ∷ []) 2 6 (keyOf 104 0) (valueOf 3)
-      ∷ innerSlot (false ∷ []) 2 6 2 h73 2 h74
+      ∷ innerSlot (false ∷ []) 2 6 2 h73 2 h74 1 1
       ∷ free
-      ∷ innerSlot ([]) 3 6 2 h75 0 zeros
+      ∷ innerSlot ([]) 3 6 2 h75 0 zeros 2 0
       ∷ leafSlot (false ∷ true ∷ []) 6 0 (keyOf 104 0) (valueOf 1)
-      ∷ innerSlot (false ∷ []) 6 0 2 h73 6 h27
-      ∷ innerSlot ([]) 6 0 6 h76 0 zeros
+      ∷ innerSlot (false ∷ []) 6 0 2 h73 6 h27 1 1
+      ∷ innerSlot ([]) 6 0 6 h76 0 zeros 2 0
       ∷ free
       ∷ free
       ∷ free
@@ -725,16 +725,16 @@ module _ (leafHash innerHash : Bytes → Bytes → Bytes) where
       storeOf 0 5
       (leafSlot (true ∷ false ∷ []) 1 2 (keyOf 144 0) (valueOf 4)
       ∷ leafSlot (true ∷ true ∷ []) 1 2 (keyOf 192 0) (valueOf 1)
-      ∷ innerSlot (true ∷ []) 1 2 1 h55 1 h12
-      ∷ innerSlot ([]) 1 2 0 zeros 1 h79
+      ∷ innerSlot (true ∷ []) 1 2 1 h55 1 h12 1 1
+      ∷ innerSlot ([]) 1 2 0 zeros 1 h79 0 2
       ∷ leafSlot (false ∷ []) 2 0 (keyOf 0 0) (valueOf 1)
       ∷ leafSlot (true ∷ []) 2 5 (keyOf 128 0) (valueOf 2)
-      ∷ innerSlot ([]) 2 3 2 h9 2 h22
-      ∷ innerSlot ([]) 3 5 2 h9 2 h22
+      ∷ innerSlot ([]) 2 3 2 h9 2 h22 1 1
+      ∷ innerSlot ([]) 3 5 2 h9 2 h22 1 1
       ∷ leafSlot (true ∷ false ∷ []) 5 0 (keyOf 128 0) (valueOf 2)
       ∷ leafSlot (true ∷ true ∷ []) 5 0 (keyOf 192 0) (valueOf 4)
-      ∷ innerSlot (true ∷ []) 5 0 5 h22 5 h10
-      ∷ innerSlot ([]) 5 0 2 h9 5 h80
+      ∷ innerSlot (true ∷ []) 5 0 5 h22 5 h10 1 1
+      ∷ innerSlot ([]) 5 0 2 h9 5 h80 1 2
       ∷ [])
 
   abbrev end21 : Store
@@ -745,8 +745,8 @@ module _ (leafHash innerHash : Bytes → Bytes → Bytes) where
       ∷ leafSlot ([]) 11 12 (keyOf 128 0) (valueOf 3)
       ∷ leafSlot (false ∷ false ∷ []) 12 0 (keyOf 8 0) (valueOf 3)
       ∷ leafSlot (false ∷ true ∷ []) 12 0 (keyOf 64 0) (valueOf 3)
-      ∷ innerSlot (false ∷ []) 12 0 12 h84 12 h85
-      ∷ innerSlot ([]) 12 0 12 h86 0 zeros
+      ∷ innerSlot (false ∷ []) 12 0 12 h84 12 h85 1 1
+      ∷ innerSlot ([]) 12 0 12 h86 0 zeros 2 0
       ∷ free
       ∷ free
       ∷ free
@@ -771,11 +771,11 @@ module _ (leafHash innerHash : Bytes → Bytes → Bytes) where
       storeOf 0 7
       (leafSlot (false ∷ false ∷ []) 5 0 (keyOf 0 0) (valueOf 3)
       ∷ leafSlot (false ∷ true ∷ []) 5 0 (keyOf 64 0) (valueOf 3)
-      ∷ innerSlot (false ∷ []) 5 0 5 h30 5 h85
-      ∷ innerSlot ([]) 5 6 5 h88 0 zeros
+      ∷ innerSlot (false ∷ []) 5 0 5 h30 5 h85 1 1
+      ∷ innerSlot ([]) 5 6 5 h88 0 zeros 2 0
       ∷ leafSlot (true ∷ []) 6 0 (keyOf 144 0) (valueOf 3)
-      ∷ innerSlot ([]) 6 7 5 h88 6 h16
-      ∷ innerSlot ([]) 7 0 5 h88 6 h16
+      ∷ innerSlot ([]) 6 7 5 h88 6 h16 2 1
+      ∷ innerSlot ([]) 7 0 5 h88 6 h16 2 1
       ∷ free
       ∷ free
       ∷ free
@@ -829,14 +829,14 @@ module _ (leafHash innerHash : Bytes → Bytes → Bytes) where
       ∷ leafSlot ([]) 9 13 (keyOf 104 0) (valueOf 4)
       ∷ leafSlot (false ∷ false ∷ []) 13 14 (keyOf 16 0) (valueOf 3)
       ∷ leafSlot (false ∷ true ∷ []) 13 0 (keyOf 104 0) (valueOf 4)
-      ∷ innerSlot (false ∷ []) 13 14 13 h1 13 h47
-      ∷ innerSlot ([]) 13 14 13 h94 0 zeros
+      ∷ innerSlot (false ∷ []) 13 14 13 h1 13 h47 1 1
+      ∷ innerSlot ([]) 13 14 13 h94 0 zeros 2 0
       ∷ leafSlot (false ∷ false ∷ false ∷ false ∷ []) 14 0 (keyOf 0 0) (valueOf 2)
       ∷ leafSlot (false ∷ false ∷ false ∷ true ∷ []) 14 0 (keyOf 16 0) (valueOf 2)
-      ∷ innerSlot (false ∷ false ∷ false ∷ []) 14 0 14 h11 14 h95
-      ∷ innerSlot (false ∷ false ∷ []) 14 0 14 h96 0 zeros
-      ∷ innerSlot (false ∷ []) 14 0 14 h97 13 h47
-      ∷ innerSlot ([]) 14 0 14 h98 0 zeros
+      ∷ innerSlot (false ∷ false ∷ false ∷ []) 14 0 14 h11 14 h95 1 1
+      ∷ innerSlot (false ∷ false ∷ []) 14 0 14 h96 0 zeros 2 0
+      ∷ innerSlot (false ∷ []) 14 0 14 h97 13 h47 2 1
+      ∷ innerSlot ([]) 14 0 14 h98 0 zeros 3 0
       ∷ free
       ∷ free
       ∷ free
@@ -894,12 +894,12 @@ module _ (leafHash innerHash : Bytes → Bytes → Bytes) where
       storeOf 0 12
       (leafSlot (false ∷ []) 6 0 (keyOf 64 0) (valueOf 3)
       ∷ leafSlot (true ∷ []) 6 12 (keyOf 255 0) (valueOf 2)
-      ∷ innerSlot ([]) 6 11 6 h85 6 h48
-      ∷ innerSlot ([]) 11 12 6 h85 6 h48
+      ∷ innerSlot ([]) 6 11 6 h85 6 h48 1 1
+      ∷ innerSlot ([]) 11 12 6 h85 6 h48 1 1
       ∷ leafSlot (true ∷ false ∷ []) 12 0 (keyOf 128 0) (valueOf 3)
       ∷ leafSlot (true ∷ true ∷ []) 12 0 (keyOf 255 0) (valueOf 2)
-      ∷ innerSlot (true ∷ []) 12 0 12 h15 12 h48
-      ∷ innerSlot ([]) 12 0 6 h85 12 h102
+      ∷ innerSlot (true ∷ []) 12 0 12 h15 12 h48 1 1
+      ∷ innerSlot ([]) 12 0 6 h85 12 h102 1 2
       ∷ free
       ∷ free
       ∷ free

@@ -321,11 +321,11 @@ module _ (leafHash innerHash : Bytes → Bytes → Bytes) where
       storeOf 7 17
       (leafSlot (false ∷ []) 4 17 (keyOf 0 0) (valueOf 4)
       ∷ leafSlot (true ∷ []) 4 14 (keyOf 144 0) (valueOf 4)
-      ∷ innerSlot ([]) 4 9 4 h0 4 h1
-      ∷ innerSlot ([]) 9 14 4 h0 4 h1
+      ∷ innerSlot ([]) 4 9 4 h0 4 h1 1 1
+      ∷ innerSlot ([]) 9 14 4 h0 4 h1 1 1
       ∷ leafSlot (true ∷ []) 14 17 (keyOf 144 0) (valueOf 2)
-      ∷ innerSlot ([]) 14 16 4 h0 14 h2
-      ∷ innerSlot ([]) 16 17 4 h0 14 h2
+      ∷ innerSlot ([]) 14 16 4 h0 14 h2 1 1
+      ∷ innerSlot ([]) 16 17 4 h0 14 h2 1 1
       ∷ leafSlot ([]) 17 0 (keyOf 0 0) (valueOf 4)
       ∷ free
       ∷ free
@@ -357,8 +357,8 @@ module _ (leafHash innerHash : Bytes → Bytes → Bytes) where
       ∷ leafSlot ([]) 4 6 (keyOf 128 0) (valueOf 1)
       ∷ leafSlot (true ∷ false ∷ []) 6 0 (keyOf 128 0) (valueOf 1)
       ∷ leafSlot (true ∷ true ∷ []) 6 0 (keyOf 192 0) (valueOf 4)
-      ∷ innerSlot (true ∷ []) 6 0 6 h6 6 h7
-      ∷ innerSlot ([]) 6 0 0 zeros 6 h8
+      ∷ innerSlot (true ∷ []) 6 0 6 h6 6 h7 1 1
+      ∷ innerSlot ([]) 6 0 0 zeros 6 h8 0 2
       ∷ free
       ∷ free
       ∷ [])
@@ -369,18 +369,18 @@ module _ (leafHash innerHash : Bytes → Bytes → Bytes) where
       (leafSlot ([]) 4 5 (keyOf 104 0) (valueOf 2)
       ∷ leafSlot (false ∷ false ∷ []) 5 7 (keyOf 0 0) (valueOf 4)
       ∷ leafSlot (false ∷ true ∷ []) 5 6 (keyOf 104 0) (valueOf 2)
-      ∷ innerSlot (false ∷ []) 5 6 5 h0 5 h10
-      ∷ innerSlot ([]) 5 6 5 h11 0 zeros
+      ∷ innerSlot (false ∷ []) 5 6 5 h0 5 h10 1 1
+      ∷ innerSlot ([]) 5 6 5 h11 0 zeros 2 0
       ∷ leafSlot (false ∷ true ∷ []) 6 7 (keyOf 104 0) (valueOf 1)
-      ∷ innerSlot (false ∷ []) 6 7 5 h0 6 h12
-      ∷ innerSlot ([]) 6 7 6 h13 0 zeros
+      ∷ innerSlot (false ∷ []) 6 7 5 h0 6 h12 1 1
+      ∷ innerSlot ([]) 6 7 6 h13 0 zeros 2 0
       ∷ leafSlot (false ∷ false ∷ false ∷ false ∷ false ∷ []) 7 0 (keyOf 0 0) (valueOf 4)
       ∷ leafSlot (false ∷ false ∷ false ∷ false ∷ true ∷ []) 7 0 (keyOf 8 0) (valueOf 3)
-      ∷ innerSlot (false ∷ false ∷ false ∷ false ∷ []) 7 0 7 h0 7 h14
-      ∷ innerSlot (false ∷ false ∷ false ∷ []) 7 0 7 h15 0 zeros
-      ∷ innerSlot (false ∷ false ∷ []) 7 0 7 h16 0 zeros
-      ∷ innerSlot (false ∷ []) 7 0 7 h17 0 zeros
-      ∷ innerSlot ([]) 7 0 7 h18 0 zeros
+      ∷ innerSlot (false ∷ false ∷ false ∷ false ∷ []) 7 0 7 h0 7 h14 1 1
+      ∷ innerSlot (false ∷ false ∷ false ∷ []) 7 0 7 h15 0 zeros 2 0
+      ∷ innerSlot (false ∷ false ∷ []) 7 0 7 h16 0 zeros 2 0
+      ∷ innerSlot (false ∷ []) 7 0 7 h17 0 zeros 2 0
+      ∷ innerSlot ([]) 7 0 7 h18 0 zeros 2 0
       ∷ free
       ∷ [])
 
@@ -389,14 +389,14 @@ module _ (leafHash innerHash : Bytes → Bytes → Bytes) where
       storeOf 0 4
       (leafSlot (false ∷ []) 2 3 (keyOf 8 0) (valueOf 2)
       ∷ leafSlot (true ∷ []) 2 4 (keyOf 192 0) (valueOf 1)
-      ∷ innerSlot ([]) 2 3 2 h22 2 h23
+      ∷ innerSlot ([]) 2 3 2 h22 2 h23 1 1
       ∷ leafSlot (false ∷ false ∷ []) 3 4 (keyOf 8 0) (valueOf 2)
       ∷ leafSlot (false ∷ true ∷ []) 3 4 (keyOf 96 0) (valueOf 1)
-      ∷ innerSlot (false ∷ []) 3 4 3 h22 3 h24
-      ∷ innerSlot ([]) 3 4 3 h25 2 h23
+      ∷ innerSlot (false ∷ []) 3 4 3 h22 3 h24 1 1
+      ∷ innerSlot ([]) 3 4 3 h25 2 h23 2 1
       ∷ leafSlot (false ∷ []) 4 0 (keyOf 96 0) (valueOf 3)
       ∷ leafSlot (true ∷ []) 4 0 (keyOf 192 0) (valueOf 2)
-      ∷ innerSlot ([]) 4 0 4 h26 4 h27
+      ∷ innerSlot ([]) 4 0 4 h26 4 h27 1 1
       ∷ free
       ∷ free
       ∷ [])
@@ -409,13 +409,13 @@ module _ (leafHash innerHash : Bytes → Bytes → Bytes) where
       ∷ leafSlot ([]) 7 11 (keyOf 8 0) (valueOf 2)
       ∷ leafSlot (false ∷ []) 11 12 (keyOf 8 0) (valueOf 2)
       ∷ leafSlot (true ∷ []) 11 0 (keyOf 255 0) (valueOf 3)
-      ∷ innerSlot ([]) 11 12 11 h22 11 h31
+      ∷ innerSlot ([]) 11 12 11 h22 11 h31 1 1
       ∷ leafSlot (false ∷ false ∷ false ∷ false ∷ true ∷ []) 12 0 (keyOf 8 0) (valueOf 2)
-      ∷ innerSlot (false ∷ false ∷ false ∷ false ∷ []) 12 0 12 h0 12 h22
-      ∷ innerSlot (false ∷ false ∷ false ∷ []) 12 0 12 h32 0 zeros
-      ∷ innerSlot (false ∷ false ∷ []) 12 0 12 h33 0 zeros
-      ∷ innerSlot (false ∷ []) 12 0 12 h34 0 zeros
-      ∷ innerSlot ([]) 12 0 12 h35 11 h31
+      ∷ innerSlot (false ∷ false ∷ false ∷ false ∷ []) 12 0 12 h0 12 h22 1 1
+      ∷ innerSlot (false ∷ false ∷ false ∷ []) 12 0 12 h32 0 zeros 2 0
+      ∷ innerSlot (false ∷ false ∷ []) 12 0 12 h33 0 zeros 2 0
+      ∷ innerSlot (false ∷ []) 12 0 12 h34 0 zeros 2 0
+      ∷ innerSlot ([]) 12 0 12 h35 11 h31 2 1
       ∷ [])
 
   abbrev end6 : Store
@@ -471,13 +471,13 @@ module _ (leafHash innerHash : Bytes → Bytes → Bytes) where
       ∷ leafSlot ([]) 3 4 (keyOf 104 0) (valueOf 3)
       ∷ leafSlot (false ∷ false ∷ []) 4 5 (keyOf 16 0) (valueOf 4)
       ∷ leafSlot (false ∷ true ∷ []) 4 0 (keyOf 104 0) (valueOf 3)
-      ∷ innerSlot (false ∷ []) 4 5 4 h40 4 h38
-      ∷ innerSlot ([]) 4 5 4 h41 0 zeros
+      ∷ innerSlot (false ∷ []) 4 5 4 h40 4 h38 1 1
+      ∷ innerSlot ([]) 4 5 4 h41 0 zeros 2 0
       ∷ leafSlot (false ∷ false ∷ []) 5 0 (keyOf 16 0) (valueOf 1)
-      ∷ innerSlot (false ∷ []) 5 0 5 h42 4 h38
-      ∷ innerSlot ([]) 5 8 5 h43 0 zeros
-      ∷ innerSlot ([]) 8 9 5 h43 0 zeros
-      ∷ innerSlot ([]) 9 0 5 h43 0 zeros
+      ∷ innerSlot (false ∷ []) 5 0 5 h42 4 h38 1 1
+      ∷ innerSlot ([]) 5 8 5 h43 0 zeros 2 0
+      ∷ innerSlot ([]) 8 9 5 h43 0 zeros 2 0
+      ∷ innerSlot ([]) 9 0 5 h43 0 zeros 2 0
       ∷ free
       ∷ [])
 
@@ -486,10 +486,10 @@ module _ (leafHash innerHash : Bytes → Bytes → Bytes) where
       storeOf 0 8
       (leafSlot (false ∷ false ∷ []) 5 0 (keyOf 0 0) (valueOf 1)
       ∷ leafSlot (false ∷ true ∷ []) 5 0 (keyOf 104 0) (valueOf 1)
-      ∷ innerSlot (false ∷ []) 5 0 5 h46 5 h12
+      ∷ innerSlot (false ∷ []) 5 0 5 h46 5 h12 1 1
       ∷ leafSlot (true ∷ []) 5 0 (keyOf 192 0) (valueOf 2)
-      ∷ innerSlot ([]) 5 8 5 h47 5 h27
-      ∷ innerSlot ([]) 8 0 5 h47 5 h27
+      ∷ innerSlot ([]) 5 8 5 h47 5 h27 2 1
+      ∷ innerSlot ([]) 8 0 5 h47 5 h27 2 1
       ∷ free
       ∷ free
       ∷ [])
@@ -502,12 +502,12 @@ module _ (leafHash innerHash : Bytes → Bytes → Bytes) where
       ∷ leafSlot ([]) 5 6 (keyOf 254 0) (valueOf 1)
       ∷ leafSlot (false ∷ []) 6 0 (keyOf 16 0) (valueOf 3)
       ∷ leafSlot (true ∷ []) 6 7 (keyOf 254 0) (valueOf 1)
-      ∷ innerSlot ([]) 6 7 6 h49 6 h50
+      ∷ innerSlot ([]) 6 7 6 h49 6 h50 1 1
       ∷ leafSlot (true ∷ false ∷ []) 7 0 (keyOf 144 0) (valueOf 3)
       ∷ leafSlot (true ∷ true ∷ []) 7 0 (keyOf 254 0) (valueOf 3)
-      ∷ innerSlot (true ∷ []) 7 0 7 h51 7 h52
-      ∷ innerSlot ([]) 7 8 6 h49 7 h53
-      ∷ innerSlot ([]) 8 0 6 h49 7 h53
+      ∷ innerSlot (true ∷ []) 7 0 7 h51 7 h52 1 1
+      ∷ innerSlot ([]) 7 8 6 h49 7 h53 1 2
+      ∷ innerSlot ([]) 8 0 6 h49 7 h53 1 2
       ∷ free
       ∷ [])
 
@@ -535,11 +535,11 @@ module _ (leafHash innerHash : Bytes → Bytes → Bytes) where
       (leafSlot ([]) 1 2 (keyOf 192 0) (valueOf 1)
       ∷ leafSlot (false ∷ true ∷ false ∷ []) 2 0 (keyOf 64 0) (valueOf 4)
       ∷ leafSlot (false ∷ true ∷ true ∷ []) 2 0 (keyOf 104 0) (valueOf 1)
-      ∷ innerSlot (false ∷ true ∷ []) 2 0 2 h57 2 h12
-      ∷ innerSlot (false ∷ []) 2 0 0 zeros 2 h58
+      ∷ innerSlot (false ∷ true ∷ []) 2 0 2 h57 2 h12 1 1
+      ∷ innerSlot (false ∷ []) 2 0 0 zeros 2 h58 0 2
       ∷ leafSlot (true ∷ []) 2 0 (keyOf 192 0) (valueOf 1)
-      ∷ innerSlot ([]) 2 3 2 h59 2 h23
-      ∷ innerSlot ([]) 3 0 2 h59 2 h23
+      ∷ innerSlot ([]) 2 3 2 h59 2 h23 2 1
+      ∷ innerSlot ([]) 3 0 2 h59 2 h23 2 1
       ∷ free
       ∷ free
       ∷ free
@@ -591,28 +591,28 @@ module _ (leafHash innerHash : Bytes → Bytes → Bytes) where
       (leafSlot ([]) 2 4 (keyOf 8 0) (valueOf 2)
       ∷ leafSlot (false ∷ []) 4 0 (keyOf 8 0) (valueOf 2)
       ∷ leafSlot (true ∷ []) 4 0 (keyOf 254 0) (valueOf 2)
-      ∷ innerSlot ([]) 4 0 4 h22 4 h62
+      ∷ innerSlot ([]) 4 0 4 h22 4 h62 1 1
       ∷ [])
 
   abbrev end18 : Store
   end18 =
       storeOf 9 21
-      (innerSlot ([]) 11 12 3 h65 0 zeros
+      (innerSlot ([]) 11 12 3 h65 0 zeros 2 0
       ∷ leafSlot (false ∷ false ∷ []) 3 19 (keyOf 0 0) (valueOf 3)
       ∷ leafSlot (false ∷ true ∷ []) 3 19 (keyOf 104 0) (valueOf 2)
-      ∷ innerSlot (false ∷ []) 3 19 3 h64 3 h10
+      ∷ innerSlot (false ∷ []) 3 19 3 h64 3 h10 1 1
       ∷ leafSlot (true ∷ []) 3 11 (keyOf 192 0) (valueOf 3)
       ∷ leafSlot (true ∷ []) 17 21 (keyOf 255 0) (valueOf 4)
-      ∷ innerSlot ([]) 8 11 3 h65 3 h66
+      ∷ innerSlot ([]) 8 11 3 h65 3 h66 2 1
       ∷ leafSlot (true ∷ []) 12 17 (keyOf 255 0) (valueOf 2)
-      ∷ innerSlot ([]) 12 17 3 h65 12 h67
-      ∷ innerSlot ([]) 17 19 3 h65 17 h68
+      ∷ innerSlot ([]) 12 17 3 h65 12 h67 2 1
+      ∷ innerSlot ([]) 17 19 3 h65 17 h68 2 1
       ∷ leafSlot (false ∷ []) 19 21 (keyOf 104 0) (valueOf 2)
-      ∷ innerSlot ([]) 19 21 19 h10 17 h68
+      ∷ innerSlot ([]) 19 21 19 h10 17 h68 1 1
       ∷ leafSlot (false ∷ false ∷ []) 21 0 (keyOf 0 0) (valueOf 2)
       ∷ leafSlot (false ∷ true ∷ []) 21 0 (keyOf 104 0) (valueOf 3)
-      ∷ innerSlot (false ∷ []) 21 0 21 h69 21 h38
-      ∷ innerSlot ([]) 21 0 21 h70 0 zeros
+      ∷ innerSlot (false ∷ []) 21 0 21 h69 21 h38 1 1
+      ∷ innerSlot ([]) 21 0 21 h70 0 zeros 2 0
       ∷ [])
 
   abbrev end19 : Store
@@ -621,10 +621,10 @@ module _ (leafHash innerHash : Bytes → Bytes → Bytes) where
       (leafSlot ([]) 3 4 (keyOf 8 0) (valueOf 3)
       ∷ leafSlot (false ∷ false ∷ false ∷ false ∷ []) 2 3 (keyOf 8 0) (valueOf 3)
       ∷ leafSlot (false ∷ false ∷ false ∷ true ∷ []) 2 3 (keyOf 16 0) (valueOf 3)
-      ∷ innerSlot (false ∷ false ∷ false ∷ []) 2 3 2 h14 2 h49
-      ∷ innerSlot (false ∷ false ∷ []) 2 3 2 h77 0 zeros
-      ∷ innerSlot (false ∷ []) 2 3 2 h78 0 zeros
-      ∷ innerSlot ([]) 2 3 2 h79 0 zeros
+      ∷ innerSlot (false ∷ false ∷ false ∷ []) 2 3 2 h14 2 h49 1 1
+      ∷ innerSlot (false ∷ false ∷ []) 2 3 2 h77 0 zeros 2 0
+      ∷ innerSlot (false ∷ []) 2 3 2 h78 0 zeros 2 0
+      ∷ innerSlot ([]) 2 3 2 h79 0 zeros 2 0
       ∷ leafSlot ([]) 4 0 (keyOf 8 0) (valueOf 3)
       ∷ free
       ∷ free
@@ -635,11 +635,11 @@ module _ (leafHash innerHash : Bytes → Bytes → Bytes) where
   abbrev end20 : Store
   end20 =
       storeOf 5 6
-      (innerSlot ([]) 6 0 0 zeros 5 h83
+      (innerSlot ([]) 6 0 0 zeros 5 h83 0 2
       ∷ leafSlot (true ∷ false ∷ []) 5 0 (keyOf 144 0) (valueOf 1)
       ∷ leafSlot (true ∷ true ∷ []) 5 0 (keyOf 255 0) (valueOf 4)
-      ∷ innerSlot (true ∷ []) 5 0 5 h82 5 h68
-      ∷ innerSlot ([]) 5 6 0 zeros 5 h83
+      ∷ innerSlot (true ∷ []) 5 0 5 h82 5 h68 1 1
+      ∷ innerSlot ([]) 5 6 0 zeros 5 h83 0 2
       ∷ free
       ∷ free
       ∷ free
@@ -654,11 +654,11 @@ module _ (leafHash innerHash : Bytes → Bytes → Bytes) where
       storeOf 7 7
       (leafSlot (true ∷ false ∷ []) 5 0 (keyOf 144 0) (valueOf 1)
       ∷ leafSlot (true ∷ true ∷ []) 5 0 (keyOf 255 0) (valueOf 1)
-      ∷ innerSlot (true ∷ []) 5 0 5 h82 5 h39
+      ∷ innerSlot (true ∷ []) 5 0 5 h82 5 h39 1 1
       ∷ free
       ∷ free
       ∷ leafSlot (false ∷ []) 7 0 (keyOf 96 0) (valueOf 1)
-      ∷ innerSlot ([]) 7 0 7 h24 5 h85
+      ∷ innerSlot ([]) 7 0 7 h24 5 h85 1 2
       ∷ free
       ∷ free
       ∷ free
@@ -684,7 +684,7 @@ module _ (leafHash innerHash : Bytes → Bytes → Bytes) where
       (leafSlot ([]) 4294967294 4294967295 (keyOf 8 0) (valueOf 2)
       ∷ leafSlot (false ∷ []) 4294967295 0 (keyOf 8 0) (valueOf 2)
       ∷ leafSlot (true ∷ []) 4294967295 0 (keyOf 144 0) (valueOf 3)
-      ∷ innerSlot ([]) 4294967295 0 4294967295 h22 4294967295 h51
+      ∷ innerSlot ([]) 4294967295 0 4294967295 h22 4294967295 h51 1 1
       ∷ free
       ∷ free
       ∷ free
@@ -725,9 +725,9 @@ module _ (leafHash innerHash : Bytes → Bytes → Bytes) where
       ∷ leafSlot (true ∷ false ∷ []) 3 0 (keyOf 144 0) (valueOf 1)
       ∷ leafSlot (true ∷ true ∷ []) 3 0 (keyOf 254 0) (valueOf 3)
       ∷ leafSlot (false ∷ []) 3 0 (keyOf 64 0) (valueOf 4)
-      ∷ innerSlot (true ∷ []) 3 0 3 h82 3 h52
+      ∷ innerSlot (true ∷ []) 3 0 3 h82 3 h52 1 1
       ∷ free
-      ∷ innerSlot ([]) 4 0 3 h57 3 h91
+      ∷ innerSlot ([]) 4 0 3 h57 3 h91 1 2
       ∷ [])
 
   abbrev end26 : Store
@@ -736,12 +736,12 @@ module _ (leafHash innerHash : Bytes → Bytes → Bytes) where
       (leafSlot ([]) 4 5 (keyOf 104 0) (valueOf 4)
       ∷ leafSlot (false ∷ []) 5 0 (keyOf 104 0) (valueOf 4)
       ∷ leafSlot (true ∷ []) 5 8 (keyOf 128 0) (valueOf 3)
-      ∷ innerSlot ([]) 5 6 5 h93 5 h5
-      ∷ innerSlot ([]) 6 7 5 h93 5 h5
-      ∷ innerSlot ([]) 7 8 5 h93 5 h5
+      ∷ innerSlot ([]) 5 6 5 h93 5 h5 1 1
+      ∷ innerSlot ([]) 6 7 5 h93 5 h5 1 1
+      ∷ innerSlot ([]) 7 8 5 h93 5 h5 1 1
       ∷ leafSlot (true ∷ []) 8 0 (keyOf 128 0) (valueOf 4)
-      ∷ innerSlot ([]) 8 9 5 h93 8 h94
-      ∷ innerSlot ([]) 9 0 5 h93 8 h94
+      ∷ innerSlot ([]) 8 9 5 h93 8 h94 1 1
+      ∷ innerSlot ([]) 9 0 5 h93 8 h94 1 1
       ∷ free
       ∷ free
       ∷ free
@@ -774,7 +774,7 @@ module _ (leafHash innerHash : Bytes → Bytes → Bytes) where
       (leafSlot ([]) 10 13 (keyOf 96 0) (valueOf 1)
       ∷ leafSlot (false ∷ []) 13 0 (keyOf 96 0) (valueOf 1)
       ∷ leafSlot (true ∷ []) 13 0 (keyOf 255 0) (valueOf 1)
-      ∷ innerSlot ([]) 13 0 13 h24 13 h39
+      ∷ innerSlot ([]) 13 0 13 h24 13 h39 1 1
       ∷ free
       ∷ free
       ∷ free
@@ -787,11 +787,11 @@ module _ (leafHash innerHash : Bytes → Bytes → Bytes) where
       (leafSlot ([]) 4 6 (keyOf 8 0) (valueOf 3)
       ∷ leafSlot (false ∷ []) 6 0 (keyOf 8 0) (valueOf 4)
       ∷ leafSlot (true ∷ []) 6 7 (keyOf 192 0) (valueOf 3)
-      ∷ innerSlot ([]) 6 7 6 h80 6 h66
+      ∷ innerSlot ([]) 6 7 6 h80 6 h66 1 1
       ∷ leafSlot (true ∷ []) 7 10 (keyOf 192 0) (valueOf 4)
-      ∷ innerSlot ([]) 7 10 6 h80 7 h7
+      ∷ innerSlot ([]) 7 10 6 h80 7 h7 1 1
       ∷ leafSlot (true ∷ []) 10 0 (keyOf 192 0) (valueOf 1)
-      ∷ innerSlot ([]) 10 0 6 h80 10 h23
+      ∷ innerSlot ([]) 10 0 6 h80 10 h23 1 1
       ∷ free
       ∷ free
       ∷ free

@@ -283,8 +283,8 @@ module _ (leafHash innerHash : Bytes → Bytes → Bytes) where
       (leafSlot ([]) 1 2 (keyOf 254 0) (valueOf 4)
       ∷ leafSlot (true ∷ false ∷ []) 2 0 (keyOf 128 0) (valueOf 4)
       ∷ leafSlot (true ∷ true ∷ []) 2 0 (keyOf 254 0) (valueOf 4)
-      ∷ innerSlot (true ∷ []) 2 0 2 h0 2 h1
-      ∷ innerSlot ([]) 2 0 0 zeros 2 h2
+      ∷ innerSlot (true ∷ []) 2 0 2 h0 2 h1 1 1
+      ∷ innerSlot ([]) 2 0 0 zeros 2 h2 0 2
       ∷ free
       ∷ free
       ∷ free
@@ -325,7 +325,7 @@ module _ (leafHash innerHash : Bytes → Bytes → Bytes) where
       (leafSlot ([]) 4294967294 4294967295 (keyOf 16 0) (valueOf 1)
       ∷ leafSlot (false ∷ []) 4294967295 0 (keyOf 16 0) (valueOf 1)
       ∷ leafSlot (true ∷ []) 4294967295 0 (keyOf 192 0) (valueOf 2)
-      ∷ innerSlot ([]) 4294967295 0 4294967295 h8 4294967295 h9
+      ∷ innerSlot ([]) 4294967295 0 4294967295 h8 4294967295 h9 1 1
       ∷ free
       ∷ free
       ∷ free
@@ -342,7 +342,7 @@ module _ (leafHash innerHash : Bytes → Bytes → Bytes) where
       (free
       ∷ leafSlot (false ∷ []) 6 0 (keyOf 64 0) (valueOf 3)
       ∷ leafSlot (true ∷ []) 6 0 (keyOf 255 0) (valueOf 4)
-      ∷ innerSlot ([]) 6 0 6 h11 6 h12
+      ∷ innerSlot ([]) 6 0 6 h11 6 h12 1 1
       ∷ [])
 
   abbrev end4 : Store
@@ -379,8 +379,8 @@ module _ (leafHash innerHash : Bytes → Bytes → Bytes) where
       storeOf 4294967293 4294967295
       (leafSlot (false ∷ []) 4294967294 0 (keyOf 104 0) (valueOf 4)
       ∷ leafSlot (true ∷ []) 4294967294 0 (keyOf 128 0) (valueOf 4)
-      ∷ innerSlot ([]) 4294967294 4294967295 4294967294 h17 4294967294 h0
-      ∷ innerSlot ([]) 4294967295 0 4294967294 h17 4294967294 h0
+      ∷ innerSlot ([]) 4294967294 4294967295 4294967294 h17 4294967294 h0 1 1
+      ∷ innerSlot ([]) 4294967295 0 4294967294 h17 4294967294 h0 1 1
       ∷ free
       ∷ free
       ∷ free
@@ -409,12 +409,12 @@ module _ (leafHash innerHash : Bytes → Bytes → Bytes) where
       storeOf 0 1
       (leafSlot (false ∷ false ∷ false ∷ false ∷ false ∷ []) 1 0 (keyOf 0 0) (valueOf 2)
       ∷ leafSlot (false ∷ false ∷ false ∷ false ∷ true ∷ []) 1 0 (keyOf 8 0) (valueOf 1)
-      ∷ innerSlot (false ∷ false ∷ false ∷ false ∷ []) 1 0 1 h19 1 h20
-      ∷ innerSlot (false ∷ false ∷ false ∷ []) 1 0 1 h21 0 zeros
-      ∷ innerSlot (false ∷ false ∷ []) 1 0 1 h22 0 zeros
+      ∷ innerSlot (false ∷ false ∷ false ∷ false ∷ []) 1 0 1 h19 1 h20 1 1
+      ∷ innerSlot (false ∷ false ∷ false ∷ []) 1 0 1 h21 0 zeros 2 0
+      ∷ innerSlot (false ∷ false ∷ []) 1 0 1 h22 0 zeros 2 0
       ∷ leafSlot (false ∷ true ∷ []) 1 0 (keyOf 104 0) (valueOf 3)
-      ∷ innerSlot (false ∷ []) 1 0 1 h23 1 h24
-      ∷ innerSlot ([]) 1 0 1 h25 0 zeros
+      ∷ innerSlot (false ∷ []) 1 0 1 h23 1 h24 2 1
+      ∷ innerSlot ([]) 1 0 1 h25 0 zeros 3 0
       ∷ [])
 
   abbrev end8 : Store
@@ -424,9 +424,9 @@ module _ (leafHash innerHash : Bytes → Bytes → Bytes) where
       ∷ leafSlot ([]) 4 5 (keyOf 64 0) (valueOf 4)
       ∷ leafSlot (false ∷ false ∷ []) 5 0 (keyOf 0 0) (valueOf 3)
       ∷ leafSlot (false ∷ true ∷ []) 5 0 (keyOf 64 0) (valueOf 4)
-      ∷ innerSlot (false ∷ []) 5 0 5 h27 5 h28
-      ∷ innerSlot ([]) 5 6 5 h29 0 zeros
-      ∷ innerSlot ([]) 6 0 5 h29 0 zeros
+      ∷ innerSlot (false ∷ []) 5 0 5 h27 5 h28 1 1
+      ∷ innerSlot ([]) 5 6 5 h29 0 zeros 2 0
+      ∷ innerSlot ([]) 6 0 5 h29 0 zeros 2 0
       ∷ free
       ∷ free
       ∷ free
@@ -473,7 +473,7 @@ module _ (leafHash innerHash : Bytes → Bytes → Bytes) where
       (leafSlot ([]) 4 8 (keyOf 144 0) (valueOf 2)
       ∷ leafSlot (false ∷ []) 8 0 (keyOf 8 0) (valueOf 3)
       ∷ leafSlot (true ∷ []) 8 0 (keyOf 144 0) (valueOf 2)
-      ∷ innerSlot ([]) 8 0 8 h33 8 h5
+      ∷ innerSlot ([]) 8 0 8 h33 8 h5 1 1
       ∷ [])
 
   abbrev end11 : Store
@@ -521,10 +521,10 @@ module _ (leafHash innerHash : Bytes → Bytes → Bytes) where
   abbrev end13 : Store
   end13 =
       storeOf 4 5
-      (innerSlot ([]) 5 0 4 h35 4 h5
+      (innerSlot ([]) 5 0 4 h35 4 h5 1 1
       ∷ leafSlot (false ∷ []) 4 0 (keyOf 104 0) (valueOf 2)
       ∷ leafSlot (true ∷ []) 4 0 (keyOf 144 0) (valueOf 2)
-      ∷ innerSlot ([]) 4 5 4 h35 4 h5
+      ∷ innerSlot ([]) 4 5 4 h35 4 h5 1 1
       ∷ free
       ∷ free
       ∷ free
@@ -544,28 +544,28 @@ module _ (leafHash innerHash : Bytes → Bytes → Bytes) where
       storeOf 0 16
       (leafSlot (false ∷ []) 1 9 (keyOf 64 0) (valueOf 4)
       ∷ leafSlot (true ∷ []) 1 4 (keyOf 144 0) (valueOf 1)
-      ∷ innerSlot ([]) 1 4 1 h28 1 h37
+      ∷ innerSlot ([]) 1 4 1 h28 1 h37 1 1
       ∷ leafSlot (true ∷ false ∷ false ∷ false ∷ []) 4 9 (keyOf 128 0) (valueOf 2)
       ∷ leafSlot (true ∷ false ∷ false ∷ true ∷ []) 4 11 (keyOf 144 0) (valueOf 1)
-      ∷ innerSlot (true ∷ false ∷ false ∷ []) 4 9 4 h38 4 h37
-      ∷ innerSlot (true ∷ false ∷ []) 4 9 4 h39 0 zeros
-      ∷ innerSlot (true ∷ []) 4 9 4 h40 0 zeros
-      ∷ innerSlot ([]) 4 9 1 h28 4 h41
+      ∷ innerSlot (true ∷ false ∷ false ∷ []) 4 9 4 h38 4 h37 1 1
+      ∷ innerSlot (true ∷ false ∷ []) 4 9 4 h39 0 zeros 2 0
+      ∷ innerSlot (true ∷ []) 4 9 4 h40 0 zeros 2 0
+      ∷ innerSlot ([]) 4 9 1 h28 4 h41 1 2
       ∷ leafSlot (true ∷ false ∷ false ∷ false ∷ []) 9 11 (keyOf 128 0) (valueOf 1)
-      ∷ innerSlot (true ∷ false ∷ false ∷ []) 9 11 9 h7 4 h37
-      ∷ innerSlot (true ∷ false ∷ []) 9 11 9 h42 0 zeros
-      ∷ innerSlot (true ∷ []) 9 11 9 h43 0 zeros
-      ∷ innerSlot ([]) 9 11 0 zeros 9 h44
+      ∷ innerSlot (true ∷ false ∷ false ∷ []) 9 11 9 h7 4 h37 1 1
+      ∷ innerSlot (true ∷ false ∷ []) 9 11 9 h42 0 zeros 2 0
+      ∷ innerSlot (true ∷ []) 9 11 9 h43 0 zeros 2 0
+      ∷ innerSlot ([]) 9 11 0 zeros 9 h44 0 2
       ∷ leafSlot (false ∷ []) 11 16 (keyOf 64 0) (valueOf 2)
       ∷ leafSlot (true ∷ []) 11 12 (keyOf 128 0) (valueOf 4)
-      ∷ innerSlot ([]) 11 12 11 h4 11 h0
+      ∷ innerSlot ([]) 11 12 11 h4 11 h0 1 1
       ∷ leafSlot (true ∷ false ∷ false ∷ false ∷ []) 12 0 (keyOf 128 0) (valueOf 4)
       ∷ leafSlot (true ∷ false ∷ false ∷ true ∷ []) 12 0 (keyOf 144 0) (valueOf 3)
-      ∷ innerSlot (true ∷ false ∷ false ∷ []) 12 0 12 h0 12 h45
-      ∷ innerSlot (true ∷ false ∷ []) 12 0 12 h46 0 zeros
-      ∷ innerSlot (true ∷ []) 12 0 12 h47 0 zeros
-      ∷ innerSlot ([]) 12 16 11 h4 12 h48
-      ∷ innerSlot ([]) 16 0 0 zeros 12 h48
+      ∷ innerSlot (true ∷ false ∷ false ∷ []) 12 0 12 h0 12 h45 1 1
+      ∷ innerSlot (true ∷ false ∷ []) 12 0 12 h46 0 zeros 2 0
+      ∷ innerSlot (true ∷ []) 12 0 12 h47 0 zeros 2 0
+      ∷ innerSlot ([]) 12 16 11 h4 12 h48 1 2
+      ∷ innerSlot ([]) 16 0 0 zeros 12 h48 0 2
       ∷ [])
 
   abbrev end15 : Store
@@ -632,8 +632,8 @@ module _ (leafHash innerHash : Bytes → Bytes → Bytes) where
       (leafSlot ([]) 1 4 (keyOf 0 0) (valueOf 1)
       ∷ leafSlot (false ∷ []) 4 0 (keyOf 0 0) (valueOf 1)
       ∷ leafSlot (true ∷ []) 4 0 (keyOf 255 0) (valueOf 4)
-      ∷ innerSlot ([]) 4 5 4 h55 4 h12
-      ∷ innerSlot ([]) 5 0 4 h55 4 h12
+      ∷ innerSlot ([]) 4 5 4 h55 4 h12 1 1
+      ∷ innerSlot ([]) 5 0 4 h55 4 h12 1 1
       ∷ free
       ∷ free
       ∷ free
@@ -646,7 +646,7 @@ module _ (leafHash innerHash : Bytes → Bytes → Bytes) where
       ∷ leafSlot (false ∷ []) 6 8 (keyOf 96 0) (valueOf 3)
       ∷ free
       ∷ free
-      ∷ innerSlot ([]) 7 8 6 h57 7 h9
+      ∷ innerSlot ([]) 7 8 6 h57 7 h9 1 1
       ∷ leafSlot ([]) 8 0 (keyOf 192 0) (valueOf 2)
       ∷ free
       ∷ free
@@ -674,7 +674,7 @@ module _ (leafHash innerHash : Bytes → Bytes → Bytes) where
       (leafSlot ([]) 6 9 (keyOf 255 0) (valueOf 2)
       ∷ leafSlot (false ∷ []) 9 0 (keyOf 96 0) (valueOf 1)
       ∷ leafSlot (true ∷ []) 9 0 (keyOf 255 0) (valueOf 1)
-      ∷ innerSlot ([]) 9 0 9 h61 9 h62
+      ∷ innerSlot ([]) 9 0 9 h61 9 h62 1 1
       ∷ free
       ∷ free
       ∷ free
@@ -694,13 +694,13 @@ module _ (leafHash innerHash : Bytes → Bytes → Bytes) where
       storeOf 19 21
       (leafSlot (false ∷ []) 21 0 (keyOf 8 0) (valueOf 4)
       ∷ leafSlot (true ∷ []) 21 0 (keyOf 128 0) (valueOf 3)
-      ∷ innerSlot ([]) 21 0 21 h65 21 h66
+      ∷ innerSlot ([]) 21 0 21 h65 21 h66 1 1
       ∷ free
       ∷ free
       ∷ leafSlot ([]) 17 20 (keyOf 8 0) (valueOf 1)
       ∷ leafSlot (false ∷ []) 20 21 (keyOf 8 0) (valueOf 1)
       ∷ leafSlot (true ∷ []) 20 21 (keyOf 128 0) (valueOf 4)
-      ∷ innerSlot ([]) 20 21 20 h20 20 h0
+      ∷ innerSlot ([]) 20 21 20 h20 20 h0 1 1
       ∷ free
       ∷ free
       ∷ free
@@ -712,11 +712,11 @@ module _ (leafHash innerHash : Bytes → Bytes → Bytes) where
       (leafSlot ([]) 4 5 (keyOf 8 0) (valueOf 2)
       ∷ leafSlot (false ∷ []) 5 0 (keyOf 8 0) (valueOf 4)
       ∷ leafSlot (true ∷ []) 5 6 (keyOf 192 0) (valueOf 1)
-      ∷ innerSlot ([]) 5 6 5 h65 5 h58
+      ∷ innerSlot ([]) 5 6 5 h65 5 h58 1 1
       ∷ leafSlot (true ∷ false ∷ []) 6 0 (keyOf 144 0) (valueOf 4)
       ∷ leafSlot (true ∷ true ∷ []) 6 0 (keyOf 192 0) (valueOf 3)
-      ∷ innerSlot (true ∷ []) 6 0 6 h70 6 h32
-      ∷ innerSlot ([]) 6 0 5 h65 6 h71
+      ∷ innerSlot (true ∷ []) 6 0 6 h70 6 h32 1 1
+      ∷ innerSlot ([]) 6 0 5 h65 6 h71 1 2
       ∷ free
       ∷ free
       ∷ free
@@ -748,10 +748,10 @@ module _ (leafHash innerHash : Bytes → Bytes → Bytes) where
       ∷ leafSlot ([]) 12 13 (keyOf 8 0) (valueOf 1)
       ∷ leafSlot (false ∷ []) 13 14 (keyOf 8 0) (valueOf 1)
       ∷ leafSlot (true ∷ []) 13 16 (keyOf 144 0) (valueOf 1)
-      ∷ innerSlot ([]) 13 14 13 h20 13 h37
+      ∷ innerSlot ([]) 13 14 13 h20 13 h37 1 1
       ∷ leafSlot (false ∷ []) 14 16 (keyOf 8 0) (valueOf 3)
-      ∷ innerSlot ([]) 14 15 14 h33 13 h37
-      ∷ innerSlot ([]) 15 16 14 h33 13 h37
+      ∷ innerSlot ([]) 14 15 14 h33 13 h37 1 1
+      ∷ innerSlot ([]) 15 16 14 h33 13 h37 1 1
       ∷ leafSlot ([]) 16 0 (keyOf 8 0) (valueOf 3)
       ∷ free
       ∷ free
@@ -814,11 +814,11 @@ module _ (leafHash innerHash : Bytes → Bytes → Bytes) where
       (leafSlot (true ∷ false ∷ []) 3 4 (keyOf 128 0) (valueOf 4)
       ∷ leafSlot (true ∷ true ∷ []) 3 4 (keyOf 255 0) (valueOf 3)
       ∷ leafSlot (false ∷ []) 3 0 (keyOf 0 0) (valueOf 4)
-      ∷ innerSlot (true ∷ []) 3 4 3 h0 3 h16
-      ∷ innerSlot ([]) 3 4 3 h76 3 h77
+      ∷ innerSlot (true ∷ []) 3 4 3 h0 3 h16 1 1
+      ∷ innerSlot ([]) 3 4 3 h76 3 h77 1 2
       ∷ leafSlot (true ∷ []) 4 0 (keyOf 128 0) (valueOf 4)
-      ∷ innerSlot ([]) 4 5 3 h76 4 h0
-      ∷ innerSlot ([]) 5 0 3 h76 4 h0
+      ∷ innerSlot ([]) 4 5 3 h76 4 h0 1 1
+      ∷ innerSlot ([]) 5 0 3 h76 4 h0 1 1
       ∷ free
       ∷ free
       ∷ free
@@ -830,8 +830,8 @@ module _ (leafHash innerHash : Bytes → Bytes → Bytes) where
       storeOf 3 12
       (leafSlot (false ∷ []) 7 0 (keyOf 16 0) (valueOf 2)
       ∷ leafSlot (true ∷ []) 7 0 (keyOf 254 0) (valueOf 3)
-      ∷ innerSlot ([]) 7 12 7 h80 7 h81
-      ∷ innerSlot ([]) 12 0 7 h80 7 h81
+      ∷ innerSlot ([]) 7 12 7 h80 7 h81 1 1
+      ∷ innerSlot ([]) 12 0 7 h80 7 h81 1 1
       ∷ [])
 
   abbrev end29 : Store
@@ -839,12 +839,12 @@ module _ (leafHash innerHash : Bytes → Bytes → Bytes) where
       storeOf 4 5
       (leafSlot (true ∷ false ∷ []) 1 0 (keyOf 144 0) (valueOf 4)
       ∷ leafSlot (true ∷ true ∷ []) 1 0 (keyOf 254 0) (valueOf 1)
-      ∷ innerSlot (true ∷ []) 1 0 1 h70 1 h83
+      ∷ innerSlot (true ∷ []) 1 0 1 h70 1 h83 1 1
       ∷ free
       ∷ leafSlot (false ∷ []) 2 5 (keyOf 0 0) (valueOf 1)
-      ∷ innerSlot ([]) 2 5 2 h55 1 h84
+      ∷ innerSlot ([]) 2 5 2 h55 1 h84 1 2
       ∷ leafSlot (false ∷ []) 5 0 (keyOf 0 0) (valueOf 2)
-      ∷ innerSlot ([]) 5 0 5 h19 1 h84
+      ∷ innerSlot ([]) 5 0 5 h19 1 h84 1 2
       ∷ free
       ∷ free
       ∷ free

@@ -13,3 +13,5 @@ pub mod Tries1
 pub mod Tries2
 pub mod Tries3
 pub mod Comparisons
+pub mod Positions1
+pub mod Positions2

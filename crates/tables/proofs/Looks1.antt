@@ -359,13 +359,13 @@ module _ (leafHash innerHash : Bytes → Bytes → Bytes) where
       (leafSlot ([]) 1 4 (keyOf 64 0) (valueOf 4)
       ∷ leafSlot (false ∷ []) 4 11 (keyOf 64 0) (valueOf 4)
       ∷ leafSlot (true ∷ []) 4 0 (keyOf 192 0) (valueOf 4)
-      ∷ innerSlot ([]) 4 9 4 h2 4 h3
-      ∷ innerSlot ([]) 9 10 4 h2 4 h3
-      ∷ innerSlot ([]) 10 11 4 h2 4 h3
+      ∷ innerSlot ([]) 4 9 4 h2 4 h3 1 1
+      ∷ innerSlot ([]) 9 10 4 h2 4 h3 1 1
+      ∷ innerSlot ([]) 10 11 4 h2 4 h3 1 1
       ∷ leafSlot (false ∷ false ∷ []) 11 0 (keyOf 8 0) (valueOf 3)
       ∷ leafSlot (false ∷ true ∷ []) 11 0 (keyOf 64 0) (valueOf 4)
-      ∷ innerSlot (false ∷ []) 11 0 11 h4 11 h2
-      ∷ innerSlot ([]) 11 0 11 h5 4 h3
+      ∷ innerSlot (false ∷ []) 11 0 11 h4 11 h2 1 1
+      ∷ innerSlot ([]) 11 0 11 h5 4 h3 2 1
       ∷ leafSlot (true ∷ []) 4 0 (keyOf 96 0) (valueOf 9)
       ∷ leafSlot ([]) 10 11 (keyOf 255 0) (valueOf 9)
       ∷ free
@@ -385,17 +385,17 @@ module _ (leafHash innerHash : Bytes → Bytes → Bytes) where
   abbrev seen6 : Store
   seen6 =
       storeOf 3 9
-      (innerSlot ([]) 6 7 4 h10 0 zeros
+      (innerSlot ([]) 6 7 4 h10 0 zeros 2 0
       ∷ leafSlot ([]) 3 4 (keyOf 104 0) (valueOf 1)
       ∷ leafSlot (false ∷ false ∷ []) 4 0 (keyOf 16 0) (valueOf 4)
       ∷ leafSlot (false ∷ true ∷ []) 4 0 (keyOf 104 0) (valueOf 1)
-      ∷ innerSlot (false ∷ []) 4 0 4 h8 4 h9
-      ∷ innerSlot ([]) 4 5 4 h10 0 zeros
-      ∷ innerSlot ([]) 5 6 4 h10 0 zeros
-      ∷ innerSlot ([]) 7 8 4 h10 0 zeros
+      ∷ innerSlot (false ∷ []) 4 0 4 h8 4 h9 1 1
+      ∷ innerSlot ([]) 4 5 4 h10 0 zeros 2 0
+      ∷ innerSlot ([]) 5 6 4 h10 0 zeros 2 0
+      ∷ innerSlot ([]) 7 8 4 h10 0 zeros 2 0
       ∷ leafSlot (true ∷ []) 8 9 (keyOf 128 0) (valueOf 1)
-      ∷ innerSlot ([]) 8 9 4 h10 8 h11
-      ∷ innerSlot ([]) 9 0 4 h10 0 zeros
+      ∷ innerSlot ([]) 8 9 4 h10 8 h11 2 1
+      ∷ innerSlot ([]) 9 0 4 h10 0 zeros 2 0
       ∷ free
       ∷ free
       ∷ free
@@ -408,10 +408,10 @@ module _ (leafHash innerHash : Bytes → Bytes → Bytes) where
       storeOf 0 4
       (leafSlot (true ∷ false ∷ false ∷ false ∷ []) 1 2 (keyOf 128 0) (valueOf 4)
       ∷ leafSlot (true ∷ false ∷ false ∷ true ∷ []) 1 2 (keyOf 144 0) (valueOf 3)
-      ∷ innerSlot (true ∷ false ∷ false ∷ []) 1 2 1 h14 1 h15
-      ∷ innerSlot (true ∷ false ∷ []) 1 2 1 h16 0 zeros
-      ∷ innerSlot (true ∷ []) 2 2 1 h17 0 zeros
-      ∷ innerSlot ([]) 1 2 0 zeros 1 h18
+      ∷ innerSlot (true ∷ false ∷ false ∷ []) 1 2 1 h14 1 h15 1 1
+      ∷ innerSlot (true ∷ false ∷ []) 1 2 1 h16 0 zeros 2 0
+      ∷ innerSlot (true ∷ []) 2 2 1 h17 0 zeros 2 0
+      ∷ innerSlot ([]) 1 2 0 zeros 1 h18 0 2
       ∷ leafSlot ([]) 2 3 (keyOf 128 0) (valueOf 4)
       ∷ leafSlot ([]) 3 4 (keyOf 128 0) (valueOf 2)
       ∷ [])
@@ -423,15 +423,15 @@ module _ (leafHash innerHash : Bytes → Bytes → Bytes) where
       ∷ leafSlot (true ∷ false ∷ []) 3 5 (keyOf 144 0) (valueOf 1)
       ∷ leafSlot (false ∷ true ∷ true ∷ false ∷ false ∷ []) 5 0 (keyOf 96 0) (valueOf 1)
       ∷ leafSlot (false ∷ true ∷ true ∷ false ∷ true ∷ []) 5 0 (keyOf 104 0) (valueOf 3)
-      ∷ innerSlot (false ∷ true ∷ true ∷ false ∷ []) 5 0 5 h21 5 h22
+      ∷ innerSlot (false ∷ true ∷ true ∷ false ∷ []) 5 0 5 h21 5 h22 1 1
       ∷ leafSlot (false ∷ []) 4 5 (keyOf 96 0) (valueOf 1)
-      ∷ innerSlot (true ∷ []) 4 5 3 h23 4 h24
-      ∷ innerSlot ([]) 4 5 4 h21 4 h25
-      ∷ innerSlot (false ∷ true ∷ true ∷ []) 5 0 5 h26 0 zeros
-      ∷ innerSlot (false ∷ true ∷ []) 5 0 0 zeros 5 h27
-      ∷ innerSlot (false ∷ []) 5 0 0 zeros 5 h28
+      ∷ innerSlot (true ∷ []) 4 5 3 h23 4 h24 1 1
+      ∷ innerSlot ([]) 4 5 4 h21 4 h25 1 2
+      ∷ innerSlot (false ∷ true ∷ true ∷ []) 5 0 5 h26 0 zeros 2 0
+      ∷ innerSlot (false ∷ true ∷ []) 5 0 0 zeros 5 h27 0 2
+      ∷ innerSlot (false ∷ []) 5 0 0 zeros 5 h28 0 2
       ∷ leafSlot (true ∷ []) 5 0 (keyOf 254 0) (valueOf 1)
-      ∷ innerSlot ([]) 5 0 5 h29 5 h24
+      ∷ innerSlot ([]) 5 0 5 h29 5 h24 2 1
       ∷ free
       ∷ free
       ∷ free
@@ -457,9 +457,9 @@ module _ (leafHash innerHash : Bytes → Bytes → Bytes) where
       ∷ leafSlot ([]) 3 4 (keyOf 192 0) (valueOf 3)
       ∷ leafSlot (false ∷ []) 4 0 (keyOf 16 0) (valueOf 2)
       ∷ leafSlot (true ∷ []) 4 5 (keyOf 192 0) (valueOf 3)
-      ∷ innerSlot ([]) 4 5 4 h31 4 h32
+      ∷ innerSlot ([]) 4 5 4 h31 4 h32 1 1
       ∷ leafSlot (true ∷ []) 5 0 (keyOf 192 0) (valueOf 2)
-      ∷ innerSlot ([]) 5 0 4 h31 5 h33
+      ∷ innerSlot ([]) 5 0 4 h31 5 h33 1 1
       ∷ free
       ∷ [])
 
@@ -490,12 +490,12 @@ module _ (leafHash innerHash : Bytes → Bytes → Bytes) where
       (leafSlot ([]) 8 9 (keyOf 104 0) (valueOf 1)
       ∷ leafSlot (false ∷ []) 9 0 (keyOf 104 0) (valueOf 1)
       ∷ leafSlot (true ∷ []) 9 10 (keyOf 144 0) (valueOf 3)
-      ∷ innerSlot ([]) 9 10 9 h9 9 h15
+      ∷ innerSlot ([]) 9 10 9 h9 9 h15 1 1
       ∷ leafSlot (true ∷ false ∷ []) 10 0 (keyOf 144 0) (valueOf 3)
       ∷ leafSlot (true ∷ true ∷ []) 10 0 (keyOf 254 0) (valueOf 4)
-      ∷ innerSlot (true ∷ []) 10 0 10 h15 10 h35
-      ∷ innerSlot ([]) 10 12 9 h9 10 h36
-      ∷ innerSlot ([]) 12 0 9 h9 10 h36
+      ∷ innerSlot (true ∷ []) 10 0 10 h15 10 h35 1 1
+      ∷ innerSlot ([]) 10 12 9 h9 10 h36 1 2
+      ∷ innerSlot ([]) 12 0 9 h9 10 h36 1 2
       ∷ free
       ∷ free
       ∷ free
@@ -516,7 +516,7 @@ module _ (leafHash innerHash : Bytes → Bytes → Bytes) where
       (leafSlot ([]) 1 2 (keyOf 0 0) (valueOf 3)
       ∷ leafSlot (false ∷ []) 2 0 (keyOf 0 0) (valueOf 3)
       ∷ leafSlot (true ∷ []) 2 0 (keyOf 144 0) (valueOf 4)
-      ∷ innerSlot ([]) 2 0 2 h38 2 h39
+      ∷ innerSlot ([]) 2 0 2 h38 2 h39 1 1
       ∷ [])
 
   abbrev seen15 : Store
@@ -524,7 +524,7 @@ module _ (leafHash innerHash : Bytes → Bytes → Bytes) where
       storeOf 0 2
       (leafSlot (false ∷ []) 2 0 (keyOf 96 0) (valueOf 4)
       ∷ leafSlot (true ∷ []) 2 0 (keyOf 255 0) (valueOf 4)
-      ∷ innerSlot ([]) 2 0 2 h41 2 h42
+      ∷ innerSlot ([]) 2 0 2 h41 2 h42 1 1
       ∷ leafSlot ([]) 2 0 (keyOf 96 0) (valueOf 9)
       ∷ [])
 
@@ -535,14 +535,14 @@ module _ (leafHash innerHash : Bytes → Bytes → Bytes) where
       ∷ leafSlot ([]) 14 15 (keyOf 254 0) (valueOf 4)
       ∷ leafSlot (true ∷ true ∷ true ∷ true ∷ true ∷ true ∷ true ∷ false ∷ []) 15 0 (keyOf 254 0) (valueOf 4)
       ∷ leafSlot (true ∷ true ∷ true ∷ true ∷ true ∷ true ∷ true ∷ true ∷ []) 15 0 (keyOf 255 0) (valueOf 2)
-      ∷ innerSlot (true ∷ true ∷ true ∷ true ∷ true ∷ true ∷ true ∷ []) 15 0 15 h35 15 h44
-      ∷ innerSlot (true ∷ true ∷ true ∷ true ∷ true ∷ true ∷ []) 15 0 0 zeros 15 h45
-      ∷ innerSlot (true ∷ true ∷ true ∷ true ∷ true ∷ []) 15 0 0 zeros 15 h46
-      ∷ innerSlot (true ∷ true ∷ true ∷ true ∷ []) 15 0 0 zeros 15 h47
-      ∷ innerSlot (true ∷ true ∷ true ∷ []) 15 0 0 zeros 15 h48
-      ∷ innerSlot (true ∷ true ∷ []) 15 0 0 zeros 15 h49
-      ∷ innerSlot (true ∷ []) 15 0 0 zeros 15 h50
-      ∷ innerSlot ([]) 15 0 0 zeros 15 h51
+      ∷ innerSlot (true ∷ true ∷ true ∷ true ∷ true ∷ true ∷ true ∷ []) 15 0 15 h35 15 h44 1 1
+      ∷ innerSlot (true ∷ true ∷ true ∷ true ∷ true ∷ true ∷ []) 15 0 0 zeros 15 h45 0 2
+      ∷ innerSlot (true ∷ true ∷ true ∷ true ∷ true ∷ []) 15 0 0 zeros 15 h46 0 2
+      ∷ innerSlot (true ∷ true ∷ true ∷ true ∷ []) 15 0 0 zeros 15 h47 0 2
+      ∷ innerSlot (true ∷ true ∷ true ∷ []) 15 0 0 zeros 15 h48 0 2
+      ∷ innerSlot (true ∷ true ∷ []) 15 0 0 zeros 15 h49 0 2
+      ∷ innerSlot (true ∷ []) 15 0 0 zeros 15 h50 0 2
+      ∷ innerSlot ([]) 15 0 0 zeros 15 h51 0 2
       ∷ [])
 
   abbrev seen17 : Store
@@ -552,11 +552,11 @@ module _ (leafHash innerHash : Bytes → Bytes → Bytes) where
       ∷ leafSlot ([]) 2 5 (keyOf 144 0) (valueOf 1)
       ∷ leafSlot (true ∷ false ∷ []) 5 0 (keyOf 144 0) (valueOf 1)
       ∷ leafSlot (true ∷ true ∷ []) 5 0 (keyOf 255 0) (valueOf 4)
-      ∷ innerSlot (true ∷ []) 5 0 5 h23 5 h42
-      ∷ innerSlot ([]) 5 6 0 zeros 5 h53
-      ∷ innerSlot ([]) 6 8 0 zeros 5 h53
+      ∷ innerSlot (true ∷ []) 5 0 5 h23 5 h42 1 1
+      ∷ innerSlot ([]) 5 6 0 zeros 5 h53 0 2
+      ∷ innerSlot ([]) 6 8 0 zeros 5 h53 0 2
       ∷ leafSlot (true ∷ true ∷ []) 5 0 (keyOf 8 0) (valueOf 9)
-      ∷ innerSlot ([]) 13 0 0 zeros 5 h53
+      ∷ innerSlot ([]) 13 0 0 zeros 5 h53 0 2
       ∷ free
       ∷ free
       ∷ free
@@ -569,11 +569,11 @@ module _ (leafHash innerHash : Bytes → Bytes → Bytes) where
   abbrev seen18 : Store
   seen18 =
       storeOf 5 9
-      (innerSlot ([]) 7 8 2 h55 5 h42
+      (innerSlot ([]) 7 8 2 h55 5 h42 1 1
       ∷ leafSlot (false ∷ []) 2 8 (keyOf 96 0) (valueOf 2)
       ∷ leafSlot (false ∷ []) 8 0 (keyOf 96 0) (valueOf 4)
-      ∷ innerSlot ([]) 8 9 8 h41 5 h42
-      ∷ innerSlot ([]) 9 0 8 h41 5 h42
+      ∷ innerSlot ([]) 8 9 8 h41 5 h42 1 1
+      ∷ innerSlot ([]) 9 0 8 h41 5 h42 1 1
       ∷ free
       ∷ free
       ∷ free
@@ -581,7 +581,7 @@ module _ (leafHash innerHash : Bytes → Bytes → Bytes) where
       ∷ free
       ∷ free
       ∷ leafSlot (true ∷ []) 5 0 (keyOf 255 0) (valueOf 4)
-      ∷ innerSlot ([]) 5 7 2 h55 5 h42
+      ∷ innerSlot ([]) 5 7 2 h55 5 h42 1 1
       ∷ free
       ∷ free
       ∷ free
@@ -614,8 +614,8 @@ module _ (leafHash innerHash : Bytes → Bytes → Bytes) where
       (leafSlot ([]) 2 5 (keyOf 96 0) (valueOf 3)
       ∷ leafSlot (false ∷ []) 5 11 (keyOf 96 0) (valueOf 3)
       ∷ leafSlot (true ∷ []) 5 11 (keyOf 254 0) (valueOf 4)
-      ∷ innerSlot ([]) 5 10 5 h57 5 h35
-      ∷ innerSlot ([]) 10 11 5 h57 5 h35
+      ∷ innerSlot ([]) 5 10 5 h57 5 h35 1 1
+      ∷ innerSlot ([]) 10 11 5 h57 5 h35 1 1
       ∷ leafSlot ([]) 13 0 (keyOf 104 0) (valueOf 4)
       ∷ free
       ∷ free
@@ -642,15 +642,15 @@ module _ (leafHash innerHash : Bytes → Bytes → Bytes) where
       storeOf 0 6
       (leafSlot (true ∷ false ∷ false ∷ false ∷ []) 4 0 (keyOf 128 0) (valueOf 2)
       ∷ leafSlot (true ∷ false ∷ false ∷ true ∷ []) 4 6 (keyOf 144 0) (valueOf 4)
-      ∷ innerSlot (true ∷ false ∷ false ∷ []) 4 0 4 h19 4 h39
-      ∷ innerSlot (true ∷ false ∷ []) 4 6 4 h59 0 zeros
-      ∷ innerSlot (true ∷ []) 4 6 4 h60 0 zeros
-      ∷ innerSlot ([]) 4 6 0 zeros 4 h61
+      ∷ innerSlot (true ∷ false ∷ false ∷ []) 4 0 4 h19 4 h39 1 1
+      ∷ innerSlot (true ∷ false ∷ []) 4 6 4 h59 0 zeros 2 0
+      ∷ innerSlot (true ∷ []) 4 6 4 h60 0 zeros 2 0
+      ∷ innerSlot ([]) 4 6 0 zeros 4 h61 0 2
       ∷ leafSlot (true ∷ false ∷ false ∷ true ∷ []) 6 0 (keyOf 144 0) (valueOf 1)
-      ∷ innerSlot (true ∷ false ∷ false ∷ []) 6 0 4 h19 6 h23
-      ∷ innerSlot (true ∷ false ∷ []) 6 0 6 h62 0 zeros
-      ∷ innerSlot (true ∷ []) 6 0 6 h63 0 zeros
-      ∷ innerSlot ([]) 6 0 0 zeros 6 h64
+      ∷ innerSlot (true ∷ false ∷ false ∷ []) 6 0 4 h19 6 h23 1 1
+      ∷ innerSlot (true ∷ false ∷ []) 6 0 6 h62 0 zeros 2 0
+      ∷ innerSlot (true ∷ []) 6 0 6 h63 0 zeros 2 0
+      ∷ innerSlot ([]) 6 0 0 zeros 6 h64 0 2
       ∷ spoiltSlot 4 (true ∷ false ∷ false ∷ true ∷ []) 4 6
       ∷ [])
 
@@ -680,15 +680,15 @@ module _ (leafHash innerHash : Bytes → Bytes → Bytes) where
       storeOf 6 9
       (leafSlot (true ∷ true ∷ true ∷ true ∷ true ∷ true ∷ true ∷ false ∷ []) 9 0 (keyOf 254 0) (valueOf 1)
       ∷ leafSlot (true ∷ true ∷ true ∷ true ∷ true ∷ true ∷ true ∷ true ∷ []) 9 0 (keyOf 255 0) (valueOf 1)
-      ∷ innerSlot (true ∷ true ∷ true ∷ true ∷ true ∷ true ∷ true ∷ []) 9 0 9 h24 9 h66
-      ∷ innerSlot (true ∷ true ∷ true ∷ true ∷ true ∷ true ∷ []) 9 0 0 zeros 9 h67
-      ∷ innerSlot (true ∷ true ∷ true ∷ true ∷ true ∷ []) 9 0 0 zeros 9 h68
-      ∷ innerSlot (true ∷ true ∷ true ∷ true ∷ []) 9 0 0 zeros 9 h69
-      ∷ innerSlot (true ∷ true ∷ true ∷ []) 9 0 0 zeros 9 h70
+      ∷ innerSlot (true ∷ true ∷ true ∷ true ∷ true ∷ true ∷ true ∷ []) 9 0 9 h24 9 h66 1 1
+      ∷ innerSlot (true ∷ true ∷ true ∷ true ∷ true ∷ true ∷ []) 9 0 0 zeros 9 h67 0 2
+      ∷ innerSlot (true ∷ true ∷ true ∷ true ∷ true ∷ []) 9 0 0 zeros 9 h68 0 2
+      ∷ innerSlot (true ∷ true ∷ true ∷ true ∷ []) 9 0 0 zeros 9 h69 0 2
+      ∷ innerSlot (true ∷ true ∷ true ∷ []) 9 0 0 zeros 9 h70 0 2
       ∷ leafSlot (true ∷ false ∷ []) 10 0 (keyOf 128 0) (valueOf 2)
-      ∷ innerSlot (true ∷ true ∷ []) 10 0 0 zeros 9 h71
-      ∷ innerSlot (true ∷ []) 9 0 9 h19 9 h72
-      ∷ innerSlot ([]) 9 0 0 zeros 9 h73
+      ∷ innerSlot (true ∷ true ∷ []) 10 0 0 zeros 9 h71 0 2
+      ∷ innerSlot (true ∷ []) 9 0 9 h19 9 h72 1 2
+      ∷ innerSlot ([]) 9 0 0 zeros 9 h73 0 3
       ∷ free
       ∷ free
       ∷ free
@@ -742,12 +742,12 @@ module _ (leafHash innerHash : Bytes → Bytes → Bytes) where
   abbrev seen27 : Store
   seen27 =
       storeOf 2 6
-      (innerSlot ([]) 6 0 2 h57 2 h75
+      (innerSlot ([]) 6 0 2 h57 2 h75 1 2
       ∷ spoiltSlot 2 (true ∷ false ∷ []) 2 0
       ∷ leafSlot (true ∷ true ∷ []) 2 0 (keyOf 255 0) (valueOf 2)
       ∷ leafSlot (false ∷ []) 2 0 (keyOf 96 0) (valueOf 3)
-      ∷ innerSlot (true ∷ []) 2 0 2 h14 2 h44
-      ∷ innerSlot ([]) 2 6 2 h57 2 h75
+      ∷ innerSlot (true ∷ []) 2 0 2 h14 2 h44 1 1
+      ∷ innerSlot ([]) 2 6 2 h57 2 h75 1 2
       ∷ spoiltSlot 2 (true ∷ false ∷ []) 2 0
       ∷ free
       ∷ free
@@ -765,18 +765,18 @@ module _ (leafHash innerHash : Bytes → Bytes → Bytes) where
       storeOf 6 13
       (leafSlot (false ∷ []) 10 11 (keyOf 8 0) (valueOf 3)
       ∷ leafSlot (true ∷ []) 10 11 (keyOf 144 0) (valueOf 1)
-      ∷ innerSlot ([]) 10 11 10 h4 10 h23
+      ∷ innerSlot ([]) 10 11 10 h4 10 h23 1 1
       ∷ leafSlot (false ∷ false ∷ false ∷ false ∷ []) 11 12 (keyOf 8 0) (valueOf 3)
       ∷ leafSlot (false ∷ false ∷ false ∷ true ∷ []) 11 12 (keyOf 16 0) (valueOf 2)
-      ∷ innerSlot (false ∷ false ∷ false ∷ []) 11 12 11 h4 11 h31
-      ∷ innerSlot (false ∷ false ∷ []) 11 12 11 h77 0 zeros
-      ∷ innerSlot (false ∷ []) 11 12 11 h78 0 zeros
+      ∷ innerSlot (false ∷ false ∷ false ∷ []) 11 12 11 h4 11 h31 1 1
+      ∷ innerSlot (false ∷ false ∷ []) 11 12 11 h77 0 zeros 2 0
+      ∷ innerSlot (false ∷ []) 11 12 11 h78 0 zeros 2 0
       ∷ leafSlot (true ∷ []) 11 12 (keyOf 144 0) (valueOf 3)
-      ∷ innerSlot ([]) 11 12 11 h79 11 h15
+      ∷ innerSlot ([]) 11 12 11 h79 11 h15 2 1
       ∷ leafSlot ([]) 12 13 (keyOf 8 0) (valueOf 3)
       ∷ leafSlot (false ∷ []) 13 0 (keyOf 8 0) (valueOf 2)
       ∷ leafSlot (true ∷ []) 13 0 (keyOf 144 0) (valueOf 2)
-      ∷ innerSlot ([]) 13 0 13 h80 13 h0
+      ∷ innerSlot ([]) 13 0 13 h80 13 h0 1 1
       ∷ free
       ∷ free
       ∷ [])
@@ -788,12 +788,12 @@ module _ (leafHash innerHash : Bytes → Bytes → Bytes) where
       ∷ leafSlot ([]) 2 3 (keyOf 192 0) (valueOf 1)
       ∷ leafSlot (false ∷ []) 3 5 (keyOf 0 0) (valueOf 1)
       ∷ leafSlot (true ∷ []) 3 5 (keyOf 192 0) (valueOf 1)
-      ∷ innerSlot ([]) 3 5 3 h82 3 h83
+      ∷ innerSlot ([]) 3 5 3 h82 3 h83 1 1
       ∷ leafSlot ([]) 5 6 (keyOf 0 0) (valueOf 1)
       ∷ leafSlot (false ∷ []) 6 0 (keyOf 0 0) (valueOf 1)
       ∷ leafSlot (true ∷ []) 7 0 (keyOf 192 0) (valueOf 1)
-      ∷ innerSlot ([]) 6 7 6 h82 6 h83
-      ∷ innerSlot ([]) 7 0 6 h82 6 h83
+      ∷ innerSlot ([]) 6 7 6 h82 6 h83 1 1
+      ∷ innerSlot ([]) 7 0 6 h82 6 h83 1 1
       ∷ free
       ∷ free
       ∷ [])

@@ -253,7 +253,7 @@ module _ (leafHash innerHash : Bytes → Bytes → Bytes) where
       (leafSlot ([]) 5 6 (keyOf 255 0) (valueOf 3)
       ∷ leafSlot (false ∷ []) 6 0 (keyOf 64 0) (valueOf 1)
       ∷ leafSlot (true ∷ []) 6 0 (keyOf 255 0) (valueOf 3)
-      ∷ innerSlot ([]) 6 0 2 h1 6 h2
+      ∷ innerSlot ([]) 6 0 2 h1 6 h2 1 1
       ∷ free
       ∷ free
       ∷ free
@@ -277,8 +277,8 @@ module _ (leafHash innerHash : Bytes → Bytes → Bytes) where
       ∷ leafSlot ([]) 9 10 (keyOf 128 0) (valueOf 2)
       ∷ leafSlot (true ∷ false ∷ []) 10 0 (keyOf 128 0) (valueOf 2)
       ∷ leafSlot (true ∷ true ∷ []) 10 0 (keyOf 254 0) (valueOf 2)
-      ∷ innerSlot (true ∷ []) 10 0 10 h4 10 h5
-      ∷ innerSlot ([]) 10 0 0 zeros 10 h6
+      ∷ innerSlot (true ∷ []) 10 0 10 h4 10 h5 1 1
+      ∷ innerSlot ([]) 10 0 0 zeros 10 h6 0 2
       ∷ free
       ∷ free
       ∷ free
@@ -294,9 +294,9 @@ module _ (leafHash innerHash : Bytes → Bytes → Bytes) where
       storeOf 0 3
       (leafSlot (false ∷ true ∷ false ∷ []) 2 2 (keyOf 64 0) (valueOf 2)
       ∷ leafSlot (false ∷ true ∷ true ∷ []) 1 2 (keyOf 104 0) (valueOf 3)
-      ∷ innerSlot (false ∷ true ∷ []) 1 2 1 h8 1 h9
-      ∷ innerSlot (false ∷ []) 1 2 0 zeros 1 h10
-      ∷ innerSlot ([]) 1 2 1 h11 0 zeros
+      ∷ innerSlot (false ∷ true ∷ []) 1 2 1 h8 1 h9 1 1
+      ∷ innerSlot (false ∷ []) 1 2 0 zeros 1 h10 0 2
+      ∷ innerSlot ([]) 1 2 1 h11 0 zeros 2 0
       ∷ leafSlot ([]) 2 3 (keyOf 104 0) (valueOf 1)
       ∷ leafSlot ([]) 3 0 (keyOf 104 0) (valueOf 1)
       ∷ free
@@ -329,14 +329,14 @@ module _ (leafHash innerHash : Bytes → Bytes → Bytes) where
       (leafSlot ([]) 4 5 (keyOf 192 0) (valueOf 1)
       ∷ spoiltSlot 2 (true ∷ false ∷ []) 5 0
       ∷ leafSlot (true ∷ true ∷ []) 5 7 (keyOf 192 0) (valueOf 1)
-      ∷ innerSlot (true ∷ []) 5 7 5 h13 5 h14
-      ∷ innerSlot ([]) 5 7 0 zeros 5 h15
+      ∷ innerSlot (true ∷ []) 5 7 5 h13 5 h14 1 1
+      ∷ innerSlot ([]) 5 7 0 zeros 5 h15 0 2
       ∷ leafSlot (true ∷ true ∷ []) 7 12 (keyOf 255 0) (valueOf 4)
-      ∷ innerSlot (true ∷ []) 7 12 5 h13 7 h16
+      ∷ innerSlot (true ∷ []) 7 12 5 h13 7 h16 1 1
       ∷ spoiltSlot 0 ([]) 7 12
       ∷ leafSlot (true ∷ true ∷ []) 12 0 (keyOf 192 0) (valueOf 4)
-      ∷ innerSlot (true ∷ []) 12 0 5 h13 12 h17
-      ∷ innerSlot ([]) 12 0 0 zeros 12 h18
+      ∷ innerSlot (true ∷ []) 12 0 5 h13 12 h17 1 1
+      ∷ innerSlot ([]) 12 0 0 zeros 12 h18 0 2
       ∷ spoiltSlot 2 (true ∷ false ∷ []) 5 0
       ∷ free
       ∷ free
@@ -350,14 +350,14 @@ module _ (leafHash innerHash : Bytes → Bytes → Bytes) where
       (leafSlot ([]) 1 2 (keyOf 64 0) (valueOf 3)
       ∷ leafSlot (false ∷ true ∷ false ∷ []) 2 9 (keyOf 64 0) (valueOf 3)
       ∷ leafSlot (false ∷ true ∷ true ∷ []) 2 9 (keyOf 104 0) (valueOf 1)
-      ∷ innerSlot (false ∷ true ∷ []) 2 9 2 h20 2 h12
-      ∷ innerSlot (false ∷ []) 2 9 0 zeros 2 h21
-      ∷ innerSlot ([]) 2 3 2 h22 0 zeros
+      ∷ innerSlot (false ∷ true ∷ []) 2 9 2 h20 2 h12 1 1
+      ∷ innerSlot (false ∷ []) 2 9 0 zeros 2 h21 0 2
+      ∷ innerSlot ([]) 2 3 2 h22 0 zeros 2 0
       ∷ leafSlot (true ∷ []) 3 0 (keyOf 192 0) (valueOf 1)
-      ∷ innerSlot ([]) 3 4 2 h22 3 h14
-      ∷ innerSlot ([]) 4 9 2 h22 3 h14
+      ∷ innerSlot ([]) 3 4 2 h22 3 h14 2 1
+      ∷ innerSlot ([]) 4 9 2 h22 3 h14 2 1
       ∷ leafSlot (false ∷ []) 9 0 (keyOf 64 0) (valueOf 3)
-      ∷ innerSlot ([]) 9 0 9 h20 3 h14
+      ∷ innerSlot ([]) 9 0 9 h20 3 h14 1 1
       ∷ free
       ∷ [])
 
@@ -367,15 +367,15 @@ module _ (leafHash innerHash : Bytes → Bytes → Bytes) where
       (leafSlot ([]) 2 3 (keyOf 0 0) (valueOf 3)
       ∷ leafSlot (false ∷ []) 3 0 (keyOf 0 0) (valueOf 3)
       ∷ leafSlot (true ∷ []) 4 8 (keyOf 255 0) (valueOf 3)
-      ∷ innerSlot ([]) 3 7 3 h25 3 h2
-      ∷ innerSlot ([]) 7 8 3 h25 3 h2
+      ∷ innerSlot ([]) 3 7 3 h25 3 h2 1 1
+      ∷ innerSlot ([]) 7 8 3 h25 3 h2 1 1
       ∷ leafSlot (true ∷ false ∷ []) 8 9 (keyOf 128 0) (valueOf 3)
       ∷ leafSlot (true ∷ true ∷ []) 8 0 (keyOf 255 0) (valueOf 3)
-      ∷ innerSlot (true ∷ []) 8 0 8 h26 8 h2
-      ∷ innerSlot ([]) 8 9 3 h25 8 h27
-      ∷ innerSlot ([]) 9 10 3 h25 8 h27
-      ∷ innerSlot ([]) 10 11 3 h25 8 h27
-      ∷ innerSlot ([]) 11 0 3 h25 8 h27
+      ∷ innerSlot (true ∷ []) 8 0 8 h26 8 h2 1 1
+      ∷ innerSlot ([]) 8 9 3 h25 8 h27 1 2
+      ∷ innerSlot ([]) 9 10 3 h25 8 h27 1 2
+      ∷ innerSlot ([]) 10 11 3 h25 8 h27 1 2
+      ∷ innerSlot ([]) 11 0 3 h25 8 h27 1 2
       ∷ [])
 
   abbrev seen8 : Store
@@ -384,7 +384,7 @@ module _ (leafHash innerHash : Bytes → Bytes → Bytes) where
       (leafSlot ([]) 3 4 (keyOf 104 0) (valueOf 1)
       ∷ leafSlot (false ∷ []) 4 0 (keyOf 64 0) (valueOf 2)
       ∷ leafSlot (true ∷ []) 4 0 (keyOf 255 0) (valueOf 1)
-      ∷ innerSlot ([]) 4 0 4 h8 4 h29
+      ∷ innerSlot ([]) 4 0 4 h8 4 h29 1 1
       ∷ free
       ∷ free
       ∷ free
@@ -402,9 +402,9 @@ module _ (leafHash innerHash : Bytes → Bytes → Bytes) where
       ∷ leafSlot ([]) 6 7 (keyOf 192 0) (valueOf 1)
       ∷ leafSlot (true ∷ false ∷ []) 7 0 (keyOf 144 0) (valueOf 3)
       ∷ leafSlot (true ∷ true ∷ []) 7 0 (keyOf 192 0) (valueOf 1)
-      ∷ innerSlot (true ∷ []) 7 0 7 h31 7 h14
+      ∷ innerSlot (true ∷ []) 7 0 7 h31 7 h14 1 1
       ∷ spoiltSlot 1 ([]) 7 8
-      ∷ innerSlot ([]) 8 0 0 zeros 7 h32
+      ∷ innerSlot ([]) 8 0 0 zeros 7 h32 0 2
       ∷ free
       ∷ free
       ∷ free
@@ -429,19 +429,19 @@ module _ (leafHash innerHash : Bytes → Bytes → Bytes) where
       storeOf 0 12
       (leafSlot (false ∷ []) 1 2 (keyOf 104 0) (valueOf 2)
       ∷ leafSlot (true ∷ []) 1 2 (keyOf 254 0) (valueOf 1)
-      ∷ innerSlot ([]) 1 2 1 h0 1 h34
+      ∷ innerSlot ([]) 1 2 1 h0 1 h34 1 1
       ∷ leafSlot ([]) 2 3 (keyOf 254 0) (valueOf 1)
       ∷ leafSlot (false ∷ []) 3 0 (keyOf 96 0) (valueOf 3)
       ∷ leafSlot (true ∷ []) 3 7 (keyOf 192 0) (valueOf 2)
-      ∷ innerSlot ([]) 3 4 3 h35 3 h36
-      ∷ innerSlot ([]) 4 7 3 h35 3 h36
+      ∷ innerSlot ([]) 3 4 3 h35 3 h36 1 1
+      ∷ innerSlot ([]) 4 7 3 h35 3 h36 1 1
       ∷ leafSlot (true ∷ []) 7 12 (keyOf 254 0) (valueOf 4)
-      ∷ innerSlot ([]) 7 12 3 h35 7 h37
+      ∷ innerSlot ([]) 7 12 3 h35 7 h37 1 1
       ∷ leafSlot (true ∷ true ∷ false ∷ []) 12 0 (keyOf 192 0) (valueOf 3)
       ∷ leafSlot (true ∷ true ∷ true ∷ []) 12 0 (keyOf 254 0) (valueOf 4)
-      ∷ innerSlot (true ∷ true ∷ []) 12 0 12 h38 12 h37
-      ∷ innerSlot (true ∷ []) 12 0 0 zeros 12 h39
-      ∷ innerSlot ([]) 12 0 3 h35 12 h40
+      ∷ innerSlot (true ∷ true ∷ []) 12 0 12 h38 12 h37 1 1
+      ∷ innerSlot (true ∷ []) 12 0 0 zeros 12 h39 0 2
+      ∷ innerSlot ([]) 12 0 3 h35 12 h40 1 2
       ∷ free
       ∷ [])
 
@@ -461,7 +461,7 @@ module _ (leafHash innerHash : Bytes → Bytes → Bytes) where
       ∷ free
       ∷ leafSlot (false ∷ []) 4 0 (keyOf 16 0) (valueOf 4)
       ∷ leafSlot (true ∷ []) 4 0 (keyOf 254 0) (valueOf 1)
-      ∷ innerSlot ([]) 4 0 4 h43 4 h34
+      ∷ innerSlot ([]) 4 0 4 h43 4 h34 1 1
       ∷ free
       ∷ free
       ∷ free
@@ -482,10 +482,10 @@ module _ (leafHash innerHash : Bytes → Bytes → Bytes) where
       ∷ free
       ∷ leafSlot (false ∷ false ∷ false ∷ false ∷ []) 3 0 (keyOf 8 0) (valueOf 4)
       ∷ spoiltSlot 3 (false ∷ false ∷ false ∷ []) 3 0
-      ∷ innerSlot (false ∷ false ∷ []) 3 0 3 h47 0 zeros
-      ∷ innerSlot (false ∷ []) 3 0 3 h48 0 zeros
-      ∷ innerSlot ([]) 3 4 3 h49 0 zeros
-      ∷ innerSlot ([]) 4 0 3 h49 0 zeros
+      ∷ innerSlot (false ∷ false ∷ []) 3 0 3 h47 0 zeros 2 0
+      ∷ innerSlot (false ∷ []) 3 0 3 h48 0 zeros 2 0
+      ∷ innerSlot ([]) 3 4 3 h49 0 zeros 2 0
+      ∷ innerSlot ([]) 4 0 3 h49 0 zeros 2 0
       ∷ [])
 
   abbrev seen14 : Store
@@ -496,12 +496,12 @@ module _ (leafHash innerHash : Bytes → Bytes → Bytes) where
       ∷ leafSlot ([]) 4 5 (keyOf 128 0) (valueOf 3)
       ∷ leafSlot (false ∷ []) 5 0 (keyOf 8 0) (valueOf 2)
       ∷ leafSlot (true ∷ []) 5 6 (keyOf 128 0) (valueOf 3)
-      ∷ innerSlot ([]) 5 6 5 h51 5 h26
+      ∷ innerSlot ([]) 5 6 5 h51 5 h26 1 1
       ∷ leafSlot (true ∷ false ∷ []) 6 0 (keyOf 128 0) (valueOf 3)
       ∷ leafSlot (true ∷ true ∷ []) 6 0 (keyOf 254 0) (valueOf 1)
-      ∷ innerSlot (true ∷ []) 6 0 6 h26 6 h34
-      ∷ innerSlot ([]) 6 10 5 h51 6 h52
-      ∷ innerSlot ([]) 10 0 5 h51 6 h52
+      ∷ innerSlot (true ∷ []) 6 0 6 h26 6 h34 1 1
+      ∷ innerSlot ([]) 6 10 5 h51 6 h52 1 2
+      ∷ innerSlot ([]) 10 0 5 h51 6 h52 1 2
       ∷ free
       ∷ [])
 
@@ -511,11 +511,11 @@ module _ (leafHash innerHash : Bytes → Bytes → Bytes) where
       (spoiltSlot 0 (false ∷ false ∷ true ∷ []) 5 9
       ∷ leafSlot (true ∷ false ∷ []) 9 10 (keyOf 144 0) (valueOf 4)
       ∷ leafSlot (true ∷ true ∷ []) 9 0 (keyOf 254 0) (valueOf 3)
-      ∷ innerSlot (true ∷ []) 9 10 9 h13 9 h54
-      ∷ innerSlot ([]) 9 10 0 zeros 9 h55
+      ∷ innerSlot (true ∷ []) 9 10 9 h13 9 h54 1 1
+      ∷ innerSlot ([]) 9 10 0 zeros 9 h55 0 2
       ∷ leafSlot (false ∷ []) 10 0 (keyOf 64 0) (valueOf 3)
       ∷ leafSlot (true ∷ []) 10 0 (keyOf 144 0) (valueOf 3)
-      ∷ innerSlot ([]) 10 0 10 h20 10 h31
+      ∷ innerSlot ([]) 10 0 10 h20 10 h31 1 1
       ∷ [])
 
   abbrev seen16 : Store
@@ -548,8 +548,8 @@ module _ (leafHash innerHash : Bytes → Bytes → Bytes) where
       ∷ leafSlot ([]) 8 13 (keyOf 144 0) (valueOf 1)
       ∷ leafSlot (true ∷ false ∷ []) 13 0 (keyOf 144 0) (valueOf 1)
       ∷ leafSlot (true ∷ true ∷ []) 13 0 (keyOf 255 0) (valueOf 4)
-      ∷ innerSlot (true ∷ []) 13 0 13 h59 13 h16
-      ∷ innerSlot ([]) 13 0 0 zeros 13 h60
+      ∷ innerSlot (true ∷ []) 13 0 13 h59 13 h16 1 1
+      ∷ innerSlot ([]) 13 0 0 zeros 13 h60 0 2
       ∷ free
       ∷ free
       ∷ free
@@ -574,12 +574,12 @@ module _ (leafHash innerHash : Bytes → Bytes → Bytes) where
       storeOf 0 14
       (leafSlot (true ∷ true ∷ false ∷ []) 6 11 (keyOf 192 0) (valueOf 3)
       ∷ leafSlot (true ∷ true ∷ true ∷ []) 6 11 (keyOf 255 0) (valueOf 1)
-      ∷ innerSlot (true ∷ true ∷ []) 7 11 6 h38 6 h29
+      ∷ innerSlot (true ∷ true ∷ []) 7 11 6 h38 6 h29 1 1
       ∷ spoiltSlot 1 (false ∷ []) 6 14
-      ∷ innerSlot (true ∷ []) 6 11 0 zeros 6 h62
-      ∷ innerSlot ([]) 6 11 6 h63 6 h64
+      ∷ innerSlot (true ∷ []) 6 11 0 zeros 6 h62 0 2
+      ∷ innerSlot ([]) 6 11 6 h63 6 h64 1 2
       ∷ leafSlot (true ∷ []) 11 14 (keyOf 255 0) (valueOf 1)
-      ∷ innerSlot ([]) 11 14 6 h63 11 h29
+      ∷ innerSlot ([]) 11 14 6 h63 11 h29 1 1
       ∷ leafSlot ([]) 14 0 (keyOf 255 0) (valueOf 1)
       ∷ spoiltSlot 1 (false ∷ []) 6 14
       ∷ free
@@ -674,9 +674,9 @@ module _ (leafHash innerHash : Bytes → Bytes → Bytes) where
       ∷ leafSlot ([]) 3 4 (keyOf 255 0) (valueOf 1)
       ∷ leafSlot (false ∷ []) 4 5 (keyOf 0 0) (valueOf 2)
       ∷ leafSlot (true ∷ []) 4 6 (keyOf 255 0) (valueOf 1)
-      ∷ innerSlot ([]) 4 5 4 h57 4 h29
+      ∷ innerSlot ([]) 4 5 4 h57 4 h29 1 1
       ∷ leafSlot (false ∷ []) 5 6 (keyOf 0 0) (valueOf 1)
-      ∷ innerSlot ([]) 5 6 5 h58 4 h29
+      ∷ innerSlot ([]) 5 6 5 h58 4 h29 1 1
       ∷ free
       ∷ free
       ∷ free
@@ -693,10 +693,10 @@ module _ (leafHash innerHash : Bytes → Bytes → Bytes) where
       (leafSlot (true ∷ false ∷ []) 4 9 (keyOf 128 0) (valueOf 4)
       ∷ leafSlot (true ∷ true ∷ []) 4 9 (keyOf 254 0) (valueOf 1)
       ∷ leafSlot (false ∷ []) 5 14 (keyOf 0 0) (valueOf 3)
-      ∷ innerSlot (true ∷ []) 4 9 4 h66 4 h34
-      ∷ innerSlot ([]) 4 9 4 h25 4 h67
+      ∷ innerSlot (true ∷ []) 4 9 4 h66 4 h34 1 1
+      ∷ innerSlot ([]) 4 9 4 h25 4 h67 1 2
       ∷ leafSlot (true ∷ []) 9 14 (keyOf 254 0) (valueOf 1)
-      ∷ innerSlot ([]) 9 14 4 h25 9 h34
+      ∷ innerSlot ([]) 9 14 4 h25 9 h34 1 1
       ∷ leafSlot ([]) 14 15 (keyOf 254 0) (valueOf 1)
       ∷ [])
 
@@ -705,15 +705,15 @@ module _ (leafHash innerHash : Bytes → Bytes → Bytes) where
       storeOf 2 12
       (leafSlot (false ∷ false ∷ []) 1 3 (keyOf 0 0) (valueOf 4)
       ∷ leafSlot (false ∷ true ∷ []) 1 12 (keyOf 96 0) (valueOf 4)
-      ∷ innerSlot (false ∷ []) 1 3 1 h68 1 h69
+      ∷ innerSlot (false ∷ []) 1 3 1 h68 1 h69 1 1
       ∷ leafSlot (true ∷ []) 1 4 (keyOf 192 0) (valueOf 1)
-      ∷ innerSlot ([]) 1 3 1 h70 1 h14
+      ∷ innerSlot ([]) 1 3 1 h70 1 h14 2 1
       ∷ leafSlot (false ∷ false ∷ []) 3 12 (keyOf 0 0) (valueOf 3)
-      ∷ innerSlot (false ∷ []) 3 12 3 h25 1 h69
-      ∷ innerSlot ([]) 3 4 3 h71 1 h14
+      ∷ innerSlot (false ∷ []) 3 12 3 h25 1 h69 1 1
+      ∷ innerSlot ([]) 3 4 3 h71 1 h14 2 1
       ∷ leafSlot (true ∷ []) 4 12 (keyOf 192 0) (valueOf 4)
-      ∷ innerSlot ([]) 4 8 3 h71 4 h17
-      ∷ innerSlot ([]) 8 12 3 h71 4 h17
+      ∷ innerSlot ([]) 4 8 3 h71 4 h17 2 1
+      ∷ innerSlot ([]) 8 12 3 h71 4 h17 2 1
       ∷ leafSlot ([]) 12 0 (keyOf 96 0) (valueOf 2)
       ∷ free
       ∷ free
@@ -734,7 +734,7 @@ module _ (leafHash innerHash : Bytes → Bytes → Bytes) where
       storeOf 2 8
       (leafSlot (false ∷ false ∷ []) 8 0 (keyOf 0 0) (valueOf 3)
       ∷ leafSlot (false ∷ true ∷ []) 8 0 (keyOf 104 0) (valueOf 1)
-      ∷ innerSlot (false ∷ []) 8 0 8 h25 8 h12
+      ∷ innerSlot (false ∷ []) 8 0 8 h25 8 h12 1 1
       ∷ spoiltSlot 1 ([]) 8 0
       ∷ [])
 
@@ -753,7 +753,7 @@ module _ (leafHash innerHash : Bytes → Bytes → Bytes) where
       (leafSlot ([]) 2 3 (keyOf 128 0) (valueOf 4)
       ∷ leafSlot (false ∷ []) 3 0 (keyOf 96 0) (valueOf 3)
       ∷ leafSlot (true ∷ []) 3 0 (keyOf 128 0) (valueOf 4)
-      ∷ innerSlot ([]) 4 0 3 h35 3 h66
+      ∷ innerSlot ([]) 4 0 3 h35 3 h66 1 1
       ∷ [])
 
   abbrev rows : List Look

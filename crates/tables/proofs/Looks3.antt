@@ -260,10 +260,10 @@ module _ (leafHash innerHash : Bytes → Bytes → Bytes) where
       ∷ leafSlot ([]) 7 8 (keyOf 128 0) (valueOf 1)
       ∷ leafSlot (true ∷ true ∷ []) 8 13 (keyOf 192 0) (valueOf 2)
       ∷ leafSlot (false ∷ []) 8 0 (keyOf 104 0) (valueOf 1)
-      ∷ innerSlot (true ∷ []) 8 13 8 h0 8 h1
-      ∷ innerSlot ([]) 8 13 8 h2 8 h3
+      ∷ innerSlot (true ∷ []) 8 13 8 h0 8 h1 1 1
+      ∷ innerSlot ([]) 8 13 8 h2 8 h3 1 2
       ∷ leafSlot (true ∷ []) 13 0 (keyOf 192 0) (valueOf 2)
-      ∷ innerSlot ([]) 13 0 8 h2 13 h1
+      ∷ innerSlot ([]) 13 0 8 h2 13 h1 1 1
       ∷ [])
 
   abbrev seen1 : Store
@@ -273,11 +273,11 @@ module _ (leafHash innerHash : Bytes → Bytes → Bytes) where
       ∷ leafSlot (false ∷ true ∷ []) 11 13 (keyOf 96 0) (valueOf 3)
       ∷ leafSlot ([]) 7 11 (keyOf 16 0) (valueOf 2)
       ∷ free
-      ∷ innerSlot ([]) 11 12 11 h8 0 zeros
-      ∷ innerSlot ([]) 12 13 11 h8 0 zeros
+      ∷ innerSlot ([]) 11 12 11 h8 0 zeros 2 0
+      ∷ innerSlot ([]) 12 13 11 h8 0 zeros 2 0
       ∷ leafSlot (false ∷ []) 13 0 (keyOf 0 0) (valueOf 3)
       ∷ leafSlot (true ∷ []) 13 0 (keyOf 128 0) (valueOf 1)
-      ∷ innerSlot ([]) 13 0 13 h7 13 h0
+      ∷ innerSlot ([]) 13 0 13 h7 13 h0 1 1
       ∷ free
       ∷ free
       ∷ free
@@ -289,13 +289,13 @@ module _ (leafHash innerHash : Bytes → Bytes → Bytes) where
       (leafSlot (false ∷ true ∷ false ∷ []) 10 11 (keyOf 64 0) (valueOf 1)
       ∷ leafSlot (false ∷ false ∷ []) 7 10 (keyOf 16 0) (valueOf 1)
       ∷ leafSlot (false ∷ true ∷ []) 7 10 (keyOf 64 0) (valueOf 2)
-      ∷ innerSlot (false ∷ []) 7 10 7 h10 7 h11
-      ∷ innerSlot ([]) 7 9 7 h12 0 zeros
-      ∷ innerSlot ([]) 9 10 7 h12 0 zeros
+      ∷ innerSlot (false ∷ []) 7 10 7 h10 7 h11 1 1
+      ∷ innerSlot ([]) 7 9 7 h12 0 zeros 2 0
+      ∷ innerSlot ([]) 9 10 7 h12 0 zeros 2 0
       ∷ leafSlot (false ∷ true ∷ true ∷ []) 10 11 (keyOf 104 0) (valueOf 3)
-      ∷ innerSlot (false ∷ true ∷ []) 10 11 10 h13 10 h14
-      ∷ innerSlot (false ∷ []) 10 11 0 zeros 10 h15
-      ∷ innerSlot ([]) 10 11 10 h16 0 zeros
+      ∷ innerSlot (false ∷ true ∷ []) 10 11 10 h13 10 h14 1 1
+      ∷ innerSlot (false ∷ []) 10 11 0 zeros 10 h15 0 2
+      ∷ innerSlot ([]) 10 11 10 h16 0 zeros 2 0
       ∷ leafSlot ([]) 11 0 (keyOf 64 0) (valueOf 1)
       ∷ free
       ∷ [])
@@ -305,7 +305,7 @@ module _ (leafHash innerHash : Bytes → Bytes → Bytes) where
       storeOf 0 4
       (leafSlot (false ∷ []) 2 4 (keyOf 64 0) (valueOf 4)
       ∷ leafSlot (true ∷ []) 1 4 (keyOf 144 0) (valueOf 3)
-      ∷ innerSlot ([]) 1 4 1 h18 1 h19
+      ∷ innerSlot ([]) 1 4 1 h18 1 h19 1 1
       ∷ leafSlot ([]) 4 0 (keyOf 144 0) (valueOf 3)
       ∷ [])
 
@@ -314,7 +314,7 @@ module _ (leafHash innerHash : Bytes → Bytes → Bytes) where
       storeOf 4294967293 4294967295
       (leafSlot (false ∷ []) 4294967295 0 (keyOf 0 0) (valueOf 4)
       ∷ leafSlot (true ∷ []) 4294967295 0 (keyOf 144 0) (valueOf 2)
-      ∷ innerSlot ([]) 4294967295 0 4294967295 h21 4294967295 h22
+      ∷ innerSlot ([]) 4294967295 0 4294967295 h21 4294967295 h22 1 1
       ∷ free
       ∷ free
       ∷ free
@@ -375,7 +375,7 @@ module _ (leafHash innerHash : Bytes → Bytes → Bytes) where
       ∷ leafSlot ([]) 10 11 (keyOf 128 0) (valueOf 1)
       ∷ leafSlot (false ∷ []) 11 12 (keyOf 64 0) (valueOf 2)
       ∷ leafSlot (true ∷ []) 11 12 (keyOf 128 0) (valueOf 3)
-      ∷ innerSlot ([]) 11 12 11 h11 11 h25
+      ∷ innerSlot ([]) 11 12 11 h11 11 h25 1 1
       ∷ leafSlot ([]) 12 0 (keyOf 128 0) (valueOf 3)
       ∷ free
       ∷ free
@@ -414,13 +414,13 @@ module _ (leafHash innerHash : Bytes → Bytes → Bytes) where
       storeOf 7 8
       (leafSlot (true ∷ false ∷ []) 8 0 (keyOf 144 0) (valueOf 1)
       ∷ leafSlot (true ∷ true ∷ []) 8 0 (keyOf 255 0) (valueOf 2)
-      ∷ innerSlot (true ∷ []) 8 0 8 h26 8 h27
-      ∷ innerSlot ([]) 8 0 0 zeros 8 h28
+      ∷ innerSlot (true ∷ []) 8 0 8 h26 8 h27 1 1
+      ∷ innerSlot ([]) 8 0 0 zeros 8 h28 0 2
       ∷ free
       ∷ free
       ∷ leafSlot (false ∷ []) 7 8 (keyOf 64 0) (valueOf 2)
       ∷ leafSlot (true ∷ []) 7 8 (keyOf 144 0) (valueOf 1)
-      ∷ innerSlot ([]) 7 8 7 h11 7 h26
+      ∷ innerSlot ([]) 7 8 7 h11 7 h26 1 1
       ∷ free
       ∷ free
       ∷ free
@@ -435,9 +435,9 @@ module _ (leafHash innerHash : Bytes → Bytes → Bytes) where
       storeOf 3 3
       (leafSlot (false ∷ false ∷ false ∷ false ∷ []) 2 0 (keyOf 0 0) (valueOf 2)
       ∷ leafSlot (false ∷ false ∷ false ∷ true ∷ []) 2 0 (keyOf 16 0) (valueOf 2)
-      ∷ innerSlot (false ∷ false ∷ false ∷ []) 2 0 2 h30 2 h6
-      ∷ innerSlot (false ∷ false ∷ []) 2 0 2 h31 0 zeros
-      ∷ innerSlot (false ∷ []) 2 0 2 h32 0 zeros
+      ∷ innerSlot (false ∷ false ∷ false ∷ []) 2 0 2 h30 2 h6 1 1
+      ∷ innerSlot (false ∷ false ∷ []) 2 0 2 h31 0 zeros 2 0
+      ∷ innerSlot (false ∷ []) 2 0 2 h32 0 zeros 2 0
       ∷ leafSlot (true ∷ []) 2 0 (keyOf 254 0) (valueOf 1)
       ∷ free
       ∷ spoiltSlot 0 ([]) 3 0
@@ -448,11 +448,11 @@ module _ (leafHash innerHash : Bytes → Bytes → Bytes) where
       storeOf 2 10
       (leafSlot (false ∷ []) 6 0 (keyOf 96 0) (valueOf 1)
       ∷ leafSlot (true ∷ []) 6 10 (keyOf 128 0) (valueOf 3)
-      ∷ innerSlot ([]) 6 10 6 h33 6 h25
+      ∷ innerSlot ([]) 6 10 6 h33 6 h25 1 1
       ∷ leafSlot (true ∷ false ∷ []) 10 0 (keyOf 128 0) (valueOf 3)
       ∷ leafSlot (true ∷ true ∷ []) 10 0 (keyOf 254 0) (valueOf 2)
-      ∷ innerSlot (true ∷ []) 10 0 10 h25 10 h34
-      ∷ innerSlot ([]) 10 0 6 h33 10 h35
+      ∷ innerSlot (true ∷ []) 10 0 10 h25 10 h34 1 1
+      ∷ innerSlot ([]) 10 0 6 h33 10 h35 1 2
       ∷ free
       ∷ [])
 
@@ -463,15 +463,15 @@ module _ (leafHash innerHash : Bytes → Bytes → Bytes) where
       ∷ leafSlot ([]) 2 3 (keyOf 8 0) (valueOf 4)
       ∷ leafSlot (false ∷ false ∷ false ∷ false ∷ []) 3 0 (keyOf 8 0) (valueOf 4)
       ∷ leafSlot (false ∷ false ∷ false ∷ true ∷ []) 3 7 (keyOf 16 0) (valueOf 4)
-      ∷ innerSlot (false ∷ false ∷ false ∷ []) 3 7 3 h38 3 h39
-      ∷ innerSlot (false ∷ false ∷ []) 3 7 3 h40 0 zeros
-      ∷ innerSlot (false ∷ []) 4 7 3 h41 0 zeros
-      ∷ innerSlot ([]) 3 7 3 h42 0 zeros
+      ∷ innerSlot (false ∷ false ∷ false ∷ []) 3 7 3 h38 3 h39 1 1
+      ∷ innerSlot (false ∷ false ∷ []) 3 7 3 h40 0 zeros 2 0
+      ∷ innerSlot (false ∷ []) 4 7 3 h41 0 zeros 2 0
+      ∷ innerSlot ([]) 3 7 3 h42 0 zeros 2 0
       ∷ leafSlot (false ∷ false ∷ false ∷ true ∷ []) 7 0 (keyOf 16 0) (valueOf 1)
-      ∷ innerSlot (false ∷ false ∷ false ∷ []) 7 0 3 h38 7 h10
-      ∷ innerSlot (false ∷ false ∷ []) 7 0 7 h43 0 zeros
-      ∷ innerSlot (false ∷ []) 7 0 7 h44 0 zeros
-      ∷ innerSlot ([]) 7 0 7 h45 0 zeros
+      ∷ innerSlot (false ∷ false ∷ false ∷ []) 7 0 3 h38 7 h10 1 1
+      ∷ innerSlot (false ∷ false ∷ []) 7 0 7 h43 0 zeros 2 0
+      ∷ innerSlot (false ∷ []) 7 0 7 h44 0 zeros 2 0
+      ∷ innerSlot ([]) 7 0 7 h45 0 zeros 2 0
       ∷ free
       ∷ free
       ∷ free
@@ -514,17 +514,17 @@ module _ (leafHash innerHash : Bytes → Bytes → Bytes) where
   abbrev seen14 : Store
   seen14 =
       storeOf 15 22
-      (innerSlot ([]) 22 0 21 h33 10 h19
+      (innerSlot ([]) 22 0 21 h33 10 h19 1 1
       ∷ free
       ∷ free
       ∷ free
       ∷ leafSlot (true ∷ []) 10 0 (keyOf 144 0) (valueOf 3)
       ∷ free
       ∷ leafSlot (false ∷ []) 15 21 (keyOf 96 0) (valueOf 4)
-      ∷ innerSlot ([]) 15 16 15 h48 10 h19
-      ∷ innerSlot ([]) 16 21 15 h48 10 h19
+      ∷ innerSlot ([]) 15 16 15 h48 10 h19 1 1
+      ∷ innerSlot ([]) 16 21 15 h48 10 h19 1 1
       ∷ leafSlot (false ∷ []) 21 0 (keyOf 96 0) (valueOf 1)
-      ∷ innerSlot ([]) 21 22 21 h33 10 h19
+      ∷ innerSlot ([]) 21 22 21 h33 10 h19 1 1
       ∷ free
       ∷ [])
 
@@ -533,7 +533,7 @@ module _ (leafHash innerHash : Bytes → Bytes → Bytes) where
       storeOf 0 4
       (spoiltSlot 1 (false ∷ []) 5 0
       ∷ leafSlot (true ∷ []) 4 0 (keyOf 192 0) (valueOf 1)
-      ∷ innerSlot ([]) 4 0 4 h51 4 h52
+      ∷ innerSlot ([]) 4 0 4 h51 4 h52 1 1
       ∷ free
       ∷ free
       ∷ free
@@ -546,9 +546,9 @@ module _ (leafHash innerHash : Bytes → Bytes → Bytes) where
       storeOf 0 5
       (leafSlot (false ∷ []) 2 5 (keyOf 8 0) (valueOf 3)
       ∷ leafSlot (true ∷ []) 2 3 (keyOf 128 0) (valueOf 3)
-      ∷ innerSlot ([]) 2 3 2 h54 2 h25
+      ∷ innerSlot ([]) 2 3 2 h54 2 h25 1 1
       ∷ leafSlot (true ∷ []) 3 5 (keyOf 128 0) (valueOf 4)
-      ∷ innerSlot ([]) 3 5 2 h54 3 h55
+      ∷ innerSlot ([]) 3 5 2 h54 3 h55 1 1
       ∷ free
       ∷ free
       ∷ free
@@ -595,11 +595,11 @@ module _ (leafHash innerHash : Bytes → Bytes → Bytes) where
       (leafSlot ([]) 1 2 (keyOf 8 0) (valueOf 3)
       ∷ leafSlot (false ∷ []) 2 4 (keyOf 8 0) (valueOf 3)
       ∷ leafSlot (true ∷ []) 2 0 (keyOf 144 0) (valueOf 2)
-      ∷ innerSlot ([]) 2 4 2 h54 2 h22
+      ∷ innerSlot ([]) 2 4 2 h54 2 h22 1 1
       ∷ leafSlot (false ∷ false ∷ []) 4 0 (keyOf 8 0) (valueOf 3)
       ∷ leafSlot (false ∷ true ∷ []) 4 0 (keyOf 104 0) (valueOf 1)
-      ∷ innerSlot (false ∷ []) 4 0 4 h54 4 h2
-      ∷ innerSlot ([]) 4 0 4 h57 2 h22
+      ∷ innerSlot (false ∷ []) 4 0 4 h54 4 h2 1 1
+      ∷ innerSlot ([]) 4 0 4 h57 2 h22 2 1
       ∷ free
       ∷ free
       ∷ free
@@ -625,12 +625,12 @@ module _ (leafHash innerHash : Bytes → Bytes → Bytes) where
       (leafSlot ([]) 2 5 (keyOf 104 0) (valueOf 2)
       ∷ leafSlot (false ∷ false ∷ []) 5 10 (keyOf 8 0) (valueOf 4)
       ∷ leafSlot (false ∷ true ∷ []) 5 10 (keyOf 104 0) (valueOf 2)
-      ∷ innerSlot (false ∷ []) 5 10 5 h38 5 h51
-      ∷ innerSlot ([]) 5 10 5 h60 0 zeros
+      ∷ innerSlot (false ∷ []) 5 10 5 h38 5 h51 1 1
+      ∷ innerSlot ([]) 5 10 5 h60 0 zeros 2 0
       ∷ leafSlot (false ∷ false ∷ []) 10 0 (keyOf 8 0) (valueOf 1)
       ∷ leafSlot (false ∷ true ∷ []) 10 0 (keyOf 104 0) (valueOf 4)
-      ∷ innerSlot (false ∷ []) 10 0 10 h47 10 h61
-      ∷ innerSlot ([]) 10 0 10 h62 0 zeros
+      ∷ innerSlot (false ∷ []) 10 0 10 h47 10 h61 1 1
+      ∷ innerSlot ([]) 10 0 10 h62 0 zeros 2 0
       ∷ free
       ∷ free
       ∷ free
@@ -642,7 +642,7 @@ module _ (leafHash innerHash : Bytes → Bytes → Bytes) where
       (leafSlot ([]) 5 10 (keyOf 144 0) (valueOf 2)
       ∷ leafSlot (false ∷ []) 10 0 (keyOf 16 0) (valueOf 2)
       ∷ leafSlot (true ∷ []) 10 0 (keyOf 64 0) (valueOf 2)
-      ∷ innerSlot ([]) 10 0 10 h6 10 h22
+      ∷ innerSlot ([]) 10 0 10 h6 10 h22 1 1
       ∷ [])
 
   abbrev seen24 : Store
@@ -660,9 +660,9 @@ module _ (leafHash innerHash : Bytes → Bytes → Bytes) where
       (spoiltSlot 4 (true ∷ false ∷ false ∷ false ∷ []) 1 0
       ∷ leafSlot (true ∷ false ∷ false ∷ true ∷ []) 1 0 (keyOf 144 0) (valueOf 2)
       ∷ free
-      ∷ innerSlot (true ∷ false ∷ []) 1 0 1 h65 0 zeros
-      ∷ innerSlot (true ∷ []) 1 0 1 h66 0 zeros
-      ∷ innerSlot ([]) 1 0 0 zeros 1 h67
+      ∷ innerSlot (true ∷ false ∷ []) 1 0 1 h65 0 zeros 2 0
+      ∷ innerSlot (true ∷ []) 1 0 1 h66 0 zeros 2 0
+      ∷ innerSlot ([]) 1 0 0 zeros 1 h67 0 2
       ∷ free
       ∷ free
       ∷ [])
@@ -694,13 +694,13 @@ module _ (leafHash innerHash : Bytes → Bytes → Bytes) where
       (leafSlot ([]) 9 10 (keyOf 64 0) (valueOf 1)
       ∷ leafSlot (false ∷ []) 2 5 (keyOf 64 0) (valueOf 3)
       ∷ leafSlot (true ∷ []) 2 5 (keyOf 255 0) (valueOf 2)
-      ∷ innerSlot ([]) 2 5 2 h70 2 h27
+      ∷ innerSlot ([]) 2 5 2 h70 2 h27 1 1
       ∷ leafSlot ([]) 5 7 (keyOf 64 0) (valueOf 3)
       ∷ leafSlot ([]) 7 8 (keyOf 64 0) (valueOf 1)
       ∷ leafSlot ([]) 8 9 (keyOf 64 0) (valueOf 1)
       ∷ spoiltSlot 1 (false ∷ []) 10 0
       ∷ leafSlot (true ∷ []) 10 0 (keyOf 192 0) (valueOf 2)
-      ∷ innerSlot ([]) 10 0 10 h13 10 h1
+      ∷ innerSlot ([]) 10 0 10 h13 10 h1 1 1
       ∷ spoiltSlot 1 (false ∷ []) 10 0
       ∷ free
       ∷ [])
@@ -711,7 +711,7 @@ module _ (leafHash innerHash : Bytes → Bytes → Bytes) where
       (leafSlot ([]) 2 3 (keyOf 16 0) (valueOf 4)
       ∷ leafSlot (false ∷ []) 3 0 (keyOf 16 0) (valueOf 4)
       ∷ leafSlot (true ∷ []) 3 0 (keyOf 128 0) (valueOf 2)
-      ∷ innerSlot ([]) 3 0 3 h39 3 h73
+      ∷ innerSlot ([]) 3 0 3 h39 3 h73 1 1
       ∷ free
       ∷ free
       ∷ free
@@ -731,15 +731,15 @@ module _ (leafHash innerHash : Bytes → Bytes → Bytes) where
       storeOf 7 9
       (leafSlot (true ∷ false ∷ []) 8 9 (keyOf 128 0) (valueOf 4)
       ∷ leafSlot (true ∷ true ∷ []) 8 9 (keyOf 192 0) (valueOf 4)
-      ∷ innerSlot (true ∷ []) 9 9 8 h55 8 h75
+      ∷ innerSlot (true ∷ []) 9 9 8 h55 8 h75 1 1
       ∷ leafSlot (false ∷ []) 2 0 (keyOf 16 0) (valueOf 1)
-      ∷ innerSlot ([]) 8 9 2 h10 8 h76
+      ∷ innerSlot ([]) 8 9 2 h10 8 h76 1 2
       ∷ leafSlot (true ∷ false ∷ []) 9 0 (keyOf 128 0) (valueOf 2)
       ∷ leafSlot (true ∷ []) 6 8 (keyOf 192 0) (valueOf 4)
-      ∷ innerSlot ([]) 6 8 2 h10 6 h75
+      ∷ innerSlot ([]) 6 8 2 h10 6 h75 1 1
       ∷ leafSlot (true ∷ true ∷ []) 9 0 (keyOf 192 0) (valueOf 1)
-      ∷ innerSlot (true ∷ []) 9 0 9 h73 9 h52
-      ∷ innerSlot ([]) 9 0 2 h10 9 h77
+      ∷ innerSlot (true ∷ []) 9 0 9 h73 9 h52 1 1
+      ∷ innerSlot ([]) 9 0 2 h10 9 h77 1 2
       ∷ free
       ∷ free
       ∷ free

@@ -261,7 +261,7 @@ module _ (leafHash innerHash : Bytes → Bytes → Bytes) where
       storeOf 1 6
       (leafSlot (false ∷ []) 6 0 (keyOf 0 0) (valueOf 1)
       ∷ leafSlot (true ∷ []) 6 0 (keyOf 192 0) (valueOf 2)
-      ∷ innerSlot ([]) 6 0 6 h0 6 h1
+      ∷ innerSlot ([]) 6 0 6 h0 6 h1 1 1
       ∷ free
       ∷ [])
 
@@ -272,7 +272,7 @@ module _ (leafHash innerHash : Bytes → Bytes → Bytes) where
       ∷ leafSlot (false ∷ []) 3 4 (keyOf 104 0) (valueOf 2)
       ∷ leafSlot (true ∷ []) 2 4 (keyOf 255 0) (valueOf 2)
       ∷ free
-      ∷ innerSlot ([]) 3 4 2 h3 2 h4
+      ∷ innerSlot ([]) 3 4 2 h3 2 h4 1 1
       ∷ leafSlot ([]) 4 0 (keyOf 104 0) (valueOf 2)
       ∷ free
       ∷ free
@@ -284,13 +284,13 @@ module _ (leafHash innerHash : Bytes → Bytes → Bytes) where
       (leafSlot ([]) 7 11 (keyOf 144 0) (valueOf 4)
       ∷ leafSlot (false ∷ []) 11 16 (keyOf 8 0) (valueOf 4)
       ∷ leafSlot (true ∷ []) 11 16 (keyOf 144 0) (valueOf 4)
-      ∷ innerSlot ([]) 11 16 11 h5 11 h6
+      ∷ innerSlot ([]) 11 16 11 h5 11 h6 1 1
       ∷ leafSlot ([]) 16 17 (keyOf 8 0) (valueOf 4)
       ∷ leafSlot ([]) 17 18 (keyOf 8 0) (valueOf 4)
       ∷ leafSlot ([]) 18 19 (keyOf 8 0) (valueOf 4)
       ∷ leafSlot (false ∷ []) 19 20 (keyOf 8 0) (valueOf 2)
       ∷ leafSlot (true ∷ []) 19 20 (keyOf 144 0) (valueOf 3)
-      ∷ innerSlot ([]) 19 20 19 h7 19 h8
+      ∷ innerSlot ([]) 19 20 19 h7 19 h8 1 1
       ∷ leafSlot ([]) 20 0 (keyOf 144 0) (valueOf 4)
       ∷ free
       ∷ [])
@@ -301,7 +301,7 @@ module _ (leafHash innerHash : Bytes → Bytes → Bytes) where
       (leafSlot ([]) 1 2 (keyOf 255 0) (valueOf 4)
       ∷ leafSlot (false ∷ []) 2 0 (keyOf 0 0) (valueOf 3)
       ∷ leafSlot (true ∷ []) 2 0 (keyOf 255 0) (valueOf 4)
-      ∷ innerSlot ([]) 2 0 2 h10 2 h11
+      ∷ innerSlot ([]) 2 0 2 h10 2 h11 1 1
       ∷ leafSlot (true ∷ []) 2 0 (keyOf 254 0) (valueOf 9)
       ∷ free
       ∷ free
@@ -330,8 +330,8 @@ module _ (leafHash innerHash : Bytes → Bytes → Bytes) where
       storeOf 0 1
       (leafSlot (true ∷ false ∷ []) 2 0 (keyOf 128 0) (valueOf 1)
       ∷ leafSlot (true ∷ true ∷ []) 1 0 (keyOf 255 0) (valueOf 1)
-      ∷ innerSlot (true ∷ []) 1 0 1 h13 1 h14
-      ∷ innerSlot ([]) 1 0 3 zeros 1 h15
+      ∷ innerSlot (true ∷ []) 1 0 1 h13 1 h14 1 1
+      ∷ innerSlot ([]) 1 0 3 zeros 1 h15 0 2
       ∷ free
       ∷ free
       ∷ free
@@ -359,8 +359,8 @@ module _ (leafHash innerHash : Bytes → Bytes → Bytes) where
       storeOf 0 8
       (leafSlot (false ∷ []) 6 0 (keyOf 8 0) (valueOf 3)
       ∷ leafSlot (true ∷ []) 6 0 (keyOf 255 0) (valueOf 1)
-      ∷ innerSlot ([]) 6 8 6 h17 6 h14
-      ∷ innerSlot ([]) 8 0 6 h17 6 h14
+      ∷ innerSlot ([]) 6 8 6 h17 6 h14 1 1
+      ∷ innerSlot ([]) 8 0 6 h17 6 h14 1 1
       ∷ [])
 
   abbrev seen7 : Store
@@ -382,19 +382,19 @@ module _ (leafHash innerHash : Bytes → Bytes → Bytes) where
       (leafSlot ([]) 1 2 (keyOf 254 0) (valueOf 4)
       ∷ leafSlot (false ∷ []) 2 3 (keyOf 96 0) (valueOf 1)
       ∷ leafSlot (true ∷ []) 2 0 (keyOf 254 0) (valueOf 4)
-      ∷ innerSlot ([]) 2 3 2 h19 2 h20
+      ∷ innerSlot ([]) 2 3 2 h19 2 h20 1 1
       ∷ leafSlot (false ∷ false ∷ []) 3 5 (keyOf 16 0) (valueOf 1)
       ∷ leafSlot (false ∷ true ∷ []) 3 0 (keyOf 96 0) (valueOf 1)
-      ∷ innerSlot (false ∷ []) 3 5 3 h21 3 h19
-      ∷ innerSlot ([]) 3 4 3 h22 2 h20
-      ∷ innerSlot ([]) 4 5 3 h22 2 h20
+      ∷ innerSlot (false ∷ []) 3 5 3 h21 3 h19 1 1
+      ∷ innerSlot ([]) 3 4 3 h22 2 h20 2 1
+      ∷ innerSlot ([]) 4 5 3 h22 2 h20 2 1
       ∷ leafSlot (false ∷ false ∷ false ∷ false ∷ []) 5 0 (keyOf 8 0) (valueOf 3)
       ∷ leafSlot (false ∷ false ∷ false ∷ true ∷ []) 5 0 (keyOf 16 0) (valueOf 1)
-      ∷ innerSlot (false ∷ false ∷ false ∷ []) 5 0 5 h17 5 h21
-      ∷ innerSlot (false ∷ false ∷ []) 5 0 5 h23 0 zeros
-      ∷ innerSlot (false ∷ []) 5 0 5 h24 3 h19
-      ∷ innerSlot ([]) 5 9 5 h25 2 h20
-      ∷ innerSlot ([]) 9 0 5 h25 2 h20
+      ∷ innerSlot (false ∷ false ∷ false ∷ []) 5 0 5 h17 5 h21 1 1
+      ∷ innerSlot (false ∷ false ∷ []) 5 0 5 h23 0 zeros 2 0
+      ∷ innerSlot (false ∷ []) 5 0 5 h24 3 h19 2 1
+      ∷ innerSlot ([]) 5 9 5 h25 2 h20 3 1
+      ∷ innerSlot ([]) 9 0 5 h25 2 h20 3 1
       ∷ [])
 
   abbrev seen9 : Store
@@ -402,7 +402,7 @@ module _ (leafHash innerHash : Bytes → Bytes → Bytes) where
       storeOf 0 3
       (leafSlot (false ∷ []) 2 3 (keyOf 192 0) (valueOf 3)
       ∷ leafSlot (true ∷ []) 3 3 (keyOf 144 0) (valueOf 4)
-      ∷ innerSlot ([]) 2 3 2 h28 2 h6
+      ∷ innerSlot ([]) 2 3 2 h28 2 h6 1 1
       ∷ free
       ∷ free
       ∷ free
@@ -417,14 +417,14 @@ module _ (leafHash innerHash : Bytes → Bytes → Bytes) where
       ∷ leafSlot ([]) 2 7 (keyOf 64 0) (valueOf 1)
       ∷ leafSlot (false ∷ true ∷ false ∷ []) 7 16 (keyOf 64 0) (valueOf 1)
       ∷ leafSlot (false ∷ true ∷ true ∷ []) 7 16 (keyOf 96 0) (valueOf 4)
-      ∷ innerSlot (false ∷ true ∷ []) 7 16 7 h29 7 h30
-      ∷ innerSlot (false ∷ []) 7 16 0 zeros 7 h31
-      ∷ innerSlot ([]) 7 8 7 h32 0 zeros
+      ∷ innerSlot (false ∷ true ∷ []) 7 16 7 h29 7 h30 1 1
+      ∷ innerSlot (false ∷ []) 7 16 0 zeros 7 h31 0 2
+      ∷ innerSlot ([]) 7 8 7 h32 0 zeros 2 0
       ∷ leafSlot (true ∷ []) 8 0 (keyOf 128 0) (valueOf 3)
-      ∷ innerSlot ([]) 8 12 7 h32 8 h33
-      ∷ innerSlot ([]) 12 15 7 h32 8 h33
-      ∷ innerSlot ([]) 15 16 7 h32 8 h33
-      ∷ innerSlot ([]) 16 0 16 h30 8 h33
+      ∷ innerSlot ([]) 8 12 7 h32 8 h33 2 1
+      ∷ innerSlot ([]) 12 15 7 h32 8 h33 2 1
+      ∷ innerSlot ([]) 15 16 7 h32 8 h33 2 1
+      ∷ innerSlot ([]) 16 0 16 h30 8 h33 1 1
       ∷ [])
 
   abbrev seen11 : Store
@@ -435,8 +435,8 @@ module _ (leafHash innerHash : Bytes → Bytes → Bytes) where
       ∷ leafSlot ([]) 11 15 (keyOf 96 0) (valueOf 2)
       ∷ leafSlot (false ∷ false ∷ []) 15 0 (keyOf 0 0) (valueOf 3)
       ∷ leafSlot (false ∷ true ∷ []) 15 0 (keyOf 96 0) (valueOf 2)
-      ∷ innerSlot (false ∷ []) 15 0 15 h10 15 h35
-      ∷ innerSlot ([]) 15 0 15 h36 0 zeros
+      ∷ innerSlot (false ∷ []) 15 0 15 h10 15 h35 1 1
+      ∷ innerSlot ([]) 15 0 15 h36 0 zeros 2 0
       ∷ free
       ∷ free
       ∷ free
@@ -450,9 +450,9 @@ module _ (leafHash innerHash : Bytes → Bytes → Bytes) where
       (leafSlot ([]) 4 6 (keyOf 8 0) (valueOf 1)
       ∷ leafSlot (false ∷ []) 6 12 (keyOf 8 0) (valueOf 1)
       ∷ leafSlot (true ∷ []) 6 10 (keyOf 255 0) (valueOf 1)
-      ∷ innerSlot ([]) 6 10 6 h38 6 h14
+      ∷ innerSlot ([]) 6 10 6 h38 6 h14 1 1
       ∷ leafSlot (true ∷ []) 10 12 (keyOf 255 0) (valueOf 3)
-      ∷ innerSlot ([]) 10 12 6 h38 10 h39
+      ∷ innerSlot ([]) 10 12 6 h38 10 h39 1 1
       ∷ free
       ∷ free
       ∷ free
@@ -471,7 +471,7 @@ module _ (leafHash innerHash : Bytes → Bytes → Bytes) where
       (leafSlot ([]) 1 3 (keyOf 96 0) (valueOf 3)
       ∷ leafSlot (false ∷ []) 3 0 (keyOf 96 0) (valueOf 3)
       ∷ leafSlot (true ∷ []) 3 0 (keyOf 192 0) (valueOf 2)
-      ∷ innerSlot ([]) 4 0 3 h40 3 h1
+      ∷ innerSlot ([]) 4 0 3 h40 3 h1 1 1
       ∷ [])
 
   abbrev seen14 : Store
@@ -480,7 +480,7 @@ module _ (leafHash innerHash : Bytes → Bytes → Bytes) where
       (leafSlot ([]) 9 10 (keyOf 144 0) (valueOf 4)
       ∷ leafSlot (false ∷ []) 10 0 (keyOf 104 0) (valueOf 3)
       ∷ leafSlot (true ∷ []) 10 0 (keyOf 144 0) (valueOf 4)
-      ∷ innerSlot ([]) 10 0 10 h41 10 h6
+      ∷ innerSlot ([]) 10 0 10 h41 10 h6 1 1
       ∷ [])
 
   abbrev seen15 : Store
@@ -500,17 +500,17 @@ module _ (leafHash innerHash : Bytes → Bytes → Bytes) where
   seen16 =
       storeOf 7 11
       (leafSlot (true ∷ []) 10 11 (keyOf 192 0) (valueOf 4)
-      ∷ innerSlot ([]) 10 11 4 h17 10 h44
+      ∷ innerSlot ([]) 10 11 4 h17 10 h44 1 1
       ∷ leafSlot (true ∷ false ∷ []) 11 0 (keyOf 144 0) (valueOf 3)
       ∷ leafSlot (true ∷ true ∷ []) 11 0 (keyOf 192 0) (valueOf 4)
-      ∷ innerSlot (true ∷ []) 11 0 11 h8 11 h44
-      ∷ innerSlot ([]) 11 0 4 h17 11 h45
+      ∷ innerSlot (true ∷ []) 11 0 11 h8 11 h44 1 1
+      ∷ innerSlot ([]) 11 0 4 h17 11 h45 1 2
       ∷ free
       ∷ free
       ∷ leafSlot (false ∷ []) 4 0 (keyOf 8 0) (valueOf 3)
       ∷ leafSlot (true ∷ []) 4 10 (keyOf 192 0) (valueOf 3)
-      ∷ innerSlot ([]) 4 9 4 h17 4 h46
-      ∷ innerSlot ([]) 9 10 4 h17 4 h46
+      ∷ innerSlot ([]) 4 9 4 h17 4 h46 1 1
+      ∷ innerSlot ([]) 9 10 4 h17 4 h46 1 1
       ∷ [])
 
   abbrev seen17 : Store
@@ -520,9 +520,9 @@ module _ (leafHash innerHash : Bytes → Bytes → Bytes) where
       ∷ leafSlot (true ∷ []) 1 19 (keyOf 144 0) (valueOf 4)
       ∷ free
       ∷ free
-      ∷ innerSlot ([]) 7 10 1 h49 1 h6
-      ∷ innerSlot ([]) 10 15 1 h49 1 h6
-      ∷ innerSlot ([]) 15 19 2 h49 1 h6
+      ∷ innerSlot ([]) 7 10 1 h49 1 h6 1 1
+      ∷ innerSlot ([]) 10 15 1 h49 1 h6 1 1
+      ∷ innerSlot ([]) 15 19 2 h49 1 h6 1 1
       ∷ free
       ∷ [])
 
@@ -566,11 +566,11 @@ module _ (leafHash innerHash : Bytes → Bytes → Bytes) where
       ∷ free
       ∷ free
       ∷ leafSlot (false ∷ true ∷ []) 6 7 (keyOf 254 0) (valueOf 4)
-      ∷ innerSlot (false ∷ []) 6 7 6 h0 6 h30
-      ∷ innerSlot ([]) 6 7 6 h52 0 zeros
+      ∷ innerSlot (false ∷ []) 6 7 6 h0 6 h30 1 1
+      ∷ innerSlot ([]) 6 7 6 h52 0 zeros 2 0
       ∷ leafSlot (false ∷ true ∷ []) 7 0 (keyOf 96 0) (valueOf 3)
-      ∷ innerSlot (false ∷ []) 7 0 6 h0 7 h40
-      ∷ innerSlot ([]) 7 0 7 h53 0 zeros
+      ∷ innerSlot (false ∷ []) 7 0 6 h0 7 h40 1 1
+      ∷ innerSlot ([]) 7 0 7 h53 0 zeros 2 0
       ∷ free
       ∷ free
       ∷ free
@@ -583,16 +583,16 @@ module _ (leafHash innerHash : Bytes → Bytes → Bytes) where
       storeOf 0 10
       (leafSlot (false ∷ false ∷ false ∷ false ∷ []) 4 0 (keyOf 8 0) (valueOf 2)
       ∷ leafSlot (false ∷ false ∷ false ∷ true ∷ []) 4 0 (keyOf 16 0) (valueOf 3)
-      ∷ innerSlot (false ∷ false ∷ false ∷ []) 4 0 4 h7 4 h28
-      ∷ innerSlot (false ∷ false ∷ []) 4 0 4 h55 0 zeros
+      ∷ innerSlot (false ∷ false ∷ false ∷ []) 4 0 4 h7 4 h28 1 1
+      ∷ innerSlot (false ∷ false ∷ []) 4 0 4 h55 0 zeros 2 0
       ∷ leafSlot (false ∷ true ∷ []) 4 5 (keyOf 104 0) (valueOf 4)
-      ∷ innerSlot (false ∷ []) 4 5 4 h56 4 h57
-      ∷ innerSlot ([]) 4 5 4 h58 0 zeros
+      ∷ innerSlot (false ∷ []) 4 5 4 h56 4 h57 2 1
+      ∷ innerSlot ([]) 4 5 4 h58 0 zeros 3 0
       ∷ leafSlot (false ∷ true ∷ []) 5 0 (keyOf 64 0) (valueOf 1)
-      ∷ innerSlot (false ∷ []) 5 0 4 h56 5 h29
-      ∷ innerSlot ([]) 5 9 5 h59 0 zeros
-      ∷ innerSlot ([]) 9 10 5 h59 0 zeros
-      ∷ innerSlot ([]) 10 0 5 h59 0 zeros
+      ∷ innerSlot (false ∷ []) 5 0 4 h56 5 h29 2 1
+      ∷ innerSlot ([]) 5 9 5 h59 0 zeros 3 0
+      ∷ innerSlot ([]) 9 10 5 h59 0 zeros 3 0
+      ∷ innerSlot ([]) 10 0 5 h59 0 zeros 3 0
       ∷ free
       ∷ free
       ∷ free
@@ -626,13 +626,13 @@ module _ (leafHash innerHash : Bytes → Bytes → Bytes) where
       (leafSlot ([]) 10 15 (keyOf 96 0) (valueOf 3)
       ∷ leafSlot (false ∷ true ∷ false ∷ []) 15 16 (keyOf 64 0) (valueOf 2)
       ∷ leafSlot (false ∷ true ∷ true ∷ []) 15 0 (keyOf 96 0) (valueOf 1)
-      ∷ innerSlot (false ∷ true ∷ []) 15 16 15 h61 15 h19
-      ∷ innerSlot (false ∷ []) 15 16 0 zeros 15 h62
-      ∷ innerSlot ([]) 15 16 15 h63 0 zeros
+      ∷ innerSlot (false ∷ true ∷ []) 15 16 15 h61 15 h19 1 1
+      ∷ innerSlot (false ∷ []) 15 16 0 zeros 15 h62 0 2
+      ∷ innerSlot ([]) 15 16 15 h63 0 zeros 2 0
       ∷ leafSlot (false ∷ true ∷ false ∷ []) 16 0 (keyOf 64 0) (valueOf 3)
-      ∷ innerSlot (false ∷ true ∷ []) 16 0 16 h64 15 h19
-      ∷ innerSlot (false ∷ []) 16 0 0 zeros 16 h65
-      ∷ innerSlot ([]) 16 0 16 h66 0 zeros
+      ∷ innerSlot (false ∷ true ∷ []) 16 0 16 h64 15 h19 1 1
+      ∷ innerSlot (false ∷ []) 16 0 0 zeros 16 h65 0 2
+      ∷ innerSlot ([]) 16 0 16 h66 0 zeros 2 0
       ∷ free
       ∷ free
       ∷ [])
@@ -651,7 +651,7 @@ module _ (leafHash innerHash : Bytes → Bytes → Bytes) where
       storeOf 0 2
       (leafSlot (false ∷ []) 2 0 (keyOf 0 0) (valueOf 4)
       ∷ leafSlot (true ∷ []) 2 0 (keyOf 255 0) (valueOf 1)
-      ∷ innerSlot ([]) 2 0 2 h68 2 h14
+      ∷ innerSlot ([]) 2 0 2 h68 2 h14 1 1
       ∷ free
       ∷ free
       ∷ free
@@ -670,14 +670,14 @@ module _ (leafHash innerHash : Bytes → Bytes → Bytes) where
       ∷ leafSlot (true ∷ false ∷ []) 6 9 (keyOf 128 0) (valueOf 3)
       ∷ leafSlot (true ∷ true ∷ []) 6 0 (keyOf 192 0) (valueOf 4)
       ∷ leafSlot (false ∷ []) 6 0 (keyOf 0 0) (valueOf 2)
-      ∷ innerSlot (true ∷ []) 6 9 6 h33 6 h44
-      ∷ innerSlot ([]) 6 9 6 h70 6 h71
+      ∷ innerSlot (true ∷ []) 6 9 6 h33 6 h44 1 1
+      ∷ innerSlot ([]) 6 9 6 h70 6 h71 1 2
       ∷ leafSlot (true ∷ false ∷ false ∷ false ∷ []) 9 0 (keyOf 128 0) (valueOf 3)
       ∷ leafSlot (true ∷ false ∷ false ∷ true ∷ []) 9 0 (keyOf 144 0) (valueOf 4)
-      ∷ innerSlot (true ∷ false ∷ false ∷ []) 9 0 0 zeros 9 h6
-      ∷ innerSlot (true ∷ false ∷ []) 9 0 9 h72 0 zeros
-      ∷ innerSlot (true ∷ []) 9 0 9 h73 6 h44
-      ∷ innerSlot ([]) 9 0 6 h70 9 h74
+      ∷ innerSlot (true ∷ false ∷ false ∷ []) 9 0 0 zeros 9 h6 1 1
+      ∷ innerSlot (true ∷ false ∷ []) 9 0 9 h72 0 zeros 2 0
+      ∷ innerSlot (true ∷ []) 9 0 9 h73 6 h44 2 1
+      ∷ innerSlot ([]) 9 0 6 h70 9 h74 1 3
       ∷ leafSlot ([]) 3 6 (keyOf 255 0) (valueOf 9)
       ∷ free
       ∷ free
@@ -689,10 +689,10 @@ module _ (leafHash innerHash : Bytes → Bytes → Bytes) where
       storeOf 1 3
       (leafSlot (false ∷ false ∷ []) 1 0 (keyOf 8 0) (valueOf 1)
       ∷ leafSlot (false ∷ true ∷ []) 1 0 (keyOf 64 0) (valueOf 2)
-      ∷ innerSlot (false ∷ []) 1 0 1 h38 1 h61
-      ∷ innerSlot ([]) 1 2 1 h77 0 zeros
-      ∷ innerSlot ([]) 2 3 1 h77 0 zeros
-      ∷ innerSlot ([]) 3 0 1 h77 0 zeros
+      ∷ innerSlot (false ∷ []) 1 0 1 h38 1 h61 1 1
+      ∷ innerSlot ([]) 1 2 1 h77 0 zeros 2 0
+      ∷ innerSlot ([]) 2 3 1 h77 0 zeros 2 0
+      ∷ innerSlot ([]) 3 0 1 h77 0 zeros 2 0
       ∷ free
       ∷ free
       ∷ [])
@@ -703,7 +703,7 @@ module _ (leafHash innerHash : Bytes → Bytes → Bytes) where
       (leafSlot ([]) 6 9 (keyOf 8 0) (valueOf 2)
       ∷ leafSlot (false ∷ []) 9 0 (keyOf 8 0) (valueOf 2)
       ∷ leafSlot (true ∷ []) 9 0 (keyOf 144 0) (valueOf 2)
-      ∷ innerSlot ([]) 9 0 9 h7 9 h79
+      ∷ innerSlot ([]) 9 0 9 h7 9 h79 1 1
       ∷ [])
 
   abbrev rows : List Look

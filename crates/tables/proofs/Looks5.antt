@@ -298,8 +298,8 @@ module _ (leafHash innerHash : Bytes → Bytes → Bytes) where
       (leafSlot (true ∷ false ∷ []) 10 0 (keyOf 128 0) (valueOf 3)
       ∷ leafSlot ([]) 6 10 (keyOf 192 0) (valueOf 4)
       ∷ leafSlot (true ∷ true ∷ []) 10 0 (keyOf 192 0) (valueOf 3)
-      ∷ innerSlot (true ∷ []) 10 0 10 h0 10 h1
-      ∷ innerSlot ([]) 10 0 0 zeros 10 h2
+      ∷ innerSlot (true ∷ []) 10 0 10 h0 10 h1 1 1
+      ∷ innerSlot ([]) 10 0 0 zeros 10 h2 0 2
       ∷ free
       ∷ free
       ∷ free
@@ -335,7 +335,7 @@ module _ (leafHash innerHash : Bytes → Bytes → Bytes) where
       storeOf 1 8
       (leafSlot (false ∷ []) 8 0 (keyOf 0 0) (valueOf 2)
       ∷ leafSlot (true ∷ []) 8 0 (keyOf 144 0) (valueOf 3)
-      ∷ innerSlot ([]) 8 0 8 h5 8 h6
+      ∷ innerSlot ([]) 8 0 8 h5 8 h6 1 1
       ∷ free
       ∷ free
       ∷ free
@@ -366,18 +366,18 @@ module _ (leafHash innerHash : Bytes → Bytes → Bytes) where
       ∷ leafSlot ([]) 7 8 (keyOf 128 0) (valueOf 2)
       ∷ leafSlot (true ∷ false ∷ false ∷ false ∷ []) 8 9 (keyOf 128 0) (valueOf 1)
       ∷ leafSlot (true ∷ false ∷ false ∷ true ∷ []) 8 9 (keyOf 144 0) (valueOf 1)
-      ∷ innerSlot (true ∷ false ∷ false ∷ []) 8 9 8 h8 8 h9
-      ∷ innerSlot (true ∷ false ∷ []) 8 9 8 h10 0 zeros
-      ∷ innerSlot (true ∷ []) 8 9 8 h11 0 zeros
-      ∷ innerSlot ([]) 8 9 0 zeros 8 h12
+      ∷ innerSlot (true ∷ false ∷ false ∷ []) 8 9 8 h8 8 h9 1 1
+      ∷ innerSlot (true ∷ false ∷ []) 8 9 8 h10 0 zeros 2 0
+      ∷ innerSlot (true ∷ []) 8 9 8 h11 0 zeros 2 0
+      ∷ innerSlot ([]) 8 9 0 zeros 8 h12 0 2
       ∷ spoiltSlot 4 (true ∷ false ∷ false ∷ false ∷ []) 9 0
       ∷ leafSlot (true ∷ false ∷ false ∷ true ∷ []) 9 0 (keyOf 144 0) (valueOf 2)
-      ∷ innerSlot (true ∷ false ∷ false ∷ []) 9 0 9 h13 9 h14
-      ∷ innerSlot (true ∷ false ∷ []) 9 0 9 h15 0 zeros
+      ∷ innerSlot (true ∷ false ∷ false ∷ []) 9 0 9 h13 9 h14 1 1
+      ∷ innerSlot (true ∷ false ∷ []) 9 0 9 h15 0 zeros 2 0
       ∷ leafSlot (false ∷ []) 9 0 (keyOf 8 0) (valueOf 1)
-      ∷ innerSlot (true ∷ []) 9 0 9 h16 0 zeros
-      ∷ innerSlot ([]) 9 10 9 h17 9 h18
-      ∷ innerSlot ([]) 10 0 9 h17 9 h18
+      ∷ innerSlot (true ∷ []) 9 0 9 h16 0 zeros 2 0
+      ∷ innerSlot ([]) 9 10 9 h17 9 h18 1 2
+      ∷ innerSlot ([]) 10 0 9 h17 9 h18 1 2
       ∷ [])
 
   abbrev seen4 : Store
@@ -407,15 +407,15 @@ module _ (leafHash innerHash : Bytes → Bytes → Bytes) where
       (leafSlot ([]) 4294967294 4294967295 (keyOf 255 0) (valueOf 4)
       ∷ leafSlot (true ∷ true ∷ true ∷ true ∷ true ∷ true ∷ true ∷ false ∷ []) 4294967295 0 (keyOf 254 0) (valueOf 2)
       ∷ leafSlot (true ∷ true ∷ true ∷ true ∷ true ∷ true ∷ true ∷ true ∷ []) 4294967295 0 (keyOf 255 0) (valueOf 4)
-      ∷ innerSlot (true ∷ true ∷ true ∷ true ∷ true ∷ true ∷ true ∷ []) 4294967295 0 4294967295 h23 4294967295 h24
-      ∷ innerSlot (true ∷ true ∷ true ∷ true ∷ true ∷ true ∷ []) 4294967295 0 0 zeros 4294967295 h25
-      ∷ innerSlot (true ∷ true ∷ true ∷ true ∷ true ∷ []) 4294967295 0 0 zeros 4294967295 h26
-      ∷ innerSlot (true ∷ true ∷ true ∷ true ∷ []) 4294967295 0 0 zeros 4294967295 h27
-      ∷ innerSlot (true ∷ true ∷ true ∷ []) 4294967295 0 0 zeros 4294967295 h28
+      ∷ innerSlot (true ∷ true ∷ true ∷ true ∷ true ∷ true ∷ true ∷ []) 4294967295 0 4294967295 h23 4294967295 h24 1 1
+      ∷ innerSlot (true ∷ true ∷ true ∷ true ∷ true ∷ true ∷ []) 4294967295 0 0 zeros 4294967295 h25 0 2
+      ∷ innerSlot (true ∷ true ∷ true ∷ true ∷ true ∷ []) 4294967295 0 0 zeros 4294967295 h26 0 2
+      ∷ innerSlot (true ∷ true ∷ true ∷ true ∷ []) 4294967295 0 0 zeros 4294967295 h27 0 2
+      ∷ innerSlot (true ∷ true ∷ true ∷ []) 4294967295 0 0 zeros 4294967295 h28 0 2
       ∷ leafSlot (true ∷ false ∷ []) 4294967295 0 (keyOf 144 0) (valueOf 1)
-      ∷ innerSlot (true ∷ true ∷ []) 4294967295 0 0 zeros 4294967295 h29
-      ∷ innerSlot (true ∷ []) 4294967295 0 4294967295 h9 4294967295 h30
-      ∷ innerSlot ([]) 4294967295 0 0 zeros 4294967295 h31
+      ∷ innerSlot (true ∷ true ∷ []) 4294967295 0 0 zeros 4294967295 h29 0 2
+      ∷ innerSlot (true ∷ []) 4294967295 0 4294967295 h9 4294967295 h30 1 2
+      ∷ innerSlot ([]) 4294967295 0 0 zeros 4294967295 h31 0 3
       ∷ free
       ∷ free
       ∷ free
@@ -436,21 +436,21 @@ module _ (leafHash innerHash : Bytes → Bytes → Bytes) where
       storeOf 2 12
       (leafSlot (true ∷ false ∷ []) 1 3 (keyOf 144 0) (valueOf 4)
       ∷ leafSlot (true ∷ true ∷ []) 1 3 (keyOf 255 0) (valueOf 2)
-      ∷ innerSlot (true ∷ []) 1 3 1 h34 1 h35
-      ∷ innerSlot ([]) 12 0 11 h36 6 h37
-      ∷ innerSlot ([]) 2 3 0 zeros 1 h38
+      ∷ innerSlot (true ∷ []) 1 3 1 h34 1 h35 1 1
+      ∷ innerSlot ([]) 12 0 11 h36 6 h37 1 3
+      ∷ innerSlot ([]) 2 3 0 zeros 1 h38 0 2
       ∷ leafSlot ([]) 3 6 (keyOf 144 0) (valueOf 4)
       ∷ leafSlot (true ∷ false ∷ false ∷ false ∷ []) 6 0 (keyOf 128 0) (valueOf 1)
       ∷ leafSlot (true ∷ false ∷ false ∷ true ∷ []) 6 0 (keyOf 144 0) (valueOf 1)
-      ∷ innerSlot (true ∷ false ∷ false ∷ []) 6 0 6 h8 6 h9
-      ∷ innerSlot (true ∷ false ∷ []) 6 0 6 h10 0 zeros
+      ∷ innerSlot (true ∷ false ∷ false ∷ []) 6 0 6 h8 6 h9 1 1
+      ∷ innerSlot (true ∷ false ∷ []) 6 0 6 h10 0 zeros 2 0
       ∷ leafSlot (true ∷ true ∷ []) 6 0 (keyOf 255 0) (valueOf 4)
-      ∷ innerSlot (true ∷ []) 6 0 1 h11 6 h24
-      ∷ innerSlot ([]) 6 9 0 zeros 6 h37
-      ∷ innerSlot ([]) 9 10 0 zeros 6 h37
-      ∷ innerSlot ([]) 10 11 0 zeros 6 h37
+      ∷ innerSlot (true ∷ []) 6 0 1 h11 6 h24 2 1
+      ∷ innerSlot ([]) 6 9 0 zeros 6 h37 0 3
+      ∷ innerSlot ([]) 9 10 0 zeros 6 h37 0 3
+      ∷ innerSlot ([]) 10 11 0 zeros 6 h37 0 3
       ∷ leafSlot (false ∷ []) 11 0 (keyOf 96 0) (valueOf 1)
-      ∷ innerSlot ([]) 11 12 11 h36 6 h37
+      ∷ innerSlot ([]) 11 12 11 h36 6 h37 1 3
       ∷ free
       ∷ free
       ∷ free
@@ -467,14 +467,14 @@ module _ (leafHash innerHash : Bytes → Bytes → Bytes) where
       ∷ leafSlot ([]) 4 5 (keyOf 254 0) (valueOf 4)
       ∷ leafSlot (false ∷ false ∷ []) 5 6 (keyOf 0 0) (valueOf 1)
       ∷ leafSlot (false ∷ true ∷ []) 5 6 (keyOf 64 0) (valueOf 2)
-      ∷ innerSlot (false ∷ []) 5 6 5 h41 5 h42
+      ∷ innerSlot (false ∷ []) 5 6 5 h41 5 h42 1 1
       ∷ leafSlot (true ∷ []) 5 6 (keyOf 254 0) (valueOf 4)
-      ∷ innerSlot ([]) 5 6 5 h43 5 h44
+      ∷ innerSlot ([]) 5 6 5 h43 5 h44 2 1
       ∷ leafSlot ([]) 6 7 (keyOf 254 0) (valueOf 4)
       ∷ leafSlot (false ∷ []) 7 8 (keyOf 0 0) (valueOf 1)
       ∷ leafSlot (true ∷ []) 7 12 (keyOf 254 0) (valueOf 4)
-      ∷ innerSlot ([]) 7 8 7 h41 7 h44
-      ∷ innerSlot ([]) 8 12 8 h5 7 h44
+      ∷ innerSlot ([]) 7 8 7 h41 7 h44 1 1
+      ∷ innerSlot ([]) 8 12 8 h5 7 h44 1 1
       ∷ leafSlot ([]) 12 16 (keyOf 254 0) (valueOf 4)
       ∷ leafSlot ([]) 16 0 (keyOf 254 0) (valueOf 4)
       ∷ free
@@ -486,15 +486,15 @@ module _ (leafHash innerHash : Bytes → Bytes → Bytes) where
       storeOf 0 20
       (leafSlot (false ∷ true ∷ false ∷ []) 15 0 (keyOf 64 0) (valueOf 1)
       ∷ leafSlot (false ∷ true ∷ true ∷ []) 14 0 (keyOf 96 0) (valueOf 1)
-      ∷ innerSlot (false ∷ true ∷ []) 14 0 14 h45 14 h36
+      ∷ innerSlot (false ∷ true ∷ []) 14 0 14 h45 14 h36 1 1
       ∷ spoiltSlot 1 (false ∷ []) 14 0
       ∷ leafSlot (true ∷ []) 14 19 (keyOf 254 0) (valueOf 2)
-      ∷ innerSlot ([]) 14 19 14 h47 14 h23
+      ∷ innerSlot ([]) 14 19 14 h47 14 h23 2 1
       ∷ leafSlot (true ∷ false ∷ []) 19 0 (keyOf 144 0) (valueOf 3)
       ∷ leafSlot (true ∷ true ∷ []) 19 0 (keyOf 254 0) (valueOf 2)
-      ∷ innerSlot (true ∷ []) 19 0 19 h6 19 h23
-      ∷ innerSlot ([]) 19 20 14 h47 19 h48
-      ∷ innerSlot ([]) 20 0 14 h47 19 h48
+      ∷ innerSlot (true ∷ []) 19 0 19 h6 19 h23 1 1
+      ∷ innerSlot ([]) 19 20 14 h47 19 h48 2 2
+      ∷ innerSlot ([]) 20 0 14 h47 19 h48 2 2
       ∷ free
       ∷ free
       ∷ free
@@ -518,14 +518,14 @@ module _ (leafHash innerHash : Bytes → Bytes → Bytes) where
       ∷ leafSlot ([]) 3 8 (keyOf 16 0) (valueOf 4)
       ∷ leafSlot (false ∷ []) 8 0 (keyOf 16 0) (valueOf 4)
       ∷ leafSlot (true ∷ []) 8 11 (keyOf 144 0) (valueOf 4)
-      ∷ innerSlot ([]) 8 11 8 h51 8 h34
+      ∷ innerSlot ([]) 8 11 8 h51 8 h34 1 1
       ∷ leafSlot (true ∷ false ∷ false ∷ false ∷ []) 11 0 (keyOf 128 0) (valueOf 4)
       ∷ leafSlot (true ∷ false ∷ false ∷ true ∷ []) 11 0 (keyOf 144 0) (valueOf 4)
-      ∷ innerSlot (true ∷ false ∷ false ∷ []) 11 0 11 h52 11 h34
-      ∷ innerSlot (true ∷ false ∷ []) 11 0 11 h53 0 zeros
-      ∷ innerSlot (true ∷ []) 11 0 11 h54 0 zeros
-      ∷ innerSlot ([]) 11 12 8 h51 11 h55
-      ∷ innerSlot ([]) 12 0 8 h51 11 h55
+      ∷ innerSlot (true ∷ false ∷ false ∷ []) 11 0 11 h52 11 h34 1 1
+      ∷ innerSlot (true ∷ false ∷ []) 11 0 11 h53 0 zeros 2 0
+      ∷ innerSlot (true ∷ []) 11 0 11 h54 0 zeros 2 0
+      ∷ innerSlot ([]) 11 12 8 h51 11 h55 1 2
+      ∷ innerSlot ([]) 12 0 8 h51 11 h55 1 2
       ∷ free
       ∷ free
       ∷ free
@@ -611,10 +611,10 @@ module _ (leafHash innerHash : Bytes → Bytes → Bytes) where
       ∷ leafSlot ([]) 3 4 (keyOf 64 0) (valueOf 4)
       ∷ leafSlot (false ∷ false ∷ []) 5 0 (keyOf 16 0) (valueOf 3)
       ∷ leafSlot (false ∷ true ∷ []) 4 0 (keyOf 96 0) (valueOf 3)
-      ∷ innerSlot (false ∷ []) 4 0 4 h59 4 h21
-      ∷ innerSlot ([]) 4 5 4 h60 0 zeros
-      ∷ innerSlot ([]) 5 8 4 h60 0 zeros
-      ∷ innerSlot ([]) 8 0 4 h60 0 zeros
+      ∷ innerSlot (false ∷ []) 4 0 4 h59 4 h21 1 1
+      ∷ innerSlot ([]) 4 5 4 h60 0 zeros 2 0
+      ∷ innerSlot ([]) 5 8 4 h60 0 zeros 2 0
+      ∷ innerSlot ([]) 8 0 4 h60 0 zeros 2 0
       ∷ free
       ∷ free
       ∷ free
@@ -626,7 +626,7 @@ module _ (leafHash innerHash : Bytes → Bytes → Bytes) where
       (leafSlot ([]) 1 5 (keyOf 16 0) (valueOf 2)
       ∷ leafSlot (false ∷ []) 5 0 (keyOf 16 0) (valueOf 2)
       ∷ leafSlot (true ∷ []) 5 0 (keyOf 144 0) (valueOf 4)
-      ∷ innerSlot ([]) 5 0 5 h4 5 h34
+      ∷ innerSlot ([]) 5 0 5 h4 5 h34 1 1
       ∷ [])
 
   abbrev seen17 : Store
@@ -635,14 +635,14 @@ module _ (leafHash innerHash : Bytes → Bytes → Bytes) where
       (leafSlot (false ∷ false ∷ false ∷ true ∷ []) 6 0 (keyOf 16 0) (valueOf 3)
       ∷ leafSlot (false ∷ false ∷ false ∷ false ∷ []) 4 0 (keyOf 8 0) (valueOf 4)
       ∷ leafSlot (false ∷ false ∷ false ∷ true ∷ []) 4 5 (keyOf 16 0) (valueOf 4)
-      ∷ innerSlot (false ∷ false ∷ false ∷ []) 4 5 4 h63 4 h51
-      ∷ innerSlot (false ∷ false ∷ []) 4 5 4 h64 0 zeros
-      ∷ innerSlot (false ∷ []) 4 5 4 h65 0 zeros
-      ∷ innerSlot ([]) 4 5 4 h66 0 zeros
-      ∷ innerSlot (false ∷ false ∷ false ∷ []) 5 0 4 h63 5 h59
-      ∷ innerSlot (false ∷ false ∷ []) 5 0 5 h67 0 zeros
-      ∷ innerSlot (false ∷ []) 5 0 5 h68 0 zeros
-      ∷ innerSlot ([]) 5 0 5 h69 0 zeros
+      ∷ innerSlot (false ∷ false ∷ false ∷ []) 4 5 4 h63 4 h51 1 1
+      ∷ innerSlot (false ∷ false ∷ []) 4 5 4 h64 0 zeros 2 0
+      ∷ innerSlot (false ∷ []) 4 5 4 h65 0 zeros 2 0
+      ∷ innerSlot ([]) 4 5 4 h66 0 zeros 2 0
+      ∷ innerSlot (false ∷ false ∷ false ∷ []) 5 0 4 h63 5 h59 1 1
+      ∷ innerSlot (false ∷ false ∷ []) 5 0 5 h67 0 zeros 2 0
+      ∷ innerSlot (false ∷ []) 5 0 5 h68 0 zeros 2 0
+      ∷ innerSlot ([]) 5 0 5 h69 0 zeros 2 0
       ∷ spoiltSlot 1 (false ∷ []) 4 5
       ∷ [])
 
@@ -670,10 +670,10 @@ module _ (leafHash innerHash : Bytes → Bytes → Bytes) where
       ∷ leafSlot (true ∷ false ∷ []) 2 0 (keyOf 128 0) (valueOf 1)
       ∷ leafSlot (true ∷ true ∷ []) 2 0 (keyOf 254 0) (valueOf 3)
       ∷ leafSlot (false ∷ []) 2 0 (keyOf 0 0) (valueOf 3)
-      ∷ innerSlot (true ∷ []) 2 0 2 h8 2 h71
-      ∷ innerSlot ([]) 2 5 2 h72 2 h73
-      ∷ innerSlot ([]) 5 6 2 h72 2 h73
-      ∷ innerSlot ([]) 6 0 2 h72 2 h73
+      ∷ innerSlot (true ∷ []) 2 0 2 h8 2 h71 1 1
+      ∷ innerSlot ([]) 2 5 2 h72 2 h73 1 2
+      ∷ innerSlot ([]) 5 6 2 h72 2 h73 1 2
+      ∷ innerSlot ([]) 6 0 2 h72 2 h73 1 2
       ∷ leafSlot ([]) 2 5 (keyOf 254 0) (valueOf 9)
       ∷ free
       ∷ free
@@ -687,7 +687,7 @@ module _ (leafHash innerHash : Bytes → Bytes → Bytes) where
       ∷ leafSlot ([]) 9 10 (keyOf 144 0) (valueOf 4)
       ∷ leafSlot (false ∷ []) 10 0 (keyOf 16 0) (valueOf 3)
       ∷ leafSlot (true ∷ []) 10 0 (keyOf 144 0) (valueOf 2)
-      ∷ innerSlot ([]) 10 0 10 h59 10 h14
+      ∷ innerSlot ([]) 10 0 10 h59 10 h14 1 1
       ∷ free
       ∷ free
       ∷ free
@@ -698,7 +698,7 @@ module _ (leafHash innerHash : Bytes → Bytes → Bytes) where
       storeOf 0 1
       (leafSlot (false ∷ []) 1 0 (keyOf 64 0) (valueOf 1)
       ∷ leafSlot (true ∷ []) 2 0 (keyOf 144 0) (valueOf 2)
-      ∷ innerSlot ([]) 2 0 1 h45 1 h14
+      ∷ innerSlot ([]) 2 0 1 h45 1 h14 1 1
       ∷ free
       ∷ [])
 
@@ -707,9 +707,9 @@ module _ (leafHash innerHash : Bytes → Bytes → Bytes) where
       storeOf 0 3
       (leafSlot (false ∷ []) 2 3 (keyOf 0 0) (valueOf 3)
       ∷ leafSlot (true ∷ []) 2 0 (keyOf 254 0) (valueOf 3)
-      ∷ innerSlot ([]) 2 3 2 h72 2 h71
+      ∷ innerSlot ([]) 2 3 2 h72 2 h71 1 1
       ∷ leafSlot (false ∷ []) 3 0 (keyOf 0 0) (valueOf 1)
-      ∷ innerSlot ([]) 3 0 3 h41 2 h71
+      ∷ innerSlot ([]) 3 0 3 h41 2 h71 1 1
       ∷ free
       ∷ free
       ∷ free
@@ -738,18 +738,18 @@ module _ (leafHash innerHash : Bytes → Bytes → Bytes) where
       ∷ leafSlot ([]) 2 3 (keyOf 255 0) (valueOf 3)
       ∷ leafSlot (true ∷ true ∷ true ∷ true ∷ true ∷ true ∷ true ∷ false ∷ []) 3 0 (keyOf 254 0) (valueOf 4)
       ∷ leafSlot (true ∷ true ∷ true ∷ true ∷ true ∷ true ∷ true ∷ true ∷ []) 3 0 (keyOf 255 0) (valueOf 3)
-      ∷ innerSlot (true ∷ true ∷ true ∷ true ∷ true ∷ true ∷ true ∷ []) 3 0 3 h44 3 h77
-      ∷ innerSlot (true ∷ true ∷ true ∷ true ∷ true ∷ true ∷ []) 3 0 0 zeros 3 h78
-      ∷ innerSlot (true ∷ true ∷ true ∷ true ∷ true ∷ []) 3 0 0 zeros 3 h79
-      ∷ innerSlot (true ∷ true ∷ true ∷ true ∷ []) 3 0 0 zeros 3 h80
-      ∷ innerSlot (true ∷ true ∷ true ∷ []) 3 0 0 zeros 3 h81
-      ∷ innerSlot (true ∷ true ∷ []) 3 0 0 zeros 3 h82
+      ∷ innerSlot (true ∷ true ∷ true ∷ true ∷ true ∷ true ∷ true ∷ []) 3 0 3 h44 3 h77 1 1
+      ∷ innerSlot (true ∷ true ∷ true ∷ true ∷ true ∷ true ∷ []) 3 0 0 zeros 3 h78 0 2
+      ∷ innerSlot (true ∷ true ∷ true ∷ true ∷ true ∷ []) 3 0 0 zeros 3 h79 0 2
+      ∷ innerSlot (true ∷ true ∷ true ∷ true ∷ []) 3 0 0 zeros 3 h80 0 2
+      ∷ innerSlot (true ∷ true ∷ true ∷ []) 3 0 0 zeros 3 h81 0 2
+      ∷ innerSlot (true ∷ true ∷ []) 3 0 0 zeros 3 h82 0 2
       ∷ spoiltSlot 1 (true ∷ []) 3 8
-      ∷ innerSlot ([]) 3 8 0 zeros 3 h84
+      ∷ innerSlot ([]) 3 8 0 zeros 3 h84 0 2
       ∷ leafSlot (true ∷ false ∷ []) 8 0 (keyOf 144 0) (valueOf 4)
       ∷ leafSlot (false ∷ []) 8 0 (keyOf 0 0) (valueOf 3)
-      ∷ innerSlot (true ∷ []) 8 0 8 h34 3 h83
-      ∷ innerSlot ([]) 8 0 8 h72 8 h85
+      ∷ innerSlot (true ∷ []) 8 0 8 h34 3 h83 1 2
+      ∷ innerSlot ([]) 8 0 8 h72 8 h85 1 3
       ∷ [])
 
   abbrev seen24 : Store
@@ -757,7 +757,7 @@ module _ (leafHash innerHash : Bytes → Bytes → Bytes) where
       storeOf 1 1
       (leafSlot (false ∷ []) 1 0 (keyOf 0 0) (valueOf 3)
       ∷ leafSlot (true ∷ []) 1 0 (keyOf 128 0) (valueOf 2)
-      ∷ innerSlot ([]) 1 0 1 h72 1 h13
+      ∷ innerSlot ([]) 1 0 1 h72 1 h13 1 1
       ∷ free
       ∷ [])
 
@@ -780,7 +780,7 @@ module _ (leafHash innerHash : Bytes → Bytes → Bytes) where
       (leafSlot ([]) 5 7 (keyOf 128 0) (valueOf 1)
       ∷ leafSlot (false ∷ []) 7 0 (keyOf 96 0) (valueOf 4)
       ∷ leafSlot (true ∷ []) 7 0 (keyOf 128 0) (valueOf 1)
-      ∷ innerSlot ([]) 7 0 7 h89 7 h8
+      ∷ innerSlot ([]) 7 0 7 h89 7 h8 1 1
       ∷ free
       ∷ free
       ∷ free
@@ -800,12 +800,12 @@ module _ (leafHash innerHash : Bytes → Bytes → Bytes) where
       storeOf 10 11
       (leafSlot (true ∷ false ∷ []) 5 0 (keyOf 128 0) (valueOf 3)
       ∷ leafSlot (false ∷ []) 11 0 (keyOf 104 0) (valueOf 2)
-      ∷ innerSlot ([]) 11 12 11 h91 6 h2
+      ∷ innerSlot ([]) 11 12 11 h91 6 h2 1 2
       ∷ free
       ∷ leafSlot (true ∷ true ∷ []) 6 0 (keyOf 192 0) (valueOf 3)
-      ∷ innerSlot (true ∷ []) 6 0 5 h0 6 h1
+      ∷ innerSlot (true ∷ []) 6 0 5 h0 6 h1 1 1
       ∷ free
-      ∷ innerSlot ([]) 10 11 0 zeros 6 h2
+      ∷ innerSlot ([]) 10 11 0 zeros 6 h2 0 2
       ∷ free
       ∷ free
       ∷ free

@@ -4,11 +4,13 @@ use mathlib.Core.Path.{_≡_}
 use mathlib.Core.List.{List, [], _∷_, _++_}
 use mathlib.Core.Option.{some}
 use lib.ListN.{replicate}
+use Rattle.terms.specs.declared.Form.the-variants.{Counted as counted}
 use Rattle.terms.specs.Bits.{Bytes, Place, pack}
 use Rattle.terms.specs.Fields.{le}
-use Rattle.terms.specs.Records.{Ask, Slot, free, used, spoiled, leafBody, innerBody, child, Store, Proof}
+use Rattle.terms.specs.Records.{Ask, Slot, free, used, spoiled, leafBody, innerBody, child, tally, noTally, Grant, Store, Proof}
 use Rattle.meaning.specs.Calls.{Answer, refused, accepted, Applied, apply, prune}
 use Rattle.meaning.specs.Reading.{Verdict, readKey, readRoot}
+use Rattle.meaning.specs.Counting.{readNumber, readPosition}
 use Rattle.meaning.specs.Proving.{proof}
 use Rattle.meaning.specs.Checking.{checked}
 
@@ -16,10 +18,11 @@ abbrev pub valueOf : ℕ → Bytes
 valueOf n = replicate 32 n
 
 abbrev pub leafSlot : Place → ℕ → ℕ → Bytes → Bytes → Slot
-leafSlot p v r k x = used (record { place = p; version = v; retired = r; body = leafBody k x })
+leafSlot p v r k x = used (record { place = p; version = v; retired = r; body = leafBody k x; counts = noTally })
 
-abbrev pub innerSlot : Place → ℕ → ℕ → ℕ → Bytes → ℕ → Bytes → Slot
-innerSlot p v r lv lh rv rh = used (record { place = p; version = v; retired = r; body = innerBody (child lv lh) (child rv rh) })
+abbrev pub innerSlot : Place → ℕ → ℕ → ℕ → Bytes → ℕ → Bytes → ℕ → ℕ → Slot
+innerSlot p v r lv lh rv rh lc rc =
+    used (record { place = p; version = v; retired = r; body = innerBody (child lv lh) (child rv rh); counts = tally lc rc })
 
 -- A slot off form, with these bit count, bits, version and retired-since fields.
 abbrev pub spoiltSlot : ℕ → Place → ℕ → ℕ → Slot
@@ -29,7 +32,7 @@ abbrev pub freeSlots : ℕ → List Slot
 freeSlots n = replicate n free
 
 abbrev pub storeOf : ℕ → ℕ → List Slot → Store
-storeOf old new s = record { oldest = old; latest = new; slots = s }
+storeOf old new s = record { form = counted; oldest = old; latest = new; slots = s }
 
 -- A game: calls from a store, what each answers, and the store at the end.
 pub data Move : Type 0 where
@@ -80,6 +83,13 @@ module _ (leafHash innerHash : Bytes → Bytes → Bytes) where
   abbrev pub LookHolds : Look → Type 0
   LookHolds (look st v k p found root) =
       (proof st v k ≡ p) × (readKey st v k ≡ found) × (readRoot leafHash innerHash st v ≡ root)
+
+-- A position: a store, a version and a position; the number of grants, and the grant there (2026-09).
+pub data Position : Type 0 where
+  position : Store → ℕ → ℕ → Answer ℕ → Answer Grant → Position
+
+abbrev pub PositionHolds : Position → Type 0
+PositionHolds (position st v i n g) = (readNumber st v ≡ n) × (readPosition st v i ≡ g)
 
 -- A try: a root, a key and a proof, checked under hashes that are easily made to collide.
 pub data Try : Type 0 where

@@ -1,10 +1,14 @@
 -- Document 01, 'Bytes': what the records say, apart from their bytes. Grants, what a batch asks for, slots and stores, and proofs.
 -- Assumes nothing.
 use Prim.Native.Nat.{ℕ}
+use mathlib.Core.Bool.{true, false}
 use mathlib.Core.List.{List}
 use mathlib.Core.Option.{Option}
 use lib.ListN.{replicate}
 use Rattle.terms.specs.Bits.{Bytes, Side, Place}
+-- The form of a store is the code's own type: the plain one of document 01, whose records hold no counts, or the counted one of 2026-09.
+pub use Rattle.terms.specs.declared.Form.{Form}
+pub use Rattle.terms.specs.declared.Form.the-variants.{Plain as plain, Counted as counted}
 
 -- A grant is a key with its value.
 pub record Grant : Type 0 where
@@ -40,12 +44,31 @@ pub data Body : Type 0 where
   leafBody : Bytes → Bytes → Body
   innerBody : Child → Child → Body
 
+-- What an inner record says of the numbers of leaves below its left and its right child (2026-09). They stand beside the body: no hash
+-- covers them, and no tree is read by them.
+pub record Tally : Type 0 where
+  pub leftward : ℕ
+  pub rightward : ℕ
+
+abbrev pub tally : ℕ → ℕ → Tally
+tally l r = record { leftward = l; rightward = r }
+
+-- A leaf's, and those of the plain form.
+abbrev pub noTally : Tally
+noTally = tally 0 0
+
+-- The count on a side.
+abbrev pub countOn : Side → Tally → ℕ
+countOn false c = c .leftward
+countOn true c = c .rightward
+
 -- A record; retired since 0 means that it is not retired.
 pub record Record : Type 0 where
   pub place : Place
   pub version : ℕ
   pub retired : ℕ
   pub body : Body
+  pub counts : Tally
 
 -- A slot is free, or a record in form, or neither: then its bytes are all that can be said of it.
 pub data Slot : Type 0 where
@@ -53,8 +76,9 @@ pub data Slot : Type 0 where
   used : Record → Slot
   spoiled : Bytes → Slot
 
--- A store: what its header says, and its slots, as many as its capacity.
+-- A store: what its header says, and its slots, as many as its capacity. The header's kind tells the form.
 pub record Store : Type 0 where
+  pub form : Form
   pub oldest : ℕ
   pub latest : ℕ
   pub slots : List Slot

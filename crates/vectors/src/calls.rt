@@ -20,7 +20,7 @@ pub fn slots(store: &[u8]) -> usize {
     if store.len() < 24 {
         return 0;
     }
-    (store.len() - 24) / 120
+    (store.len() - 24) / 128
 }
 
 fn refused(no: u32, end: &[u8]) {

@@ -20,7 +20,7 @@ pub fn byte(l: &[u8], store: &mut [u8]) -> bool {
     if 16384 <= i {
         return false;
     }
-    if 120 <= at {
+    if 128 <= at {
         return false;
     }
     if 256 <= byte {
@@ -29,7 +29,7 @@ pub fn byte(l: &[u8], store: &mut [u8]) -> bool {
     say::line(b"  harm  slot ", part(l, 1, b' '), b", byte ");
     say::line(part(l, 2, b' '), b" made ", part(l, 3, b' '));
     say::text(b"\n");
-    put_byte(store, 24 + 120 * i + at, byte);
+    put_byte(store, 24 + 128 * i + at, byte);
     true
 }
 
@@ -41,22 +41,22 @@ fn clear(bytes: &mut [u8]) {
     put_hash(bytes, no_hash());
 }
 
-// 120 bytes made zero.
+// 128 bytes made zero.
 fn empty(slot: &mut [u8]) {
-    if slot.len() != 120 {
+    if slot.len() != 128 {
         return;
     }
     clear(&mut slot[0..32]);
     clear(&mut slot[32..64]);
     clear(&mut slot[64..96]);
-    clear(&mut slot[88..120]);
+    clear(&mut slot[96..128]);
 }
 
 fn empty_at(store: &mut [u8], from: usize) {
     if 2000000 < from {
         return;
     }
-    let end = from + 120;
+    let end = from + 128;
     if store.len() < end {
         return;
     }
@@ -70,6 +70,6 @@ pub fn lose(l: &[u8], store: &mut [u8]) -> bool {
         return false;
     }
     say::line(b"  harm  slot ", part(l, 1, b' '), b" emptied\n");
-    empty_at(store, 24 + 120 * i);
+    empty_at(store, 24 + 128 * i);
     true
 }

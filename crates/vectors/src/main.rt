@@ -3,6 +3,7 @@
 // new call: a function of `calls`, a line of `call` below, and a line of the script's head that says its form.
 mod calls;
 mod compared;
+mod counted;
 mod damaged;
 mod harmed;
 mod several;
@@ -143,6 +144,17 @@ fn call(l: &[u8], c: &[u8], store: &mut [u8]) -> bool {
     }
     if same(c, b"levels") {
         return calls::levels(store);
+    }
+    by_counts(l, c, store)
+}
+
+// The reads by counts.
+fn by_counts(l: &[u8], c: &[u8], store: &mut [u8]) -> bool {
+    if same(c, b"count") {
+        return counted::count(l, store);
+    }
+    if same(c, b"at") {
+        return counted::at(l, store);
     }
     harm(l, c, store)
 }

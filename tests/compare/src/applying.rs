@@ -40,15 +40,15 @@ fn sorted(mut asks: Vec<Ask>) -> Vec<u8> {
     asks_bytes(&asks)
 }
 
-/// A history and what the documents say of it: the grants of latest, and the root that each kept publishing had when it was made. It lasts up to
-/// the next one, so the one in force where a prune fell between two stands at oldest.
+/// A history and what the documents say of it: the grants of latest, and the root and the grants that each kept publishing had when it was made. It lasts
+/// up to the next one, so the one in force where a prune fell between two stands at oldest.
 struct History {
     seed: u64,
     random: Random,
     s: Vec<u8>,
     keys: Vec<Bytes32>,
     grants: Grants,
-    roots: BTreeMap<u32, Bytes32>,
+    made: BTreeMap<u32, (Bytes32, Grants)>,
     /// Each number is the one after latest.
     dense: bool,
 }
@@ -66,7 +66,7 @@ impl History {
         let oldest = if random.one_in(2) { first } else { 0 };
         let s = cases::fresh(capacity, oldest, first);
         let dense = random.one_in(4);
-        let mut history = History { seed, random, s, keys, grants: Grants::new(), roots: BTreeMap::from([(oldest, ZEROS)]), dense };
+        let mut history = History { seed, random, s, keys, grants: Grants::new(), made: BTreeMap::from([(oldest, (ZEROS, Grants::new()))]), dense };
         history.keys.sort();
         history
     }
@@ -83,7 +83,7 @@ impl History {
                     None => self.grants.remove(&a.key),
                 };
             }
-            self.roots.insert(version, root);
+            self.made.insert(version, (root, self.grants.clone()));
             self.look(tally);
         }
         answer
@@ -104,16 +104,25 @@ impl History {
             tally.equal("a grant", seed, crate::ours::get(s, now, &k), Ok(self.grants.get(&k).copied()));
             both::reads(tally, random, seed, s, now, &k);
         }
-        let n = random.below(self.roots.len());
-        let (&version, &root) = self.roots.iter().nth(n).unwrap();
+        let n = random.below(self.made.len());
+        let (&version, (root, grants)) = self.made.iter().nth(n).unwrap();
+        let root = *root;
         tally.equal("a root of before", seed, crate::ours::root(s, version), Ok(root));
         // A version between two publishings reads as the earlier one.
-        let last = self.roots.range(version..).nth(1).map_or(now, |(v, _)| v - 1);
+        let last = self.made.range(version..).nth(1).map_or(now, |(v, _)| v - 1);
         let between = [last, version + random.below((last - version) as usize + 1) as u32][random.below(2)];
         tally.equal("a root between", seed, crate::ours::root(s, between), Ok(root));
         let k = self.keys[random.below(self.keys.len())];
         tally.equal("a key between", seed, crate::ours::get(s, between, &k), crate::ours::get(s, version, &k));
         both::reads(tally, random, seed, s, between, &k);
+        // Number and positions are those of the ledger, in the latest version and in this one.
+        for (version, grants) in [(now, &self.grants), (between, grants)] {
+            tally.equal("the number of grants", seed, crate::ours::count(s, version), Ok(grants.len() as u64));
+            for (i, (&k, &v)) in grants.iter().enumerate() {
+                tally.equal("the grant at a position", seed, crate::ours::at(s, version, i as u64), Ok((k, v)));
+            }
+            tally.equal("past the last position", seed, crate::ours::at(s, version, grants.len() as u64), Err(alone(20)));
+        }
     }
 
     fn batch(&mut self) -> Vec<u8> {
@@ -136,13 +145,13 @@ impl History {
         match self.random.below(20) {
             0..=2 => {
                 let (oldest, now) = (u32_at(&self.s, 12), latest(&self.s));
-                let made = self.roots.keys().copied().filter(|v| *v >= oldest).nth(self.random.below(4)).unwrap_or(now);
+                let made = self.made.keys().copied().filter(|v| *v >= oldest).nth(self.random.below(4)).unwrap_or(now);
                 let near = cases::near(&mut self.random, &self.s);
                 let to = [made, near, near, now, oldest, oldest.wrapping_sub(1), now.wrapping_add(1)][self.random.below(7)];
                 if both::prune(tally, "in a history", seed, &mut self.s, to).is_ok() {
-                    let (_, &in_force) = self.roots.range(..=to).next_back().unwrap();
-                    self.roots.retain(|v, _| *v > to);
-                    self.roots.insert(to, in_force);
+                    let in_force = self.made.range(..=to).next_back().unwrap().1.clone();
+                    self.made.retain(|v, _| *v > to);
+                    self.made.insert(to, in_force);
                     self.look(tally);
                 }
             }

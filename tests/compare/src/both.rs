@@ -2,7 +2,8 @@
 
 use crate::cases::{self, Random};
 use crate::ours;
-use crate::tally::{Proof, Tally};
+use crate::tally::{Proof, Tally, Word};
+use second::bytes::{HEADER, SLOT};
 use second::{Bytes32, Stopped};
 
 const EDGE: usize = 64;
@@ -54,11 +55,16 @@ pub fn format(tally: &mut Tally, seed: u64, s: &mut Vec<u8>) {
     tally.wrote("format", "", seed, (x, &a), (y, s));
 }
 
-/// Root, key read, proof and the check of the proof. The proof with its root, where there is one.
+/// Root, key read, the number of grants and some of them by position, proof and the check of the proof. The proof with its root, where there is one.
 pub fn reads(tally: &mut Tally, random: &mut Random, seed: u64, s: &[u8], version: u32, key: &[u8]) -> Option<(Bytes32, Vec<u8>)> {
     let root = second::root(s, version);
     tally.same("root", seed, ours::root(s, version), root);
     tally.same("get", seed, ours::get(s, version, key), second::get(s, version, key));
+    let _ = counted(tally, seed, s, version);
+    for _ in 0..2 {
+        let position = cases::position(random, s, version);
+        let _ = at(tally, seed, s, version, position);
+    }
     let proof = second::proof::proof(s, version, key);
     let room = match &proof {
         Ok(p) if random.one_in(6) => p.len() - 1,
@@ -75,6 +81,31 @@ pub fn reads(tally: &mut Tally, random: &mut Random, seed: u64, s: &[u8], versio
     let (root, proof) = (root.ok()?, proof.ok()?);
     tally.same("verify", seed, ours::verify(&root, key, &proof), second::verify(&root, key, &proof));
     Some((root, proof))
+}
+
+pub fn counted(tally: &mut Tally, seed: u64, s: &[u8], version: u32) -> Result<u64, Stopped> {
+    let (x, a) = lent(s, |s| ours::count(s, version));
+    assert!(a == s, "the store was written");
+    let y = second::count(s, version);
+    tally.same("count", seed, x, y);
+    y
+}
+
+pub fn at(tally: &mut Tally, seed: u64, s: &[u8], version: u32, position: u64) -> Result<(Bytes32, Bytes32), Stopped> {
+    let (x, a) = lent(s, |s| ours::at(s, version, position));
+    assert!(a == s, "the store was written");
+    let y = second::at(s, version, position);
+    tally.count(format!("at {}", y.word()));
+    tally.equal(&format!("at {position} in {version}"), seed, x, y);
+    y
+}
+
+/// The number, each position below it (the first twelve), the first one beyond, and some far beyond.
+pub fn positions(tally: &mut Tally, seed: u64, s: &[u8], version: u32) {
+    let n = counted(tally, seed, s, version).unwrap_or(1);
+    for position in (0..n.min(12)).chain([n.saturating_sub(1), n, n + 1, 1 << 32, u64::MAX]) {
+        let _ = at(tally, seed, s, version, position);
+    }
 }
 
 /// A palette of keys, with a room near what is needed. Its bytes are those of single calls joined, and cut apart each is checked.
@@ -161,7 +192,7 @@ pub fn rescue(tally: &mut Tally, case: &str, seed: u64, s: &[u8], oldest: u32, l
     let walked = second::rescue::walked(s, oldest, latest, &mut c).map(|w| w.0);
     tally.equal("rescue by a walk", seed, (walked, &c), (y, &b));
     let Ok((first, same, other, out)) = x else { return (y, b) };
-    let used = |s: &[u8]| s[24..].chunks_exact(120).filter(|slot| slot.iter().any(|b| *b != 0)).count() as u32;
+    let used = |s: &[u8]| s[HEADER..].chunks_exact(SLOT).filter(|slot| slot.iter().any(|b| *b != 0)).count() as u32;
     tally.equal("a rescue's numbers", seed, (same + other + out, same + other), (used(s), used(&a)));
     tally.equal("a rescued store", seed, ours::check(&a), Ok(()));
     for (from, o) in [(s, oldest), (&a[..], oldest), (&a[..], first)] {

@@ -1,6 +1,8 @@
 //! Random stores, damage and forgery, from one seed.
 
-use second::bytes::{ask_bytes, bit, put_header, put_slot, slot_bytes, u32_at, Ask, Body, Place, Record, Slot, ASK, HEADER, SLOT};
+use second::bytes::{ask_bytes, bit, put_header, put_slot, slot_bytes, u16_at, u32_at, Ask, Body, Place, Record, Slot, ASK, HEADER, SLOT};
+use second::form::slot::{KIND, LEAVES};
+use second::form::INNER;
 use second::Bytes32;
 
 /// A linear congruential generator, its high bits.
@@ -292,13 +294,64 @@ fn slot(i: usize) -> std::ops::Range<usize> {
     HEADER + SLOT * i..HEADER + SLOT * (i + 1)
 }
 
+/// A number for a count that is not the true one: beside it, small, or so great that two of them pass 32 bits.
+pub fn wrong_count(random: &mut Random, n: u32) -> u32 {
+    match random.below(8) {
+        0 => n.wrapping_add(1),
+        1 => n.wrapping_sub(1),
+        2 => 0,
+        3 => n ^ 1 << random.below(32),
+        4 => u32::MAX - random.below(3) as u32,
+        5 => 0x8000_0000,
+        6 => n.wrapping_add(random.below(5) as u32),
+        _ => random.below(6) as u32,
+    }
+}
+
+/// Counts of an inner record changed, one of them, both, or exchanged; nothing else.
+pub fn miscount(random: &mut Random, s: &mut [u8]) {
+    let inner: Vec<usize> = used(s).into_iter().filter(|&i| u16_at(&s[slot(i)], KIND) == INNER.kind).collect();
+    if inner.is_empty() {
+        return;
+    }
+    let at = slot(inner[random.below(inner.len())]).start;
+    let [l, r] = LEAVES.map(|field| u32_at(s, at + field));
+    let counts = match random.below(5) {
+        0 => [r, l],
+        1 => [wrong_count(random, l), wrong_count(random, r)],
+        // the same number in all
+        2 => [l.wrapping_add(1), r.wrapping_sub(1)],
+        3 => [wrong_count(random, l), r],
+        _ => [l, wrong_count(random, r)],
+    };
+    for (field, n) in LEAVES.into_iter().zip(counts) {
+        s[at + field..][..4].copy_from_slice(&n.to_le_bytes());
+    }
+}
+
+/// A position: mostly below the number that the version's root says, at its ends, where its left part ends, or beyond it.
+pub fn position(random: &mut Random, s: &[u8], version: u32) -> u64 {
+    let n = second::count(s, version).unwrap_or(3);
+    match random.below(10) {
+        0 => n,
+        1 => n.wrapping_add(1 + random.below(3) as u64),
+        2 => [u64::MAX, 1 << 33, 1 << 32, (1 << 32) - 1, (1 << 32) + n, n << 32, 1 << 63][random.below(7)],
+        3 => n.saturating_sub(1),
+        4 => n / 2,
+        5 => 0,
+        _ => random.next() as u64 % n.max(1),
+    }
+}
+
 /// One thing changed.
 pub fn damage(random: &mut Random, s: &mut Vec<u8>) {
     let n = (s.len() - HEADER) / SLOT;
     let used = used(s);
     let some = if used.is_empty() { random.below(n) } else { used[random.below(used.len())] };
     let other = random.below(n);
-    match random.below(17) {
+    match random.below(20) {
+        17 | 18 => miscount(random, s),
+        19 => s[slot(some)][LEAVES[random.below(2)]..][..4].copy_from_slice(&(random.below(6) as u32).to_le_bytes()),
         12 | 13 => {
             // version or retired-since: a number that stands in the store, or one beside it
             let n = near(random, s).to_le_bytes();

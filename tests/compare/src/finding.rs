@@ -5,6 +5,8 @@ use crate::cases::{self, Random};
 use crate::tally::{Proof, Tally};
 use crate::{both, ours};
 use second::bytes::{ask_bytes, put_slot, slot, slot_bytes, u32_at, Ask, Slot, HEADER, SLOT};
+use second::form::slot::TAIL;
+use second::form::{INNER, LEAF};
 use second::{alone, spoiled, Bytes32, Stopped, ZEROS};
 
 fn key(first: u8) -> Bytes32 {
@@ -50,6 +52,7 @@ fn desk(free: usize) -> Vec<u8> {
 fn look(tally: &mut Tally, what: &str, s: &[u8], versions: &[u32], keys: &[Bytes32]) {
     for &v in versions {
         tally.same("root", 0, ours::root(s, v), second::root(s, v));
+        both::positions(tally, 0, s, v);
         for k in keys {
             tally.same("get", 0, ours::get(s, v, k), second::get(s, v, k));
             let most = second::proof::proof(s, v, k).map_or(300, |p| p.len());
@@ -96,10 +99,10 @@ fn spoil(random: &mut Random, s: &mut [u8], i: usize) {
     match random.below(6) {
         0 => s[at(i, random.below(4))] ^= 1 << random.below(8),
         1 => s[at(i, 4 + random.below(2))] ^= 4 << random.below(6),
-        2 => s[at(i, 112 + random.below(8))] |= 1 << random.below(8),
+        2 => s[at(i, TAIL + random.below(SLOT - TAIL))] |= 1 << random.below(8),
         // leaf's length and kind to inner's, or back: its body is seldom in form then
-        3 => s[at(i, 0)] ^= 112 ^ 120,
-        4 => s[at(i, 4)] ^= 2 ^ 3,
+        3 => s[at(i, 0)] ^= (LEAF.length ^ INNER.length) as u8,
+        4 => s[at(i, 4)] ^= (LEAF.kind ^ INNER.kind) as u8,
         _ => {
             s[at(i, 48)..at(i, 52)].fill(0);
             s[at(i, 84)..at(i, 88)].fill(0);
@@ -178,7 +181,7 @@ pub fn round(seed: u64, tally: &mut Tally) {
             any[at(i, 40)] = random.below(4) as u8;
         }
         if random.one_in(3) {
-            any[at(i, 0)..at(i, 6)].copy_from_slice(&[120, 0, 0, 0, 3, 0]);
+            any[at(i, 0)..at(i, 6)].copy_from_slice(&[INNER.length as u8, 0, 0, 0, INNER.kind as u8, 0]);
         }
         if random.one_in(6) {
             any[at(i, 0)..at(i + 1, 0)].fill(0);
@@ -282,7 +285,7 @@ fn zero_heads(tally: &mut Tally) {
         let s = desk(free);
         // A free slot does not agree with version 0, whose root every version below 1 lacks.
         tally.equal("version 0", 0, ours::root(&s, 0), Ok(ZEROS));
-        for byte in [0, 4, 48, 112, 119] {
+        for byte in [0, 4, 48, TAIL, SLOT - 1] {
             let mut s = s.clone();
             let i = 6 + free;
             s[at(i, byte)] = 1;

@@ -7,6 +7,7 @@ mod base;
 mod both;
 #[allow(dead_code)] // some are the bench's alone
 mod cases;
+mod counting;
 mod finding;
 #[path = "../../passes/src/hostile.rs"]
 #[allow(dead_code)] // those of roots are the passes' alone
@@ -17,12 +18,12 @@ mod stack;
 mod tally;
 
 use cases::Random;
-use second::bytes::{ask_bytes, Ask};
+use second::bytes::{ask_bytes, Ask, HEADER, SLOT};
 use tally::Tally;
 
 /// Versions in and just out of the kept ones.
 fn version(random: &mut Random, s: &[u8]) -> u32 {
-    if s.len() < 24 || random.one_in(12) {
+    if s.len() < HEADER || random.one_in(12) {
         return random.below(10) as u32;
     }
     let field = |at: usize| u32::from_le_bytes(s[at..at + 4].try_into().unwrap());
@@ -32,7 +33,7 @@ fn version(random: &mut Random, s: &[u8]) -> u32 {
         1 => latest.wrapping_add(1),
         2 => oldest,
         3 if oldest < latest => oldest + random.below((latest - oldest) as usize) as u32,
-        4 | 5 if (s.len() - 24) % 120 == 0 => cases::near(random, s),
+        4 | 5 if (s.len() - HEADER) % SLOT == 0 => cases::near(random, s),
         _ => latest,
     }
 }
@@ -129,7 +130,7 @@ fn round(seed: u64, tally: &mut Tally) {
         if random.one_in(4) {
             cases::spoil(&mut random, &mut b);
         }
-        let n = if s.len() < 24 { 1 } else { cases::number(&mut random, &s) };
+        let n = if s.len() < HEADER { 1 } else { cases::number(&mut random, &s) };
         let _ = both::apply(tally, "to a made store", seed, &mut s.clone(), n, &b);
     }
     both::format(tally, seed, &mut s);
@@ -194,15 +195,15 @@ fn edges(tally: &mut Tally) {
 /// Proving in an empty version, with room for any proof and with none: 14 between 8 and 3 or 17, also where the root's record is lost.
 fn empty(tally: &mut Tally, s: &[u8], latest: u32, key: &[u8; 32]) {
     let mut rootless = s.to_vec();
-    for at in (24..s.len()).step_by(120) {
+    for at in (HEADER..s.len()).step_by(SLOT) {
         let version = u32::from_le_bytes(s[at + 40..at + 44].try_into().unwrap());
         if version == latest && s[at + 6..at + 8] == [0, 0] {
-            rootless[at..at + 120].fill(0);
+            rootless[at..at + SLOT].fill(0);
         }
     }
     // Nothing but the header is in form, and no slot has the empty place; the versions up to latest are kept.
     let mut damaged = rootless.clone();
-    for at in (24..s.len()).step_by(120) {
+    for at in (HEADER..s.len()).step_by(SLOT) {
         damaged[at + 4] = 9;
         damaged[at + 7] |= 2;
     }
@@ -231,22 +232,22 @@ fn palettes(tally: &mut Tally, s: &[u8], bad_header: &[u8], out: u32, keys: &[[u
     let latest = out - 1;
     // No root: the header alone is in form, and no slot has the empty place.
     let mut rootless = s.to_vec();
-    for at in (24..s.len()).step_by(120) {
+    for at in (HEADER..s.len()).step_by(SLOT) {
         rootless[at + 4] = 9;
         rootless[at + 7] |= 2;
     }
     // Two keys with leaves below the root: of the first the leaf is lost, of the second spoilt.
     let leaf = |key: &[u8; 32]| {
-        (0..(s.len() - 24) / 120).find(|i| {
-            let slot = &s[24 + 120 * i..][..120];
+        (0..(s.len() - HEADER) / SLOT).find(|i| {
+            let slot = &s[HEADER + SLOT * i..][..SLOT];
             slot[4] == 2 && slot[6..8] != [0, 0] && slot[48..80] == key[..] && slot[44..48] == [0; 4]
         })
     };
     let two: Vec<(&[u8; 32], usize)> = keys.iter().filter_map(|k| Some((k, leaf(k)?))).take(2).collect();
     let [(lost, gone), (spoilt, kept)] = two[..] else { panic!("two grants") };
     let mut harmed = s.to_vec();
-    harmed[24 + 120 * gone..][..120].fill(0);
-    harmed[24 + 120 * kept + 4] = 9;
+    harmed[HEADER + SLOT * gone..][..SLOT].fill(0);
+    harmed[HEADER + SLOT * kept + 4] = 9;
     let beside = second::spoiled(kept);
     let all = second::palette::proofs(s, latest, &keys.concat()).expect("a sound store").concat();
     let many = [keys[0]; 257].concat();
@@ -302,8 +303,8 @@ fn pairs(tally: &mut Tally) {
     let mut bad_header = s.clone();
     bad_header[4] = 9;
     let mut damaged = s.clone();
-    for i in 0..(s.len() - 24) / 120 {
-        damaged[24 + 120 * i] ^= 1;
+    for i in 0..(s.len() - HEADER) / SLOT {
+        damaged[HEADER + SLOT * i] ^= 1;
     }
     let out = u32::from_le_bytes(s[16..20].try_into().unwrap()) + 1;
     let mut case = |what: &str, store: &[u8], version: u32, key: &[u8], wanted: u32| {
@@ -379,6 +380,7 @@ fn all(rounds: u64, first: u64, tally: &mut Tally) {
     hard(first, tally);
     applying::named(first, tally);
     finding::named(tally);
+    counting::named(tally);
     rescuing::named(tally);
     for n in 0..rounds {
         let seed = first.wrapping_add(n).wrapping_mul(0x9E37_79B9_7F4A_7C15);
@@ -387,6 +389,7 @@ fn all(rounds: u64, first: u64, tally: &mut Tally) {
         if n % 10 == 0 {
             applying::history(seed, tally);
             finding::round(seed, tally);
+            counting::round(seed, tally);
         }
         if n % 4_000 == 0 && !ours::record::running() {
             applying::large(seed, tally);

@@ -1,7 +1,7 @@
 //! The exports of the proved library, as safe Rust. Each answer's array is handed in filled with a mark, between marked edges: a refused call
 //! must leave the array so, and every call the edges. That is looked at here, for every call.
 
-use record::{array, number, read, recorded, written};
+use record::{array, long, number, read, recorded, written};
 use second::bytes::{b32_at, u32_at};
 use second::{Bytes32, Refusal, Stopped};
 
@@ -16,6 +16,8 @@ extern "C" {
     fn grants_prune(store: *mut u8, store_len: usize, version: u32, freed: *mut [u8; 4]) -> u32;
     fn grants_root(store: *const u8, store_len: usize, version: u32, root: *mut [u8; 32]) -> u64;
     fn grants_get(store: *const u8, store_len: usize, version: u32, key: *const u8, key_len: usize, found: *mut [u8; 33]) -> u64;
+    fn grants_count(store: *const u8, store_len: usize, version: u32, count: *mut [u8; 8]) -> u64;
+    fn grants_at(store: *const u8, store_len: usize, version: u32, position: u64, grant: *mut [u8; 64]) -> u64;
     fn grants_prove(
         store: *const u8,
         store_len: usize,
@@ -156,6 +158,24 @@ pub fn get(store: &[u8], version: u32, key: &[u8]) -> Result<Option<Bytes32>, St
         })
     })
     .map(verdict)
+}
+
+/// How many grants a version holds.
+pub fn count(store: &[u8], version: u32) -> Result<u64, Stopped> {
+    read_so(|count| {
+        recorded("count", &[read(store), number(version), array(count)], || unsafe { grants_count(store.as_ptr(), store.len(), version, count) })
+    })
+    .map(u64::from_le_bytes)
+}
+
+/// Key and value at a position.
+pub fn at(store: &[u8], version: u32, position: u64) -> Result<(Bytes32, Bytes32), Stopped> {
+    read_so(|grant| {
+        recorded("at", &[read(store), number(version), long(position), array(grant)], || unsafe {
+            grants_at(store.as_ptr(), store.len(), version, position, grant)
+        })
+    })
+    .map(|grant: [u8; 64]| (b32_at(&grant, 0), b32_at(&grant, 32)))
 }
 
 /// The length of the proof, at the front of the room.

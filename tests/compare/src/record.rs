@@ -1,8 +1,8 @@
 //! Every call of the library with the bytes it was lent, before and after, written down so that another build of it can be held to the same.
 //!
 //! A call is its name (a length of one byte first), how many arguments it has (one byte), each argument, and the number that it returned. An
-//! argument is a letter and: `n` a number; `r` a slice that is read, `w` one that is written, `a` an array that is written: its length, its bytes
-//! before the call, and those after it unless it is read only. Numbers have four bytes, what was returned eight, little-endian.
+//! argument is a letter and: `n` a number; `l` a long one; `r` a slice that is read, `w` one that is written, `a` an array that is written: its length, its
+//! bytes before the call, and those after it unless it is read only. Numbers have four bytes, long ones and what was returned eight, little-endian.
 
 use std::fs::File;
 use std::io::{BufWriter, Write};
@@ -12,19 +12,24 @@ use std::sync::{Mutex, OnceLock};
 static TO: OnceLock<Mutex<BufWriter<File>>> = OnceLock::new();
 static APPLIES: AtomicUsize = AtomicUsize::new(0);
 static RESCUES: AtomicUsize = AtomicUsize::new(0);
+static POSITIONS: AtomicUsize = AtomicUsize::new(0);
 
 pub struct Argument {
     letter: u8,
     at: *const u8,
-    number: u32,
+    number: u64,
 }
 
 pub fn number(n: u32) -> Argument {
-    Argument { letter: b'n', at: std::ptr::null(), number: n }
+    Argument { letter: b'n', at: std::ptr::null(), number: n as u64 }
+}
+
+pub fn long(n: u64) -> Argument {
+    Argument { letter: b'l', at: std::ptr::null(), number: n }
 }
 
 pub fn read(slice: &[u8]) -> Argument {
-    Argument { letter: b'r', at: slice.as_ptr(), number: slice.len() as u32 }
+    Argument { letter: b'r', at: slice.as_ptr(), number: slice.len() as u64 }
 }
 
 pub fn written(slice: &[u8]) -> Argument {
@@ -32,7 +37,7 @@ pub fn written(slice: &[u8]) -> Argument {
 }
 
 pub fn array<const N: usize>(at: *const [u8; N]) -> Argument {
-    Argument { letter: b'a', at: at as *const u8, number: N as u32 }
+    Argument { letter: b'a', at: at as *const u8, number: N as u64 }
 }
 
 impl Argument {
@@ -60,12 +65,14 @@ pub fn end() {
     }
 }
 
-/// The call's answer, written down where that was asked for; of the applies and rescues, which are most of all calls and the longest, some.
+/// The call's answer, written down where that was asked for; of the applies and rescues, which are most of all calls and the longest, and of the reads by
+/// counts, of which there are very many on each store, some.
 pub fn recorded<T: Copy + Into<u64>>(name: &str, arguments: &[Argument], call: impl FnOnce() -> T) -> T {
     let Some(to) = TO.get() else { return call() };
     let passed_over = match name {
         "apply" => APPLIES.fetch_add(1, Ordering::Relaxed) % 4 != 0,
         "rescue" => RESCUES.fetch_add(1, Ordering::Relaxed) % 25 != 0,
+        "count" | "at" => POSITIONS.fetch_add(1, Ordering::Relaxed) % 11 != 0,
         _ => false,
     };
     if passed_over {
@@ -78,7 +85,8 @@ pub fn recorded<T: Copy + Into<u64>>(name: &str, arguments: &[Argument], call: i
     line.push(arguments.len() as u8);
     for (a, before) in arguments.iter().zip(&before) {
         line.push(a.letter);
-        line.extend(a.number.to_le_bytes());
+        let bytes = a.number.to_le_bytes();
+        line.extend(if a.letter == b'l' { &bytes[..] } else { &bytes[..4] });
         line.extend(before);
         if matches!(a.letter, b'w' | b'a') {
             line.extend(a.bytes());

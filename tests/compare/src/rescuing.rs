@@ -7,6 +7,8 @@ use crate::tally::Tally;
 use std::cmp::Reverse;
 use std::collections::HashMap;
 use second::bytes::{ask_bytes, bit, put_slot, slot, slot_bytes, u32_at, Ask, Body, Child, Place, Record, Slot, HEADER, NO_CHILD, SLOT};
+use second::form::slot::{CHILD, CHILD_HASH, LEAVES};
+use second::form::{INNER, LEAF};
 use second::{Bytes32, ZEROS};
 
 fn slots(s: &[u8]) -> usize {
@@ -47,10 +49,10 @@ fn damage(random: &mut Random, s: &mut Vec<u8>, other: &[u8]) {
     let n = slots(s);
     let used: Vec<usize> = (0..n).filter(|i| s[at(*i)].iter().any(|b| *b != 0)).collect();
     let some = if used.is_empty() { random.below(n) } else { used[random.below(used.len())] };
-    match random.below(12) {
-        // a bit of a field: length, kind, bit count, bits, version, retired-since, body
+    match random.below(13) {
+        // a bit of a field: length, kind, bit count, bits, version, retired-since, body, counts
         0 | 1 => {
-            let (from, length) = [(0, 4), (4, 2), (6, 2), (8, 32), (40, 4), (44, 4), (48, 36), (84, 36)][random.below(8)];
+            let (from, length) = [(0, 4), (4, 2), (6, 2), (8, 32), (40, 4), (44, 4), (48, 36), (84, 36), (LEAVES[0], 4), (LEAVES[1], 4)][random.below(10)];
             let byte = if random.one_in(2) { 0 } else { random.below(length) };
             s[at(some)][from + byte] ^= 1 << random.below(8);
         }
@@ -61,10 +63,10 @@ fn damage(random: &mut Random, s: &mut Vec<u8>, other: &[u8]) {
             let copy = s[at(some)].to_vec();
             s[at(random.below(n))].copy_from_slice(&copy);
         }
-        // a second copy with another body or another retired-since
+        // a second copy with another body, another retired-since or another count
         4 => {
             let mut copy = s[at(some)].to_vec();
-            copy[[44, 60, 100][random.below(3)]] ^= 1 << random.below(4);
+            copy[[44, 60, 100, LEAVES[0], LEAVES[1]][random.below(5)]] ^= 1 << random.below(4);
             let free: Vec<usize> = (0..n).filter(|i| !used.contains(i)).collect();
             if !free.is_empty() {
                 s[at(free[random.below(free.len())])].copy_from_slice(&copy);
@@ -105,6 +107,7 @@ fn damage(random: &mut Random, s: &mut Vec<u8>, other: &[u8]) {
             let to = (from + random.below(400)).min(s.len());
             s[from..to].iter_mut().for_each(|b| *b = if random.one_in(2) { 0 } else { random.byte() });
         }
+        11 => cases::miscount(random, s),
         _ => cases::damage(random, s),
     }
 }
@@ -121,13 +124,14 @@ fn moved(random: &mut Random, s: &mut [u8], some: usize) {
         let Slot::Used(q) = slot(&s[at(i)]) else { continue };
         let Body::Inner(children) = q.body else { continue };
         if q.place.longer(right) == r.place && children[right as usize].version == r.version {
-            s[at(i)][if right { 84 } else { 48 }..][..4].copy_from_slice(&to.to_le_bytes());
+            s[at(i)][CHILD[right as usize]..][..4].copy_from_slice(&to.to_le_bytes());
         }
     }
 }
 
-/// Every hash that an inner record names made true of the child that is found, the lowest slot of a pair: what is wrong then is wrong in form alone.
-fn true_hashes(s: &mut [u8]) {
+/// Every hash and every count that an inner record names made true of the child that is found, the lowest slot of a pair: what is wrong then is wrong in
+/// form alone.
+fn made_true(s: &mut [u8]) {
     let record = |s: &[u8], i: usize| if let Slot::Used(r) = slot(&s[at(i)]) { Some(r) } else { None };
     let mut order: Vec<(usize, Record)> = (0..slots(s)).filter_map(|i| Some((i, record(s, i)?))).collect();
     let mut found: HashMap<(u32, Place), usize> = HashMap::new();
@@ -139,15 +143,17 @@ fn true_hashes(s: &mut [u8]) {
         let Body::Inner(children) = r.body else { continue };
         for (c, right) in children.iter().zip([false, true]) {
             let child = found.get(&(c.version, r.place.longer(right))).and_then(|j| record(s, *j));
+            let number = child.filter(|_| c.version != 0).map_or(0, |q| second::positions::number(&q)) as u32;
+            s[at(i)][LEAVES[right as usize]..][..4].copy_from_slice(&number.to_le_bytes());
             if let (true, Some(q)) = (c.version != 0, child) {
-                s[at(i)][if right { 88 } else { 52 }..][..32].copy_from_slice(&second::tree::record_hash(&q));
+                s[at(i)][CHILD_HASH[right as usize]..][..32].copy_from_slice(&second::tree::record_hash(&q));
             }
         }
     }
 }
 
 /// One thing that no medium does by itself: a child taken away, so that a leaf may be left alone; a key that doesn't begin with its place; a second
-/// record of a version and place, with another value or without a child, in a slot above or below. All hashes are true.
+/// record of a version and place, with another value or without a child, in a slot above or below. All hashes and counts are true.
 fn forge(random: &mut Random, s: &mut [u8]) {
     let n = slots(s);
     let (used, free): (Vec<usize>, Vec<usize>) = (0..n).partition(|i| s[at(*i)].iter().any(|b| *b != 0));
@@ -174,7 +180,7 @@ fn forge(random: &mut Random, s: &mut [u8]) {
         s[at(some)].copy_from_slice(&y);
         s[at(to)].copy_from_slice(&x);
     }
-    true_hashes(s);
+    made_true(s);
 }
 
 /// Bounds around the store's own, and any.
@@ -223,7 +229,7 @@ pub fn round(seed: u64, tally: &mut Tally) {
         let mut s: Vec<u8> = (0..HEADER + SLOT * (1 + random.below(12))).map(|_| if random.one_in(3) { random.byte() } else { 0 }).collect();
         for i in 0..slots(&s) {
             if random.one_in(2) {
-                s[at(i)][..8].copy_from_slice(&[[112, 0, 0, 0, 2, 0, 0, 0], [120, 0, 0, 0, 3, 0, 0, 0]][random.below(2)]);
+                s[at(i)][..8].copy_from_slice(&[LEAF, INNER].map(|h| [h.length as u8, 0, 0, 0, h.kind as u8, 0, 0, 0])[random.below(2)]);
                 s[at(i)][8..48].fill(0);
                 s[at(i)][40] = 1 + random.below(3) as u8;
             }
@@ -318,11 +324,11 @@ fn rows(tally: &mut Tally) {
     }
 }
 
-/// A store of eight slots with these records, every hash true.
+/// A store of eight slots with these records, every hash and every count true.
 fn made(records: &[(usize, Record)]) -> Vec<u8> {
     let mut s = cases::fresh(8, 0, 0);
     records.iter().for_each(|(i, r)| put_slot(&mut s, *i, &slot_bytes(r)));
-    true_hashes(&mut s);
+    made_true(&mut s);
     s
 }
 
@@ -335,11 +341,11 @@ fn leaf(right: bool, version: u32, retired: u32, first: u8, value: u8) -> Record
 }
 
 fn inner(version: u32, retired: u32, left: u32, right: u32) -> Record {
-    let child = |version: u32| Child { version, hash: ZEROS };
+    let child = |version: u32| Child { version, ..NO_CHILD };
     record(Place::EMPTY, version, retired, Body::Inner([child(left), child(right)]))
 }
 
-/// Trees whose every hash is true and that are no tree all the same: a leaf alone below an inner node, a leaf whose key doesn't begin with its place;
+/// Trees whose every hash and count is true and that are no tree all the same: a leaf alone below an inner node, a leaf whose key doesn't begin with its place;
 /// each in the latest version, and in one before it, where the run then begins.
 fn forged(tally: &mut Tally) {
     let (left, right) = (leaf(false, 1, 0, 0, 1), leaf(true, 1, 0, 0x80, 1));

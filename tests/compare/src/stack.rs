@@ -87,6 +87,14 @@ pub fn of_palette() -> usize {
     most(move || assert_eq!(crate::ours::palette(&s, 1, &list, &mut vec![0; 34_160]), Ok(34_160)))
 }
 
+/// The number's, and a position's at 256 bits.
+#[allow(dead_code)]
+pub fn of_positions() -> [(&'static str, usize); 2] {
+    let (s, t) = (deepest_two(), deepest_two());
+    let count = most(move || assert_eq!(crate::ours::count(&s, 2), Ok(2)));
+    [("count", count), ("at", most(move || assert_eq!(crate::ours::at(&t, 2, 1).map(|g| g.1), Ok([2; 32]))))]
+}
+
 /// Check's and prune's: both hold the arrays of the passes, whatever the store.
 #[allow(dead_code)]
 pub fn of_check_and_prune() -> [(&'static str, usize); 2] {

@@ -49,6 +49,20 @@ impl Word for Result<Option<[u8; 32]>, Stopped> {
     }
 }
 
+/// A number of grants: 2^32 and more is seen on damaged counts alone.
+impl Word for Result<u64, Stopped> {
+    fn word(&self) -> String {
+        let number = |n: u64| if n == 0 { "0" } else if n >> 32 == 0 { "some" } else { "2^32 or more" };
+        self.map_or_else(stopped, |n| number(n).into())
+    }
+}
+
+impl Word for Result<([u8; 32], [u8; 32]), Stopped> {
+    fn word(&self) -> String {
+        self.map_or_else(stopped, |_| "a grant".into())
+    }
+}
+
 impl Word for Result<u32, Stopped> {
     fn word(&self) -> String {
         self.map_or_else(|n| n.number.to_string(), |n| if n == 0 { "0" } else { "some" }.into())

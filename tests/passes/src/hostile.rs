@@ -1,8 +1,10 @@
 //! Full stores, and stores made to be slow for a check that guesses, or to mislead it.
 
 use crate::cases::{self, leaf_roots, renewed, Random};
-use second::bytes::{ask_bytes, put_slot, slot_bytes, Ask, Body, Child, Place, Record, HEADER, NO_CHILD, SLOT};
+use second::bytes::{ask_bytes, put_slot, slot_bytes, u16_at, Ask, Body, Child, Place, Record, HEADER, NO_CHILD, SLOT};
 use second::calls::apply_to_sound;
+use second::form::slot::{KIND, LEAVES};
+use second::form::{INNER, LEAF};
 use second::Bytes32;
 
 /// A sound store filled by batches of this many random keys, a third of them values of keys that are there, until a batch doesn't fit or so many
@@ -88,7 +90,7 @@ pub fn hostile(random: &mut Random, n: usize) -> Vec<(&'static str, Vec<u8>)> {
     let mut turned = vec![];
     for i in 0..third {
         let version = 1 + i as u32;
-        let children = [left[i], right[i]].map(|version| Child { version, hash: random.hash() });
+        let children = [left[i], right[i]].map(|version| Child { version, hash: random.hash(), leaves: 1 });
         let [mut a, mut b] = [low(random), low(random)];
         a[1] &= 0x7F;
         b[1] |= 0x80;
@@ -101,7 +103,7 @@ pub fn hostile(random: &mut Random, n: usize) -> Vec<(&'static str, Vec<u8>)> {
     let mut crossed = vec![];
     for count in 1..255 {
         for version in 1..=versions {
-            let child = Child { version: 1 + versions - version, hash: random.hash() };
+            let child = Child { version: 1 + versions - version, hash: random.hash(), leaves: 1 };
             crossed.push(Record { place: place(&[0; 32], count), version, retired: 0, body: Body::Inner([child, NO_CHILD]) });
         }
     }
@@ -130,7 +132,7 @@ pub fn roots_by_batches(n: usize) -> Vec<u8> {
 /// A sound store of two leaves below a root that is renewed.
 pub fn roots_over_two(n: usize) -> Vec<u8> {
     let leaves = [0, 0x80].map(|first| leaf([first; 32], 1, 1, [first; 32]));
-    let children = leaves.each_ref().map(|r| Child { version: 1, hash: second::tree::record_hash(r) });
+    let children = leaves.each_ref().map(|r| Child { version: 1, hash: second::tree::record_hash(r), leaves: 1 });
     let roots = leaf_roots(n - 2).0.into_iter().map(|r| Record { body: Body::Inner(children), ..r });
     store(renewed(n - 3), &leaves.into_iter().chain(roots).collect::<Vec<_>>())
 }
@@ -177,8 +179,8 @@ fn slot(i: usize) -> std::ops::Range<usize> {
 /// A sound store with one slot changed, in each of these ways.
 pub fn damaged(random: &mut Random, s: &[u8]) -> Vec<(&'static str, Vec<u8>)> {
     let used: Vec<usize> = (0..(s.len() - HEADER) / SLOT).filter(|&i| s[slot(i)].iter().any(|&b| b != 0)).collect();
-    let inner: Vec<usize> = used.iter().copied().filter(|&i| s[slot(i)][4] == 3).collect();
-    let leaves: Vec<usize> = used.iter().copied().filter(|&i| s[slot(i)][4] == 2).collect();
+    let of = |kind: u16| -> Vec<usize> { used.iter().copied().filter(|&i| u16_at(&s[slot(i)], KIND) == kind).collect() };
+    let (inner, leaves) = (of(INNER.kind), of(LEAF.kind));
     let mut out: Vec<(&'static str, Vec<u8>)> = vec![];
     let mut with = |name, i: usize, change: &dyn Fn(&mut [u8])| {
         let mut t = s.to_vec();
@@ -195,11 +197,19 @@ pub fn damaged(random: &mut Random, s: &[u8]) -> Vec<(&'static str, Vec<u8>)> {
     with("a-child's-version", any(&inner), &|x| x[48] ^= 1);
     with("a-retired-since", any(&used), &|x| x[44] ^= 1);
     with("a-spoiled-slot", any(&used), &|x| x[0] ^= 1);
+    with("a-left-count", any(&inner), &|x| x[LEAVES[0]] ^= 1);
+    with("a-right-count", any(&inner), &|x| x[LEAVES[1]] ^= 1);
+    with("a-count-of-2^31-more", any(&inner), &|x| x[LEAVES[0] + 3] ^= 128);
+    with("a-leaf-moved-from-left-to-right", any(&inner), &|x| {
+        x[LEAVES[0]] = x[LEAVES[0]].wrapping_sub(1);
+        x[LEAVES[1]] = x[LEAVES[1]].wrapping_add(1);
+    });
     let copy = s[slot(any(&used))].to_vec();
     with("a-doubled-record", any(&used), &|x| x.copy_from_slice(&copy));
     // The last ones, which a pass comes to last.
     with("the-last-value", *leaves.last().unwrap(), &|x| x[111] ^= 128);
     with("the-last-stored-hash", *inner.last().unwrap(), &|x| x[119] ^= 128);
+    with("the-last-count", *inner.last().unwrap(), &|x| x[SLOT - 1] ^= 128);
     out
 }
 

@@ -1,10 +1,10 @@
-//! 01, 'Bytes': header, slots, batch records.
+//! 01, 'Bytes', and 02, 2026-09: header, slots, batch records.
 
+pub use crate::form::{Form, FORM, HEADER, MOST_SLOTS, SLOT};
+
+use crate::form::{header, slot as at, Head, LEAF};
 use crate::{Bytes32, Refusal, ZEROS};
 
-pub const HEADER: usize = 24;
-pub const SLOT: usize = 120;
-pub const MOST_SLOTS: usize = 16_384;
 pub const ASK: usize = 72;
 pub const MOST_ASKS: usize = 1_024;
 
@@ -52,9 +52,11 @@ impl Place {
 pub struct Child {
     pub version: u32,
     pub hash: Bytes32,
+    /// The count beside it: how many leaves are below this child. In the plain form 0, and nothing is said.
+    pub leaves: u32,
 }
 
-pub const NO_CHILD: Child = Child { version: 0, hash: ZEROS };
+pub const NO_CHILD: Child = Child { version: 0, hash: ZEROS, leaves: 0 };
 
 #[derive(Clone, Copy, PartialEq, Eq, Debug)]
 pub enum Body {
@@ -91,68 +93,95 @@ fn zero(s: &[u8]) -> bool {
     s.iter().all(|&b| b == 0)
 }
 
-fn child_at(s: &[u8], at: usize) -> Option<Child> {
-    let c = Child { version: u32_at(s, at), hash: b32_at(s, at + 4) };
+fn head_at(s: &[u8]) -> Head {
+    Head { length: u32_at(s, at::LENGTH), kind: u16_at(s, at::KIND) }
+}
+
+fn put_head(s: &mut [u8], head: Head) {
+    s[at::LENGTH..][..4].copy_from_slice(&head.length.to_le_bytes());
+    s[at::KIND..][..2].copy_from_slice(&head.kind.to_le_bytes());
+}
+
+/// A child's count may be any number, a missing child's too: that it is true is a part of soundness, not of form.
+fn child_at(form: Form, s: &[u8], side: usize) -> Option<Child> {
+    let leaves = match form {
+        Form::Plain => 0,
+        Form::Counted => u32_at(s, at::LEAVES[side]),
+    };
+    let c = Child { version: u32_at(s, at::CHILD[side]), hash: b32_at(s, at::CHILD_HASH[side]), leaves };
     (c.version != 0 || c.hash == ZEROS).then_some(c)
 }
 
-fn record(s: &[u8]) -> Option<Record> {
-    let (length, kind) = (u32_at(s, 0), u16_at(s, 4));
-    let count = u16_at(s, 6) as usize;
-    let bits = b32_at(s, 8);
-    let most = match (length, kind) {
-        (112, 2) => 256,
-        (120, 3) => 255,
+fn record(form: Form, s: &[u8]) -> Option<Record> {
+    let head = head_at(s);
+    let most = match head {
+        LEAF => 256,
+        inner if inner == form.inner() => 255,
         _ => return None,
     };
-    if count > most || (count..256).any(|i| bit(&bits, i)) || u32_at(s, 40) == 0 {
+    let count = u16_at(s, at::BIT_COUNT) as usize;
+    let bits = b32_at(s, at::BITS);
+    let version = u32_at(s, at::VERSION);
+    if count > most || (count..256).any(|i| bit(&bits, i)) || version == 0 {
         return None;
     }
-    let body = if kind == 2 {
-        if !zero(&s[112..120]) {
+    let body = if head == LEAF {
+        if !zero(&s[at::TAIL..]) {
             return None;
         }
-        Body::Leaf { key: b32_at(s, 48), value: b32_at(s, 80) }
+        Body::Leaf { key: b32_at(s, at::KEY), value: b32_at(s, at::VALUE) }
     } else {
-        let children = [child_at(s, 48)?, child_at(s, 84)?];
+        let children = [child_at(form, s, 0)?, child_at(form, s, 1)?];
         if children[0].version == 0 && children[1].version == 0 {
             return None;
         }
         Body::Inner(children)
     };
-    Some(Record { place: Place { bits, count }, version: u32_at(s, 40), retired: u32_at(s, 44), body })
+    Some(Record { place: Place { bits, count }, version, retired: u32_at(s, at::RETIRED), body })
 }
 
 pub fn slot(s: &[u8]) -> Slot {
+    slot_in(FORM, s)
+}
+
+pub fn slot_in(form: Form, s: &[u8]) -> Slot {
+    assert_eq!(s.len(), form.slot());
     if zero(s) {
-        Slot::Free
-    } else {
-        let fields = Fields { count: u16_at(s, 6), bits: b32_at(s, 8), version: u32_at(s, 40), retired: u32_at(s, 44) };
-        record(s).map_or(Slot::Spoiled(fields), Slot::Used)
+        return Slot::Free;
     }
+    let fields = Fields {
+        count: u16_at(s, at::BIT_COUNT),
+        bits: b32_at(s, at::BITS),
+        version: u32_at(s, at::VERSION),
+        retired: u32_at(s, at::RETIRED),
+    };
+    record(form, s).map_or(Slot::Spoiled(fields), Slot::Used)
 }
 
 pub fn slot_bytes(r: &Record) -> [u8; SLOT] {
-    let mut s = [0; SLOT];
-    let (length, kind) = match r.body {
-        Body::Leaf { .. } => (112u32, 2u16),
-        Body::Inner(_) => (120, 3),
-    };
-    s[0..4].copy_from_slice(&length.to_le_bytes());
-    s[4..6].copy_from_slice(&kind.to_le_bytes());
-    s[6..8].copy_from_slice(&(r.place.count as u16).to_le_bytes());
-    s[8..40].copy_from_slice(&r.place.bits);
-    s[40..44].copy_from_slice(&r.version.to_le_bytes());
-    s[44..48].copy_from_slice(&r.retired.to_le_bytes());
+    slot_bytes_in(FORM, r).try_into().unwrap()
+}
+
+pub fn slot_bytes_in(form: Form, r: &Record) -> Vec<u8> {
+    let mut s = vec![0; form.slot()];
+    s[at::BIT_COUNT..][..2].copy_from_slice(&(r.place.count as u16).to_le_bytes());
+    s[at::BITS..][..32].copy_from_slice(&r.place.bits);
+    s[at::VERSION..][..4].copy_from_slice(&r.version.to_le_bytes());
+    s[at::RETIRED..][..4].copy_from_slice(&r.retired.to_le_bytes());
     match r.body {
         Body::Leaf { key, value } => {
-            s[48..80].copy_from_slice(&key);
-            s[80..112].copy_from_slice(&value);
+            put_head(&mut s, LEAF);
+            s[at::KEY..][..32].copy_from_slice(&key);
+            s[at::VALUE..][..32].copy_from_slice(&value);
         }
         Body::Inner(children) => {
-            for (c, at) in children.iter().zip([48, 84]) {
-                s[at..at + 4].copy_from_slice(&c.version.to_le_bytes());
-                s[at + 4..at + 36].copy_from_slice(&c.hash);
+            put_head(&mut s, form.inner());
+            for (side, c) in children.iter().enumerate() {
+                s[at::CHILD[side]..][..4].copy_from_slice(&c.version.to_le_bytes());
+                s[at::CHILD_HASH[side]..][..32].copy_from_slice(&c.hash);
+                if form == Form::Counted {
+                    s[at::LEAVES[side]..][..4].copy_from_slice(&c.leaves.to_le_bytes());
+                }
             }
         }
     }
@@ -162,6 +191,7 @@ pub fn slot_bytes(r: &Record) -> [u8; SLOT] {
 /// A store with a right header.
 #[derive(Clone, PartialEq, Eq, Debug)]
 pub struct Store {
+    pub form: Form,
     pub oldest: u32,
     pub latest: u32,
     pub slots: Vec<Slot>,
@@ -169,10 +199,14 @@ pub struct Store {
 
 /// 1, then 2.
 pub fn capacity(length: usize) -> Result<usize, Refusal> {
-    if length < HEADER || (length - HEADER) % SLOT != 0 {
+    capacity_in(FORM, length)
+}
+
+pub fn capacity_in(form: Form, length: usize) -> Result<usize, Refusal> {
+    if length < HEADER || (length - HEADER) % form.slot() != 0 {
         return Err(1);
     }
-    let n = (length - HEADER) / SLOT;
+    let n = (length - HEADER) / form.slot();
     if n == 0 || n > MOST_SLOTS {
         return Err(1);
     }
@@ -180,33 +214,57 @@ pub fn capacity(length: usize) -> Result<usize, Refusal> {
 }
 
 pub fn store(s: &[u8]) -> Result<Store, Refusal> {
-    let n = capacity(s.len())?;
-    let (oldest, latest) = (u32_at(s, 12), u32_at(s, 16));
-    let right = u32_at(s, 0) == 24
-        && u16_at(s, 4) == 1
-        && zero(&s[6..8])
-        && u32_at(s, 8) as usize == n
-        && zero(&s[20..24])
+    store_in(FORM, s)
+}
+
+pub fn store_in(form: Form, s: &[u8]) -> Result<Store, Refusal> {
+    let n = capacity_in(form, s.len())?;
+    let (oldest, latest) = (u32_at(s, header::OLDEST), u32_at(s, header::LATEST));
+    let right = head_at(s) == form.header()
+        && zero(&s[header::GAP..header::CAPACITY])
+        && u32_at(s, header::CAPACITY) as usize == n
+        && zero(&s[header::TAIL..HEADER])
         && oldest <= latest;
     if !right {
         return Err(2);
     }
-    Ok(Store { oldest, latest, slots: s[HEADER..].chunks_exact(SLOT).map(slot).collect() })
+    Ok(Store { form, oldest, latest, slots: s[HEADER..].chunks_exact(form.slot()).map(|c| slot_in(form, c)).collect() })
 }
 
 pub fn put_header(s: &mut [u8], oldest: u32, latest: u32) {
-    let n = ((s.len() - HEADER) / SLOT) as u32;
-    s[0..4].copy_from_slice(&24u32.to_le_bytes());
-    s[4..6].copy_from_slice(&1u16.to_le_bytes());
-    s[6..8].fill(0);
-    s[8..12].copy_from_slice(&n.to_le_bytes());
-    s[12..16].copy_from_slice(&oldest.to_le_bytes());
-    s[16..20].copy_from_slice(&latest.to_le_bytes());
-    s[20..24].fill(0);
+    put_header_in(FORM, s, oldest, latest);
+}
+
+pub fn put_header_in(form: Form, s: &mut [u8], oldest: u32, latest: u32) {
+    let n = ((s.len() - HEADER) / form.slot()) as u32;
+    s[..HEADER].fill(0);
+    put_head(s, form.header());
+    for (field, number) in [(header::CAPACITY, n), (header::OLDEST, oldest), (header::LATEST, latest)] {
+        s[field..][..4].copy_from_slice(&number.to_le_bytes());
+    }
 }
 
 pub fn put_slot(s: &mut [u8], i: usize, slot: &[u8; SLOT]) {
-    s[HEADER + SLOT * i..HEADER + SLOT * (i + 1)].copy_from_slice(slot);
+    put_slot_in(FORM, s, i, slot);
+}
+
+pub fn put_slot_in(form: Form, s: &mut [u8], i: usize, slot: &[u8]) {
+    s[HEADER + form.slot() * i..][..form.slot()].copy_from_slice(slot);
+}
+
+/// The bytes of a store, its free slots zero.
+pub fn store_bytes(store: &Store) -> Vec<u8> {
+    let form = store.form;
+    let mut s = vec![0; HEADER + form.slot() * store.slots.len()];
+    put_header_in(form, &mut s, store.oldest, store.latest);
+    for (i, slot) in store.slots.iter().enumerate() {
+        match slot {
+            Slot::Free => {}
+            Slot::Used(r) => put_slot_in(form, &mut s, i, &slot_bytes_in(form, r)),
+            Slot::Spoiled(_) => panic!("a spoiled slot has no bytes of its own"),
+        }
+    }
+    s
 }
 
 #[derive(Clone, Copy, PartialEq, Eq, Debug)]

@@ -5,7 +5,9 @@ pub mod bytes;
 pub mod calls;
 pub mod changes;
 pub mod check;
+pub mod form;
 pub mod palette;
+pub mod positions;
 pub mod proof;
 pub mod rescue;
 #[path = "../../common/plain_sha256.rs"]
@@ -17,6 +19,7 @@ pub use calls::{apply, format, get, prune, root};
 pub use changes::changes;
 pub use check::verify;
 pub use palette::palette;
+pub use positions::{at, count};
 pub use proof::prove;
 pub use rescue::rescue;
 pub use sound::check;

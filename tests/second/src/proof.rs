@@ -1,6 +1,6 @@
 //! 01, 'Reading and proving': the walk, the neighbours, the proof; 02, 2026-03 and 2026-07.
 
-use crate::bytes::{self, bit, Body, Child, Place, Record, Store};
+use crate::bytes::{self, bit, Body, Child, Form, Place, Record, Store, FORM};
 use crate::tree::{Index, Sight};
 use crate::{alone, spoiled, Bytes32, Refusal, Stopped};
 
@@ -39,7 +39,7 @@ pub struct Walk {
 }
 
 /// A present child: 17 where no slot matches, 3 with the slot where one agrees.
-fn judged<'a>(store: &'a Store, index: &Index, c: &Child, place: Place) -> Result<&'a Record, Stopped> {
+pub fn judged<'a>(store: &'a Store, index: &Index, c: &Child, place: Place) -> Result<&'a Record, Stopped> {
     match index.see(store, c.version, place) {
         Sight::Matches(_, r) => leaf_begins(r),
         Sight::Agrees(i) => Err(spoiled(i)),
@@ -141,8 +141,12 @@ pub fn absence_bytes(key: &Bytes32, left: Option<&Presence>, right: Option<&Pres
 
 /// The proof for a key in a version. By 2026-03 there is none in an empty version, one whose root is not found: 14, tested after 8.
 pub fn proof(s: &[u8], version: u32, key: &[u8]) -> Result<Vec<u8>, Stopped> {
+    proof_in(FORM, s, version, key)
+}
+
+pub fn proof_in(form: Form, s: &[u8], version: u32, key: &[u8]) -> Result<Vec<u8>, Stopped> {
     let key: Bytes32 = key.try_into().map_err(|_| 12u32)?;
-    let store = bytes::store(s)?;
+    let store = bytes::store_in(form, s)?;
     kept(&store, version)?;
     let index = Index::of(&store);
     if matches!(index.see_root(&store, version), Sight::Nothing) {

@@ -3,8 +3,9 @@
 //! `rescue` is the definition word for word: every run is tried, each as a store that is sound or not. `walked` goes from latest back, tree by tree,
 //! and counts the places that it looks at; it is held to the first.
 
-use crate::bytes::{self, Body, Place, Record, Slot, Store, SLOT};
+use crate::bytes::{self, Body, Place, Record, Slot, Store, FORM, SLOT};
 use crate::sound::sound;
+use crate::positions::number;
 use crate::tree::{record_hash, Index};
 use crate::Refusal;
 use std::collections::{BTreeMap, BTreeSet, HashMap};
@@ -14,7 +15,7 @@ pub type Rescued = (u32, u32, u32, u32);
 
 /// The records in form of a buffer of right size, with nothing looked at in its header.
 fn source(s: &[u8]) -> Store {
-    Store { oldest: 0, latest: 0, slots: s[bytes::HEADER..].chunks_exact(SLOT).map(bytes::slot).collect() }
+    Store { form: FORM, oldest: 0, latest: 0, slots: s[bytes::HEADER..].chunks_exact(SLOT).map(bytes::slot).collect() }
 }
 
 /// A version's root is the newest root record not above it, and none where that one was retired by then; of a pair the lowest slot.
@@ -74,7 +75,7 @@ fn run(store: &Store, index: &Index, steps: &[u32], first: u32, latest: u32) -> 
             slots[i] = Slot::Used(Record { retired: if end == latest { 0 } else { end + 1 }, ..*r });
         }
     }
-    Some(Store { oldest: first, latest, slots })
+    Some(Store { form: FORM, oldest: first, latest, slots })
 }
 
 /// The buffers compared: records kept as they were, kept with another retired-since, used slots left out.
@@ -91,13 +92,7 @@ pub fn counts(before: &[u8], after: &[u8]) -> (u32, u32, u32) {
 }
 
 fn written(s: &[u8], target: &mut [u8], made: &Store) -> Rescued {
-    target.fill(0);
-    bytes::put_header(target, made.oldest, made.latest);
-    for (i, slot) in made.slots.iter().enumerate() {
-        if let Slot::Used(r) = slot {
-            bytes::put_slot(target, i, &bytes::slot_bytes(r));
-        }
-    }
+    target.copy_from_slice(&bytes::store_bytes(made));
     let (same, other, out) = counts(s, target);
     (made.oldest, same, other, out)
 }
@@ -164,7 +159,7 @@ pub fn walked(s: &[u8], oldest: u32, latest: u32, target: &mut [u8]) -> Result<(
             slots[i] = Slot::Used(Record { retired, ..*r });
         }
     }
-    Ok((written(s, target, &Store { oldest: first, latest, slots }), walk.looks))
+    Ok((written(s, target, &Store { form: FORM, oldest: first, latest, slots }), walk.looks))
 }
 
 struct Walk<'a> {
@@ -205,10 +200,13 @@ impl<'a> Walk<'a> {
                     let alone = children.iter().any(|c| c.version == 0);
                     for (c, side) in children.iter().zip([false, true]) {
                         if c.version == 0 {
+                            if c.leaves != 0 {
+                                return None;
+                            }
                             continue;
                         }
                         let (_, q) = self.look(c.version, place.longer(side))?;
-                        if record_hash(q) != c.hash || alone && matches!(q.body, Body::Leaf { .. }) {
+                        if record_hash(q) != c.hash || alone && matches!(q.body, Body::Leaf { .. }) || c.leaves as u64 != number(q) {
                             return None;
                         }
                         if c.version > a {

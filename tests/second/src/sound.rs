@@ -1,13 +1,18 @@
-//! 01, 'Sound': every kept version's tree is followed from its root, which 02, 2026-13, finds by its lifetime.
+//! 01, 'Sound': every kept version's tree is followed from its root, which 02, 2026-13, finds by its lifetime; by 2026-09 each count is the number of
+//! leaves below that child, 0 for none.
 
-use crate::bytes::{self, Body, Record, Slot, Store};
+use crate::bytes::{self, Body, Form, Record, Slot, Store, FORM};
 use crate::tree::{lives, record_hash, Index};
 use crate::Refusal;
 use std::collections::{BTreeSet, HashSet};
 
 /// Accepted exactly if the store is sound, else 1, 2 or 3.
 pub fn check(s: &[u8]) -> Result<(), Refusal> {
-    let store = bytes::store(s)?;
+    check_in(FORM, s)
+}
+
+pub fn check_in(form: Form, s: &[u8]) -> Result<(), Refusal> {
+    let store = bytes::store_in(form, s)?;
     if sound(&store) {
         Ok(())
     } else {
@@ -44,29 +49,36 @@ pub fn sound(store: &Store) -> bool {
 fn stands(store: &Store, index: &Index, records: &[(usize, &Record)], v: u32) -> bool {
     let mut seen = HashSet::new();
     if let Some((i, r)) = index.root(store, v) {
-        if !follow(store, index, i, r, &mut seen) {
+        if follow(store, index, i, r, &mut seen).is_none() {
             return false;
         }
     }
     records.iter().all(|(i, r)| seen.contains(i) == lives(r, v))
 }
 
-fn follow(store: &Store, index: &Index, i: usize, r: &Record, seen: &mut HashSet<usize>) -> bool {
+/// How many leaves stand at a record and below it; none where the tree there isn't right.
+fn follow(store: &Store, index: &Index, i: usize, r: &Record, seen: &mut HashSet<usize>) -> Option<usize> {
     seen.insert(i);
     let children = match &r.body {
-        Body::Leaf { key, .. } => return r.place.begins(key),
+        Body::Leaf { key, .. } => return r.place.begins(key).then_some(1),
         Body::Inner(children) => children,
     };
     let alone = children.iter().any(|c| c.version == 0);
+    let mut leaves = 0;
     for (c, b) in children.iter().zip([false, true]) {
-        if c.version == 0 {
-            continue;
+        let mut below = 0;
+        if c.version != 0 {
+            let (j, q) = index.find(store, c.version, r.place.longer(b))?;
+            let lone_leaf = alone && matches!(q.body, Body::Leaf { .. });
+            if lone_leaf || record_hash(q) != c.hash {
+                return None;
+            }
+            below = follow(store, index, j, q, seen)?;
         }
-        let Some((j, q)) = index.find(store, c.version, r.place.longer(b)) else { return false };
-        let lone_leaf = alone && matches!(q.body, Body::Leaf { .. });
-        if lone_leaf || record_hash(q) != c.hash || !follow(store, index, j, q, seen) {
-            return false;
+        if store.form == Form::Counted && c.leaves as usize != below {
+            return None;
         }
+        leaves += below;
     }
-    true
+    Some(leaves)
 }

@@ -157,7 +157,7 @@ fn make_at(
     };
     let r = Record { place, version, retired: 0, body };
     nodes.insert(place, r);
-    Child { version, hash: record_hash(&r) }
+    Child { version, hash: record_hash(&r), leaves: grants.len() as u32 }
 }
 
 /// The order of placing: under an inner node first all strictly below its left child, then strictly below its right, then the left child,

@@ -1,6 +1,7 @@
 //! 01's desk example through the second program.
 
-use second::bytes::{ask_bytes, slot, store, Ask, Slot};
+use second::bytes::{ask_bytes, slot, store, Ask, Slot, HEADER, SLOT};
+use second::form::slot::TAIL;
 use second::{alone, apply, check, format, get, prove, prune, root, spoiled, verify, Bytes32, Stopped, ZEROS};
 
 fn key(first: u8, last: u8) -> Bytes32 {
@@ -23,7 +24,7 @@ fn batch(asks: &[Ask]) -> Vec<u8> {
 }
 
 fn fresh(n: usize) -> Vec<u8> {
-    let mut s = vec![7; 24 + 120 * n];
+    let mut s = vec![7; HEADER + SLOT * n];
     format(&mut s).unwrap();
     s
 }
@@ -35,7 +36,7 @@ fn places(s: &[u8]) -> Vec<String> {
         Slot::Spoiled(_) => "?".into(),
         Slot::Used(r) => (0..r.place.count).map(|i| if second::bytes::bit(&r.place.bits, i) { '1' } else { '0' }).collect(),
     };
-    s[24..].chunks_exact(120).map(show).collect()
+    s[HEADER..].chunks_exact(SLOT).map(show).collect()
 }
 
 fn retired_since(s: &[u8], v: u32) -> usize {
@@ -153,7 +154,7 @@ fn gaps() {
 
 /// Where in the store a byte of a slot stands.
 fn at(slot: usize, byte: usize) -> usize {
-    24 + 120 * slot + byte
+    HEADER + SLOT * slot + byte
 }
 
 /// 2026-07 on the desk's first publishing: 010 in slot 0, 011 in 1, 00 in 2, 01 in 3, 0 in 4, 1 in 5, the root in 6.
@@ -176,7 +177,7 @@ fn lost_and_spoiled() {
     s[at(0, 0)..at(1, 0)].fill(0);
     stops(&s, &b, alone(17));
     assert_eq!((get(&s, 1, &a), proved(&s, &a), get(&s, 1, &d)), (Ok(Some([1; 32])), Ok(138), Ok(Some([4; 32]))));
-    for byte in [0, 1, 4, 5, 112, 119] {
+    for byte in [0, 1, 4, 5, TAIL, SLOT - 1] {
         s.copy_from_slice(&whole);
         s[at(0, byte)] ^= 0x10;
         stops(&s, &b, spoiled(0));
@@ -257,7 +258,7 @@ fn spoiled_roots() {
     // A used slot with nothing but zeros in its head agrees with version 0, and with every version that has no root; a free slot doesn't.
     s.copy_from_slice(&whole);
     assert_eq!(root(&s, 0), Ok(ZEROS));
-    s[at(5, 119)] = 1;
+    s[at(5, SLOT - 1)] = 1;
     assert_eq!([0, 2].map(|v| root(&s, v)), [Err(spoiled(5)); 2]);
     assert_eq!((root(&s, 7), get(&s, 2, &a), prove(&s, 0, &a, &mut [])), (Ok(seven), Err(spoiled(5)), Err(spoiled(5))));
     // Two spoiled: the lowest.

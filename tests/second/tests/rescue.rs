@@ -1,9 +1,7 @@
 //! 02, 2026-08: the desk's store damaged and rescued by the second program, expected values by hand from 02's words.
 
-use second::bytes::{ask_bytes, slot, Ask, Slot};
+use second::bytes::{ask_bytes, slot, Ask, Slot, HEADER, SLOT};
 use second::{apply, check, format, rescue, root, Bytes32, ZEROS};
-
-const SLOT: usize = 120;
 
 fn key(first: u8) -> Bytes32 {
     let mut k = ZEROS;
@@ -24,7 +22,7 @@ fn desk(versions: u32) -> Vec<u8> {
         &[delete(d)],
         &[delete(c)],
     ];
-    let mut s = vec![7; 24 + SLOT * 20];
+    let mut s = vec![7; HEADER + SLOT * 20];
     format(&mut s).unwrap();
     for v in 1..=versions {
         let bytes: Vec<u8> = batches[v as usize - 1].iter().flat_map(ask_bytes).collect();
@@ -34,7 +32,7 @@ fn desk(versions: u32) -> Vec<u8> {
 }
 
 fn at(i: usize) -> usize {
-    24 + SLOT * i
+    HEADER + SLOT * i
 }
 
 fn used(s: &[u8]) -> Vec<usize> {
@@ -58,7 +56,7 @@ fn whole_and_cut() {
     // Version 0 has no root, so the run begins at 1.
     let (report, t) = rescued(&five, 0, 5).unwrap();
     assert_eq!(report, (1, 14, 0, 0));
-    assert_eq!(t[24..], five[24..]);
+    assert_eq!(t[HEADER..], five[HEADER..]);
     // From version 3 on: what was retired by 3 is left out.
     let (report, t) = rescued(&five, 3, 5).unwrap();
     assert_eq!((report, used(&t)), ((3, 8, 0, 6), vec![2, 5, 7, 8, 10, 11, 12, 13]));
@@ -84,11 +82,11 @@ fn damaged() {
     s[at(13) + 44] = 9;
     let (report, t) = rescued(&s, 0, 5).unwrap();
     assert_eq!(report, (1, 12, 2, 0));
-    assert_eq!(t[24..], five[24..]);
+    assert_eq!(t[HEADER..], five[HEADER..]);
     // The header has no say.
     let mut s = five.clone();
-    s[..24].fill(0xEE);
-    assert_eq!(rescued(&s, 0, 5).unwrap().1[24..], five[24..]);
+    s[..HEADER].fill(0xEE);
+    assert_eq!(rescued(&s, 0, 5).unwrap().1[HEADER..], five[HEADER..]);
 }
 
 #[test]

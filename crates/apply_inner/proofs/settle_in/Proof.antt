@@ -52,6 +52,8 @@ returns-2 c =
     record {
       left-child = _;
       right-child = _;
+      lefts = _;
+      rights = _;
       node = its-inner (c12 .pre) (c9 .node-in .ensures) (c7 .node .given .1);
       settled = settled-else (c12 .args .l) (c12 .args .r) (c5 .settled .ensures) (c4 .match2 .keys2) (ends-new (c12 .args .writes) (c12 .pre .marks) (rw (← v) (c2 .end-or-stay .ensures)));
     }
@@ -77,8 +79,10 @@ returns-3 c =
     record {
       left-child = _;
       right-child = _;
+      lefts = _;
+      rights = _;
       node = its-inner (c13 .pre) (c10 .node-in .ensures) (c8 .node .given .1);
-      settled = settled-renewed (c13 .args .l) (c13 .args .r) (c6 .settled .ensures) _ (c4 .enum-told .given .1) (c2 .renew .ensures);
+      settled = settled-renewed (c13 .args .l) (c13 .args .r) (c6 .settled .ensures) _ _ _ (c4 .enum-told .given .1) (c2 .renew .ensures);
     }
 
 pub settle-in-spec : {M : Type 1} → statement M

@@ -1,6 +1,7 @@
 -- `apply_place::put_leaf_new` meets its contract: the grant is its key and value. Assumes nothing.
 use mathlib.Core.Path.{ap, _∙_}
-use Rattle.terms.specs.Records.{Body, used}
+use Rattle.terms.specs.declared.Form.the-variants.{Counted as counted}
+use Rattle.terms.specs.Records.{Body, used, noTally}
 use Rattle.place.specs.Place.{placeOf}
 use Rattle.layout.specs.Slots.{recordOf}
 use Rattle.layout.specs.Stores.{withSlot}
@@ -29,7 +30,7 @@ returns : tie.Need-returns
 returns c =
     let a = c .before .before .before .before .before .before .before .before .before .args in
     c .before .before .put-leaf-at .ensures
-    ∙ ap (λ (b : Body). withSlot (a .i) (used (recordOf (placeOf (a .place)) (a .version) 0 b)) (a .store .now))
+    ∙ ap (λ (b : Body). withSlot counted (a .i) (used (recordOf (placeOf (a .place)) (a .version) 0 b noTally)) (a .store .now))
     (ap grantBody (c .before .before .before .before .before .before .put-grant .ensures) ∙ grant-hashes (a .key) (a .value))
 
 pub put-leaf-new-spec : {M : Type 1} → statement M

@@ -38,8 +38,16 @@ child-on-requires c κs = slot-there (c .before .before .before .before .before 
 child-on-requires-2 : tie.Need-child-on-requires-2
 child-on-requires-2 c κs = slot-there (c .before .before .before .before .before .before .pre)
 
+child-count-at-requires : tie.Need-child-count-at-requires
+child-count-at-requires c κs = slot-there (c .before .before .before .before .before .before .before .pre)
+
+child-count-at-requires-2 : tie.Need-child-count-at-requires-2
+child-count-at-requires-2 c κs = slot-there (c .before .before .before .before .before .before .before .before .pre)
+
 returns-2 : tie.Need-returns-2
-returns-2 c = inner-held (c .before .before .before .before .before .before .before .pre) refl (c .before .child-on .result) (c .child-on2 .result) (c .before .before .before .is-leaf .ensures ∙ ap isLeaf (c .before .before .before .before .before .slot-of .ensures .0)) (c .before .before .if1 .left) (c .before .before .before .before .version-at .ensures) (c .before .child-on .ensures) (c .child-on2 .ensures)
+returns-2 c =
+    let d = c .before .before in
+    inner-held (d .before .before .before .before .before .before .before .pre) refl (d .before .child-on .result) (d .child-on2 .result) (d .before .before .before .is-leaf .ensures ∙ ap isLeaf (d .before .before .before .before .before .slot-of .ensures .0)) (d .before .before .if1 .left) (d .before .before .before .before .version-at .ensures) (d .before .child-on .ensures) (d .child-on2 .ensures) (c .before .child-count-at .ensures) (c .child-count-at2 .ensures)
 
 pub node-in-spec : {M : Type 1} → statement M
 node-in-spec =
@@ -55,4 +63,6 @@ node-in-spec =
     returns
     child-on-requires
     child-on-requires-2
+    child-count-at-requires
+    child-count-at-requires-2
     returns-2)

@@ -19,7 +19,7 @@ slot-of-requires c κs =
     let a = c3 .before .args in
     let h = c3 .before .pre in
     let s = a .store .now in
-    slot-fits s (h .0 .0) _ (subst (TopRight s (a .place)) (c .before .top .given .1) (h .2))
+    slot-fits _ s (h .0 .0) _ (subst (TopRight s (a .place)) (c .before .top .given .1) (h .2))
 
 key-of-requires : tie.Need-key-of-requires
 key-of-requires c κs = search needs

@@ -7,10 +7,10 @@ use Rattle.check_ahead.proofs.hash_ahead.Statement.{statement}
 use Rattle.check_ahead.proofs.hash_ahead.Tie as tie
 
 abbrev Inv-loop : tie.InvT-loop
-Inv-loop store guess known₀ n four₀ w₀ known four w = Going store n known four
+Inv-loop form store guess known₀ n four₀ w₀ known four w = Going form store n known four
 
 abbrev μ-loop : tie.MeasureT-loop
-μ-loop store guess known₀ n four₀ w₀ known four w = 2 * n - w
+μ-loop form store guess known₀ n four₀ w₀ known four w = 2 * n - w
 
 slot-count-requires : tie.Need-slot-count-requires Inv-loop μ-loop
 slot-count-requires c κs = c .before .pre .0
@@ -19,7 +19,7 @@ none-requires : tie.Need-none-requires Inv-loop μ-loop
 none-requires c κs = search needs
 
 loop-holds : tie.Need-loop-holds Inv-loop μ-loop
-loop-holds c = record { room = record { size = c .before .before .before .pre .0; many = c .before .slot-count .ensures }; known = c .before .before .before .pre .1; fits = c .none .ensures .1 (c .before .before .before .args .store .now) (first-has (c .before .before .before .args .store .now) (c .before .before .before .pre .0)); few = omega (arith, c .none .ensures .0) }
+loop-holds c = record { room = record { size = c .before .before .before .pre .0; many = c .before .slot-count .ensures }; known = c .before .before .before .pre .1; fits = c .none .ensures .1 _ (c .before .before .before .args .store .now) (first-has (c .before .before .before .args .store .now) (c .before .before .before .pre .0)); few = omega (arith, c .none .ensures .0) }
 
 mul-loop : tie.Need-mul-loop Inv-loop μ-loop
 mul-loop c = omega (arith, room-small (c .loop .inv .room))

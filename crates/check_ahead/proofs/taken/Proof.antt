@@ -14,26 +14,26 @@ is-wanted-requires c κs = search needs
 returns : tie.Need-returns
 returns c = (c .before .before .before .before .pre .4, (c .before .before .before .before .pre .2, omega (arith, c .before .before .before .before .pre .3)))
 
-cast-t12 : tie.Need-cast-t12
-cast-t12 c = omega (arith, c .before .before .before .before .pre .1, room-small (c .before .before .before .before .pre .0))
+cast-t13 : tie.Need-cast-t13
+cast-t13 c = omega (arith, c .before .before .before .before .pre .1, room-small (c .before .before .before .before .pre .0))
 
-add-t13 : tie.Need-add-t13
-add-t13 c = omega (arith, c .before .before .before .before .pre .1, room-small (c .before .before .before .before .pre .0))
+add-t14 : tie.Need-add-t14
+add-t14 c = omega (arith, c .before .before .before .before .pre .1, room-small (c .before .before .before .before .pre .0))
 
 shifted-requires : tie.Need-shifted-requires
 shifted-requires c κs = search needs
 
 returns-2 : tie.Need-returns-2
-returns-2 c = (c .before .before .before .before .before .before .before .pre .4, (shift-fits (c .before .before .before .before .before .before .before .pre .2) (fits-next (c .before .before .before .before .before .before .before .pre .0) (c .before .before .before .before .before .before .before .pre .1) (passed-so (c .before .before .before .before .is-wanted .result) (c .before .before .before .if1 .left) (c .before .before .before .before .is-wanted .ensures))) (c .before .before .shifted .ensures .0) (c .before .before .shifted .ensures .1) (c .before .before .shifted .ensures .2) (c .before .before .shifted .ensures .3), omega (arith, c .before .before .before .before .before .before .before .pre .3, c .before .before .shifted .ensures .4)))
+returns-2 c = (c .before .before .before .before .before .before .before .pre .4, (shift-fits _ (c .before .before .before .before .before .before .before .pre .2) (fits-next (c .before .before .before .before .before .before .before .pre .0) (c .before .before .before .before .before .before .before .pre .1) (passed-so (c .before .before .before .before .is-wanted .result) (c .before .before .before .if1 .left) (c .before .before .before .before .is-wanted .ensures))) (c .before .before .shifted .ensures .0) (c .before .before .shifted .ensures .1) (c .before .before .shifted .ensures .2) (c .before .before .shifted .ensures .3), omega (arith, c .before .before .before .before .before .before .before .pre .3, c .before .before .shifted .ensures .4)))
 
 enter-four-requires : tie.Need-enter-four-requires
-enter-four-requires c κs = (shift-fits (c .before .before .before .before .before .before .before .before .pre .2) (fits-next (c .before .before .before .before .before .before .before .before .pre .0) (c .before .before .before .before .before .before .before .before .pre .1) (passed-so (c .before .before .before .before .before .is-wanted .result) (c .before .before .before .before .if1 .left) (c .before .before .before .before .before .is-wanted .ensures))) (c .before .before .before .shifted .ensures .0) (c .before .before .before .shifted .ensures .1) (c .before .before .before .shifted .ensures .2) (c .before .before .before .shifted .ensures .3), c .before .before .before .before .before .before .before .before .pre .4)
+enter-four-requires c κs = (shift-fits _ (c .before .before .before .before .before .before .before .before .pre .2) (fits-next (c .before .before .before .before .before .before .before .before .pre .0) (c .before .before .before .before .before .before .before .before .pre .1) (passed-so (c .before .before .before .before .before .is-wanted .result) (c .before .before .before .before .if1 .left) (c .before .before .before .before .before .is-wanted .ensures))) (c .before .before .before .shifted .ensures .0) (c .before .before .before .shifted .ensures .1) (c .before .before .before .shifted .ensures .2) (c .before .before .before .shifted .ensures .3), c .before .before .before .before .before .before .before .before .pre .4)
 
 returns-3 : tie.Need-returns-3
-returns-3 c = (c .before .enter-four .ensures, (fit-anew (shift-fits {y = c .before .before .before .before .before .shifted .result} (c .before .before .before .before .before .before .before .before .before .before .pre .2) (fits-next (c .before .before .before .before .before .before .before .before .before .before .pre .0) (c .before .before .before .before .before .before .before .before .before .before .pre .1) (passed-so (c .before .before .before .before .before .before .before .is-wanted .result) (c .before .before .before .before .before .before .if1 .left) (c .before .before .before .before .before .before .before .is-wanted .ensures))) (c .before .before .before .before .before .shifted .ensures .0) (c .before .before .before .before .before .shifted .ensures .1) (c .before .before .before .before .before .shifted .ensures .2) (c .before .before .before .before .before .shifted .ensures .3)), omega arith))
+returns-3 c = (c .before .enter-four .ensures, (fit-anew (shift-fits _ {y = c .before .before .before .before .before .shifted .result} (c .before .before .before .before .before .before .before .before .before .before .pre .2) (fits-next (c .before .before .before .before .before .before .before .before .before .before .pre .0) (c .before .before .before .before .before .before .before .before .before .before .pre .1) (passed-so (c .before .before .before .before .before .before .before .is-wanted .result) (c .before .before .before .before .before .before .if1 .left) (c .before .before .before .before .before .before .before .is-wanted .ensures))) (c .before .before .before .before .before .shifted .ensures .0) (c .before .before .before .before .before .shifted .ensures .1) (c .before .before .before .before .before .shifted .ensures .2) (c .before .before .before .before .before .shifted .ensures .3)), omega arith))
 
 returns-4 : tie.Need-returns-4
-returns-4 c = (c .before .enter-four .ensures, (shift-fits (c .before .before .before .before .before .before .before .before .before .before .pre .2) (fits-next (c .before .before .before .before .before .before .before .before .before .before .pre .0) (c .before .before .before .before .before .before .before .before .before .before .pre .1) (passed-so (c .before .before .before .before .before .before .before .is-wanted .result) (c .before .before .before .before .before .before .if1 .left) (c .before .before .before .before .before .before .before .is-wanted .ensures))) (c .before .before .before .before .before .shifted .ensures .0) (c .before .before .before .before .before .shifted .ensures .1) (c .before .before .before .before .before .shifted .ensures .2) (c .before .before .before .before .before .shifted .ensures .3), omega (arith, c .before .before .before .before .before .before .before .before .before .before .pre .3, c .before .before .before .before .before .shifted .ensures .4)))
+returns-4 c = (c .before .enter-four .ensures, (shift-fits _ (c .before .before .before .before .before .before .before .before .before .before .pre .2) (fits-next (c .before .before .before .before .before .before .before .before .before .before .pre .0) (c .before .before .before .before .before .before .before .before .before .before .pre .1) (passed-so (c .before .before .before .before .before .before .before .is-wanted .result) (c .before .before .before .before .before .before .if1 .left) (c .before .before .before .before .before .before .before .is-wanted .ensures))) (c .before .before .before .before .before .shifted .ensures .0) (c .before .before .before .before .before .shifted .ensures .1) (c .before .before .before .before .before .shifted .ensures .2) (c .before .before .before .before .before .shifted .ensures .3), omega (arith, c .before .before .before .before .before .before .before .before .before .before .pre .3, c .before .before .before .before .before .shifted .ensures .4)))
 
 pub taken-spec : {M : Type 1} → statement M
 taken-spec =
@@ -41,8 +41,8 @@ taken-spec =
     (tie.spec
     is-wanted-requires
     returns
-    cast-t12
-    add-t13
+    cast-t13
+    add-t14
     shifted-requires
     returns-2
     enter-four-requires

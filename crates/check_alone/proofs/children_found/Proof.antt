@@ -17,7 +17,7 @@ returns : tie.Need-returns
 returns c =
     let c2 = c .before .before in
     let c4 = c2 .before .before in
-    sym (rw (found-as (c4 .args .store .now) (c4 .args .place) (c2 .left .result) false (c4 .args .a) (c2 .left .ensures)
+    sym (rw (found-as _ (c4 .args .store .now) (c4 .args .place) (c2 .left .result) false (c4 .args .a) (c2 .left .ensures)
     (c .before .child-found .ensures) ∙ not-true _ (c .if1 .taken)))
 
 right-requires : tie.Need-right-requires
@@ -32,9 +32,9 @@ returns-2 c =
     let c3 = c2 .before in
     let c4 = c3 .before in
     let c6 = c4 .before .before in
-    sym (rw (found-as (c6 .args .store .now) (c6 .args .place) (c4 .left .result) false (c6 .args .a) (c4 .left .ensures)
+    sym (rw (found-as _ (c6 .args .store .now) (c6 .args .place) (c4 .left .result) false (c6 .args .a) (c4 .left .ensures)
     (c3 .child-found .ensures) ∙ not-false _ (c2 .if1 .left))
-    (found-as (c6 .args .store .now) (c6 .args .place) (c .before .right .result) true (c6 .args .b) (c .before .right .ensures)
+    (found-as _ (c6 .args .store .now) (c6 .args .place) (c .before .right .result) true (c6 .args .b) (c .before .right .ensures)
     (c .child-found2 .ensures)))
 
 pub children-found-spec : {M : Type 1} → statement M

@@ -7,10 +7,10 @@ use Rattle.check_cover.proofs.covered.Statement.{statement}
 use Rattle.check_cover.proofs.covered.Tie as tie
 
 abbrev Inv-loop : tie.InvT-loop
-Inv-loop store kept sums n i₀ i = Walk store (CoveredAt store sums) n i
+Inv-loop form store kept sums n i₀ i = Walk form store (CoveredAt form store sums) n i
 
 abbrev μ-loop : tie.MeasureT-loop
-μ-loop store kept sums n i₀ i = n - i
+μ-loop form store kept sums n i₀ i = n - i
 
 slot-count-requires : tie.Need-slot-count-requires Inv-loop μ-loop
 slot-count-requires c κs = c .before .pre .size
@@ -18,7 +18,7 @@ slot-count-requires c κs = c .before .pre .size
 loop-holds : tie.Need-loop-holds Inv-loop μ-loop
 loop-holds c =
     let c2 = c .before .before in
-    walk-start (c2 .args .store .now) (CoveredAt (c2 .args .store .now) (c2 .args .sums .now)) (c2 .pre .size)
+    walk-start (c2 .args .store .now) (CoveredAt (c2 .args .form) (c2 .args .store .now) (c2 .args .sums .now)) (c2 .pre .size)
     (c .slot-count .ensures)
 
 mul-slot-covered : tie.Need-mul-slot-covered Inv-loop μ-loop

@@ -6,10 +6,10 @@ use Rattle.check_guess.proofs.galloped.Statement.{statement}
 use Rattle.check_guess.proofs.galloped.Tie as tie
 
 abbrev Inv-loop : tie.InvT-loop
-Inv-loop store n table from many node low₀ high₀ step₀ low high step = (low ≤ high) × (low ≤ many) × (1 ≤ step) × (step ≤ high + 1)
+Inv-loop form store n table from many node low₀ high₀ step₀ low high step = (low ≤ high) × (low ≤ many) × (1 ≤ step) × (step ≤ high + 1)
 
 abbrev μ-loop : tie.MeasureT-loop
-μ-loop store n table from many node low₀ high₀ step₀ low high step = many - high
+μ-loop form store n table from many node low₀ high₀ step₀ low high step = many - high
 
 loop-holds : tie.Need-loop-holds Inv-loop μ-loop
 loop-holds c = search needs

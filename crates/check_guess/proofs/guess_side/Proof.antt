@@ -56,8 +56,8 @@ hash-at-requires c κs = omega (arith, c .bits-of .ensures .1)
 longer-requires : tie.Need-longer-requires
 longer-requires c κs = search needs
 
-add-t20 : tie.Need-add-t20
-add-t20 c = omega arith
+add-t21 : tie.Need-add-t21
+add-t21 c = omega arith
 
 searched-requires : tie.Need-searched-requires
 searched-requires c κs =
@@ -115,7 +115,7 @@ guess-side-spec =
     bits-of-requires
     hash-at-requires
     longer-requires
-    add-t20
+    add-t21
     searched-requires
     guess-at-requires
     mul-guess

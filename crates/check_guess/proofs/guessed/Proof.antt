@@ -6,10 +6,10 @@ use Rattle.check_guess.proofs.guessed.Statement.{statement}
 use Rattle.check_guess.proofs.guessed.Tie as tie
 
 abbrev Inv-loop : tie.InvT-loop
-Inv-loop store n table many guess₀ left₀ right₀ k₀ guess left right k = (left ≤ many) × (right ≤ many)
+Inv-loop form store n table many guess₀ left₀ right₀ k₀ guess left right k = (left ≤ many) × (right ≤ many)
 
 abbrev μ-loop : tie.MeasureT-loop
-μ-loop store n table many guess₀ left₀ right₀ k₀ guess left right k = many - k
+μ-loop form store n table many guess₀ left₀ right₀ k₀ guess left right k = many - k
 
 loop-holds : tie.Need-loop-holds Inv-loop μ-loop
 loop-holds c = search needs

@@ -6,10 +6,10 @@ use Rattle.check_guess.proofs.halved.Statement.{statement}
 use Rattle.check_guess.proofs.halved.Tie as tie
 
 abbrev Inv-loop : tie.InvT-loop
-Inv-loop store n table from end node low₀ high₀ low high = (low ≤ high) × (high ≤ end)
+Inv-loop form store n table from end node low₀ high₀ low high = (low ≤ high) × (high ≤ end)
 
 abbrev μ-loop : tie.MeasureT-loop
-μ-loop store n table from end node low₀ high₀ low high = high - low
+μ-loop form store n table from end node low₀ high₀ low high = high - low
 
 loop-holds : tie.Need-loop-holds Inv-loop μ-loop
 loop-holds c = search needs

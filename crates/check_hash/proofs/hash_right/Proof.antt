@@ -33,11 +33,11 @@ returns c =
     let c2 = c .before .before in
     let c5 = c2 .before .before .before in
     let a = c5 .args in
-    let its : HashIs (a .store .now) (a .c)
+    let its : HashIs (a .form) (a .store .now) (a .c)
     (hashBytes (c .before .stored .result)) = (λ r h. c5 .pre .2 (a .c) (omega (arith, c2 .if1 .taken)) .hash r h ∙ sym
     (c .before .stored .ensures)) in (
       c5 .pre .2,
-      same-passes (a .store .now) (a .c) (hashBytes (c .before .stored .result)) (hashBytes (a .hash)) its
+      same-passes _ (a .store .now) (a .c) (hashBytes (c .before .stored .result)) (hashBytes (a .hash)) its
           (c .same-hash .result) (c .same-hash .ensures),
     )
 
@@ -71,7 +71,7 @@ returns-3 c =
     let c2 = c .before .before in
     let c6 = c2 .before .before .before .before in
     let a = c6 .args in
-    let w = same-is (a .store .now) (a .c) (hashBytes (c2 .record-hash .result)) (hashBytes (a .hash)) (c2 .record-hash .ensures)
+    let w = same-is _ (a .store .now) (a .c) (hashBytes (c2 .record-hash .result)) (hashBytes (a .hash)) (c2 .record-hash .ensures)
     (c .before .same-hash2 .ensures) (not-false (c .before .same-hash2 .result) (c .if2 .left)) in (
       known-set (a .store .now) (a .known .now) (a .c) (a .link) (c6 .pre .2)
           (record { has = c6 .pre .1 .has; hash = λ r h. w r h ∙ c6 .pre .1 .hash }),

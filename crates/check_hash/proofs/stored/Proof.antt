@@ -22,7 +22,7 @@ slot-of-requires : tie.Need-slot-of-requires
 slot-of-requires c κs =
     let c2 = c .before .before in
     let e = ap (λ n. (n - 1) / 2) (c .wide .ensures .0) in
-    slot-within (subst (Has (c2 .args .store .now)) (sym e) (c2 .pre .1))
+    slot-within (subst (Has (c2 .args .form) (c2 .args .store .now)) (sym e) (c2 .pre .1))
 
 child-hash-requires : tie.Need-child-hash-requires
 child-hash-requires c κs = search needs
@@ -35,7 +35,7 @@ returns c =
     let c2 = c .before .before in
     let c3 = c2 .before in
     let c5 = c3 .before .before in
-    let its = stored-is (c5 .args .store .now) (c5 .args .link) (ap (λ n. n - 1) (c3 .wide .ensures .0)) (c2 .slot-of .ensures .0)
+    let its = stored-is _ (c5 .args .store .now) (c5 .args .link) (ap (λ n. n - 1) (c3 .wide .ensures .0)) (c2 .slot-of .ensures .0)
     (c .before .child-hash .ensures .0) in
     read-whole (c .hash-at .ensures .1) (c .before .child-hash .ensures .1) its
 

@@ -2,7 +2,7 @@
 use borrow.Author.Tests.{eq-eqb, ne-eqb}
 use borrow.Author.Needs.{needs}
 use Rattle.place.specs.Place.{placeOf}
-use Rattle.layout.specs.Stores.{storeOf}
+use Rattle.layout.specs.Stores.{storeIn}
 use Rattle.check_kin.proofs.Holding.{is-found, not-found}
 use Rattle.check_kin.proofs.child_found.Statement.{statement}
 use Rattle.check_kin.proofs.child_found.Tie as tie
@@ -23,13 +23,13 @@ returns-2 : tie.Need-returns-2
 returns-2 c =
     let d = c .before .before .before .before .before .args in
     rw
-    (ne-eqb (d .version) 0 (c .before .before .before .if1 .left), is-found (storeOf (d .store .now) .slots) (d .version) (placeOf (d .place)) _ (c .enum-told .given .1) (c .before .before .find .ensures))
+    (ne-eqb (d .version) 0 (c .before .before .before .if1 .left), is-found (storeIn (d .form) (d .store .now) .slots) (d .version) (placeOf (d .place)) _ (c .enum-told .given .1) (c .before .before .find .ensures))
 
 returns-3 : tie.Need-returns-3
 returns-3 c =
     let d = c .before .before .before .before .before .args in
     rw
-    (ne-eqb (d .version) 0 (c .before .before .before .if1 .left), not-found (storeOf (d .store .now) .slots) (d .version) (placeOf (d .place)) _ (c .enum-told2 .given .1) (c .before .before .find .ensures))
+    (ne-eqb (d .version) 0 (c .before .before .before .if1 .left), not-found (storeIn (d .form) (d .store .now) .slots) (d .version) (placeOf (d .place)) _ (c .enum-told2 .given .1) (c .before .before .find .ensures))
 
 pub child-found-spec : {M : Type 1} → statement M
 child-found-spec =

@@ -8,10 +8,10 @@ use Rattle.check_kin.proofs.holders.Statement.{statement}
 use Rattle.check_kin.proofs.holders.Tie as tie
 
 abbrev Inv-loop : tie.InvT-loop
-Inv-loop store version place n count₀ j₀ count j = Counted store version (placeOf place) n count j
+Inv-loop form store version place n count₀ j₀ count j = Counted form store version (placeOf place) n count j
 
 abbrev μ-loop : tie.MeasureT-loop
-μ-loop store version place n count₀ j₀ count j = n - j
+μ-loop form store version place n count₀ j₀ count j = n - j
 
 slot-count-requires : tie.Need-slot-count-requires Inv-loop μ-loop
 slot-count-requires c κs = c .before .pre .0

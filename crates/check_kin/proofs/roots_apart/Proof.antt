@@ -4,7 +4,7 @@ use native.Mathlib.Omega.{arith}
 use mathlib.Core.Bool.{true}
 use borrow.Author.Tests.{not-true, not-false}
 use Rattle.local.specs.Test.{byRecord}
-use Rattle.layout.specs.Stores.{storeOf}
+use Rattle.layout.specs.Stores.{storeIn}
 use Rattle.store.proofs.Scans.{scan-slot}
 use Rattle.check_kin.specs.Kin.{clearOf}
 use Rattle.check_kin.proofs.Scanning.{Passed, pass-start, pass-next, pass-off, pass-end}
@@ -12,10 +12,10 @@ use Rattle.check_kin.proofs.roots_apart.Statement.{statement}
 use Rattle.check_kin.proofs.roots_apart.Tie as tie
 
 abbrev Inv-loop : tie.InvT-loop
-Inv-loop store kept version ends n j₀ j = Passed store (byRecord true (clearOf (storeOf store) version ends)) n j
+Inv-loop form store kept version ends n j₀ j = Passed form store (byRecord true (clearOf (storeIn form store) version ends)) n j
 
 abbrev μ-loop : tie.MeasureT-loop
-μ-loop store kept version ends n j₀ j = n - j
+μ-loop form store kept version ends n j₀ j = n - j
 
 slot-count-requires : tie.Need-slot-count-requires Inv-loop μ-loop
 slot-count-requires c κs = c .before .pre .size
@@ -23,7 +23,7 @@ slot-count-requires c κs = c .before .pre .size
 loop-holds : tie.Need-loop-holds Inv-loop μ-loop
 loop-holds c =
     let c2 = c .before .before in
-    pass-start (c2 .args .store .now) (byRecord true (clearOf (storeOf (c2 .args .store .now)) (c2 .args .version) (c2 .args .ends)))
+    pass-start (c2 .args .store .now) (byRecord true (clearOf (storeIn (c2 .args .form) (c2 .args .store .now)) (c2 .args .version) (c2 .args .ends)))
     (c2 .pre .size) (c .slot-count .ensures)
 
 root-apart-requires : tie.Need-root-apart-requires Inv-loop μ-loop

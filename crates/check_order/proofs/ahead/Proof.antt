@@ -24,7 +24,7 @@ unfolding keyNo
 returns c =
     let c2 = c .before .before in
     let c4 = c2 .before .before in
-    by-count (slotIn (c4 .args .i) (c4 .args .store .now)) (slotIn (c4 .args .j) (c4 .args .store .now)) (c2 .count-at .ensures)
+    by-count (c4 .args .form) (slotIn (c4 .args .form) (c4 .args .i) (c4 .args .store .now)) (slotIn (c4 .args .form) (c4 .args .j) (c4 .args .store .now)) (c2 .count-at .ensures)
     (c .before .count-at2 .ensures) (c .if1 .taken)
 
 slot-of-requires : tie.Need-slot-of-requires
@@ -79,10 +79,10 @@ returns-2 c =
     let c11 = c10 .before in
     let c12 = c11 .before in
     let c14 = c12 .before .before in
-    by-version (slotIn (c14 .args .i) (c14 .args .store .now)) (slotIn (c14 .args .j) (c14 .args .store .now))
+    by-version (c14 .args .form) (slotIn (c14 .args .form) (c14 .args .i) (c14 .args .store .now)) (slotIn (c14 .args .form) (c14 .args .j) (c14 .args .store .now))
     (c12 .count-at .ensures) (c11 .count-at2 .ensures) (c10 .if1 .left)
-    (slot-long (c14 .args .i) (c14 .args .store .now) (slot-within (c14 .pre .0)))
-    (slot-long (c14 .args .j) (c14 .args .store .now) (slot-within (c14 .pre .1)))
+    (slot-long _ (c14 .args .i) (c14 .args .store .now) (slot-within (c14 .pre .0)))
+    (slot-long _ (c14 .args .j) (c14 .args .store .now) (slot-within (c14 .pre .1)))
     (read-whole (c5 .hash-at .ensures .1) (c8 .bits-of .ensures .1) (c8 .bits-of .ensures .0 ∙ ap bitsIn (c9 .slot-of .ensures .0)))
     (read-whole (c4 .hash-at2 .ensures .1) (c6 .bits-of2 .ensures .1)
     (c6 .bits-of2 .ensures .0 ∙ ap bitsIn (c7 .slot-of2 .ensures .0))) (c3 .same-hash .ensures) (c2 .if2 .taken)
@@ -105,9 +105,9 @@ returns-3 c =
     let c10 = c9 .before in
     let c11 = c10 .before in
     let c13 = c11 .before .before in
-    by-bits (slotIn (c13 .args .i) (c13 .args .store .now)) (slotIn (c13 .args .j) (c13 .args .store .now)) (c11 .count-at .ensures)
-    (c10 .count-at2 .ensures) (c9 .if1 .left) (slot-long (c13 .args .i) (c13 .args .store .now) (slot-within (c13 .pre .0)))
-    (slot-long (c13 .args .j) (c13 .args .store .now) (slot-within (c13 .pre .1)))
+    by-bits (c13 .args .form) (slotIn (c13 .args .form) (c13 .args .i) (c13 .args .store .now)) (slotIn (c13 .args .form) (c13 .args .j) (c13 .args .store .now)) (c11 .count-at .ensures)
+    (c10 .count-at2 .ensures) (c9 .if1 .left) (slot-long _ (c13 .args .i) (c13 .args .store .now) (slot-within (c13 .pre .0)))
+    (slot-long _ (c13 .args .j) (c13 .args .store .now) (slot-within (c13 .pre .1)))
     (read-whole (c4 .hash-at .ensures .1) (c7 .bits-of .ensures .1) (c7 .bits-of .ensures .0 ∙ ap bitsIn (c8 .slot-of .ensures .0)))
     (read-whole (c3 .hash-at2 .ensures .1) (c5 .bits-of2 .ensures .1)
     (c5 .bits-of2 .ensures .0 ∙ ap bitsIn (c6 .slot-of2 .ensures .0))) (c2 .same-hash .ensures) (c .before .if2 .left)

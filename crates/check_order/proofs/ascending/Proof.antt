@@ -9,10 +9,10 @@ use Rattle.check_order.proofs.ascending.Statement.{statement}
 use Rattle.check_order.proofs.ascending.Tie as tie
 
 abbrev Inv-loop : tie.InvT-loop
-Inv-loop store latest table many n k₀ k = (1 ≤ k) × InOrder latest store table k
+Inv-loop form store latest table many n k₀ k = (1 ≤ k) × InOrder form latest store table k
 
 abbrev μ-loop : tie.MeasureT-loop
-μ-loop store latest table many n k₀ k = many - k
+μ-loop form store latest table many n k₀ k = many - k
 
 slot-count-requires : tie.Need-slot-count-requires Inv-loop μ-loop
 slot-count-requires c κs = c .before .pre .0
@@ -66,7 +66,7 @@ loop-again c =
     let c10 = c7 .before .before .before in
     let i = c7 .loop .inv in (
       omega (arith, i .0),
-      step-next (Follows (c10 .args .latest) (c10 .args .store .now)) (c10 .args .table .now) _ (i .0) (i .1) (c4 .wide .ensures)
+      step-next (Follows (c10 .args .form) (c10 .args .latest) (c10 .args .store .now)) (c10 .args .table .now) _ (i .0) (i .1) (c4 .wide .ensures)
           (c2 .wide2 .ensures) (passed-so (c .before .in-order .result) (c .if1 .left) (c .before .in-order .ensures)),
     )
 

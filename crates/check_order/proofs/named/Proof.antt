@@ -7,10 +7,10 @@ use Rattle.check_order.proofs.named.Statement.{statement}
 use Rattle.check_order.proofs.named.Tie as tie
 
 abbrev Inv-loop : tie.InvT-loop
-Inv-loop store table many ranks n i₀ i = Walk store (NamedAt store table many) n i
+Inv-loop form store table many ranks n i₀ i = Walk form store (NamedAt form store table many) n i
 
 abbrev μ-loop : tie.MeasureT-loop
-μ-loop store table many ranks n i₀ i = n - i
+μ-loop form store table many ranks n i₀ i = n - i
 
 slot-count-requires : tie.Need-slot-count-requires Inv-loop μ-loop
 slot-count-requires c κs = c .before .pre .0
@@ -18,7 +18,7 @@ slot-count-requires c κs = c .before .pre .0
 loop-holds : tie.Need-loop-holds Inv-loop μ-loop
 loop-holds c =
     let c2 = c .before .before in
-    walk-start (c2 .args .store .now) (NamedAt (c2 .args .store .now) (c2 .args .table .now) (c2 .args .many)) (c2 .pre .0)
+    walk-start (c2 .args .store .now) (NamedAt (c2 .args .form) (c2 .args .store .now) (c2 .args .table .now) (c2 .args .many)) (c2 .pre .0)
     (c .slot-count .ensures)
 
 mul-slot-named : tie.Need-mul-slot-named Inv-loop μ-loop

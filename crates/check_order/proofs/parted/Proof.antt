@@ -12,7 +12,7 @@ count-at-requires c κs = slot-within (c .before .pre .1)
 returns : tie.Need-returns
 returns c =
     let c3 = c .before .before .before in
-    below-parted (c3 .args .latest) (c3 .args .store .now) (c3 .args .i) (c3 .args .j) (c .before .count-at .ensures) (c .if1 .taken)
+    below-parted _ (c3 .args .latest) (c3 .args .store .now) (c3 .args .i) (c3 .args .j) (c .before .count-at .ensures) (c .if1 .taken)
 
 retired-at-requires : tie.Need-retired-at-requires
 retired-at-requires c κs =
@@ -34,7 +34,7 @@ returns-2 : tie.Need-returns-2
 returns-2 c =
     let c2 = c .before .before in
     let c6 = c2 .before .before .before .before in
-    root-parted (c6 .args .latest) (c6 .args .store .now) (c6 .args .i) (c6 .args .j) (c2 .retired-at .ensures)
+    root-parted _ (c6 .args .latest) (c6 .args .store .now) (c6 .args .i) (c6 .args .j) (c2 .retired-at .ensures)
     (c .before .ends-before .ensures .0) (c .version-at .ensures) _ refl
 
 pub parted-spec : {M : Type 1} → statement M

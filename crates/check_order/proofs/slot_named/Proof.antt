@@ -21,7 +21,7 @@ is-named-requires c κs = search needs
 returns-2 : tie.Need-returns-2
 returns-2 c =
     let c4 = c .before .before .before .before in
-    pass-map (c .is-named .result) (record-named (c4 .args .store .now) (c4 .args .table .now) (c4 .args .many) (c4 .args .i))
+    pass-map (c .is-named .result) (record-named _ (c4 .args .store .now) (c4 .args .table .now) (c4 .args .many) (c4 .args .i))
     (c .is-named .ensures)
 
 pub slot-named-spec : {M : Type 1} → statement M

@@ -25,7 +25,7 @@ returns-2 c =
     let c3 = c .before .before .before in
     let c4 = c3 .before in
     let c6 = c4 .before .before in
-    head-own (c6 .args .kept) (slotIn (c6 .args .i) (c6 .args .store .now)) (c4 .version-at .ensures) (c3 .retired-at .ensures)
+    head-own (c6 .args .kept) (slotIn (c6 .args .form) (c6 .args .i) (c6 .args .store .now)) (c4 .version-at .ensures) (c3 .retired-at .ensures)
     (c .before .if1 .left) (c .life-right .result) (c .life-right .ensures)
 
 pub head-right-spec : {M : Type 1} → statement M

@@ -28,7 +28,7 @@ place-at-requires : tie.Need-place-at-requires
 place-at-requires c κs =
     let c2 = c .before .before in
     let c4 = c2 .before .before in
-    leaf-place (slotIn (c4 .args .i) (c4 .args .store .now)) (c4 .pre .1) (c .before .count-at .ensures)
+    leaf-place (slotIn (c4 .args .form) (c4 .args .i) (c4 .args .store .now)) (c4 .pre .1) (c .before .count-at .ensures)
     (c .bits-of .ensures .0 ∙ ap bitsIn (c2 .slot-of .ensures .0)) (c .bits-of .ensures .1)
 
 key-of-requires : tie.Need-key-of-requires
@@ -54,7 +54,7 @@ returns-2 c =
     let c6 = c5 .before in
     let c7 = c6 .before in
     let c9 = c7 .before .before in
-    let key = key-begins (slotIn (c9 .args .i) (c9 .args .store .now)) (c6 .count-at .ensures)
+    let key = key-begins (slotIn (c9 .args .form) (c9 .args .i) (c9 .args .store .now)) (c6 .count-at .ensures)
     (c5 .bits-of .ensures .0 ∙ ap bitsIn (c7 .slot-of .ensures .0)) (c4 .place-at .ensures)
     (c3 .key-of .ensures .0 ∙ ap keyIn (c7 .slot-of .ensures .0)) (c2 .begins .ensures) (not-false _ (c .before .if1 .left)) in
     pass-map (c .head-right .result) (λ h. record { head = h; key = key }) (c .head-right .ensures)

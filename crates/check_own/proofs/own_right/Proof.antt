@@ -1,17 +1,17 @@
 -- `check_own::own_right` meets its contract: the own fields of the slots before i are right. Assumes nothing.
 use native.Mathlib.Omega.{arith}
 use Prim.Native.Nat.{_-_}
-use Rattle.layout.specs.Stores.{storeOf}
+use Rattle.layout.specs.Stores.{storeIn}
 use Rattle.check_seen.specs.Seen.{OwnAt}
 use Rattle.check_pass.proofs.Walks.{Walk, walk-start, walk-slot, walk-on}
 use Rattle.check_own.proofs.own_right.Statement.{statement}
 use Rattle.check_own.proofs.own_right.Tie as tie
 
 abbrev Inv-loop : tie.InvT-loop
-Inv-loop store kept n i₀ i = Walk store (OwnAt (storeOf store)) n i
+Inv-loop form store kept n i₀ i = Walk form store (OwnAt (storeIn form store)) n i
 
 abbrev μ-loop : tie.MeasureT-loop
-μ-loop store kept n i₀ i = n - i
+μ-loop form store kept n i₀ i = n - i
 
 slot-count-requires : tie.Need-slot-count-requires Inv-loop μ-loop
 slot-count-requires c κs = c .before .pre .size
@@ -19,7 +19,7 @@ slot-count-requires c κs = c .before .pre .size
 loop-holds : tie.Need-loop-holds Inv-loop μ-loop
 loop-holds c =
     let c2 = c .before .before in
-    walk-start (c2 .args .store .now) (OwnAt (storeOf (c2 .args .store .now))) (c2 .pre .size) (c .slot-count .ensures)
+    walk-start (c2 .args .store .now) (OwnAt (storeIn (c2 .args .form) (c2 .args .store .now))) (c2 .pre .size) (c .slot-count .ensures)
 
 slot-right-requires : tie.Need-slot-right-requires Inv-loop μ-loop
 slot-right-requires c κs =

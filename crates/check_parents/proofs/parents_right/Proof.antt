@@ -8,10 +8,10 @@ use Rattle.check_parents.proofs.parents_right.Statement.{statement}
 use Rattle.check_parents.proofs.parents_right.Tie as tie
 
 abbrev Inv-loop : tie.InvT-loop
-Inv-loop store kept below life n sum₀ j₀ sum j = Summed store below n sum j
+Inv-loop form store kept below life n sum₀ j₀ sum j = Summed form store below n sum j
 
 abbrev μ-loop : tie.MeasureT-loop
-μ-loop store kept below life n sum₀ j₀ sum j = n - j
+μ-loop form store kept below life n sum₀ j₀ sum j = n - j
 
 slot-count-requires : tie.Need-slot-count-requires Inv-loop μ-loop
 slot-count-requires c κs = c .before .pre .0 .size

@@ -43,7 +43,7 @@ returns-3 c =
     let c4 = c3 .before in
     let c5 = c4 .before in
     let c6 = c5 .before in
-    all-alone (c6 .args .store .now) (c6 .pre .0)
+    all-alone _ (c6 .args .store .now) (c6 .pre .0)
     (all-of Byte (c6 .args .store .now) 0 (λ i _. omega (arith, c5 .shared-slice-known .given i)))
     (c6 .args .table .now) (c6 .args .many) (c3 .ascending .result) (c .before .named .result) (c2 .if1 .left)
     (c3 .ascending .ensures) (omega (arith, c .if2 .left, c4 .slot-count .ensures)) (c .before .named .ensures)

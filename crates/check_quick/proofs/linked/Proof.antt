@@ -12,7 +12,7 @@ slot-count-requires : tie.Need-slot-count-requires
 slot-count-requires c κs = c .before .pre .keeps .size
 
 hash-ahead-requires : tie.Need-hash-ahead-requires
-hash-ahead-requires c κs = (c .before .before .before .pre .keeps .size, known-none (c .before .before .before .args .store .now) (replicate 16384 0) (zeros 16384))
+hash-ahead-requires c κs = (c .before .before .before .pre .keeps .size, known-none _ (c .before .before .before .args .store .now) (replicate 16384 0) (zeros 16384))
 
 tie-all-requires : tie.Need-tie-all-requires
 tie-all-requires c κs = (c .before .before .before .before .before .before .pre, c .before .before .hash-ahead .ensures)
@@ -57,7 +57,7 @@ returns-2 : tie.Need-returns-2
 returns-2 c = tt
 
 returns-3 : tie.Need-returns-3
-returns-3 c = all-linked (c .before .before .before .before .before .before .before .before .before .before .before .args .store .now) _ _ (zeros 16384) (c .before .before .before .before .tie-all .ensures (omega (arith, c .before .before .before .if1 .left, c .before .before .before .before .before .before .before .before .before .slot-count .ensures))) (c .before .covered .result) (omega (arith, c .if2 .left, c .before .before .before .before .before .before .before .before .before .slot-count .ensures)) (c .before .covered .ensures)
+returns-3 c = all-linked _ (c .before .before .before .before .before .before .before .before .before .before .before .args .store .now) _ _ (zeros 16384) (c .before .before .before .before .tie-all .ensures (omega (arith, c .before .before .before .if1 .left, c .before .before .before .before .before .before .before .before .before .slot-count .ensures))) (c .before .covered .result) (omega (arith, c .if2 .left, c .before .before .before .before .before .before .before .before .before .slot-count .ensures)) (c .before .covered .ensures)
 
 pub linked-spec : {M : Type 1} → statement M
 linked-spec =

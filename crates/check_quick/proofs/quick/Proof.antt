@@ -2,7 +2,7 @@
 use native.Mathlib.Omega.{arith}
 use lib.ListN.{length}
 use Rattle.layout.specs.Sizes.{roomOf}
-use Rattle.layout.specs.Stores.{storeOf}
+use Rattle.layout.specs.Stores.{storeIn}
 use Rattle.check_seen.specs.Seen.{OwnAt}
 use Rattle.check_pass.proofs.Passes.{each-below}
 use Rattle.check_quick.proofs.Fine.{sure-map, sure-is, all-fine}
@@ -26,7 +26,7 @@ alone-requires c κs =
     let c5 = c3 .before .before in
     record {
       keeps = c5 .pre;
-      own = each-below (OwnAt (storeOf (c5 .args .store .now))) (roomOf (length (c5 .args .store .now)))
+      own = each-below (OwnAt (storeIn (c5 .args .form) (c5 .args .store .now))) (roomOf (c5 .args .form) (length (c5 .args .store .now)))
           (c2 .own-right .result) (omega (arith, c .before .if1 .left, c3 .slot-count .ensures)) (c2 .own-right .ensures);
     }
 
@@ -41,7 +41,7 @@ linked-requires c κs =
     let c9 = c7 .before .before in
     record {
       keeps = c9 .pre;
-      own = each-below (OwnAt (storeOf (c9 .args .store .now))) (roomOf (length (c9 .args .store .now)))
+      own = each-below (OwnAt (storeIn (c9 .args .form) (c9 .args .store .now))) (roomOf (c9 .args .form) (length (c9 .args .store .now)))
           (c6 .own-right .result) (omega (arith, c5 .if1 .left, c7 .slot-count .ensures)) (c6 .own-right .ensures);
     }
 
@@ -57,7 +57,7 @@ returns-2 c =
     let c8 = c7 .before in
     let c10 = c8 .before .before in
     sure-map (c .linked .result)
-    (all-fine (c10 .args .store .now) (c7 .own-right .result) (omega (arith, c6 .if1 .left, c8 .slot-count .ensures))
+    (all-fine _ (c10 .args .store .now) (c7 .own-right .result) (omega (arith, c6 .if1 .left, c8 .slot-count .ensures))
     (c7 .own-right .ensures) (sure-is (c2 .enum-told .given .1) (c4 .alone .ensures))) (c .linked .ensures)
 
 returns-3 : tie.Need-returns-3

@@ -4,17 +4,17 @@ use native.Mathlib.Omega.{arith}
 use borrow.Author.Tests.{not-true, not-false}
 use Rattle.local.specs.Test.{slotTest, slotsTest}
 use Rattle.nodehash.specs.Node.{leafHash, innerHash}
-use Rattle.layout.specs.Stores.{storeOf}
+use Rattle.layout.specs.Stores.{storeIn}
 use Rattle.store.proofs.Scans.{scan-slot}
 use Rattle.check_kin.proofs.Scanning.{Passed, pass-start, pass-next, pass-off, pass-end}
 use Rattle.check_slot.proofs.each_passes.Statement.{statement}
 use Rattle.check_slot.proofs.each_passes.Tie as tie
 
 abbrev Inv-loop : tie.InvT-loop
-Inv-loop store kept n i₀ i = Passed store (slotTest leafHash innerHash (storeOf store)) n i
+Inv-loop form store kept n i₀ i = Passed form store (slotTest leafHash innerHash (storeIn form store)) n i
 
 abbrev μ-loop : tie.MeasureT-loop
-μ-loop store kept n i₀ i = n - i
+μ-loop form store kept n i₀ i = n - i
 
 slot-count-requires : tie.Need-slot-count-requires Inv-loop μ-loop
 slot-count-requires c κs = c .before .pre .size
@@ -22,7 +22,7 @@ slot-count-requires c κs = c .before .pre .size
 loop-holds : tie.Need-loop-holds Inv-loop μ-loop
 loop-holds c =
     let c2 = c .before .before in
-    pass-start (c2 .args .store .now) (slotTest leafHash innerHash (storeOf (c2 .args .store .now))) (c2 .pre .size) (c .slot-count .ensures)
+    pass-start (c2 .args .store .now) (slotTest leafHash innerHash (storeIn (c2 .args .form) (c2 .args .store .now))) (c2 .pre .size) (c .slot-count .ensures)
 
 slot-passes-requires : tie.Need-slot-passes-requires Inv-loop μ-loop
 slot-passes-requires c κs =

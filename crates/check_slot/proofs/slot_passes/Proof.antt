@@ -1,10 +1,13 @@
 -- `check_slot::slot_passes` meets its contract, by the kind that was read. Assumes nothing.
 use native.Mathlib.Omega.{arith}
+use mathlib.Core.Path.{ap, ap₂, sym, _∙_}
 use borrow.Author.Needs.{needs}
+use Rattle.terms.specs.Records.{tally}
+use Rattle.layout.specs.Slots.{countsIn}
 use Rattle.terms.specs.Bits.{Byte}
 use Rattle.terms.proofs.Lists.{all-of}
 use Rattle.store.proofs.Slots.{slot-within}
-use Rattle.check_slot.proofs.Passing.{leaf-head, inner-head, inner-short, free-slot, leaf-slot, inner-slot, spoiled-slot}
+use Rattle.check_slot.proofs.Passing.{leaf-head, leaf-bare, inner-head, inner-short, free-slot, leaf-slot, inner-slot, spoiled-slot}
 use Rattle.check_slot.proofs.slot_passes.Statement.{statement}
 use Rattle.check_slot.proofs.slot_passes.Tie as tie
 
@@ -29,24 +32,34 @@ leaf-passes-requires c κs =
       leaf-head (c6 .pre .0) (c4 .slot-of .ensures .0) (c3 .read-slot .ensures)
           (all-of Byte (c6 .args .store .now) 0 (λ i _. omega (arith, c5 .shared-slice-known .given i))) (c6 .pre .1)
           (c .enum-told2 .given .1),
-      c4 .slot-of .ensures .1,
+      c4 .slot-of .ensures .2,
+      leaf-bare (c6 .pre .0) (c4 .slot-of .ensures .0) (c3 .read-slot .ensures)
+          (all-of Byte (c6 .args .store .now) 0 (λ i _. omega (arith, c5 .shared-slice-known .given i))) (c6 .pre .1)
+          (c .enum-told2 .given .1),
     )
 
 enum-known-kind : tie.Need-enum-known-kind
 enum-known-kind c = search needs
 
+child-count-at-requires : tie.Need-child-count-at-requires
+child-count-at-requires c κs = slot-within (c .before .before .before .before .before .before .before .pre .0)
+
+child-count-at-requires-2 : tie.Need-child-count-at-requires-2
+child-count-at-requires-2 c κs = slot-within (c .before .before .before .before .before .before .before .before .pre .0)
+
 inner-passes-requires : tie.Need-inner-passes-requires
 inner-passes-requires c κs =
-    let c4 = c .before .before .before .before in
+    let told = c .before .before in
+    let c4 = told .before .before .before .before in
     let c5 = c4 .before in
     let c6 = c5 .before in
     let c7 = c6 .before in (
       inner-head (c7 .pre .0) (c5 .slot-of .ensures .0) (c4 .read-slot .ensures)
           (all-of Byte (c7 .args .store .now) 0 (λ i _. omega (arith, c6 .shared-slice-known .given i))) (c7 .pre .1) _ _
-          (c .before .kind .given .1),
+          (told .before .kind .given .1),
       inner-short (c7 .pre .0) (c5 .slot-of .ensures .0) (c4 .read-slot .ensures)
           (all-of Byte (c7 .args .store .now) 0 (λ i _. omega (arith, c6 .shared-slice-known .given i))) (c7 .pre .1) _ _
-          (c .before .kind .given .1),
+          (told .before .kind .given .1),
     )
 
 enum-told-3 : tie.Need-enum-told-3
@@ -69,11 +82,14 @@ returns-2 c =
 
 returns-3 : tie.Need-returns-3
 returns-3 c =
-    let c2 = c .before .before in
+    let rights = c .before in
+    let lefts = rights .before in
+    let c2 = lefts .before .before in
     let c5 = c2 .before .before .before in
     let c6 = c5 .before in
     let c8 = c6 .before .before in
-    inner-slot (c8 .pre .0) (c6 .slot-of .ensures .0) (c5 .read-slot .ensures) _ _ (c2 .kind .given .1) (c .inner-passes .ensures)
+    inner-slot (c8 .pre .0) (c6 .slot-of .ensures .0) (c5 .read-slot .ensures) _ _ (c2 .kind .given .1) _
+    (ap₂ tally (lefts .child-count-at .ensures) (rights .child-count-at2 .ensures) ∙ ap countsIn (sym (c6 .slot-of .ensures .0))) (c .inner-passes .ensures)
 
 returns-4 : tie.Need-returns-4
 returns-4 c =
@@ -92,6 +108,8 @@ slot-passes-spec =
     enum-told-2
     leaf-passes-requires
     enum-known-kind
+    child-count-at-requires
+    child-count-at-requires-2
     inner-passes-requires
     enum-told-3
     returns

@@ -19,25 +19,25 @@ enum-known-header-2 c = search needs
 
 slots-pass-requires : tie.Need-slots-pass-requires
 slots-pass-requires c κs =
-    says-kept (c .before .before .before .before .before .args .store .now) (c .before .before .before .read-header .ensures)
+    says-kept _ (c .before .before .before .before .before .args .store .now) (c .before .before .before .read-header .ensures)
     (c .before .header2 .given .1)
 
 returns : tie.Need-returns
 returns c =
     let s = c .before .before .before .before .before .before .before .args .store .now in
-    says-unsound s (c .before .before .before .before .before .read-header .ensures) (c .before .before .before .header2 .given .1)
+    says-unsound _ s (c .before .before .before .before .before .read-header .ensures) (c .before .before .before .header2 .given .1)
     (all-of Byte s 0 (λ i _. omega (arith, c .before .before .before .before .before .before .shared-slice-known .given i)))
     (c .before .slots-pass .ensures) (not-true _ (c .if1 .taken))
 
 returns-2 : tie.Need-returns-2
 returns-2 c =
-    says-refused (c .before .before .before .before .before .args .store .now) (c .before .before .before .read-header .ensures)
+    says-refused _ (c .before .before .before .before .before .args .store .now) (c .before .before .before .read-header .ensures)
     (c .before .header .given .1)
 
 returns-3 : tie.Need-returns-3
 returns-3 c =
     let s = c .before .before .before .before .before .before .before .args .store .now in
-    says-sound s (c .before .before .before .before .before .read-header .ensures) (c .before .before .before .header2 .given .1)
+    says-sound _ s (c .before .before .before .before .before .read-header .ensures) (c .before .before .before .header2 .given .1)
     (all-of Byte s 0 (λ i _. omega (arith, c .before .before .before .before .before .before .shared-slice-known .given i)))
     (c .before .slots-pass .ensures) (not-false _ (c .if1 .left))
 

@@ -26,7 +26,7 @@ place-at-requires : tie.Need-place-at-requires
 place-at-requires c κs =
     let c2 = c .before .before in
     let c4 = c2 .before .before in
-    inner-place (slotIn (c4 .args .j) (c4 .args .store .now)) (c4 .pre .1) (c .count-at .ensures)
+    inner-place (slotIn (c4 .args .form) (c4 .args .j) (c4 .args .store .now)) (c4 .pre .1) (c .count-at .ensures)
     (c .before .bits-of .ensures .0 ∙ ap bitsIn (c2 .slot-of .ensures .0)) (c .before .bits-of .ensures .1)
 
 version-at-requires : tie.Need-version-at-requires
@@ -58,7 +58,7 @@ returns c =
     let c7 = c6 .before in
     let c8 = c7 .before in
     let c10 = c8 .before .before in
-    parent-is (c10 .args .kept) (slotIn (c10 .args .j) (c10 .args .store .now)) (c10 .pre .1) (c6 .count-at .ensures)
+    parent-is (c10 .args .kept) (slotIn (c10 .args .form) (c10 .args .j) (c10 .args .store .now)) (c10 .pre .1) (c6 .count-at .ensures)
     (c7 .bits-of .ensures .0 ∙ ap bitsIn (c8 .slot-of .ensures .0)) (c5 .place-at .ensures) (c4 .version-at .ensures)
     (c3 .retired-at .ensures) (c2 .ends-before .ensures .0) (c2 .ends-before .ensures .1) (c .before .later .ensures)
     (c .kept-life .ensures)

@@ -9,10 +9,10 @@ use Rattle.check_tie.proofs.tie_all.Statement.{statement}
 use Rattle.check_tie.proofs.tie_all.Tie as tie
 
 abbrev Inv-loop : tie.InvT-loop
-Inv-loop store kept guess known₀ sums₀ n j₀ known sums j = Going store n sums₀ sums known j
+Inv-loop form store kept guess known₀ sums₀ n j₀ known sums j = Going form store n sums₀ sums known j
 
 abbrev μ-loop : tie.MeasureT-loop
-μ-loop store kept guess known₀ sums₀ n j₀ known sums j = n - j
+μ-loop form store kept guess known₀ sums₀ n j₀ known sums j = n - j
 
 slot-count-requires : tie.Need-slot-count-requires Inv-loop μ-loop
 slot-count-requires c κs = c .before .pre .0 .keeps .size
@@ -83,8 +83,8 @@ loop-less c =
 loop-again : tie.Need-loop-again Inv-loop μ-loop
 loop-again c =
     let c8 = c .before .before .before .before .before .before .before .before in
-    go-next (c8 .before .loop .inv) (c8 .loop-test .taken) (c .before .tie-slot .last .1 .1 .1 .1 .1 .1 .0)
-    (c .before .tie-slot .last .1 .1 .1 .1 .1 .0) (c .before .tie-slot .ensures .0)
+    go-next (c8 .before .loop .inv) (c8 .loop-test .taken) (c .before .tie-slot .last .1 .1 .1 .1 .1 .1 .1 .0)
+    (c .before .tie-slot .last .1 .1 .1 .1 .1 .1 .0) (c .before .tie-slot .ensures .0)
     (passed-so (c .before .tie-slot .result) (c .if1 .left) (c .before .tie-slot .ensures .1))
 
 returns-2 : tie.Need-returns-2 Inv-loop μ-loop

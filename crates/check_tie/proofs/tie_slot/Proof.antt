@@ -19,8 +19,13 @@ kind-at-requires c κs = slot-within (c .before .pre .0)
 
 returns : tie.Need-returns
 returns c =
-    let c3 = c .before .before .before in
-    (c3 .pre .2, other-tied (c3 .pre .0) (c .before .kind-at .ensures) (c .if1 .taken) (c3 .args .sums .now))
+    let at = c .before in
+    let known = at .before in
+    let c3 = known .before in (
+      c3 .pre .2,
+      other-tied (c3 .pre .0) (all-of Byte (c3 .args .store .now) 0 (λ i _. omega (arith, known .shared-slice-known .given i)))
+          (at .kind-at .ensures) (c .if1 .taken) (c3 .args .sums .now),
+    )
 
 slot-of-requires : tie.Need-slot-of-requires
 slot-of-requires c κs =
@@ -48,21 +53,27 @@ child-version-at-requires-2 c κs =
     let c6 = c .before .before .before .before .before .before in
     slot-within (c6 .pre .0)
 
+child-count-at-requires : tie.Need-child-count-at-requires
+child-count-at-requires c κs = slot-within (c .before .before .before .before .before .before .before .pre .0)
+
+child-count-at-requires-2 : tie.Need-child-count-at-requires-2
+child-count-at-requires-2 c κs = slot-within (c .before .before .before .before .before .before .before .before .pre .0)
+
 cast-number : tie.Need-cast-number
 cast-number c =
-    let c7 = c .before .before .before .before .before .before .before in
+    let c7 = c .before .before .before .before .before .before .before .before .before in
     let h = slot-small {s = c7 .args .store .now} (c7 .pre .0) in
     omega (arith, h)
 
 mul-number : tie.Need-mul-number
 mul-number c =
-    let c7 = c .before .before .before .before .before .before .before in
+    let c7 = c .before .before .before .before .before .before .before .before .before in
     let h = slot-small {s = c7 .args .store .now} (c7 .pre .0) in
     omega (arith, h)
 
 add-number : tie.Need-add-number
 add-number c =
-    let c7 = c .before .before .before .before .before .before .before in
+    let c7 = c .before .before .before .before .before .before .before .before .before in
     let h = slot-small {s = c7 .args .store .now} (c7 .pre .0) in
     omega (arith, h)
 
@@ -76,7 +87,7 @@ tie-link-requires : tie.Need-tie-link-requires
 tie-link-requires c κs =
     let c2 = c .before .before in
     let c3 = c2 .before in
-    let c6 = c3 .before .before .before in
+    let c6 = c3 .before .before .before .before .before in
     let c7 = c6 .before in
     let c11 = c7 .before .before .before .before in (
       c11 .pre .1,
@@ -90,9 +101,9 @@ tie-link-requires c κs =
 returns-2 : tie.Need-returns-2
 returns-2 c = (c .before .tie-link .ensures .0, tt)
 
-add-t15 : tie.Need-add-t15
-add-t15 c =
-    let c13 = c .before .before .before .before .before .before .before .before .before .before .before .before .before in
+add-t18 : tie.Need-add-t18
+add-t18 c =
+    let c13 = c .before .before .before .before .before .before .before .before .before .before .before .before .before .before .before in
     let h = slot-small {s = c13 .args .store .now} (c13 .pre .0) in
     omega (arith, h)
 
@@ -107,7 +118,7 @@ tie-link-requires-2 c κs =
     let c2 = c .before .before in
     let c3 = c2 .before in
     let c5 = c3 .before .before in
-    let c12 = c5 .before .before .before .before .before .before .before in
+    let c12 = c5 .before .before .before .before .before .before .before .before .before in
     let c13 = c12 .before in
     let c17 = c13 .before .before .before .before in (
       c17 .pre .1,
@@ -126,7 +137,9 @@ returns-3 c =
     let c6 = c5 .before in
     let c9 = c6 .before .before .before in
     let c10 = c9 .before in
-    let c11 = c10 .before in
+    let rights = c10 .before in
+    let lefts = rights .before in
+    let c11 = lefts .before in
     let c12 = c11 .before in
     let c13 = c12 .before in
     let c14 = c13 .before in
@@ -143,8 +156,9 @@ returns-3 c =
     (read-whole (c9 .hash-at .ensures .1) (c10 .child-hash .ensures .1)
     (c10 .child-hash .ensures .0 ∙ ap (λ x. leftIn x .hash) (c14 .slot-of .ensures .0)))
     (read-whole (c3 .hash-at2 .ensures .1) (c4 .child-hash2 .ensures .1)
-    (c4 .child-hash2 .ensures .0 ∙ ap (λ x. rightIn x .hash) (c14 .slot-of .ensures .0))) (a .sums .now)
-    (c6 .tie-link .last .1 .1 .1 .1 .1 .1 .0) (c .tie-link2 .last .1 .1 .1 .1 .1 .1 .0)
+    (c4 .child-hash2 .ensures .0 ∙ ap (λ x. rightIn x .hash) (c14 .slot-of .ensures .0)))
+    (lefts .child-count-at .result) (rights .child-count-at2 .result) (lefts .child-count-at .ensures) (rights .child-count-at2 .ensures) (a .sums .now)
+    (c6 .tie-link .last .1 .1 .1 .1 .1 .1 .1 .0) (c .tie-link2 .last .1 .1 .1 .1 .1 .1 .1 .0)
     (passed-so (c6 .tie-link .result) (c5 .if2 .left) (c6 .tie-link .ensures .1)) in
     (c .tie-link2 .ensures .0, pass-map (c .tie-link2 .result) both (c .tie-link2 .ensures .1))
 
@@ -158,6 +172,8 @@ tie-slot-spec =
     parent-in-requires
     child-version-at-requires
     child-version-at-requires-2
+    child-count-at-requires
+    child-count-at-requires-2
     cast-number
     mul-number
     add-number
@@ -165,7 +181,7 @@ tie-slot-spec =
     hash-at-requires
     tie-link-requires
     returns-2
-    add-t15
+    add-t18
     child-hash-requires-2
     hash-at-requires-2
     tie-link-requires-2

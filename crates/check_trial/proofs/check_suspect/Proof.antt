@@ -17,7 +17,7 @@ suspected-requires : tie.Need-suspected-requires
 suspected-requires c κs =
     let c3 = c .before .before .before in
     let c5 = c3 .before .before in
-    says-kept (c5 .args .store .now) (c3 .read-header .ensures) (c .before .header .given .1)
+    says-kept _ (c5 .args .store .now) (c3 .read-header .ensures) (c .before .header .given .1)
 
 returns : tie.Need-returns
 returns c = search needs

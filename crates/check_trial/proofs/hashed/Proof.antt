@@ -1,6 +1,7 @@
 -- `check_trial::hashed` is safe and ends. Assumes nothing.
 use native.Mathlib.Omega.{arith}
 use Prim.Native.Nat.{_-_}
+use Rattle.terms.specs.declared.Form.the-variants.{Counted as counted}
 use Rattle.store.proofs.Slots.{slot-within}
 use Rattle.check_pass.proofs.Walks.{Walk, walk-start, walk-slot, walk-next}
 use borrow.Author.Needs.{needs}
@@ -8,7 +9,7 @@ use Rattle.check_trial.proofs.hashed.Statement.{statement}
 use Rattle.check_trial.proofs.hashed.Tie as tie
 
 abbrev Inv-loop : tie.InvT-loop
-Inv-loop store n odd₀ i₀ odd i = Walk store (λ k. Unit {0}) n i
+Inv-loop store n odd₀ i₀ odd i = Walk counted store (λ k. Unit {0}) n i
 
 abbrev μ-loop : tie.MeasureT-loop
 μ-loop store n odd₀ i₀ odd i = n - i

@@ -5,6 +5,7 @@ use mathlib.Core.Bool.{true}
 use lib.ListN.{length}
 use borrow.Author.Needs.{needs}
 use borrow.Author.Tests.{not-true, not-false}
+use Rattle.terms.specs.declared.Form.the-variants.{Counted as counted}
 use Rattle.terms.specs.Bits.{Bytes}
 use Rattle.meaning.specs.Store.{formatted}
 use Rattle.layout.specs.Headers.{sizeRight}
@@ -24,14 +25,14 @@ returns c = let e = sym (c .before .size-right .ensures) ∙ not-true _ (c .if1 
 abbrev store : tie.Else1 → Bytes
 store c = c .before .before .before .args .store .now
 
-size-passed : (c : tie.Else1) → sizeRight (length (store c)) ≡ true
+size-passed : (c : tie.Else1) → sizeRight counted (length (store c)) ≡ true
 size-passed c = sym (c .before .size-right .ensures) ∙ not-false _ (c .if1 .left)
 
 slot-count-requires : tie.Need-slot-count-requires
 slot-count-requires c κs = size-passed (c .before)
 
 cast-capacity : tie.Need-cast-capacity
-cast-capacity c = record { fits = omega (arith, c .slot-count .ensures, size-says _ (size-passed (c .before .before))) }
+cast-capacity c = record { fits = omega (arith, c .slot-count .ensures, size-says _ _ (size-passed (c .before .before))) }
 
 clear-requires : tie.Need-clear-requires
 clear-requires c κs = search needs
@@ -40,7 +41,7 @@ put-header-requires : tie.Need-put-header-requires
 put-header-requires c κs =
     let cleared = c .before .before .before in
     let passed = cleared .before .before .before .before in
-    omega (arith, cleared .clear .kept .0, size-least _ (size-passed passed))
+    omega (arith, cleared .clear .kept .0, size-least _ _ (size-passed passed))
 
 same-length : tie.Need-same-length
 same-length c = search needs
@@ -53,7 +54,7 @@ returns-2 c =
     let passed = counted .before .before in
     let e = size-passed passed in
     let s = store passed in
-    (rw e, rw e (c .before .before .put-header .ensures ∙ rw (cleared .clear .ensures, counted .slot-count .ensures) (fresh-bytes (length s) 0 0 e)))
+    (rw e, rw e (c .before .before .put-header .ensures ∙ rw (cleared .clear .ensures, counted .slot-count .ensures) (fresh-bytes _ (length s) 0 0 e)))
 
 pub format-spec : {M : Type 1} → statement M
 format-spec =

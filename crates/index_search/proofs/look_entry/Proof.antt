@@ -1,6 +1,7 @@
 -- `index_search::look_entry` meets its contract: an entry beyond the slots names none. Assumes nothing.
 use native.Mathlib.Omega.{arith}
 use mathlib.Core.Path.{_≡_, ap, sym, _∙_}
+use Rattle.terms.specs.declared.Form.the-variants.{Counted as counted}
 use Rattle.indexed.specs.Index.{inForm, named, lookAt}
 use Rattle.place.specs.Place.{placeOf}
 use Rattle.layout.specs.Stores.{storeOf, slotNo}
@@ -16,7 +17,7 @@ returns c =
     let start = c .before .before in
     let a = start .args in
     beyond (lookFor (a .root) (a .version) (placeOf (a .place))) (storeOf (a .store .now) .slots) (a .entry)
-    (omega (arith, slots-many (a .store .now), start .pre .1, c .if1 .taken))
+    (omega (arith, slots-many counted (a .store .now), start .pre .1, c .if1 .taken))
 
 look-root-requires : tie.Need-look-root-requires
 look-root-requires c κs =
@@ -27,7 +28,7 @@ unfolding named
 returns-2 c =
     let a = c .before .before .before .before .args in
     c .look-root .ensures
-    ∙ ap (λ b. lookSays (lookAt (lookFor b (a .version) (placeOf (a .place))) (inForm (slotNo (a .entry) (a .store .now))))) (sym (c .before .if2 .taken))
+    ∙ ap (λ b. lookSays (lookAt (lookFor b (a .version) (placeOf (a .place))) (inForm (slotNo counted (a .entry) (a .store .now))))) (sym (c .before .if2 .taken))
 
 look-node-requires : tie.Need-look-node-requires
 look-node-requires c κs =
@@ -39,7 +40,7 @@ unfolding named
 returns-3 c =
     let a = c .before .before .before .before .args in
     c .look-node .ensures
-    ∙ ap (λ b. lookSays (lookAt (lookFor b (a .version) (placeOf (a .place))) (inForm (slotNo (a .entry) (a .store .now))))) (sym (c .before .if2 .left))
+    ∙ ap (λ b. lookSays (lookAt (lookFor b (a .version) (placeOf (a .place))) (inForm (slotNo counted (a .entry) (a .store .now))))) (sym (c .before .if2 .left))
 
 pub look-entry-spec : {M : Type 1} → statement M
 look-entry-spec = tie.close (tie.spec returns look-root-requires returns-2 look-node-requires returns-3)

@@ -3,6 +3,7 @@ use Prim.Native.Nat.{_+_, _-_, _/_, _≤_, suc}
 use native.Mathlib.Omega.{arith}
 use mathlib.Core.Path.{_≡_, ap, sym, _∙_, subst}
 use lib.ListN.{length, getD}
+use Rattle.terms.specs.declared.Form.the-variants.{Counted as counted}
 use Rattle.indexed.proofs.Halving.{Between, middle, search-start, search-above, search-below, search-met, search-over}
 use Rattle.indexed.proofs.Searching.{entry-met}
 use Rattle.place.specs.Place.{placeOf}
@@ -31,8 +32,8 @@ loop-holds c =
     let a = start .args in
     let look = lookFor (a .root) (a .version) (placeOf (a .place)) in
     let s = storeOf (a .store .now) .slots in
-    let many = c .slot-count .ensures ∙ sym (slots-many (a .store .now)) in
-    (subst (λ h. Between look (a .table .now) s 0 h) (sym many) (search-start look (a .table .now) s), many, start .pre .1 ∙ sym (c .slot-count .ensures), omega (arith, c .slot-count .ensures, size-says (length (a .store .now)) (start .pre .0)))
+    let many = c .slot-count .ensures ∙ sym (slots-many counted (a .store .now)) in
+    (subst (λ h. Between look (a .table .now) s 0 h) (sym many) (search-start look (a .table .now) s), many, start .pre .1 ∙ sym (c .slot-count .ensures), omega (arith, c .slot-count .ensures, size-says counted (length (a .store .now)) (start .pre .0)))
 
 add-middle : tie.Need-add-middle Inv-loop μ-loop
 add-middle c = let inv = c .before .loop .inv in omega (arith, inv .0 .within, inv .0 .ordered, inv .1, inv .3)

@@ -1,16 +1,25 @@
 -- `layout::header_right` meets its contract: after each test that passed, the tests that are left decide. Assumes nothing.
 use mathlib.Core.Path.{_≡_, sym, _∙_}
 use native.Mathlib.Omega.{arith}
-use lib.ListN.{drop}
+use Prim.Native.Nat.{_-_, _/_}
+use lib.ListN.{length, drop}
 use borrow.Author.Tests.{eq-eqb, ne-eqb, le-leb, lt-leb, not-true, not-false}
 use Rattle.terms.specs.Bits.{Bytes}
 use Rattle.terms.specs.Fields.{field, slice, allOf}
 use Rattle.terms.proofs.Fields.{test-passed, test-failed, test-last}
-use Rattle.layout.specs.Sizes.{roomOf}
+use Rattle.terms.specs.declared.Form.{Form}
+use Rattle.layout.specs.Sizes.{headerKind, roomOf}
 use Rattle.layout.specs.Headers.{headerTests, headerRight}
+use Rattle.layout.proofs.Headers.{room-by}
 use borrow.Author.Needs.{needs}
 use Rattle.layout.proofs.header_right.Statement.{statement}
 use Rattle.layout.proofs.header_right.Tie as tie
+
+header-kind-requires : tie.Need-header-kind-requires
+header-kind-requires c κs = search needs
+
+slot-size-requires : tie.Need-slot-size-requires
+slot-size-requires c κs = search needs
 
 get-u32-requires : tie.Need-get-u32-requires
 get-u32-requires c κs = search needs
@@ -23,14 +32,23 @@ get-u16-requires : tie.Need-get-u16-requires
 get-u16-requires c κs = search needs
 
 abbrev store1 : tie.Else1 → Bytes
-store1 c = c .before .before .before .args .store .now
+store1 c = c .before .before .before .before .before .args .store .now
 
-after1 : (c : tie.Else1) → headerRight (store1 c) ≡ allOf (drop 1 (headerTests (store1 c)))
+abbrev form1 : tie.Else1 → Form
+form1 c = c .before .before .before .before .before .args .form
+
+kind1 : (c : tie.Else1) → c .before .before .before .header-kind .result ≡ headerKind (form1 c)
+kind1 c = c .before .before .before .header-kind .ensures
+
+room1 : (c : tie.Else1) → (length (store1 c) - 24) / c .before .before .slot-size .result ≡ roomOf (form1 c) (length (store1 c))
+room1 c = room-by (form1 c) (length (store1 c)) (c .before .before .slot-size .ensures .0)
+
+after1 : (c : tie.Else1) → headerRight (form1 c) (store1 c) ≡ allOf (drop 1 (headerTests (form1 c) (store1 c)))
 unfolding headerRight
 after1 c = test-passed _ (eq-eqb _ _ (sym (c .before .get-u32 .ensures) ∙ c .if1 .left))
 
 returns-2 : tie.Need-returns-2
-returns-2 c = sym (after1 (c .before .before) ∙ test-failed _ (ne-eqb _ _ (λ e. c .if2 .taken (c .before .get-u16 .ensures ∙ e))))
+returns-2 c = sym (after1 (c .before .before) ∙ test-failed _ (ne-eqb _ _ (λ e. c .if2 .taken (c .before .get-u16 .ensures ∙ e ∙ sym (kind1 (c .before .before))))))
 
 sub-all-zero : tie.Need-sub-all-zero
 sub-all-zero c = search needs
@@ -47,8 +65,11 @@ all-zero-requires c κs = search needs
 abbrev store2 : tie.Else2 → Bytes
 store2 c = store1 (c .before .before)
 
-after2 : (c : tie.Else2) → headerRight (store2 c) ≡ allOf (drop 2 (headerTests (store2 c)))
-after2 c = after1 (c .before .before) ∙ test-passed _ (eq-eqb _ _ (sym (c .before .get-u16 .ensures) ∙ c .if2 .left))
+abbrev form2 : tie.Else2 → Form
+form2 c = form1 (c .before .before)
+
+after2 : (c : tie.Else2) → headerRight (form2 c) (store2 c) ≡ allOf (drop 2 (headerTests (form2 c) (store2 c)))
+after2 c = after1 (c .before .before) ∙ test-passed _ (eq-eqb _ _ (sym (c .before .get-u16 .ensures) ∙ c .if2 .left ∙ kind1 (c .before .before)))
 
 returns-3 : tie.Need-returns-3
 unfolding slice
@@ -63,16 +84,21 @@ cast-if4 c = search needs
 sub-if4 : tie.Need-sub-if4
 sub-if4 c = search needs
 
+div-if4 : tie.Need-div-if4
+div-if4 c = search needs
+
 abbrev store3 : tie.Else3 → Bytes
 store3 c = store2 (c .before .before .before)
 
-after3 : (c : tie.Else3) → headerRight (store3 c) ≡ allOf (drop 3 (headerTests (store3 c)))
+abbrev form3 : tie.Else3 → Form
+form3 c = form2 (c .before .before .before)
+
+after3 : (c : tie.Else3) → headerRight (form3 c) (store3 c) ≡ allOf (drop 3 (headerTests (form3 c) (store3 c)))
 unfolding slice
 after3 c = after2 (c .before .before .before) ∙ test-passed _ (sym (c .before .all-zero .ensures) ∙ not-false _ (c .if3 .left))
 
 returns-4 : tie.Need-returns-4
-unfolding roomOf
-returns-4 c = sym (after3 (c .before .before) ∙ test-failed _ (ne-eqb _ _ (λ e. c .if4 .taken (c .before .get-u322 .ensures ∙ e))))
+returns-4 c = sym (after3 (c .before .before) ∙ test-failed _ (ne-eqb _ _ (λ e. c .if4 .taken (c .before .get-u322 .ensures ∙ e ∙ sym (room1 (c .before .before .before .before .before .before .before))))))
 
 get-u32-requires-3 : tie.Need-get-u32-requires-3
 get-u32-requires-3 c κs = search needs
@@ -83,9 +109,11 @@ get-u32-requires-4 c κs = search needs
 abbrev store4 : tie.Else4 → Bytes
 store4 c = store3 (c .before .before)
 
-after4 : (c : tie.Else4) → headerRight (store4 c) ≡ allOf (drop 4 (headerTests (store4 c)))
-unfolding roomOf
-after4 c = after3 (c .before .before) ∙ test-passed _ (eq-eqb _ _ (sym (c .before .get-u322 .ensures) ∙ c .if4 .left))
+abbrev form4 : tie.Else4 → Form
+form4 c = form3 (c .before .before)
+
+after4 : (c : tie.Else4) → headerRight (form4 c) (store4 c) ≡ allOf (drop 4 (headerTests (form4 c) (store4 c)))
+after4 c = after3 (c .before .before) ∙ test-passed _ (eq-eqb _ _ (sym (c .before .get-u322 .ensures) ∙ c .if4 .left ∙ room1 (c .before .before .before .before .before .before .before)))
 
 returns-5 : tie.Need-returns-5
 returns-5 c = sym (after4 (c .before .before .before) ∙ test-failed _ (lt-leb (field 12 4 (store4 (c .before .before .before))) (field 16 4 (store4 (c .before .before .before))) (omega arith)))
@@ -105,7 +133,10 @@ all-zero-requires-2 c κs = search needs
 abbrev store5 : tie.Else5 → Bytes
 store5 c = store4 (c .before .before .before)
 
-after5 : (c : tie.Else5) → headerRight (store5 c) ≡ allOf (drop 5 (headerTests (store5 c)))
+abbrev form5 : tie.Else5 → Form
+form5 c = form4 (c .before .before .before)
+
+after5 : (c : tie.Else5) → headerRight (form5 c) (store5 c) ≡ allOf (drop 5 (headerTests (form5 c) (store5 c)))
 after5 c = after4 (c .before .before .before) ∙ test-passed _ (le-leb (field 12 4 (store5 c)) (field 16 4 (store5 c)) (omega arith))
 
 returns-6 : tie.Need-returns-6
@@ -116,6 +147,8 @@ pub header-right-spec : {M : Type 1} → statement M
 header-right-spec =
     tie.close
     (tie.spec
+    header-kind-requires
+    slot-size-requires
     get-u32-requires
     returns
     get-u16-requires
@@ -128,6 +161,7 @@ header-right-spec =
     get-u32-requires-2
     cast-if4
     sub-if4
+    div-if4
     returns-4
     get-u32-requires-3
     get-u32-requires-4

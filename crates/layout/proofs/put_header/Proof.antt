@@ -4,6 +4,9 @@ use borrow.Author.Needs.{needs}
 use Rattle.layout.proofs.put_header.Statement.{statement}
 use Rattle.layout.proofs.put_header.Tie as tie
 
+header-kind-requires : tie.Need-header-kind-requires
+header-kind-requires c κs = search needs
+
 put-u32-requires : tie.Need-put-u32-requires
 put-u32-requires c κs = search needs
 
@@ -37,15 +40,17 @@ returns c =
     let c3 = c4 .before .before .before .before in
     let c2 = c3 .before .before .before .before in
     let c1 = c2 .before .before .before .before in
-    let start = c1 .before .before .before in
+    let kind = c1 .before .before in
+    let start = kind .before .before in
     let a = start .args in
-    header-put (a .capacity) (a .oldest) (a .latest) (a .store .now) (start .pre) (c1 .put-u32 .ensures) (c2 .put-u16 .ensures) (c3 .put-u162 .ensures)
+    header-put (a .form) (a .capacity) (a .oldest) (a .latest) (a .store .now) (start .pre) (kind .header-kind .ensures) (c1 .put-u32 .ensures) (c2 .put-u16 .ensures) (c3 .put-u162 .ensures)
     (c4 .put-u322 .ensures) (c5 .put-u323 .ensures) (c6 .put-u324 .ensures) (c7 .put-u325 .ensures)
 
 pub put-header-spec : {M : Type 1} → statement M
 put-header-spec =
     tie.close
     (tie.spec
+    header-kind-requires
     put-u32-requires
     put-u16-requires
     put-u16-requires-2

@@ -6,6 +6,7 @@ use native.Mathlib.Omega.{arith}
 use lib.ListN.{length}
 use borrow.Author.Tests.{not-true, not-false}
 use Rattle.terms.specs.Bits.{Bytes}
+use Rattle.terms.specs.declared.Form.{Form}
 use Rattle.layout.specs.Headers.{sizeRight, headerOf}
 use Rattle.layout.specs.Answer.{headerSays}
 use Rattle.layout.proofs.Headers.{size-least}
@@ -20,14 +21,17 @@ returns : tie.Need-returns
 unfolding headerSays headerOf
 returns c = rw (sym (c .before .size-right .ensures) ∙ not-true _ (c .if1 .taken))
 
+abbrev form : tie.Else1 → Form
+form c = c .before .before .before .args .form
+
 abbrev store : tie.Else1 → Bytes
 store c = c .before .before .before .args .store .now
 
-size-passed : (c : tie.Else1) → sizeRight (length (store c)) ≡ true
+size-passed : (c : tie.Else1) → sizeRight (form c) (length (store c)) ≡ true
 size-passed c = sym (c .before .size-right .ensures) ∙ not-false _ (c .if1 .left)
 
 long : (c : tie.Else1) → 24 ≤ length (store c)
-long c = omega (arith, size-least (length (store c)) (size-passed c))
+long c = omega (arith, size-least (form c) (length (store c)) (size-passed c))
 
 header-right-requires : tie.Need-header-right-requires
 header-right-requires c κs = long c

@@ -1,9 +1,12 @@
 -- `lookup::find` meets its contract: each slot passed does not match, so the first that does is the one found. Assumes nothing.
-use Prim.Native.Nat.{_-_}
-use mathlib.Core.Path.{refl, sym, _∙_}
+use Prim.Native.Nat.{_+_, _-_}
+use mathlib.Core.Path.{ap, sym, _∙_}
 use native.Mathlib.Omega.{arith}
 use borrow.Author.Needs.{needs}
 use Rattle.place.specs.Place.{placeOf}
+use Rattle.layout.proofs.Headers.{slot-one}
+use Rattle.store.proofs.Slots.{slot-within}
+use Rattle.store.proofs.Scans.{scan-slot}
 use Rattle.lookup.proofs.Searching.{Slots, Agrees, from-start, other-version, other-count, none-left, byte-more, byte-off, found-here, spoiled-here}
 use Rattle.lookup.proofs.find.Statement.{statement}
 use Rattle.lookup.proofs.find.Tie as tie
@@ -14,16 +17,16 @@ use Rattle.fields.proofs.get_u32.Reads as get-u32-reads
 use Rattle.lookup.proofs.holds_record.Reads as holds-record-reads
 
 abbrev Inv-loop : tie.InvT-loop
-Inv-loop store version b count n i₀ at k₀ i k = Agrees store version b count n i at k
+Inv-loop form store version b count n i₀ at k₀ i k = Agrees form store version b count n i at k
 
 abbrev μ-loop : tie.MeasureT-loop
-μ-loop store version b count n i₀ at k₀ i k = 32 - k
+μ-loop form store version b count n i₀ at k₀ i k = 32 - k
 
 abbrev Inv-slots : tie.InvT-slots
-Inv-slots store version b count n i₀ i = Slots store version b count n i
+Inv-slots form store version b count n i₀ i = Slots form store version b count n i
 
 abbrev μ-slots : tie.MeasureT-slots
-μ-slots store version b count n i₀ i = n - i
+μ-slots form store version b count n i₀ i = n - i
 
 slot-count-requires : tie.Need-slot-count-requires Inv-loop μ-loop Inv-slots μ-slots
 slot-count-requires c κs = c .before .before .pre .0
@@ -38,20 +41,16 @@ slots-holds c =
     (a .pre .1 .short) (search needs) (a .pre .1 .trimmed)
 
 -- src/lib.rt:46:23
-mul-at : tie.Need-mul-at Inv-loop μ-loop Inv-slots μ-slots
-mul-at c = omega arith
-
--- src/lib.rt:46:18
-add-at : tie.Need-add-at Inv-loop μ-loop Inv-slots μ-slots
-add-at c = omega arith
+slot-start-requires : tie.Need-slot-start-requires Inv-loop μ-loop Inv-slots μ-slots
+slot-start-requires c κs = let h = slot-within (scan-slot (c .before .slots .inv .scan) (c .if1 .left)) in search (needs, h)
 
 -- src/lib.rt:47:27
 add-get-u32 : tie.Need-add-get-u32 Inv-loop μ-loop Inv-slots μ-slots
-add-get-u32 c = omega arith
+add-get-u32 c = omega (arith, slot-within (scan-slot (c .before .before .slots .inv .scan) (c .before .if1 .left)))
 
 -- src/lib.rt:47:12
 get-u32-requires : tie.Need-get-u32-requires Inv-loop μ-loop Inv-slots μ-slots
-get-u32-requires c κs = omega arith
+get-u32-requires c κs = omega (arith, slot-within (scan-slot (c .before .before .slots .inv .scan) (c .before .if1 .left)))
 
 -- src/lib.rt:48:13
 add-i : tie.Need-add-i Inv-loop μ-loop Inv-slots μ-slots
@@ -64,15 +63,16 @@ slots-less c = omega arith
 -- src/lib.rt:42:5
 slots-again : tie.Need-slots-again Inv-loop μ-loop Inv-slots μ-slots
 slots-again c =
-    other-version (c .before .before .before .slots .inv) (c .before .before .if1 .left) _ refl (λ e. c .if2 .taken (c .before .get-u32 .ensures ∙ e))
+    let d = c .before .before in
+    other-version (d .before .before .slots .inv) (d .before .if1 .left) _ (d .slot-start .ensures .0) (λ e. c .if2 .taken (c .before .get-u32 .ensures ∙ e))
 
 -- src/lib.rt:51:27
 add-get-u16 : tie.Need-add-get-u16 Inv-loop μ-loop Inv-slots μ-slots
-add-get-u16 c = omega arith
+add-get-u16 c = omega (arith, slot-within (scan-slot (c .before .before .before .before .slots .inv .scan) (c .before .before .before .if1 .left)))
 
 -- src/lib.rt:51:12
 get-u16-requires : tie.Need-get-u16-requires Inv-loop μ-loop Inv-slots μ-slots
-get-u16-requires c κs = omega arith
+get-u16-requires c κs = omega (arith, slot-within (scan-slot (c .before .before .before .before .slots .inv .scan) (c .before .before .before .if1 .left)))
 
 -- src/lib.rt:51:12
 cast-if3 : tie.Need-cast-if3 Inv-loop μ-loop Inv-slots μ-slots
@@ -90,16 +90,19 @@ slots-less-2 c = omega arith
 slots-again-2 : tie.Need-slots-again-2 Inv-loop μ-loop Inv-slots μ-slots
 slots-again-2 c =
     let d = c .before .before .before .before in
-    other-count (d .before .slots .inv) (d .if1 .left) _ refl (λ e. c .if3 .taken (c .before .get-u16 .ensures ∙ e))
+    other-count (d .before .before .slots .inv) (d .before .if1 .left) _ (d .slot-start .ensures .0) (λ e. c .if3 .taken (c .before .get-u16 .ensures ∙ e))
 
 -- src/lib.rt:56:9
 loop-holds : tie.Need-loop-holds Inv-loop μ-loop Inv-slots μ-slots
 loop-holds c =
     let d = c .before .before .before .before in
+    let w = slot-within (scan-slot (d .before .before .slots .inv .scan) (d .before .if1 .left)) in
     record {
-      slots = d .before .slots .inv;
-      inside = d .if1 .left;
-      here = refl;
+      slots = d .before .before .slots .inv;
+      inside = d .before .if1 .left;
+      here = d .slot-start .ensures .0;
+      whole = w;
+      fits = omega (arith, d .slot-start .ensures);
       within = omega arith;
       version = sym (c .before .before .before .get-u32 .ensures) ∙ c .before .before .if2 .left;
       bits = sym (c .before .get-u16 .ensures) ∙ c .if3 .left;
@@ -128,7 +131,9 @@ add-i-3 c = omega arith
 
 -- src/lib.rt:42:5
 slots-less-3 : tie.Need-slots-less-3 Inv-loop μ-loop Inv-slots μ-slots
-slots-less-3 c = omega arith
+slots-less-3 c =
+    let w = c .before .before .before .loop .inv in
+    omega (arith, w .inside, slot-one (c .before .before .before .before .before .before .before .before .before .before .before .before .before .before .args .form) (c .before .before .before .before .before .before .before .before .before .before .slots .i) (c .before .before .before .loop .i) (sym (c .before .before .before .before .before .before .before .before .slot-start .ensures .0) ∙ w .here))
 
 -- src/lib.rt:42:5
 slots-again-3 : tie.Need-slots-again-3 Inv-loop μ-loop Inv-slots μ-slots
@@ -147,8 +152,11 @@ loop-again : tie.Need-loop-again Inv-loop μ-loop Inv-slots μ-slots
 loop-again c = byte-more (c .before .before .before .loop .inv) (c .before .before .loop-test .taken) (c .if4 .left)
 
 -- src/lib.rt:63:19
+slot-size-requires : tie.Need-slot-size-requires Inv-loop μ-loop Inv-slots μ-slots
+slot-size-requires c κs = search needs
+
 add-end : tie.Need-add-end Inv-loop μ-loop Inv-slots μ-slots
-add-end c = omega arith
+add-end c = omega (arith, c .before .before .loop .inv)
 
 -- src/lib.rt:64:25
 sub-holds-record : tie.Need-sub-holds-record Inv-loop μ-loop Inv-slots μ-slots
@@ -160,7 +168,7 @@ part-holds-record-start c = omega arith
 
 -- src/lib.rt:64:25
 part-holds-record-end : tie.Need-part-holds-record-end Inv-loop μ-loop Inv-slots μ-slots
-part-holds-record-end c = omega arith
+part-holds-record-end c = omega (arith, c .before .before .loop .inv)
 
 -- src/lib.rt:64:12
 holds-record-requires : tie.Need-holds-record-requires Inv-loop μ-loop Inv-slots μ-slots
@@ -172,11 +180,13 @@ add-i-4 c = omega arith
 
 -- src/lib.rt:42:5
 slots-less-4 : tie.Need-slots-less-4 Inv-loop μ-loop Inv-slots μ-slots
-slots-less-4 c = omega arith
+slots-less-4 c =
+    let w = c .before .before .before .before .before .loop .inv in
+    omega (arith, w .inside, slot-one (c .before .before .before .before .before .before .before .before .before .before .before .before .before .before .before .before .args .form) (c .before .before .before .before .before .before .before .before .before .before .before .before .slots .i) (c .before .before .before .before .before .loop .i) (sym (c .before .before .before .before .before .before .before .before .before .before .slot-start .ensures .0) ∙ w .here))
 
 -- src/lib.rt:42:5
 slots-again-4 : tie.Need-slots-again-4 Inv-loop μ-loop Inv-slots μ-slots
-slots-again-4 c = spoiled-here (c .before .before .before .before .loop .inv) refl (sym (c .before .holds-record .ensures) ∙ c .if5 .left)
+slots-again-4 c = spoiled-here (c .before .before .before .before .before .loop .inv) (ap (c .before .before .before .before .before .before .before .before .before .before .slot-start .result +_) (c .before .before .before .slot-size .ensures .0)) (sym (c .before .holds-record .ensures) ∙ c .if5 .left)
 
 -- src/lib.rt:34:1
 returns : tie.Need-returns Inv-loop μ-loop Inv-slots μ-slots
@@ -187,7 +197,7 @@ returns c = none-left (c .before .slots .inv) (c .if1 .taken)
 returns-2 : tie.Need-returns-2 Inv-loop μ-loop Inv-slots μ-slots
 unfolding placeOf
 returns-2 c =
-    found-here (c .before .before .before .before .loop .inv) refl (c .before .before .before .loop-test .left) (sym (c .before .holds-record .ensures) ∙ c .if5 .taken)
+    found-here (c .before .before .before .before .before .loop .inv) (ap (c .before .before .before .before .before .before .before .before .before .before .slot-start .result +_) (c .before .before .before .slot-size .ensures .0)) (c .before .before .before .before .loop-test .left) (sym (c .before .holds-record .ensures) ∙ c .if5 .taken)
 
 pub find-spec : {M : Type 1} → statement M
 find-spec =
@@ -199,8 +209,7 @@ find-spec =
     μ-slots
     slot-count-requires
     slots-holds
-    mul-at
-    add-at
+    slot-start-requires
     add-get-u32
     get-u32-requires
     add-i
@@ -223,6 +232,7 @@ find-spec =
     add-k
     loop-less
     loop-again
+    slot-size-requires
     add-end
     sub-holds-record
     part-holds-record-start

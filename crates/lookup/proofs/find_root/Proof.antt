@@ -8,10 +8,10 @@ use Rattle.lookup.proofs.find_root.Statement.{statement}
 use Rattle.lookup.proofs.find_root.Tie as tie
 
 abbrev Inv-loop : tie.InvT-loop
-Inv-loop store version n j₀ j = Scan store (Ahead store version) n j
+Inv-loop form store version n j₀ j = Scan form store (Ahead form store version) n j
 
 abbrev μ-loop : tie.MeasureT-loop
-μ-loop store version n j₀ j = n - j
+μ-loop form store version n j₀ j = n - j
 
 slot-count-requires : tie.Need-slot-count-requires Inv-loop μ-loop
 slot-count-requires c κs = c .before .pre

@@ -38,9 +38,6 @@ plan-of-requires c κs =
 is-outside-requires : tie.Need-is-outside-requires
 is-outside-requires c κs = search needs
 
-cast-t13 : tie.Need-cast-t13
-cast-t13 c = search needs
-
 returns-3 : tie.Need-returns-3
 returns-3 c =
     let u = c .before in
@@ -79,7 +76,6 @@ pocket-prove-spec =
     enum-told
     plan-of-requires
     is-outside-requires
-    cast-t13
     returns-3
     give-requires
     same-length

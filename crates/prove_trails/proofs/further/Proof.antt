@@ -7,7 +7,7 @@ use Rattle.prove_trails.proofs.further.Statement.{statement}
 use Rattle.prove_trails.proofs.further.Tie as tie
 
 cast-slots : tie.Need-cast-slots
-cast-slots c = let w = c .before .before .before .pre in omega (arith, w .inside, size-says _ (w .size))
+cast-slots c = let w = c .before .before .before .pre in omega (arith, w .inside, size-says _ _ (w .size))
 
 mul-slots : tie.Need-mul-slots
 mul-slots c = search needs

@@ -9,7 +9,7 @@ use Rattle.read_key.proofs.leaf_read.Tie as tie
 slot-of-requires : tie.Need-slot-of-requires
 slot-of-requires c κs =
     let d = c .before .before in
-    slot-fits (d .args .store .now) (d .pre .0) (d .args .i) (d .pre .1)
+    slot-fits _ (d .args .store .now) (d .pre .0) (d .args .i) (d .pre .1)
 
 key-of-requires : tie.Need-key-of-requires
 key-of-requires c κs = search needs

@@ -24,7 +24,7 @@ slot-of-requires : tie.Need-slot-of-requires
 slot-of-requires c κs =
     let start = c .before .before .before .before .before in
     let s = start .args .store .now in
-    slot-fits s (start .pre) _ (inside s (rootSight (storeOf s) (start .args .version)) (c .before .before .before .look-root .ensures) (c .before .sight .given .1))
+    slot-fits _ s (start .pre) _ (inside s (rootSight (storeOf s) (start .args .version)) (c .before .before .before .look-root .ensures) (c .before .sight .given .1))
 
 record-hash-requires : tie.Need-record-hash-requires
 record-hash-requires c κs = search needs

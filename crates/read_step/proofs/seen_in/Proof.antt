@@ -10,7 +10,7 @@ slot-of-requires : tie.Need-slot-of-requires
 slot-of-requires c κs =
     let a = c .before .args in
     let h = c .before .pre .slotted in
-    slot-fits (a .store .now) (h .size) (a .i) (h .inside)
+    slot-fits _ (a .store .now) (h .size) (a .i) (h .inside)
 
 is-leaf-requires : tie.Need-is-leaf-requires
 is-leaf-requires c κs = search needs

@@ -26,7 +26,7 @@ returns c =
     counts-free (d .pre) (c2 .before .slot-of .ensures .0) (c2 .slot-of2 .ensures .0) (c .before .all-zero .ensures) (c .if1 .taken)
 
 holds-record-requires : tie.Need-holds-record-requires
-holds-record-requires c κs = c .before .before .before .slot-of .ensures .1
+holds-record-requires c κs = c .before .before .before .slot-of .ensures .2
 
 add-now : tie.Need-add-now
 add-now c = let d = c .before .before .before .before .before .before .before .before .before in omega (arith, d .pre .few)
@@ -40,7 +40,7 @@ returns-2 c =
     counts-spoiled (d .pre) (c5 .before .slot-of .ensures .0) (c5 .slot-of2 .ensures .0) (c3 .before .all-zero .ensures) (c3 .if1 .left) (c2 .holds-record .ensures) (not-true _ (c .before .if2 .taken))
 
 holds-record-requires-2 : tie.Need-holds-record-requires-2
-holds-record-requires-2 c κs = c .before .before .before .before .slot-of2 .ensures .1
+holds-record-requires-2 c κs = c .before .before .before .before .slot-of2 .ensures .2
 
 add-now-2 : tie.Need-add-now-2
 add-now-2 c = let d = c .before .before .before .before .before .before .before .before .before .before .before in omega (arith, d .pre .few)

@@ -45,7 +45,7 @@ returns-2 c =
     let d = (c .before .before .before .before .before .before .before .before .before .before .before .before .before .before) in
     put-at (d .args .source .now) (d .args .target .now) (d .pre .0) (d .pre .1) ((c .before .before .before .before .before .before .before .before .before .before) .found .given .1)
     (all-of Byte (d .args .source .now) 0 (λ i _. omega (arith, (c .before .before .before .before .before .before .before .before .before .before .before .before .before) .shared-slice-known .given i))) (d .args .since) (omega arith)
-    ((c .before .before .before .before .before .before .before) .slot-of .ensures .0) ((c .before .before .before .before .before .before) .copy-slot .ensures) ((c .before .before) .put-retired-at .ensures) ((c .before .before) .put-retired-at .kept .0 ∙ (c .before .before .before .before .before .before) .copy-slot .kept .0)
+    ((c .before .before .before .before .before .before .before) .slot-of .ensures .0) ((c .before .before .before .before .before .before) .copy-slot .ensures) ((c .before .before) .put-retired-at .ensures) ((c .before .before) .put-retired-at .kept .1 .0 ∙ (c .before .before .before .before .before .before) .copy-slot .kept .0)
 
 pub put-spec : {M : Type 1} → statement M
 put-spec =

@@ -14,11 +14,11 @@ slot-count-requires c κs =
 cast-n : tie.Need-cast-n
 cast-n c =
     let d = (c .before .before .before) in
-    omega (arith, c .slot-count .ensures, size-says _ (d .pre .size))
+    omega (arith, c .slot-count .ensures, size-says _ _ (d .pre .size))
 
 put-header-requires : tie.Need-put-header-requires
 put-header-requires c κs =
-    omega (arith, size-least _ ((c .before .before .before .before) .pre .size))
+    omega (arith, size-least _ _ ((c .before .before .before .before) .pre .size))
 
 same-length : tie.Need-same-length
 same-length c =

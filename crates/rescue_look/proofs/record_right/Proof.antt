@@ -28,10 +28,10 @@ slot-of-requires c κs =
     slot-within (sought-has s (d .args .version) (d .args .place) (d .pre) (all-of Byte s 0 (λ i _. omega (arith, c3 .shared-slice-known .given i))) (c .before .found .given .1))
 
 is-leaf-requires : tie.Need-is-leaf-requires
-is-leaf-requires c κs = c .slot-of .ensures .1
+is-leaf-requires c κs = c .slot-of .ensures .2
 
 key-of-requires : tie.Need-key-of-requires
-key-of-requires c κs = c .before .before .slot-of .ensures .1
+key-of-requires c κs = c .before .before .slot-of .ensures .2
 
 begins-requires : tie.Need-begins-requires
 begins-requires c κs = (c .key-of .ensures .1, c .before .before .before .before .before .before .before .before .pre .proper)

@@ -39,7 +39,7 @@ slot-of-requires : tie.Need-slot-of-requires
 slot-of-requires c κs = slot-within (c .before .before .before .before .before .before .pre)
 
 holds-record-requires : tie.Need-holds-record-requires
-holds-record-requires c κs = c .slot-of .ensures .1
+holds-record-requires c κs = c .slot-of .ensures .2
 
 returns-4 : tie.Need-returns-4
 returns-4 c =

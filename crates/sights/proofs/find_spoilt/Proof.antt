@@ -2,6 +2,7 @@
 use Prim.Native.Nat.{_-_}
 use native.Mathlib.Omega.{arith}
 use mathlib.Core.Path.{sym, _∙_}
+use Rattle.terms.specs.declared.Form.the-variants.{Counted as counted}
 use Rattle.place.specs.Place.{placeOf}
 use Rattle.meaning.specs.Sight.{agrees}
 use Rattle.store.proofs.Scans.{Scan, scan-slot}
@@ -10,7 +11,7 @@ use Rattle.sights.proofs.find_spoilt.Statement.{statement}
 use Rattle.sights.proofs.find_spoilt.Tie as tie
 
 abbrev Inv-loop : tie.InvT-loop
-Inv-loop store version place n i₀ i = Scan store (Ahead (agrees version (placeOf place)) store) n i
+Inv-loop store version place n i₀ i = Scan counted store (Ahead (agrees version (placeOf place)) store) n i
 
 abbrev μ-loop : tie.MeasureT-loop
 μ-loop store version place n i₀ i = n - i

@@ -2,6 +2,7 @@
 use Prim.Native.Nat.{_-_}
 use native.Mathlib.Omega.{arith}
 use mathlib.Core.Path.{sym, _∙_}
+use Rattle.terms.specs.declared.Form.the-variants.{Counted as counted}
 use Rattle.meaning.specs.Sight.{agreesRoot}
 use Rattle.store.proofs.Scans.{Scan, scan-slot}
 use Rattle.sights.proofs.Spoilt.{Ahead, spoilt-start, spoilt-next, spoilt-found, spoilt-nowhere}
@@ -9,7 +10,7 @@ use Rattle.sights.proofs.find_spoilt_root.Statement.{statement}
 use Rattle.sights.proofs.find_spoilt_root.Tie as tie
 
 abbrev Inv-loop : tie.InvT-loop
-Inv-loop store version n j₀ j = Scan store (Ahead (agreesRoot version) store) n j
+Inv-loop store version n j₀ j = Scan counted store (Ahead (agreesRoot version) store) n j
 
 abbrev μ-loop : tie.MeasureT-loop
 μ-loop store version n j₀ j = n - j

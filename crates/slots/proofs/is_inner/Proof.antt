@@ -2,33 +2,46 @@
 use mathlib.Core.Path.{_≡_, ap, sym, _∙_}
 use mathlib.Core.Bool.{_||_}
 use native.Mathlib.Omega.{arith}
-use lib.ListN.{drop}
+use lib.ListN.{length, drop}
 use lib.Dec.{leb}
 use borrow.Author.Tests.{le-leb, lt-leb, not-true, not-false}
 use Rattle.terms.specs.Bits.{Bytes}
 use Rattle.terms.specs.Fields.{field, allOf}
 use Rattle.terms.proofs.Fields.{test-passed, test-failed, test-last}
-use Rattle.layout.specs.Slots.{childIn, innerIn, headRight, someChild, innerTests, isInner}
+use Rattle.layout.specs.Slots.{childIn, innerIn, headTests, headRight, someChild, innerTests, isInner}
 use borrow.Author.Needs.{needs}
 use Rattle.slots.proofs.is_inner.Statement.{statement}
 use Rattle.slots.proofs.is_inner.Tie as tie
 
+inner-kind-requires : tie.Need-inner-kind-requires
+inner-kind-requires c κs = search needs
+
+cast-head-right : tie.Need-cast-head-right
+cast-head-right c = search needs
+
 head-right-requires : tie.Need-head-right-requires
 head-right-requires c κs = search needs
 
+-- what was tested is the head, with the kind of its form
+headed : (c : tie.After-head-right) → headRight (innerIn (c .before .before .before .args .s .now)) (c .before .before .before .args .s .now) ≡ c .head-right .result
+unfolding headRight innerIn
+headed c =
+    let x = c .before .before .before .args .s .now in
+    ap (λ k. allOf (headTests (length x) k 255 x)) (sym (c .before .inner-kind .ensures)) ∙ sym (c .head-right .ensures)
+
 returns : tie.Need-returns
-unfolding isInner headRight innerIn
-returns c = sym (test-failed _ (sym (c .before .head-right .ensures) ∙ not-true _ (c .if1 .taken)))
+unfolding isInner
+returns c = sym (test-failed _ (headed (c .before) ∙ not-true _ (c .if1 .taken)))
 
 child-right-requires : tie.Need-child-right-requires
 child-right-requires c κs = search needs
 
 abbrev bytes1 : tie.Else1 → Bytes
-bytes1 c = c .before .before .before .args .s .now
+bytes1 c = c .before .before .before .before .args .s .now
 
 after1 : (c : tie.Else1) → isInner (bytes1 c) ≡ allOf (drop 1 (innerTests (bytes1 c)))
-unfolding isInner headRight innerIn
-after1 c = test-passed _ (sym (c .before .head-right .ensures) ∙ not-false _ (c .if1 .left))
+unfolding isInner
+after1 c = test-passed _ (headed (c .before) ∙ not-false _ (c .if1 .left))
 
 returns-2 : tie.Need-returns-2
 returns-2 c = sym (after1 (c .before .before) ∙ test-failed _ (sym (c .before .child-right .ensures) ∙ not-true _ (c .if2 .taken)))
@@ -70,6 +83,8 @@ pub is-inner-spec : {M : Type 1} → statement M
 is-inner-spec =
     tie.close
     (tie.spec
+    inner-kind-requires
+    cast-head-right
     head-right-requires
     returns
     child-right-requires

@@ -1,4 +1,4 @@
--- `slots_put::clear_slot` meets its contract: a free slot is 120 zero bytes. Assumes nothing.
+-- `slots_put::clear_slot` meets its contract: a free slot is zero bytes. Assumes nothing.
 use mathlib.Core.Path.{ap, _∙_}
 use Rattle.terms.specs.Fields.{zeroBytes}
 use Rattle.layout.specs.Slots.{slotBytes}
@@ -14,7 +14,7 @@ same-length c = search needs
 
 returns : tie.Need-returns
 unfolding slotBytes
-returns c = c .before .before .clear .ensures ∙ ap zeroBytes (c .before .before .before .before .before .pre)
+returns c = λ f l. c .before .before .clear .ensures ∙ ap zeroBytes l
 
 pub clear-slot-spec : {M : Type 1} → statement M
 clear-slot-spec = tie.close (tie.spec clear-requires same-length returns)

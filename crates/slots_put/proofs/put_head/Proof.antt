@@ -58,7 +58,7 @@ returns c =
     let start = c1 .before .before .before .before .before in
     let a = start .args in
     let p = start .pre .1 in
-    head-put (a .len) (a .kind) _ (a .version) (a .retired) (a .s .now) (start .pre .0) (sym (proper-count (a .place) p)) (c4 .copy .ensures ∙ p .trimmed)
+    head-put (a .len) (a .kind) _ (a .version) (a .retired) (a .s .now) (start .pre .0 .0) (sym (proper-count (a .place) p)) (c4 .copy .ensures ∙ p .trimmed)
     (c1 .put-u32 .ensures) (c2 .put-u16 .ensures) (c3 .put-u162 .ensures) (c5 .put-u322 .ensures) (c6 .put-u323 .ensures)
 
 pub put-head-spec : {M : Type 1} → statement M

@@ -1,4 +1,4 @@
--- `slots_put::put_leaf` meets its contract: head, grant and 8 zero bytes fill the slot. Assumes nothing.
+-- `slots_put::put_leaf` meets its contract: head, grant and zero bytes fill the slot. Assumes nothing.
 use Rattle.slots_put.proofs.Writing.{leaf-put}
 use borrow.Author.Needs.{needs}
 use Rattle.slots_put.proofs.put_leaf.Statement.{statement}
@@ -41,7 +41,7 @@ returns c =
     let c1 = c2 .before .before .before .before in
     let start = c1 .before .before .before .before in
     let a = start .args in
-    leaf-put _ (a .version) (a .retired) (a .grant .now) (a .s .now) (start .pre .0) (start .pre .2) (c1 .put-head .ensures) (c2 .copy .ensures) (c3 .clear .ensures)
+    λ f l. leaf-put f _ (a .version) (a .retired) (a .grant .now) (a .s .now) l (start .pre .2) (c1 .put-head .ensures) (c2 .copy .ensures) (c3 .clear .ensures)
 
 pub put-leaf-spec : {M : Type 1} → statement M
 put-leaf-spec =

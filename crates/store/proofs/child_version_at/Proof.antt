@@ -9,11 +9,8 @@ use borrow.Author.Needs.{needs}
 use Rattle.store.proofs.child_version_at.Statement.{statement}
 use Rattle.store.proofs.child_version_at.Tie as tie
 
-mul-at : tie.Need-mul-at
-mul-at c = search needs
-
-add-at : tie.Need-add-at
-add-at c = search needs
+slot-start-requires : tie.Need-slot-start-requires
+slot-start-requires c κs = search needs
 
 add-get-u32 : tie.Need-add-get-u32
 add-get-u32 c = search needs
@@ -24,8 +21,9 @@ get-u32-requires c κs = search needs
 returns : tie.Need-returns
 unfolding childIn
 returns c =
-    let a = c .before .before .before .args in
-    c .get-u32 .ensures ∙ field-at (a .i) rightAt 4 (a .store .now) (omega arith) ∙ ap (λ b. kidOn b (slotIn (a .i) (a .store .now)) .version) (sym (c .before .if1 .taken))
+    let at = c .before .before in
+    let a = at .before .before .args in
+    c .get-u32 .ensures ∙ field-at (a .form) (a .i) rightAt 4 (a .store .now) (at .slot-start .ensures .0) (omega arith) ∙ ap (λ b. kidOn b (slotIn (a .form) (a .i) (a .store .now)) .version) (sym (c .before .if1 .taken))
 
 add-get-u32-2 : tie.Need-add-get-u32-2
 add-get-u32-2 c = search needs
@@ -36,8 +34,18 @@ get-u32-requires-2 c κs = search needs
 returns-2 : tie.Need-returns-2
 unfolding childIn
 returns-2 c =
-    let a = c .before .before .before .args in
-    c .get-u322 .ensures ∙ field-at (a .i) leftAt 4 (a .store .now) (omega arith) ∙ ap (λ b. kidOn b (slotIn (a .i) (a .store .now)) .version) (sym (c .before .if1 .left))
+    let at = c .before .before in
+    let a = at .before .before .args in
+    c .get-u322 .ensures ∙ field-at (a .form) (a .i) leftAt 4 (a .store .now) (at .slot-start .ensures .0) (omega arith) ∙ ap (λ b. kidOn b (slotIn (a .form) (a .i) (a .store .now)) .version) (sym (c .before .if1 .left))
 
 pub child-version-at-spec : {M : Type 1} → statement M
-child-version-at-spec = tie.close (tie.spec mul-at add-at add-get-u32 get-u32-requires returns add-get-u32-2 get-u32-requires-2 returns-2)
+child-version-at-spec =
+    tie.close
+    (tie.spec
+    slot-start-requires
+    add-get-u32
+    get-u32-requires
+    returns
+    add-get-u32-2
+    get-u32-requires-2
+    returns-2)

@@ -7,21 +7,18 @@ use borrow.Author.Needs.{needs}
 use Rattle.store.proofs.count_at.Statement.{statement}
 use Rattle.store.proofs.count_at.Tie as tie
 
-mul-at : tie.Need-mul-at
-mul-at c = search needs
+slot-start-requires : tie.Need-slot-start-requires
+slot-start-requires c κs = search needs
 
 add-at : tie.Need-add-at
 add-at c = search needs
-
-add-at-2 : tie.Need-add-at-2
-add-at-2 c = search needs
 
 get-u16-requires : tie.Need-get-u16-requires
 get-u16-requires c κs = search needs
 
 returns : tie.Need-returns
 unfolding countIn
-returns c = let a = c .before .before .args in c .get-u16 .ensures ∙ field-at (a .i) 6 2 (a .store .now) (omega arith)
+returns c = c .get-u16 .ensures ∙ field-at _ _ 6 2 _ (c .before .slot-start .ensures .0) (omega arith)
 
 pub count-at-spec : {M : Type 1} → statement M
-count-at-spec = tie.close (tie.spec mul-at add-at add-at-2 get-u16-requires returns)
+count-at-spec = tie.close (tie.spec slot-start-requires add-at get-u16-requires returns)

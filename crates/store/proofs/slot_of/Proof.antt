@@ -1,14 +1,16 @@
 -- `store::slot_of` meets its contract: the part that is handed out is the slot. Assumes nothing.
+use native.Mathlib.Omega.{arith}
+use Rattle.layout.proofs.Headers.{size-small}
 use Rattle.store.proofs.Slots.{part-is, part-long}
 use borrow.Author.Needs.{needs}
 use Rattle.store.proofs.slot_of.Statement.{statement}
 use Rattle.store.proofs.slot_of.Tie as tie
 
-mul-start : tie.Need-mul-start
-mul-start c = search needs
+slot-start-requires : tie.Need-slot-start-requires
+slot-start-requires c κs = search needs
 
-add-start : tie.Need-add-start
-add-start c = search needs
+slot-size-requires : tie.Need-slot-size-requires
+slot-size-requires c κs = search needs
 
 add-end : tie.Need-add-end
 add-end c = search needs
@@ -23,9 +25,22 @@ part-result-end : tie.Need-part-result-end
 part-result-end c = search needs
 
 returns : tie.Need-returns
-returns c = let a = c .before .args in (part-is (a .i) (a .store .now), part-long (a .i) (a .store .now) (c .before .pre))
+returns c =
+    let start = c .before .before .before .before in
+    let a = start .args in
+    let p = part-is (a .form) (a .i) (a .store .now) (c .before .before .slot-start .ensures .0) (c .before .slot-size .ensures .0) in
+    let l = part-long (a .form) (a .i) (a .store .now) (c .before .before .slot-start .ensures .0) (c .before .slot-size .ensures .0) (start .pre) in
+    let t = size-small (a .form) in
+    (p, l, (omega (arith, l), omega (arith, l)))
 
 pub slot-of-spec : {M : Type 1} → statement M
 slot-of-spec =
     tie.close
-    (tie.spec mul-start add-start add-end sub-result part-result-start part-result-end returns)
+    (tie.spec
+    slot-start-requires
+    slot-size-requires
+    add-end
+    sub-result
+    part-result-start
+    part-result-end
+    returns)

@@ -1,6 +1,7 @@
 -- `store_copy::copy_slot` meets its contract: the part of slot i comes back as the bytes given. Assumes nothing.
 use native.Mathlib.Omega.{arith}
-use mathlib.Core.Path.{sym, _∙_}
+use mathlib.Core.Path.{refl, sym, _∙_}
+use Rattle.terms.specs.declared.Form.the-variants.{Counted as counted}
 use Rattle.store.proofs.Slots.{part-put, part-long}
 use borrow.Author.Needs.{needs}
 use Rattle.store_copy.proofs.copy_slot.Statement.{statement}
@@ -32,7 +33,8 @@ part-copy-end c =
 
 copy-requires : tie.Need-copy-requires
 copy-requires c κs =
-    (c .before .before .before) .pre .1 ∙ sym (part-long ((c .before .before .before) .args .i) ((c .before .before .before) .args .store .now) ((c .before .before .before) .pre .0))
+    let start = c .before .before .before in
+    start .pre .1 ∙ sym (part-long counted (start .args .i) (start .args .store .now) refl refl (start .pre .0))
 
 same-length : tie.Need-same-length
 same-length c =
@@ -40,7 +42,9 @@ same-length c =
 
 returns : tie.Need-returns
 returns c =
-    part-put ((c .before .before .before .before .before .before) .args .i) _ ((c .before .before .before .before .before .before) .args .store .now) ((c .before .before .before .before .before .before) .pre .0) ((c .before .before) .copy .ensures) ((c .before .before) .copy .kept .0)
+    let put = c .before .before in
+    let start = put .before .before .before .before in
+    part-put counted (start .args .i) (start .args .store .now) refl refl (start .pre .0) _ (put .copy .ensures) (put .copy .kept .0)
 
 pub copy-slot-spec : {M : Type 1} → statement M
 copy-slot-spec =

@@ -6,7 +6,7 @@ use crate::fail::Fail;
 use crate::files::{self, STORE_LIMIT};
 use crate::held;
 use crate::plain::{counted, quoted, shown, words, Word};
-use grants::{from_hex, to_hex, Error, HexError, Key, Store};
+use grants::{from_hex, to_hex, Error, HexError, Key, Store, OLD_SLOT_BYTES};
 use std::collections::BTreeMap;
 use std::io::Write;
 use std::path::Path;
@@ -28,8 +28,10 @@ pub fn refused(store: &Bytes, path: &Path) -> impl Fn(Error) -> Fail {
     let name = shown(path);
     let length = store.as_bytes().len();
     let header = store.header().ok();
+    let old = store.is_old_form();
     move |error| {
         let advice = match error {
+            Error::Size | Error::Header if old => old_form(&name),
             Error::Size => format!("{name} has {}: is it the right file, and whole?", bytes(length)),
             Error::Header => format!("{name} is no grant store, or its first 24 bytes are damaged: take another copy, or see what can be rescued (grants rescue)."),
             Error::Unsound | Error::Spoilt { .. } | Error::Lost => format!("{name} is damaged: take another copy, or see what can be rescued (grants rescue); `grants check` lists what is missing. Nothing was changed."),
@@ -48,6 +50,11 @@ pub fn refused(store: &Bytes, path: &Path) -> impl Fn(Error) -> Fail {
         };
         Fail::Refused(error, advice)
     }
+}
+
+/// What a store of the form before the counts is, and what brings it over.
+fn old_form(name: &str) -> String {
+    format!("{name} is a store of the old form (slots of {OLD_SLOT_BYTES} bytes); `grants move` brings it over.")
 }
 
 fn bytes(length: usize) -> String {

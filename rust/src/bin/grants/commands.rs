@@ -13,7 +13,7 @@ use crate::out::Out;
 use crate::palette;
 use crate::plain::{counted, shown};
 use crate::statement::known_root;
-use grants::{from_hex, to_hex, Error, Store};
+use grants::{from_hex, to_hex, Error, Slot, Store};
 use std::path::Path;
 
 pub const ABSENT: u8 = 1;
@@ -275,11 +275,13 @@ pub fn stat(args: &Args, out: &mut Out) -> Result<u8, Fail> {
     let path = args.path(0);
     let store = read_store(path)?;
     let header = store.header().map_err(refused(&store, path))?;
-    let slots = store.as_bytes()[24..].chunks_exact(120);
-    let free = slots.filter(|slot| slot.iter().all(|b| *b == 0)).count();
+    let found = store.slots_found().map_err(refused(&store, path))?;
+    let free = found.iter().filter(|slot| **slot == Slot::Free).count();
     let used = header.capacity as usize - free;
     let kept = u64::from(header.latest - header.oldest) + 1;
     let length = store.as_bytes().len();
+    // None where the latest root's record is spoilt.
+    let grants = store.count(header.latest).ok();
     // Of a store that isn't sound nothing is guessed.
     let slots = store.slots().ok();
     let publishings = slots
@@ -307,6 +309,7 @@ pub fn stat(args: &Args, out: &mut Out) -> Result<u8, Fail> {
             ("latest", header.latest.into()),
             ("kept", Json::Number(kept)),
             ("publishings", publishings.into()),
+            ("grants", grants.map(Json::Number).unwrap_or(Json::Null)),
             ("bytes", length.into()),
             ("publishings_left", left.map(|(_, left)| left).into()),
         ]);
@@ -315,11 +318,12 @@ pub fn stat(args: &Args, out: &mut Out) -> Result<u8, Fail> {
     let gaps = publishings.filter(|publishings| *publishings as u64 != kept);
     let among = gaps.map_or(String::new(), |n| format!(", {}", counted(n, "publishing")));
     let mut lines = format!(
-        "capacity  {}\nused      {used}\nfree      {free}\nkept      {} to {}, {}{among}\nbytes     {length}",
+        "capacity  {}\nused      {used}\nfree      {free}\nkept      {} to {}, {}{among}\ngrants    {}\nbytes     {length}",
         counted(header.capacity as usize, "slot"),
         header.oldest,
         header.latest,
-        counted(kept as usize, "version")
+        counted(kept as usize, "version"),
+        grants.map_or("-".to_string(), |n| format!("{n} in version {}", header.latest)),
     );
     if let Some((each, left)) = left {
         lines += &format!(

@@ -8,16 +8,18 @@ use crate::dates;
 use crate::fail::Fail;
 use crate::held::{self, Span};
 use crate::json::Json;
+use crate::missing::refused_read;
 use crate::out::Out;
+use crate::page::{Page, Placed};
 use crate::plain::{counted, escaped, quoted, shown};
-use grants::{to_hex, Error, Header, Key, Record, Root, Value};
+use grants::{to_hex, Error, Header, Key, Record, Root, Slot, Value};
 use std::collections::{BTreeMap, BTreeSet};
 use std::fmt::Write as _;
 
-/// How many grants and records stand in a version, and how many records it made.
+/// How many grants stand in a version by the library, how many records, and how many of them it made.
 #[derive(Clone, Copy, Default)]
 struct Counts {
-    grants: i64,
+    grants: u64,
     records: i64,
     new: i64,
 }
@@ -106,22 +108,17 @@ fn tally(
     Ok(tally)
 }
 
-/// What comes and goes with each version from the first one asked for: a version may be one of thousands of millions, a record is one of some
-/// thousand.
-fn counts(slots: &[Option<Record>], first: u32) -> BTreeMap<u32, Counts> {
-    let mut counts: BTreeMap<u32, Counts> = BTreeMap::new();
+/// How many records come and go with each version from the first one asked for: a version may be one of thousands of millions, a record is one of
+/// some thousand.
+fn records(slots: &[Option<Record>], first: u32) -> BTreeMap<u32, i64> {
+    let mut records: BTreeMap<u32, i64> = BTreeMap::new();
     for record in slots.iter().flatten() {
-        let leaf = i64::from(record.grant().is_some());
-        let made = counts.entry(record.version.max(first)).or_default();
-        made.grants += leaf;
-        made.records += 1;
+        *records.entry(record.version.max(first)).or_default() += 1;
         if let Some(since) = record.retired_since {
-            let ended = counts.entry(since.max(first)).or_default();
-            ended.grants -= leaf;
-            ended.records -= 1;
+            *records.entry(since.max(first)).or_default() -= 1;
         }
     }
-    counts
+    records
 }
 
 /// One line of the log. What the oldest kept version changed isn't known any more.
@@ -140,7 +137,7 @@ impl Row<'_> {
             ("version", self.span.first.into()),
             ("last", self.span.last.into()),
             ("published", self.span.published.into()),
-            ("grants", (self.counts.grants as usize).into()),
+            ("grants", Json::Number(self.counts.grants)),
             ("added", changed(0)),
             ("removed", changed(1)),
             ("changed", changed(2)),
@@ -240,7 +237,7 @@ pub fn log(args: &Args, out: &mut Out) -> Result<u8, Fail> {
     let last = last(args)?;
     let mut spans = publishings(&store, &slots, header, &book).map_err(&refused)?;
     spans.drain(..spans.len().saturating_sub(last));
-    let (counts, touched) = (counts(&slots, spans[0].first), held::touched(&slots));
+    let (records, touched) = (records(&slots, spans[0].first), held::touched(&slots));
     let mut made: BTreeMap<u32, i64> = BTreeMap::new();
     for record in slots.iter().flatten() {
         *made.entry(record.version).or_default() += 1;
@@ -269,9 +266,8 @@ pub fn log(args: &Args, out: &mut Out) -> Result<u8, Fail> {
     for span in spans {
         let version = span.first;
         // A record begins or ends with a root, so at the first version of a span.
-        let change = counts.get(&version).copied().unwrap_or_default();
-        now.grants += change.grants;
-        now.records += change.records;
+        now.records += records.get(&version).copied().unwrap_or(0);
+        now.grants = store.count(version).map_err(&refused)?;
         let published = span.published.unwrap_or(version);
         now.new = made.get(&published).copied().unwrap_or(0);
         let root = store.root(version).map_err(&refused)?;
@@ -299,12 +295,14 @@ pub fn log(args: &Args, out: &mut Out) -> Result<u8, Fail> {
     answer.end()
 }
 
-/// A version, the number it was published under, its grants, and what the book says of it.
+/// A version, the number it was published under, how many grants it has, those that are asked for, and what the book says of it.
 struct Listed {
     version: u32,
     published: u32,
     root: Root,
-    grants: held::Grants,
+    count: u64,
+    page: Option<Page>,
+    grants: Vec<Placed>,
     book: Book,
 }
 
@@ -312,13 +310,27 @@ fn listed(args: &Args) -> Result<Listed, Fail> {
     let path = args.path(0);
     let store = read_store(path)?;
     let refused = refused(&store, path);
-    let slots = store.slots().map_err(&refused)?;
+    let page = Page::of(args)?;
+    // A page is read without a check; which number it was published under is then for the book's line alone, whose root must be the one read.
+    let slots = match page {
+        None => store.slots().map_err(&refused)?,
+        Some(_) => records_found(&store).map_err(&refused)?,
+    };
     let version = version(args, 1, &store, path)?;
-    let root = store.root(version).map_err(&refused)?;
-    let mut grants = held::grants(&store, &slots, version).map_err(&refused)?;
+    let root = store
+        .root(version)
+        .map_err(refused_read(&store, path, version, None))?;
+    let count = store.count(version).map_err(&refused)?;
+    let mut grants = match page {
+        None => (0..)
+            .zip(held::grants(&store, &slots, version).map_err(&refused)?)
+            .map(|(position, (key, value))| (position, key, value))
+            .collect(),
+        Some(page) => page.read(&store, path, version, count)?,
+    };
     let book = Book::of(args, Some(path))?;
     if let Some(part) = args.said("--match")? {
-        grants.retain(|key, _| match book.name(key.as_bytes()) {
+        grants.retain(|(_, key, _)| match book.name(key.as_bytes()) {
             Some(name) => name.contains(&part),
             None => false,
         });
@@ -327,9 +339,20 @@ fn listed(args: &Args) -> Result<Listed, Fail> {
         version,
         published: held::published(&slots, version),
         root,
+        count,
+        page,
         grants,
         book,
     })
+}
+
+/// The records in form of a store that wasn't checked.
+fn records_found(store: &Bytes) -> Result<Vec<Option<Record>>, Error> {
+    let record = |slot| match slot {
+        Slot::Record(record) => Some(record),
+        Slot::Free | Slot::OffForm => None,
+    };
+    Ok(store.slots_found()?.into_iter().map(record).collect())
 }
 
 pub fn list(args: &Args, out: &mut Out) -> Result<u8, Fail> {
@@ -337,6 +360,8 @@ pub fn list(args: &Args, out: &mut Out) -> Result<u8, Fail> {
         version,
         published: number,
         root,
+        count,
+        page,
         grants,
         book,
     } = listed(args)?;
@@ -344,8 +369,9 @@ pub fn list(args: &Args, out: &mut Out) -> Result<u8, Fail> {
     let name = |word: &[u8; 32]| book.name(word).map(str::to_string);
     let status = if grants.is_empty() { ABSENT } else { 0 };
     if out.json {
-        let list = grants.iter().map(|(key, value)| {
+        let list = grants.iter().map(|(position, key, value)| {
             object(vec![
+                ("position", Json::Number(*position)),
                 ("key", key.to_string().into()),
                 ("value", value.to_string().into()),
                 ("key_name", name(key.as_bytes()).into()),
@@ -355,6 +381,7 @@ pub fn list(args: &Args, out: &mut Out) -> Result<u8, Fail> {
         let mut fields: Vec<(&'static str, Json)> = vec![
             ("version", version.into()),
             ("root", root.to_string().into()),
+            ("count", Json::Number(count)),
             ("grants", Json::List(list.collect())),
         ];
         fields.extend(said_fields(said));
@@ -363,7 +390,7 @@ pub fn list(args: &Args, out: &mut Out) -> Result<u8, Fail> {
     let mut text = String::new();
     if args.has("--csv") {
         text += "key,value,key_name,value_name\n";
-        for (key, value) in &grants {
+        for (_, key, value) in &grants {
             let names =
                 [key.as_bytes(), value.as_bytes()].map(|w| csv(book.name(w).unwrap_or_default()));
             let _ = writeln!(text, "{key},{value},{},{}", names[0], names[1]);
@@ -379,14 +406,20 @@ pub fn list(args: &Args, out: &mut Out) -> Result<u8, Fail> {
             Said::Disagrees => " (the book disagrees)".to_string(),
             Said::Nothing => String::new(),
         };
-        let _ = writeln!(
-            text,
-            "version {version}{published}: {}, root {root}",
-            counted(grants.len(), "grant")
-        );
-        for (key, value) in &grants {
+        let held = match page {
+            Some(page) => page.heading(count, &grants),
+            None if grants.len() as u64 == count => counted(count, "grant"),
+            None => format!("{} of {}", grants.len(), counted(count, "grant")),
+        };
+        let _ = writeln!(text, "version {version}{published}: {held}, root {root}");
+        let widest = grants.last().map_or(0, |(last, ..)| last.to_string().len());
+        for (position, key, value) in &grants {
+            let position = match page {
+                Some(_) => format!("{position:>widest$}  "),
+                None => String::new(),
+            };
             let line = format!(
-                "  {} = {}  {}",
+                "  {position}{} = {}  {}",
                 ends(key.as_ref(), full),
                 ends(value.as_ref(), full),
                 named(&book, key, value)
@@ -400,7 +433,7 @@ pub fn list(args: &Args, out: &mut Out) -> Result<u8, Fail> {
 }
 
 /// '"chords sonata" = "read"', with what is known of it.
-fn named(book: &Book, key: &Key, value: &Value) -> String {
+pub fn named(book: &Book, key: &Key, value: &Value) -> String {
     let names = [book.name(key.as_bytes()), book.name(value.as_bytes())];
     if names == [None, None] {
         return String::new();
@@ -422,6 +455,7 @@ pub fn export(args: &Args, out: &mut Out) -> Result<u8, Fail> {
     let Listed {
         version,
         root,
+        count,
         grants,
         book,
         ..
@@ -429,13 +463,13 @@ pub fn export(args: &Args, out: &mut Out) -> Result<u8, Fail> {
     let mut text = format!(
         "# version {version} of {}: {}, root {root}\n",
         shown(args.path(0)),
-        counted(grants.len(), "grant")
+        counted(count, "grant")
     );
     let word = |word: &[u8; 32]| match book.name(word) {
         Some(name) if grants::sha256(name.as_bytes()) == *word => quoted(name),
         _ => to_hex(word),
     };
-    for (key, value) in &grants {
+    for (_, key, value) in &grants {
         let given = [key.as_bytes(), value.as_bytes()].map(|w| {
             let name = book
                 .name(w)

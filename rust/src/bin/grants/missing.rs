@@ -4,11 +4,12 @@ use crate::asked::{refused, Bytes};
 use crate::fail::Fail;
 use crate::json::Json;
 use crate::plain::{counted, shown};
-use grants::{Error, Key, Missing};
+use grants::{Error, Key, Met, Missing, Place};
 use std::path::Path;
 
 /// What is done about a damaged store.
-const ADVICE: &str = "take another copy, and keep this one: what is whole in it can be rescued (grants rescue)";
+const ADVICE: &str =
+    "take another copy, and keep this one: what is whole in it can be rescued (grants rescue)";
 
 /// 'the record of version 4 at place 0110', 'the root of version 9'.
 fn named(missing: &Missing) -> String {
@@ -60,9 +61,73 @@ pub fn refused_read<'a>(
         let Some(missing) = missing.filter(|missing| missing.slot == error.slot()) else {
             return refused(store, path)(error);
         };
+        wants(error, path, version, missing)
+    }
+}
+
+/// Which record a version wants and can't find.
+fn wants(error: Error, path: &Path, version: u32, missing: Missing) -> Fail {
+    let name = shown(path);
+    let advice = format!("Version {version} of {name} wants {}, which is {}: {ADVICE}. `grants check` lists all that is missing.", named(&missing), harm(&missing));
+    Fail::Damaged(error, advice, vec![missing])
+}
+
+fn at(place: Place) -> String {
+    match place.count() {
+        0 => "the empty place".to_string(),
+        _ => format!("place {place}"),
+    }
+}
+
+/// What to do about a position of a version that was refused.
+pub fn refused_at<'a>(
+    store: &'a Bytes,
+    path: &'a Path,
+    version: u32,
+    position: u64,
+) -> impl Fn(Error) -> Fail + 'a {
+    move |error| {
         let name = shown(path);
-        let advice = format!("Version {version} of {name} wants {}, which is {}: {ADVICE}. `grants check` lists all that is missing.", named(&missing), harm(&missing));
-        Fail::Damaged(error, advice, vec![missing])
+        if error == Error::NoSuchPosition {
+            let advice = match store.count(version) {
+                Ok(0) => format!("Version {version} of {name} holds no grant."),
+                Ok(n) => format!(
+                    "Version {version} of {name} has {}: their positions are 0 to {}.",
+                    counted(n, "grant"),
+                    n - 1
+                ),
+                Err(_) => String::new(),
+            };
+            return Fail::Refused(error, advice);
+        }
+        let damaged = matches!(error, Error::Lost | Error::Spoilt { .. } | Error::Unsound);
+        let why = match damaged.then(|| store.met_at(version, position)).flatten() {
+            Some(Met::Missing(missing)) if missing.slot == error.slot() => {
+                return wants(error, path, version, missing)
+            }
+            Some(Met::NoChild { place }) => {
+                format!(
+                    "the counts lead to {}, where the record above has no child",
+                    at(place)
+                )
+            }
+            Some(Met::LeftOver { place, positions }) => format!(
+                "the counts lead to the leaf at {} with {} left over",
+                at(place),
+                counted(positions, "position")
+            ),
+            Some(Met::Stray { place }) => {
+                format!(
+                    "the key of the leaf at {} doesn't begin with its place",
+                    at(place)
+                )
+            }
+            _ => return refused(store, path)(error),
+        };
+        Fail::Refused(
+            error,
+            format!("On the way to position {position} of version {version} of {name}, {why}: {ADVICE}."),
+        )
     }
 }
 
@@ -71,7 +136,7 @@ pub fn unsound(store: &Bytes, path: &Path) -> Fail {
     let missing = store.missing().unwrap_or_default();
     let name = shown(path);
     let what = match missing.len() {
-        0 => "No record is missing, but a hash, a key or a lifetime is wrong".to_string(),
+        0 => "No record is missing, but a hash, a count, a key or a lifetime is wrong".to_string(),
         n => format!("{} missing, listed on standard output", are(n)),
     };
     Fail::Damaged(

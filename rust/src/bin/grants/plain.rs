@@ -1,11 +1,11 @@
 //! Text for people: counts, paths and names, with nothing in them that a terminal would obey.
 
-use std::fmt::Write;
+use std::fmt::{Display, Write};
 use std::path::Path;
 
 /// '1 record', '2 records'.
-pub fn counted(n: usize, what: &str) -> String {
-    let s = if n == 1 { "" } else { "s" };
+pub fn counted<N: Display + PartialEq + From<u8>>(n: N, what: &str) -> String {
+    let s = if n == N::from(1) { "" } else { "s" };
     format!("{n} {what}{s}")
 }
 

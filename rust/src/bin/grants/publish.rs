@@ -14,7 +14,7 @@ use crate::plain::{counted, shown};
 use grants::{Applied, Batch, Error, Store, BATCH_RECORDS};
 use std::path::Path;
 
-const RECORD: usize = 72;
+const RECORD: usize = grants::RECORD_BYTES;
 
 /// What is to be published: records of 72 bytes, one batch for each version, and the names that were used.
 struct Asked {

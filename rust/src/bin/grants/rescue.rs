@@ -2,7 +2,7 @@
 //! there are, is looked up here, so that a person sees what was lost.
 
 use crate::args::{number, Args};
-use crate::asked::{hex, read_store};
+use crate::asked::{hex, read_store, refused};
 use crate::commands::object;
 use crate::fail::Fail;
 use crate::files;
@@ -16,14 +16,21 @@ use std::path::Path;
 
 const COMPARE: &str = "Compare it with the root that was signed: nothing else shows that no grant withdrawn since seems in force.";
 
+/// A whole tree: the greatest version in it, and how many grants.
+#[derive(Clone, Copy)]
+struct Whole {
+    greatest: u32,
+    grants: u64,
+}
+
 /// The records in form of a store with any contents, the lowest slot of each version and place.
 struct Found {
     slots: Vec<Slot>,
     lowest: HashMap<(u32, Place), usize>,
     /// Each root record that a version may have, by its version.
     roots: BTreeMap<u32, (usize, Record)>,
-    /// Whether the tree below a record is whole, and the greatest version in it; or what is wrong first.
-    trees: HashMap<usize, Result<u32, String>>,
+    /// Whether the tree below a record is whole, and what is known of it then; or what is wrong first.
+    trees: HashMap<usize, Result<Whole, String>>,
 }
 
 impl Found {
@@ -73,8 +80,8 @@ impl Found {
         }
     }
 
-    /// The greatest version in the tree below a record, if it is whole.
-    fn whole(&mut self, i: usize, record: Record) -> Result<u32, String> {
+    /// What is known of the tree below a record, if it is whole.
+    fn whole(&mut self, i: usize, record: Record) -> Result<Whole, String> {
         if let Some(known) = self.trees.get(&i) {
             return known.clone();
         }
@@ -83,24 +90,40 @@ impl Found {
         answer
     }
 
-    fn whole_anew(&mut self, record: Record) -> Result<u32, String> {
-        let (left, right) = match record.body {
+    fn whole_anew(&mut self, record: Record) -> Result<Whole, String> {
+        let mut whole = Whole {
+            greatest: record.version,
+            grants: 1,
+        };
+        let (left, right, counts) = match record.body {
             Body::Leaf { key, .. } => {
-                let bit = |i: usize| key.as_ref()[i / 8] >> (7 - i % 8) & 1 == 1;
-                let begins = (0..record.place.count()).all(|i| record.place.bit(i) == bit(i));
-                return match begins {
-                    true => Ok(record.version),
+                return match record.place.begins(key) {
+                    true => Ok(whole),
                     false => Err(format!(
                         "the key of the leaf at {} doesn't begin with its place",
                         at(record.place)
                     )),
                 };
             }
-            Body::Inner { left, right } => (left, right),
+            Body::Inner {
+                left,
+                right,
+                counts,
+            } => (left, right, counts),
         };
-        let mut greatest = record.version;
+        whole.grants = 0;
         for (child, side) in [(left, false), (right, true)] {
+            let count = counts[usize::from(side)];
+            let counted = |grants: u64| match grants == u64::from(count) {
+                true => Ok(()),
+                false => Err(format!(
+                    "the record at {} counts {count} below its {} child, where there are {grants}",
+                    at(record.place),
+                    if side { "right" } else { "left" }
+                )),
+            };
             let (Some(child), Some(place)) = (child, record.place.longer(side)) else {
+                counted(0)?;
                 continue;
             };
             let Some((j, kid)) = self.node(child.version, place) else {
@@ -120,15 +143,18 @@ impl Found {
             if (left.is_none() || right.is_none()) && kid.grant().is_some() {
                 return Err(format!("the leaf at {} stands alone", at(place)));
             }
-            greatest = greatest.max(self.whole(j, kid)?);
+            let below = self.whole(j, kid)?;
+            counted(below.grants)?;
+            whole.greatest = whole.greatest.max(below.greatest);
+            whole.grants += below.grants;
         }
-        Ok(greatest)
+        Ok(whole)
     }
 
     /// Whether a version can be rescued alone, and if not, why.
     fn stands(&mut self, version: u32) -> Result<(), String> {
         let (i, root) = self.root(version)?;
-        let greatest = self
+        let Whole { greatest, .. } = self
             .whole(i, root)
             .map_err(|why| format!("in the tree of {}, {why}", root.version))?;
         match greatest <= version {
@@ -149,7 +175,7 @@ impl Found {
                 continue;
             };
             nodes.insert(record.place, i);
-            if let Body::Inner { left, right } = record.body {
+            if let Body::Inner { left, right, .. } = record.body {
                 for (child, side) in [(left, false), (right, true)] {
                     if let (Some(child), Some(place)) = (child, record.place.longer(side)) {
                         todo.extend(self.node(child.version, place).map(|(j, _)| j));
@@ -198,7 +224,7 @@ impl Found {
                 }
                 if let Some(Record {
                     place,
-                    body: Body::Inner { left, right },
+                    body: Body::Inner { left, right, .. },
                     ..
                 }) = self.record(i)
                 {
@@ -248,7 +274,7 @@ fn hash(record: &Record) -> [u8; 32] {
     let none = [0; 32];
     let (first, left, right) = match record.body {
         Body::Leaf { key, value } => (1, <[u8; 32]>::from(key), <[u8; 32]>::from(value)),
-        Body::Inner { left, right } => (
+        Body::Inner { left, right, .. } => (
             0,
             left.map_or(none, |c| c.hash),
             right.map_or(none, |c| c.hash),
@@ -284,6 +310,10 @@ pub fn rescue(args: &Args, out: &mut Out) -> Result<u8, Fail> {
         let length = store.as_bytes().len();
         Fail::Refused(e, format!("{} has {length} bytes: a rescue needs the whole file, with its length. Pad what was cut off with zero bytes.", shown(path)))
     };
+    if store.is_old_form() {
+        let error = store.header().err().unwrap_or(Error::Size);
+        return Err(refused(&store, path)(error));
+    }
     let mut found = Found::of(store.slots_found().map_err(size)?);
     let latest = args.value("--latest").map(|word| number("--latest", word));
     let Some(latest) = latest.transpose()? else {

@@ -27,6 +27,8 @@ struct Node {
 struct Tree {
     version: u32,
     root: Root,
+    /// How many grants it has, by the library.
+    count: u64,
     nodes: BTreeMap<Place, Node>,
 }
 
@@ -35,10 +37,6 @@ impl Tree {
     fn published(&self) -> u32 {
         let root = self.nodes.get(&Place::EMPTY);
         root.map_or(self.version, |root| root.record.version)
-    }
-
-    fn grants(&self) -> usize {
-        self.nodes.values().filter(|n| n.grant.is_some()).count()
     }
 }
 
@@ -101,6 +99,7 @@ fn versions(args: &Args, store: &Bytes, path: &Path) -> Result<Vec<u32>, Fail> {
 
 fn tree(store: &Bytes, slots: &[Option<Record>], version: u32) -> Result<Tree, Error> {
     let root = store.root(version)?;
+    let count = store.count(version)?;
     let mut nodes = BTreeMap::new();
     for (slot, record) in slots.iter().enumerate() {
         let Some(record) = record.filter(|r| r.stands_in(version)) else {
@@ -122,6 +121,7 @@ fn tree(store: &Bytes, slots: &[Option<Record>], version: u32) -> Result<Tree, E
     Ok(Tree {
         version,
         root,
+        count,
         nodes,
     })
 }
@@ -141,7 +141,7 @@ fn text(tree: &Tree, full: bool) -> String {
             own if own == tree.version => String::new(),
             earlier => format!(" (published as {earlier})"),
         },
-        counted(tree.grants(), "grant"),
+        counted(tree.count, "grant"),
         counted(tree.nodes.len(), "record"),
         tree.root
     );
@@ -164,7 +164,7 @@ fn draw(tree: &Tree, place: Place, margin: &str, full: bool, text: &mut String) 
             ends(key.as_ref(), full),
             ends(value.as_ref(), full)
         ),
-        None => write!(text, "inner"),
+        None => write!(text, "inner{}", below_it(&node.record)),
     };
     let (version, slot) = (node.record.version, node.slot);
     let _ = writeln!(text, "  (version {version}, slot {slot})");
@@ -176,6 +176,14 @@ fn draw(tree: &Tree, place: Place, margin: &str, full: bool, text: &mut String) 
         };
         let _ = write!(text, "{margin}{branch}{bit} ");
         draw(tree, child, &format!("{margin}{bar}"), full, text);
+    }
+}
+
+/// ' 2 + 1': how many grants are below the left and below the right child of an inner record.
+fn below_it(record: &Record) -> String {
+    match record.body {
+        Body::Inner { counts, .. } => format!(" {} + {}", counts[0], counts[1]),
+        Body::Leaf { .. } => String::new(),
     }
 }
 
@@ -192,17 +200,24 @@ fn object(tree: &Tree) -> Json {
             fields.push(("key", key.to_string().into()));
             fields.push(("value", value.to_string().into()));
         }
-        if let Body::Inner { left, right } = node.record.body {
+        if let Body::Inner {
+            left,
+            right,
+            counts,
+        } = node.record.body
+        {
             let hash = |child: Option<Child>| child.map(|c| to_hex(&c.hash)).into();
             fields.push(("left", hash(left)));
             fields.push(("right", hash(right)));
+            fields.push(("left_count", counts[0].into()));
+            fields.push(("right_count", counts[1].into()));
         }
         records.push(Json::Object(fields));
     }
     Json::Object(vec![
         ("version", tree.version.into()),
         ("root", tree.root.to_string().into()),
-        ("grants", tree.grants().into()),
+        ("grants", Json::Number(tree.count)),
         ("records", Json::List(records)),
     ])
 }
@@ -282,7 +297,10 @@ fn shape(node: &Node, trees: &[Tree], full: bool) -> String {
             ends(key.as_ref(), full),
             ends(value.as_ref(), full)
         ),
-        None => format!("s{slot} [shape=ellipse, label=\"{head}\", {look}];"),
+        None => format!(
+            "s{slot} [shape=ellipse, label=\"{head}\\n{} grants\", {look}];",
+            below_it(record).trim()
+        ),
     }
 }
 

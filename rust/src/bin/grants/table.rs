@@ -3,7 +3,7 @@
 use crate::args::{Args, Choice};
 use crate::fail::Fail;
 use crate::out::Out;
-use crate::{commands, diff, grow, listing, names, publish, rescue, show, statement};
+use crate::{commands, counts, diff, grow, listing, names, publish, rescue, show, statement};
 
 pub struct Command {
     pub name: &'static str,
@@ -75,7 +75,7 @@ pub const COMMANDS: &[Command] = &[
         what: "a fresh, empty store with CAPACITY slots",
         help: "\
 CAPACITY is 1 to 16,384. Each record takes a slot; a publishing makes about as many records as there are nodes above and
-at what it changes. The file has 24 + 120 CAPACITY bytes. A file that is already there is left alone, unless --force.",
+at what it changes. The file has 24 + 128 CAPACITY bytes. A file that is already there is left alone, unless --force.",
         words: (2, 2),
         choices: &[
             JSON,
@@ -224,6 +224,28 @@ version and dates, to be signed (docs/SIGNING.md); `grants verify` takes that fi
         run: commands::get,
     },
     Command {
+        name: "count",
+        usage: "STORE [VERSION]",
+        what: "how many grants a version has",
+        help: "\
+By the counts in the version's root record; no other record is looked at. Without VERSION, the latest. STORE may be -.",
+        words: (1, 2),
+        choices: &[JSON, AT, BOOK],
+        run: counts::count,
+    },
+    Command {
+        name: "at",
+        usage: "STORE POSITION [VERSION]",
+        what: "the grant at a position of a version, 0 the least key",
+        help: "\
+Prints the key and the value, and their names where they are known. The way there goes by the counts in the records, so no
+other grant is read. A position that isn't below the number of grants is refused with 20. Without VERSION, the latest. STORE
+may be -.",
+        words: (2, 3),
+        choices: &[JSON, AT, BOOK],
+        run: counts::at,
+    },
+    Command {
         name: "prove",
         usage: "STORE KEY [VERSION] | STORE KEY.. --version VERSION",
         what: "the proof that a key is in a version, or that it isn't; of several keys, one after the other",
@@ -270,11 +292,16 @@ with their hex digits; it may be -. No store is needed.",
         usage: "STORE [VERSION]",
         what: "all grants of a version, with names where they are known",
         help: "\
-Exit status 1 where there is none. Without VERSION, the latest. The store is checked first. STORE may be -.",
+Exit status 1 where there is none. Without VERSION, the latest. The store is checked first. STORE may be -.
+
+With --from or --most a page of the list, in key order: its grants are read by their positions, each line begins with the
+position, the rest of the list isn't read and the store isn't checked. Exit status 1 where the page is empty.",
         words: (1, 2),
         choices: &[
             JSON,
             AT,
+            valued("--from", "N", "the grants from position N on, 0 the least key; else 0"),
+            valued("--most", "N", "at most N grants; else all that follow"),
             MATCH,
             FULL,
             flag("--csv", "a line 'key,value,key_name,value_name', then one for each grant"),
@@ -367,7 +394,7 @@ each record once, so that it shows what they share. Without VERSION, the latest.
     Command {
         name: "stat",
         usage: "STORE",
-        what: "capacity, free slots, kept versions, bytes, publishings left",
+        what: "capacity, free slots, kept versions, grants, bytes, publishings left",
         help: "\
 Tests the header, not soundness. How many more publishings there is room for is a guess: free slots over the records that
 each kept publishing made; none is made of a store that isn't sound. STORE may be -.",

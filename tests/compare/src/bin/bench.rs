@@ -1,7 +1,7 @@
 //! The library's calls beside the second program, in one run: short runs of the two in turn, the best of each. Then where apply's time goes,
 //! that it does not grow with the versions, and the stack that each call takes. With the argument `stack` that last part alone, with
 //! `changes` the comparisons alone, with `gaps` the publishings under numbers with gaps, with `beside-check` apply and prune beside check, with
-//! `missing` the reads that miss a record, with `rescue` the rescues.
+//! `missing` the reads that miss a record, with `rescue` the rescues, with `positions` the numbers of grants and the grants by position.
 
 #[path = "../cases.rs"]
 #[allow(dead_code)]
@@ -12,7 +12,7 @@ mod ours;
 mod stack;
 
 use cases::Random;
-use second::bytes::{ask_bytes, put_slot, slot_bytes, Ask, Body, Place, Record, Slot, MOST_ASKS};
+use second::bytes::{ask_bytes, put_slot, slot_bytes, Ask, Body, Place, Record, Slot, HEADER, MOST_ASKS, SLOT};
 use second::calls::apply_to_sound;
 use std::hint::black_box;
 use std::time::Instant;
@@ -313,13 +313,13 @@ fn missing(random: &mut Random) {
         let latest = second::bytes::store(&s).unwrap().latest;
         let leaf = |k: &[u8; 32]| {
             let here = |c: &[u8]| c[4] == 2 && c[48..80] == k[..] && second::bytes::u32_at(c, 44) == 0;
-            s[24..].chunks_exact(120).position(here)
+            s[HEADER..].chunks_exact(SLOT).position(here)
         };
         let some: Vec<([u8; 32], usize)> = keys.iter().filter_map(|k| Some((*k, leaf(k)?))).take(20).collect();
         let (mut lost, mut spoilt) = (s.clone(), s.clone());
         for (_, i) in &some {
-            lost[24 + 120 * i..144 + 120 * i].fill(0);
-            spoilt[24 + 120 * i + 4] = 9;
+            put_slot(&mut lost, *i, &[0; SLOT]);
+            spoilt[HEADER + SLOT * i + 4] = 9;
         }
         for (name, s, wanted) in [("none", &s, None), ("lost", &lost, Some(17)), ("spoilt", &spoilt, Some(3))] {
             let told = |answer: Result<Option<[u8; 32]>, second::Stopped>| assert_eq!(black_box(answer).err().map(|e| e.number), wanted);
@@ -330,6 +330,29 @@ fn missing(random: &mut Random) {
                 || some.iter().for_each(|(k, _)| told(second::get(s, latest, k))),
             );
         }
+    }
+}
+
+/// 2026-09: how many grants, and a page of twenty of them, in a full store: beside the second program, which reads the whole store for each, and beside the
+/// whole list, which `changes` gives from a version that holds nothing.
+fn positions(random: &mut Random) {
+    for capacity in [1_024, 16_384] {
+        let turns = if capacity > 2_000 { 3 } else { 20 };
+        let (s, _) = filled(random, capacity, capacity / 64, capacity, 0);
+        let latest = second::bytes::store(&s).unwrap().latest;
+        let n = second::count(&s, latest).unwrap();
+        let count = |call: &dyn Fn(&[u8], u32) -> Result<u64, second::Stopped>| assert_eq!(black_box(call(&s, latest)), Ok(n));
+        compare(&format!("count-{n}-grants-{capacity}"), turns, || count(&ours::count), || count(&second::count));
+        type At = dyn Fn(&[u8], u32, u64) -> Result<([u8; 32], [u8; 32]), second::Stopped>;
+        let page = |call: &At| (n / 2..n / 2 + 20).for_each(|i| assert!(black_box(call(&s, latest, i)).is_ok()));
+        compare(&format!("at-20-of-{n}-positions-{capacity}"), turns, || page(&ours::at), || page(&second::at));
+        let best = |call: &mut dyn FnMut()| (0..turns).map(|_| milliseconds(call)).fold(f64::MAX, f64::min);
+        let mut room = vec![0; 72 * n as usize];
+        let listed = best(&mut || assert_eq!(ours::changes(&s, 0, latest, u32::MAX, &mut room), Ok(n as u32)));
+        let counted = best(&mut || count(&ours::count));
+        let paged = best(&mut || page(&ours::at));
+        let all = best(&mut || (0..n).for_each(|i| assert!(black_box(ours::at(&s, latest, i)).is_ok())));
+        println!("where positions-{capacity} {n} grants: count {counted:.4}ms, a page of 20 {paged:.3}ms, the whole list by changes {listed:.3}ms, by positions {all:.3}ms");
     }
 }
 
@@ -437,6 +460,9 @@ fn stacks() {
     print("prune", stack::most(move || assert!(ours::prune(&mut t.clone(), latest).is_ok())));
     print("format", stack::most(move || assert!(ours::format(&mut s.clone()).is_ok())));
     print("prove", stack::of_prove());
+    for (name, used) in stack::of_positions() {
+        print(name, used);
+    }
     print("palette", stack::of_palette());
     print("changes", stack::of_changes());
     print("rescue", stack::of_rescue());
@@ -468,6 +494,9 @@ fn main() {
     }
     if std::env::args().nth(1).as_deref() == Some("missing") {
         return missing(&mut Random(29));
+    }
+    if std::env::args().nth(1).as_deref() == Some("positions") {
+        return positions(&mut Random(37));
     }
     if std::env::args().nth(1).as_deref() == Some("rescue") {
         return rescues();
@@ -508,6 +537,7 @@ fn main() {
     versions();
     gaps();
     missing(&mut Random(29));
+    positions(&mut Random(37));
     rescues();
     stacks();
 }

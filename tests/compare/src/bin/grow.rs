@@ -112,6 +112,12 @@ fn main() {
         let mut asked = [keys[keys.len() / 3], random.hash()].into_iter().cycle();
         let mut too = asked.clone();
         compare(&name("get"), || ours::get(s, latest, &asked.next().unwrap()), || second::get(s, latest, &too.next().unwrap()));
+        compare(&name("count"), || ours::count(s, latest), || second::count(s, latest));
+        // The first grant, one in the middle and the last in turn.
+        let grants = ours::count(s, latest).unwrap();
+        let mut position = [0, grants / 2, grants - 1].into_iter().cycle();
+        let mut again = position.clone();
+        compare(&name("at"), || ours::at(s, latest, position.next().unwrap()), || second::at(s, latest, again.next().unwrap()));
         let (mut room, mut other) = (vec![0; 17_080], vec![0; 17_080]);
         let absent = random.hash();
         compare(&name("prove"), || ours::prove(s, latest, &absent, &mut room), || second::prove(s, latest, &absent, &mut other));

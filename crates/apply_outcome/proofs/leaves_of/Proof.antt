@@ -1,0 +1,32 @@
+-- `apply_outcome::leaves_of` meets its contract, by the case of the node. Assumes nothing.
+use native.Mathlib.Omega.{arith}
+use Rattle.apply_outcome.proofs.Saying.{inner-few, inner-leaves}
+use borrow.Author.Needs.{needs}
+use Rattle.apply_outcome.proofs.leaves_of.Statement.{statement}
+use Rattle.apply_outcome.proofs.leaves_of.Tie as tie
+
+enum-told : tie.Need-enum-told
+enum-told c = search needs
+
+enum-told-2 : tie.Need-enum-told-2
+enum-told-2 c = search needs
+
+enum-known-node : tie.Need-enum-known-node
+enum-known-node c = search needs
+
+add-result : tie.Need-add-result
+add-result c = omega (arith, inner-few (c .before .before .before .args .node) (c .before .node .given .1) (c .before .before .before .pre))
+
+returns : tie.Need-returns
+returns c = search needs
+
+returns-2 : tie.Need-returns-2
+returns-2 c = search needs
+
+returns-3 : tie.Need-returns-3
+returns-3 c = inner-leaves (c .before .before .before .args .node) (c .before .node .given .1)
+
+pub leaves-of-spec : {M : Type 1} → statement M
+leaves-of-spec =
+    tie.close
+    (tie.spec enum-told enum-told-2 enum-known-node add-result returns returns-2 returns-3)

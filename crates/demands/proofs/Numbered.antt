@@ -1,0 +1,52 @@
+-- Document 02, 2026-09: of a sound store the number read is that of the version's grants, and a position reads the grant there; the grants of a
+-- sound tree ascend. Assumes nothing.
+use Prim.Native.Nat.{ℕ, zero, suc, _<_, _≤_}
+use native.Mathlib.Omega.{arith}
+use mathlib.Core.Path.{_≡_, refl, ap, sym, _∙_, subst}
+use mathlib.Core.Logic.{_↔_}
+use mathlib.Core.List.{List, [], _∷_}
+use lib.ListN.{length}
+use Rattle.terms.specs.Bits.{Bytes}
+use Rattle.terms.specs.Fields.{le}
+use Rattle.terms.specs.Records.{Grant}
+use Rattle.meaning.specs.Sound.{Kept}
+use Rattle.meaning.specs.Counting.{grantAt}
+use Rattle.meaning.specs.Answers.{numberOf, toldOf}
+use Rattle.histories.proofs.Theorems.{sound-tree-of-grants}
+use Rattle.nodehash.specs.Node.{leafHash, innerHash}
+use Rattle.layout.specs.Stores.{storeOf}
+use Rattle.promises.specs.Calls.{SoundBytes}
+use Rattle.read_number.proofs.Theorems.{number-of-sound}
+use Rattle.read_position.proofs.Theorems.{position-of-sound}
+use Rattle.read_counts_c.specs.Export.{grantBytes}
+use Rattle.grants.specs.Contracts.{Counts, ReadsAt}
+use Rattle.demands.specs.Claims.{grantsOfVersion, Numbered}
+
+-- a position is below the number of grants, or 20
+at-zero : (gs : List Grant) (i : ℕ) → (numberOf (grantAt gs i) ≡ 0) ↔ (i < length gs)
+at-zero [] i = (λ e. absurd (omega arith), λ l. absurd (omega arith))
+at-zero (g ∷ gs) zero = (λ e. omega arith, λ l. refl)
+at-zero (g ∷ gs) (suc i) = let w = at-zero gs i in (λ e. omega (arith, w .0 e), λ l. w .1 (omega arith))
+
+at-twenty : (gs : List Grant) (i : ℕ) → (numberOf (grantAt gs i) ≡ 20) ↔ (length gs ≤ i)
+at-twenty [] i = (λ e. omega arith, λ l. refl)
+at-twenty (g ∷ gs) zero = (λ e. absurd (omega arith), λ l. absurd (omega arith))
+at-twenty (g ∷ gs) (suc i) = let w = at-twenty gs i in (λ e. omega (arith, w .0 e), λ l. w .1 (omega arith))
+
+pub sound-is-numbered : {s : Bytes} → SoundBytes s → (v : ℕ) → Kept (storeOf s) v → Numbered s v
+sound-is-numbered {s} w v kept = record {
+  number = number;
+  ordered = sound-tree-of-grants leafHash innerHash (storeOf s) (w .sound) v kept .1;
+  position = position;
+  below = λ x. let e = position x .0 in let z = at-zero (grantsOfVersion s v) _ in (λ a. z .0 (sym e ∙ a), λ a. e ∙ z .1 a);
+  past = λ x. let e = position x .0 in let z = at-twenty (grantsOfVersion s v) _ in (λ a. z .0 (sym e ∙ a), λ a. e ∙ z .1 a);
+}
+  where
+    number : {f g : Bytes} {r : ℕ} → Counts s v f r g → (r ≡ 0) × (g ≡ le 8 (length (grantsOfVersion s v)))
+    number {f} x =
+        let is = number-of-sound s (w .headed) (w .sound) v kept in (x .answer ∙ ap (λ a. numberOf a) is, x .count ∙ ap (λ a. toldOf (le 8) a f) is)
+
+    position : {i : ℕ} {f g : Bytes} {r : ℕ} → ReadsAt s v i f r g → (r ≡ numberOf (grantAt (grantsOfVersion s v) i)) × (g ≡ toldOf grantBytes (grantAt (grantsOfVersion s v) i) f)
+    position {i} {f} x =
+        let is = position-of-sound s (w .headed) (w .sound) v kept i in
+        (x .answer ∙ ap (λ a. numberOf a) is, x .grant ∙ ap (λ a. toldOf grantBytes a f) is)

@@ -1,0 +1,5 @@
+pub mod Recounted
+pub mod Reading
+pub mod Sound
+pub mod Theorems
+pub mod Desk

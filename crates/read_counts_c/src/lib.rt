@@ -1,0 +1,58 @@
+// The two reads of counts at the boundary, 2026-09: each answers 0 where it is accepted, else the number of refusal, with a spoilt slot + 1 in the high half, and then it writes nothing. `grants` exports them.
+use fields::put_u32;
+use hash::Hash;
+use hash::put_hash;
+use read_number::NumberRead;
+use read_position::PositionRead;
+ghost use mathlib.Core.Path.{_≡_};
+ghost use mathlib.Core.List.{_++_};
+ghost use lib.ListN.{length};
+ghost use Rattle.terms.specs.Fields.{le};
+ghost use Rattle.hash.specs.Hash.{hashBytes};
+ghost use Rattle.read_counts_c.specs.Export.{Counts, ReadsAt};
+
+// A number in eight bytes.
+fn put_count(count: &mut [u8], n: u64)
+    requires { ⌜ length (now count) ≡ 8 ⌝ }
+    ensures { λ _. ⌜ now (count .exit) ≡ le 8 n ⌝ }
+{
+    put_u32(count, 0, (n % 4294967296) as u32);
+    put_u32(count, 4, (n / 4294967296) as u32);
+}
+
+// A key and a value in 64 bytes.
+fn put_grant(grant: &mut [u8], key: Hash, value: Hash)
+    requires { ⌜ length (now grant) ≡ 64 ⌝ }
+    ensures { λ _. ⌜ now (grant .exit) ≡ hashBytes key ++ hashBytes value ⌝ }
+{
+    put_hash(&mut grant[0..32], key);
+    put_hash(&mut grant[32..64], value);
+}
+
+// The number of grants of a version.
+pub fn grants_count(store: &[u8], version: u32, count: &mut [u8; 8]) -> u64
+    ensures { λ r. ⌜ Counts (now (store .entry)) version (now (count .entry)) r (now (count .exit)) ⌝ }
+{
+    let read = read_number::grants_count(store, version);
+    match read {
+        NumberRead::Refused(n) => n,
+        NumberRead::Number(n) => {
+            put_count(count, n);
+            0
+        }
+    }
+}
+
+// The grant at a position of a version, 0 the least key: its key and its value.
+pub fn grants_at(store: &[u8], version: u32, position: u64, grant: &mut [u8; 64]) -> u64
+    ensures { λ r. ⌜ ReadsAt (now (store .entry)) version position (now (grant .entry)) r (now (grant .exit)) ⌝ }
+{
+    let read = read_position::grants_at(store, version, position);
+    match read {
+        PositionRead::Refused(n) => n,
+        PositionRead::Grant(key, value) => {
+            put_grant(grant, key, value);
+            0
+        }
+    }
+}

@@ -1,0 +1,47 @@
+-- `read_number::grants_count` meets its contract: what is tested first is refused first. Assumes nothing.
+use Rattle.read_number.proofs.Answers.{size-kept, number-refused, number-is-read}
+use borrow.Author.Needs.{needs}
+use Rattle.read_number.proofs.grants_count.Statement.{statement}
+use Rattle.read_number.proofs.grants_count.Tie as tie
+
+open-requires : tie.Need-open-requires
+open-requires c κs = search needs
+
+enum-known-opened : tie.Need-enum-known-opened
+enum-known-opened c = search needs
+
+cast-t5 : tie.Need-cast-t5
+cast-t5 c = search needs
+
+returns : tie.Need-returns
+returns c =
+    let o = c .before .before .before in
+    let a = o .before .before .args in
+    number-refused (a .store .now) (a .version) (o .«open» .ensures) (c .before .opened .given .1)
+
+enum-told : tie.Need-enum-told
+enum-told c = search needs
+
+root-number-requires : tie.Need-root-number-requires
+root-number-requires c κs =
+    let o = c .before .before in
+    let a = o .before .before .args in
+    size-kept (a .store .now) (a .version) (o .«open» .ensures) (c .enum-told .given .1)
+
+returns-2 : tie.Need-returns-2
+returns-2 c =
+    let o = c .before .before .before in
+    let a = o .before .before .args in
+    number-is-read (a .store .now) (a .version) (o .«open» .ensures) (c .root-number .result) (c .before .enum-told .given .1) (c .root-number .ensures)
+
+pub grants-count-spec : {M : Type 1} → statement M
+grants-count-spec =
+    tie.close
+    (tie.spec
+    open-requires
+    enum-known-opened
+    cast-t5
+    returns
+    enum-told
+    root-number-requires
+    returns-2)

@@ -1,0 +1,113 @@
+-- `read_position::descend` meets its contract: each turn goes to the side that the position is on by the left count. Assumes nothing.
+use native.Mathlib.Omega.{arith}
+use Prim.Native.Nat.{_-_}
+use mathlib.Core.Path.{_∙_}
+use Rattle.read_position.proofs.Descending.{Going, set-out, at-slot, ends-at-leaf, inner-short, ends-refused, goes-on}
+use borrow.Author.Needs.{needs}
+use Rattle.read_position.proofs.descend.Statement.{statement}
+use Rattle.read_position.proofs.descend.Tie as tie
+use Rattle.read_position.proofs.descend.Reads as reads
+use Rattle.read_position.proofs.descend.Lts as lts
+use Rattle.place.proofs.Place.top.Reads as top-reads
+use Rattle.place.proofs.child_place.Reads as child-place-reads
+use Rattle.read_position.proofs.kid.Reads as kid-reads
+use Rattle.read_position.proofs.leaf_at.Reads as leaf-at-reads
+use Rattle.read_position.proofs.leaf_here.Reads as leaf-here-reads
+use Rattle.read_position.proofs.turn_at.Reads as turn-at-reads
+
+abbrev Inv-loop : tie.InvT-loop
+Inv-loop store first position place₀ at₀ n₀ place at n = Going store first position place at n
+
+abbrev μ-loop : tie.MeasureT-loop
+μ-loop store first position place₀ at₀ n₀ place at n = 256 - place .count
+
+-- src/lib.rt:136:9
+top-requires : tie.Need-top-requires Inv-loop μ-loop
+top-requires c κs = search needs
+
+-- src/lib.rt:139:5
+loop-holds : tie.Need-loop-holds Inv-loop μ-loop
+loop-holds c = set-out (c .before .before .pre) (c .top .ensures)
+
+-- src/lib.rt:140:12
+leaf-here-requires : tie.Need-leaf-here-requires Inv-loop μ-loop
+leaf-here-requires c κs = at-slot (c .loop .inv)
+
+-- src/lib.rt:141:13
+leaf-at-requires : tie.Need-leaf-at-requires Inv-loop μ-loop
+leaf-at-requires c κs = c .before .before .loop .inv .holds .slotted
+
+-- src/lib.rt:141:13
+returns : tie.Need-returns Inv-loop μ-loop
+returns c =
+    let here = c .before .before in
+    c .leaf-at .ensures ∙ ends-at-leaf (here .before .loop .inv) (here .leaf-here .ensures) (c .before .if1 .taken)
+
+-- src/lib.rt:143:13
+turn-at-requires : tie.Need-turn-at-requires Inv-loop μ-loop
+turn-at-requires c κs = at-slot (c .before .before .loop .inv)
+
+-- src/lib.rt:144:9
+child-place-requires : tie.Need-child-place-requires Inv-loop μ-loop
+child-place-requires c κs =
+    let here = c .before .before in
+    let w = here .before .loop .inv in
+    (w .holds .slotted .proper, inner-short w (here .leaf-here .ensures) (c .before .if1 .left))
+
+-- src/lib.rt:145:13
+kid-requires : tie.Need-kid-requires Inv-loop μ-loop
+kid-requires c κs =
+    let w = c .before .before .before .before .loop .inv in
+    record { size = w .holds .slotted .size; inside = w .holds .slotted .inside; proper = c .child-place .ensures .proper }
+
+-- src/lib.rt:147:27
+enum-known-next : tie.Need-enum-known-next Inv-loop μ-loop
+enum-known-next c = search needs
+
+-- src/lib.rt:147:33
+returns-2 : tie.Need-returns-2 Inv-loop μ-loop
+returns-2 c =
+    let kid = c .before .before .before in
+    let turn = kid .before .before in
+    let here = turn .before .before in
+    ends-refused (here .before .loop .inv) (here .leaf-here .ensures) (turn .before .if1 .left) (turn .turn-at .result) (turn .turn-at .ensures) (kid .before .child-place .ensures) _ (kid .kid .ensures) (c .before .next .given .1)
+
+-- src/lib.rt:148:22
+enum-known-next-2 : tie.Need-enum-known-next-2 Inv-loop μ-loop
+enum-known-next-2 c = search needs
+
+-- src/lib.rt:139:5
+loop-less : tie.Need-loop-less Inv-loop μ-loop
+loop-less c =
+    let kid = c .before .before .before in
+    let turn = kid .before .before in
+    let here = turn .before .before in
+    omega (arith, inner-short (here .before .loop .inv) (here .leaf-here .ensures) (turn .before .if1 .left), kid .before .child-place .ensures .count)
+
+-- src/lib.rt:139:5
+loop-again : tie.Need-loop-again Inv-loop μ-loop
+loop-again c =
+    let kid = c .before .before .before in
+    let turn = kid .before .before in
+    let here = turn .before .before in
+    goes-on (here .before .loop .inv) (here .leaf-here .ensures) (turn .before .if1 .left) (turn .turn-at .result) (turn .turn-at .ensures) (kid .before .child-place .ensures) _ (kid .kid .ensures) (c .before .next2 .given .1)
+
+pub descend-spec : {M : Type 1} → statement M
+descend-spec =
+    tie.close
+    (tie.spec
+    Inv-loop
+    μ-loop
+    top-requires
+    loop-holds
+    leaf-here-requires
+    leaf-at-requires
+    returns
+    turn-at-requires
+    child-place-requires
+    kid-requires
+    enum-known-next
+    returns-2
+    enum-known-next-2
+    loop-less
+    loop-again)

@@ -1,0 +1,47 @@
+-- `read_position::grants_at` meets its contract: what is tested first is refused first. Assumes nothing.
+use Rattle.read_position.proofs.Answers.{size-kept, position-refused, position-is-read}
+use borrow.Author.Needs.{needs}
+use Rattle.read_position.proofs.grants_at.Statement.{statement}
+use Rattle.read_position.proofs.grants_at.Tie as tie
+
+open-requires : tie.Need-open-requires
+open-requires c κs = search needs
+
+enum-known-opened : tie.Need-enum-known-opened
+enum-known-opened c = search needs
+
+cast-t6 : tie.Need-cast-t6
+cast-t6 c = search needs
+
+returns : tie.Need-returns
+returns c =
+    let o = c .before .before .before in
+    let a = o .before .before .args in
+    position-refused (a .store .now) (a .version) (a .position) (o .«open» .ensures) (c .before .opened .given .1)
+
+enum-told : tie.Need-enum-told
+enum-told c = search needs
+
+root-position-requires : tie.Need-root-position-requires
+root-position-requires c κs =
+    let o = c .before .before in
+    let a = o .before .before .args in
+    size-kept (a .store .now) (a .version) (a .position) (o .«open» .ensures) (c .enum-told .given .1)
+
+returns-2 : tie.Need-returns-2
+returns-2 c =
+    let o = c .before .before .before in
+    let a = o .before .before .args in
+    position-is-read (a .store .now) (a .version) (a .position) (o .«open» .ensures) (c .root-position .result) (c .before .enum-told .given .1) (c .root-position .ensures)
+
+pub grants-at-spec : {M : Type 1} → statement M
+grants-at-spec =
+    tie.close
+    (tie.spec
+    open-requires
+    enum-known-opened
+    cast-t6
+    returns
+    enum-told
+    root-position-requires
+    returns-2)

@@ -1,0 +1,92 @@
+-- `read_position::leaf_at` meets its contract: key and value are read where they lie in the slot. Assumes nothing.
+use native.Mathlib.Omega.{arith}
+use mathlib.Core.Path.{ap, _∙_}
+use borrow.Author.Tests.{not-true, not-false}
+use Rattle.terms.specs.declared.Form.the-variants.{Counted as counted}
+use Rattle.terms.specs.Bits.{begins}
+use Rattle.place.specs.Place.{placeOf}
+use Rattle.layout.specs.Slots.{keyIn, valueIn}
+use Rattle.layout.specs.Stores.{slotIn}
+use Rattle.store.proofs.Slots.{slot-fits}
+use Rattle.read_position.proofs.Descending.{leaf-stray, leaf-over, leaf-there, key-whole, value-whole}
+use borrow.Author.Needs.{needs}
+use Rattle.read_position.proofs.leaf_at.Statement.{statement}
+use Rattle.read_position.proofs.leaf_at.Tie as tie
+use Rattle.read_position.proofs.leaf_at.Reads as reads
+use Rattle.read_position.proofs.leaf_at.Lts as lts
+use Rattle.hash.proofs.hash_at.Reads as hash-at-reads
+use Rattle.place.proofs.begins.Reads as begins-reads
+use Rattle.slots.proofs.key_of.Reads as key-of-reads
+use Rattle.slots.proofs.value_of.Reads as value-of-reads
+use Rattle.store.proofs.slot_of.Reads as slot-of-reads
+
+-- src/lib.rt:77:9
+slot-of-requires : tie.Need-slot-of-requires
+slot-of-requires c κs =
+    let d = c .before in
+    slot-fits counted (d .args .store .now) (d .pre .size) (d .args .i) (d .pre .inside)
+
+-- src/lib.rt:78:16
+key-of-requires : tie.Need-key-of-requires
+key-of-requires c κs = search needs
+
+-- src/lib.rt:78:9
+begins-requires : tie.Need-begins-requires
+begins-requires c κs = search needs
+
+-- src/lib.rt:79:9
+returns : tie.Need-returns
+returns c =
+    let a = c .before .before .before .before .before .args in
+    let b = c .before in
+    leaf-stray (placeOf (a .place)) (slotIn counted (a .i) (a .store .now)) (a .n) (b .begins .ensures ∙ ap (begins (placeOf (a .place))) (b .before .key-of .ensures .0 ∙ ap keyIn (b .before .before .slot-of .ensures .0))) (not-true _ (c .if1 .taken))
+
+-- src/lib.rt:82:9
+returns-2 : tie.Need-returns-2
+returns-2 c =
+    let a = c .before .before .before .before .before .before .args in
+    let b = c .before .before in
+    leaf-over (placeOf (a .place)) (slotIn counted (a .i) (a .store .now)) (a .n) (b .begins .ensures ∙ ap (begins (placeOf (a .place))) (b .before .key-of .ensures .0 ∙ ap keyIn (b .before .before .slot-of .ensures .0))) (not-false _ (c .before .if1 .left)) (c .if2 .taken)
+
+-- src/lib.rt:84:23
+key-of-requires-2 : tie.Need-key-of-requires-2
+key-of-requires-2 c κs = search needs
+
+-- src/lib.rt:84:9
+hash-at-requires : tie.Need-hash-at-requires
+hash-at-requires c κs = search needs
+
+-- src/lib.rt:85:25
+value-of-requires : tie.Need-value-of-requires
+value-of-requires c κs = search needs
+
+-- src/lib.rt:85:9
+hash-at-requires-2 : tie.Need-hash-at-requires-2
+hash-at-requires-2 c κs = search needs
+
+-- src/lib.rt:73:1
+returns-3 : tie.Need-returns-3
+returns-3 c =
+    let b = c .before .before .before .before .before .before in
+    let slot = b .before .before in
+    let a = slot .before .before .args in
+    let x = slotIn counted (a .i) (a .store .now) in
+    leaf-there (placeOf (a .place)) x (a .n) (b .begins .ensures ∙ ap (begins (placeOf (a .place))) (b .before .key-of .ensures .0 ∙ ap keyIn (slot .slot-of .ensures .0))) (not-false _ (c .before .before .before .before .before .if1 .left)) (c .before .before .before .before .if2 .left)
+    (c .before .before .hash-at .result) (c .hash-at2 .result)
+    (key-whole x (c .before .before .before .key-of2 .ensures .0 ∙ ap keyIn (slot .slot-of .ensures .0)) (c .before .before .hash-at .ensures .1))
+    (value-whole x (c .before .value-of .ensures .0 ∙ ap valueIn (slot .slot-of .ensures .0)) (c .hash-at2 .ensures .1))
+
+pub leaf-at-spec : {M : Type 1} → statement M
+leaf-at-spec =
+    tie.close
+    (tie.spec
+    slot-of-requires
+    key-of-requires
+    begins-requires
+    returns
+    returns-2
+    key-of-requires-2
+    hash-at-requires
+    value-of-requires
+    hash-at-requires-2
+    returns-3)
