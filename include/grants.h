@@ -139,6 +139,15 @@ uint32_t grants_rescue(const uint8_t *source, size_t source_len, uint32_t oldest
 uint32_t grants_verify(const uint8_t *root, size_t root_len, const uint8_t *key, size_t key_len, const uint8_t *proof, size_t proof_len,
                        uint8_t found[33]);
 
+/* Many proofs at once against one root, what grants_verify answers for each, in less time than as many calls of it. keys: 32 bytes each, 0 to
+   256 of them. proofs: one piece for each key, in their order, one after the other as grants_palette gives them; each is as long as its first 4 bytes
+   say, at least 4. answers: for each key 34 bytes, at the front; the rest stays. The first is the number that grants_verify would answer, 0, 10 or 11,
+   the other 33 are what it would leave in an array of zeros: where the first is 0, 1 and the value, or 0 and 32 zero bytes. So look at each key's number: 0 from the
+   call itself says only that each has its answer. Refused: 12 (the root isn't 32 bytes, or not 0 to 256 whole keys), 10 (the bytes aren't as many
+   pieces as keys, or some are over), 9 (fewer than 34 bytes a key). */
+uint32_t grants_verify_many(const uint8_t *root, size_t root_len, const uint8_t *keys, size_t keys_len, const uint8_t *proofs, size_t proofs_len,
+                            uint8_t *answers, size_t answers_len);
+
 /* SHA-256 of any bytes. Never refused. */
 uint32_t grants_sha256(const uint8_t *bytes, size_t len, uint8_t digest[32]);
 

@@ -106,6 +106,9 @@ export class Grants {
   readonly module: WebAssembly.Module;
   /** What a proof shows of a key against a root. Refused: 12, 10, 11. */
   verify(root: Bytes, key: Bytes, proof: Bytes): Found;
+  /** What each proof of a row shows of its key against one root, up to 256 at once: as `verify`, or its refusal, 10 or 11, in its place. The row is a list
+   * of proofs as `palette` gives it, or their bytes one after the other. Refused: 12, 10 (it isn't as many pieces as keys, by their own lengths). */
+  verifyMany(root: Bytes, keys: readonly Bytes[], row: readonly Bytes[] | Bytes): (Found | Refused)[];
   sha256(bytes: Bytes): Uint8Array;
   /** The key that stands for a name: the SHA-256 of its UTF-8 bytes. */
   name(text: string): Uint8Array;
@@ -118,6 +121,9 @@ export class Grants {
    * versions, and nothing else shows it. Refused: 1, 2 (oldest above latest), 3 (no version). */
   rescue(damaged: Bytes, oldest: number, latest: number): Promise<Rescued>;
 }
+
+/** Whether this engine has SIMD, which grants-verify-simd.wasm needs. */
+export function hasSimd(): boolean;
 
 /** The library from its WebAssembly: bytes, a compiled module, a URL, or a path in Node; without one, grants.wasm beside this file. */
 export function load(source?: Uint8Array | ArrayBuffer | WebAssembly.Module | URL | string): Promise<Grants>;

@@ -48,6 +48,23 @@ function positionOf(given) {
   return BigInt(given);
 }
 
+function joined(pieces) {
+  const all = new Uint8Array(pieces.reduce((length, piece) => length + piece.length, 0));
+  let at = 0;
+  for (const piece of pieces) {
+    all.set(piece, at);
+    at += piece.length;
+  }
+  return all;
+}
+
+// A list of keys as the calls take it: torn keys that make up whole ones must not pass for these.
+function keysOf(given) {
+  const keys = Array.from(given, bytesOf);
+  if (keys.some((key) => key.length !== 32)) throw new Refused(12);
+  return joined(keys);
+}
+
 // The number of refusal that a call returned, and the slot that a read named: its 64 bits have the number in the low half, the slot + 1 in the high.
 function parted(said) {
   if (typeof said === 'number') return [said >>> 0, null];
@@ -142,6 +159,8 @@ function found([flag, ...value]) {
   return flag === 1 ? { present: true, value: Uint8Array.from(value) } : { present: false };
 }
 
+// The bytes of one answer of many: a number, and the 33 bytes of what is found.
+const ANSWER = 34;
 // No comparison of two versions takes more visits.
 const MOST_VISITS = 32769;
 
@@ -251,11 +270,7 @@ export class Store {
   // The proofs for up to 256 keys, in the order asked, each as prove would give it. 12, 1, 2, 8, then of the first key refused 14, 3 or 17; then 9.
   palette(version, keys, most = LONGEST_PROOF * Math.min(keys.length, 256)) {
     if (!Number.isInteger(most) || most < 0) throw new RangeError('room is a whole number of bytes');
-    const each = Array.from(keys, bytesOf);
-    if (each.some((key) => key.length !== 32)) throw new Refused(12);
-    const list = new Uint8Array(32 * each.length);
-    each.forEach((key, i) => list.set(key, 32 * i));
-    const [all, length] = this.#machine.call('palette', 'store', versionOf(version), list, room(Math.min(most, LONGEST_PROOF * 256)), answer(4));
+    const [all, length] = this.#machine.call('palette', 'store', versionOf(version), keysOf(keys), room(Math.min(most, LONGEST_PROOF * 256)), answer(4));
     const proofs = [];
     for (let at = 0; at < u32(length, 0); at += proofs.at(-1).length) proofs.push(all.slice(at, at + u32(all, at)));
     return proofs;
@@ -290,6 +305,18 @@ export class Grants {
 
   verify(root, key, proof) {
     return found(this.#machine.call('verify', bytesOf(root), bytesOf(key), bytesOf(proof), answer(33))[0]);
+  }
+
+  // What each proof of a row shows of its key against one root, up to 256 at once: as `verify`, or its `Refused` (10 or 11) in its place. The row is a
+  // list of proofs, or their bytes one after the other. 12, 10 where it isn't as many pieces as keys.
+  verifyMany(root, keys, row) {
+    const list = keysOf(keys);
+    const proofs = Array.isArray(row) ? joined(row.map(bytesOf)) : bytesOf(row);
+    const [answers] = this.#machine.call('verify_many', bytesOf(root), list, proofs, room((ANSWER * list.length) / 32));
+    return Array.from({ length: list.length / 32 }, (_, i) => {
+      const [number, ...bytes] = answers.subarray(ANSWER * i, ANSWER * (i + 1));
+      return number === 0 ? found(bytes) : new Refused(number);
+    });
   }
 
   sha256(bytes) {
@@ -330,6 +357,11 @@ export class Grants {
     machine.keep(bytes);
     return machine;
   }
+}
+
+// Whether this engine has SIMD, which grants-verify-simd.wasm needs: whether it takes a module of one function that splats a byte.
+export function hasSimd() {
+  return WebAssembly.validate(Uint8Array.of(0, 97, 115, 109, 1, 0, 0, 0, 1, 5, 1, 96, 0, 1, 123, 3, 2, 1, 0, 10, 10, 1, 8, 0, 65, 0, 253, 15, 253, 98, 11));
 }
 
 // The WebAssembly at a URL, or at a path in Node.

@@ -84,6 +84,16 @@ extern "C" {
         proof_len: usize,
         found: *mut [u8; 33],
     ) -> u32;
+    fn grants_verify_many(
+        root: *const u8,
+        root_len: usize,
+        keys: *const u8,
+        keys_len: usize,
+        proofs: *const u8,
+        proofs_len: usize,
+        answers: *mut u8,
+        answers_len: usize,
+    ) -> u32;
     fn grants_sha256(bytes: *const u8, len: usize, digest: *mut [u8; 32]) -> u32;
 }
 
@@ -262,6 +272,27 @@ pub fn verify(root: &[u8], key: &[u8], proof: &[u8]) -> Result<[u8; 33], Error> 
         )
     })?;
     Ok(found)
+}
+
+/// 34 bytes for each key, at the front of the answers.
+pub fn verify_many(
+    root: &[u8],
+    keys: &[u8],
+    proofs: &[u8],
+    answers: &mut [u8],
+) -> Result<(), Error> {
+    accepted(unsafe {
+        grants_verify_many(
+            root.as_ptr(),
+            root.len(),
+            keys.as_ptr(),
+            keys.len(),
+            proofs.as_ptr(),
+            proofs.len(),
+            answers.as_mut_ptr(),
+            answers.len(),
+        )
+    })
 }
 
 pub fn sha256(bytes: &[u8]) -> [u8; 32] {

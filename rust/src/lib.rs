@@ -65,7 +65,7 @@ pub use form::{
 };
 pub use hex::{from_hex, to_hex, HexError};
 pub use palette::{Palette, RefusedAt, PALETTE_KEYS};
-pub use proof::{verify, Proof, PROOF_BYTES};
+pub use proof::{verify, verify_many, Proof, PROOF_BYTES};
 pub use records::{Body, Child, Place, Record};
 pub use rescue::{Rescued, Slot};
 pub use store::{Applied, Header, Store};

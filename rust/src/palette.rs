@@ -88,6 +88,13 @@ impl Palette {
         root: impl AsRef<[u8]>,
         keys: &[Key],
     ) -> Result<Vec<Option<Value>>, RefusedAt> {
+        // At once where that can be; else one by one, which finds the position.
+        if let Ok(answers) = proof::verify_many(root.as_ref(), keys, &self.bytes) {
+            let each = answers.into_iter().enumerate();
+            return each
+                .map(|(position, answer)| answer.map_err(|error| RefusedAt { position, error }))
+                .collect();
+        }
         let mut proofs = self.proofs();
         let mut shown = Vec::with_capacity(keys.len());
         for (position, key) in keys.iter().enumerate() {

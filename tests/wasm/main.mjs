@@ -6,7 +6,7 @@ import { Tally } from './tally.mjs';
 import { vectors } from './vectors.mjs';
 
 const tally = new Tally();
-for (const [name, stack] of [['grants-verify', 64 << 10], ['grants', 512 << 10]]) await replay(tally, process.argv[2], `target/wasm/${name}.wasm`, stack);
+for (const [name, stack] of [['grants-verify', 64 << 10], ['grants-verify-simd', 64 << 10], ['grants', 512 << 10]]) await replay(tally, process.argv[2], `target/wasm/${name}.wasm`, stack);
 const grants = await load();
 await vectors(tally, grants);
 await module(tally, grants);

@@ -57,6 +57,15 @@ async function publishing(tally, grants) {
   tally.equal('present', grants.verify(first.root, lyrics, then), { present: true, value: read });
   tally.equal('absent', grants.verify(toHex(second.root), toHex(lyrics).toUpperCase(), toHex(now)), { present: false });
   tally.equal('views', grants.verify(new DataView(first.root.buffer), lyrics.buffer, then), { present: true, value: read });
+  const row = [then, store.prove(1, chords), then];
+  const asked = [lyrics, chords, lyrics];
+  tally.equal('many', grants.verifyMany(first.root, asked, row), row.map((proof, i) => grants.verify(first.root, asked[i], proof)));
+  tally.equal('many, their bytes', grants.verifyMany(first.root, asked, Buffer.concat(row)), grants.verifyMany(first.root, asked, row));
+  tally.equal('many, each its own', grants.verifyMany(second.root, asked, row).map((it) => it.number), asked.map((key, i) => refused(() => grants.verify(second.root, key, row[i]))));
+  tally.equal('many, none', grants.verifyMany(first.root, [], []), []);
+  tally.equal('many, a proof short', refused(() => grants.verifyMany(first.root, asked, row.slice(1))), 10);
+  tally.equal('many, a short key', refused(() => grants.verifyMany(first.root, [lyrics.slice(1)], [then])), 12);
+  tally.equal('many, 257 keys', refused(() => grants.verifyMany(first.root, Array(257).fill(lyrics), Array(257).fill(then))), 12);
   tally.equal('last month', refused(() => grants.verify(second.root, lyrics, then)), 11);
   tally.equal('a byte over', refused(() => grants.verify(first.root, lyrics, [...then, 0].reduce((h, b) => h + b.toString(16).padStart(2, '0'), ''))), 10);
   tally.equal('a short root', refused(() => grants.verify(first.root.slice(1), lyrics, then)), 12);

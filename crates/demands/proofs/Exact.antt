@@ -1,15 +1,15 @@
 -- Demand 1: a public call answers each number of document 01 exactly if its row deserves it and no earlier row of the call's order does, and
 -- 0 exactly if none does. By the cases of each contract, row by row. Assumes nothing.
-use Prim.Native.Nat.{ℕ}
+use Prim.Native.Nat.{ℕ, _*_, _/_}
 use native.Mathlib.Omega.{arith}
-use mathlib.Core.Path.{_≡_, refl, sym, subst}
+use mathlib.Core.Path.{_≡_, refl, sym, _∙_, subst}
 use mathlib.Core.Logic.{inl, inr}
-use mathlib.Core.Bool.{Bool, true, false, cond, _&&_}
+use mathlib.Core.Bool.{Bool, true, false, cond, _&&_, true≢false}
 use mathlib.Core.List.{[], _∷_, _++_}
 use mathlib.Core.Option.{Option, none, some}
 use lib.ListN.{length}
-use lib.Dec.{eqb}
-use borrow.Author.Tests.{eqb-true, eqb-false}
+use lib.Dec.{eqb, leb}
+use borrow.Author.Tests.{eqb-true, eqb-false, leb-true, leb-false}
 use Rattle.terms.specs.declared.Form.the-variants.{Counted as counted}
 use Rattle.terms.specs.Bits.{Bytes, Byte, All}
 use Rattle.terms.specs.Records.{Store, Proof}
@@ -31,14 +31,17 @@ use Rattle.read.specs.Reads.{rootAnswer, keyAnswer}
 use Rattle.read_number.specs.Numbers.{numberAnswer}
 use Rattle.read_position.specs.Positions.{positionAnswer}
 use Rattle.prove.specs.Proving.{proveAnswer}
-use Rattle.palette_rules.specs.Palette.{wholeKeys, keysIn, palette}
+use Rattle.palette_rules.specs.Palette.{keySize, wholeKeys, keysIn, palette}
+use Rattle.palette_rules.proofs.Keys.{keys-many}
 use Rattle.palette.specs.Palettes.{paletteAnswer}
 use Rattle.changed.specs.Compare.{compare}
 use Rattle.verify.specs.Verify.{judged, verified}
+use Rattle.verify_rows.specs.Rows.{ownLength, cutsInto, answerSize, manyVerified}
+use Rattle.verify_rows.proofs.Cutting.{cut-exactly}
 use Rattle.ways.specs.Ways.{its-root}
 use Rattle.refusals.specs.Exactly.{Table, Exactly, NoneOf, low, Names}
-use Rattle.refusals.specs.Rows.{NotKeys, StopsPalette, TooLongTogether, NotSound, Not32, StopsRoot, StopsGet, StopsAt, StopsProve, TooLong}
-use Rattle.refusals.specs.Orders.{headerRows, batchRows, versionRows, comparisonRows, holdingRows}
+use Rattle.refusals.specs.Rows.{NotRootAndKeys, NotPieces, AnswersTooLong, NotKeys, StopsPalette, TooLongTogether, NotSound, Not32, StopsRoot, StopsGet, StopsAt, StopsProve, TooLong}
+use Rattle.refusals.specs.Orders.{headerRows, batchRows, versionRows, comparisonRows, holdingRows, rowRows}
 use Rattle.refusals.proofs.Exactly.{First, past, within, exactly}
 use Rattle.refusals.proofs.Headers.{length-wrong, length-right, after-header, header-row, records-formed}
 use Rattle.refusals.proofs.Batches.{batch-first}
@@ -49,8 +52,8 @@ use Rattle.refusals.proofs.Palettes.{palette-stopped, keys-whole, keys-torn}
 use Rattle.refusals.proofs.Changes.{changes-first}
 use Rattle.refusals.proofs.Rescues.{rescue-first}
 use Rattle.refusals.proofs.Proofs.{off-form, form-first}
-use Rattle.demands.specs.Tables.{formatRows, checkRows, applyRows, pruneRows, rootRows, rootTests, getRows, getTests, countRows, atRows, atTests, proveRows, proveTests, paletteTests, paletteRows, changesRows, verifyRows, sha256Rows, rescuingRows}
-use Rattle.grants.specs.Contracts.{Formats, Checks, Applies, Prunes, ReadsRoot, ReadsKey, Counts, ReadsAt, Proves, Palettes, Changes, Verifies, Hashes, Rescues}
+use Rattle.demands.specs.Tables.{formatRows, checkRows, applyRows, pruneRows, rootRows, rootTests, getRows, getTests, countRows, atRows, atTests, proveRows, proveTests, paletteTests, paletteRows, changesRows, verifyRows, verifyManyRows, sha256Rows, rescuingRows}
+use Rattle.grants.specs.Contracts.{Formats, Checks, Applies, Prunes, ReadsRoot, ReadsKey, Counts, ReadsAt, Proves, Palettes, Changes, Verifies, VerifiesMany, Hashes, Rescues}
 
 -- Format: 1.
 pub format-exactly : {s t : Bytes} {r : ℕ} → Formats s r t → Exactly (formatRows s) r
@@ -247,6 +250,38 @@ verify-exactly {root} {k} {x} {r = r} h w =
     sizes false b e f = inl (λ z. eqb-false (length root) 32 e (z .0), refl)
     sizes true false e f = inl (λ z. eqb-false (length k) 32 f (z .1 .0), refl)
     sizes true true e f = inr (λ n. n (eqb-true (length root) 32 e, (eqb-true (length k) 32 f, tt)), form (proofIn x) refl)
+
+-- Many proofs at once: 12, 10, 9.
+pub verify-many-exactly : {root list row old : Bytes} {r : ℕ} {new : Bytes} → VerifiesMany root list row old r new →
+    Exactly (verifyManyRows root list row old) r
+unfolding manyVerified keysIn ownLength
+verify-many-exactly {root} {list} {row} {old} {r} w =
+    exactly (verifyManyRows root list row old) r refl
+    (subst (First (verifyManyRows root list row old)) (sym (w .answer))
+    (subst (λ n. First (rowRows root list n row old) (numberOf said)) (sym (keys-many many list))
+    (go (eqb (length root) 32) (wholeKeys list) (cutsInto many row) (leb (answerSize * many) (length old)) _ refl refl refl refl)))
+  where
+    many : ℕ
+    many = length list / keySize
+
+    said : Answer Bytes
+    said = manyVerified root list row (length old)
+
+    right : eqb (length root) 32 ≡ true → wholeKeys list ≡ true → NotRootAndKeys root list → ⊥
+    right e f (inl z) = z (eqb-true (length root) 32 e, tt)
+    right e f (inr z) = keys-whole list f z
+
+    cut : cutsInto many row ≡ true → NotPieces many row → ⊥
+    cut g n = let w = cut-exactly many row .0 g in n (w .0) (w .1) (w .2) (w .3)
+
+    go : (a b c d : Bool) (x : Bytes) → eqb (length root) 32 ≡ a → wholeKeys list ≡ b → cutsInto many row ≡ c → leb (answerSize * many) (length old) ≡ d →
+        First (rowRows root list many row old) (numberOf (cond (a && b) (cond c (cond d (accepted x) (refused 9)) (refused 10)) (refused 12)))
+    go false b c d x e f g h = inl (inl (λ z. eqb-false (length root) 32 e (z .0)), refl)
+    go true false c d x e f g h = inl (inr (keys-torn list f), refl)
+    go true true false d x e f g h = inr (right e f, inl (λ xs s l z. true≢false (sym (cut-exactly many row .1 (xs, s, l, z)) ∙ g), refl))
+    go true true true false x e f g h = inr (right e f, inr (cut g, inl (leb-false (answerSize * many) (length old) h, refl)))
+    go true true true true x e f g h =
+        inr (right e f, inr (cut g, inr (λ z. absurd (omega (arith, leb-true (answerSize * many) (length old) h)), refl)))
 
 -- A hash is never refused.
 pub sha256-exactly : {x g : Bytes} {r : ℕ} → Hashes x r g → Exactly sha256Rows r

@@ -16,5 +16,6 @@ pub mod Gaps
 pub mod Desk
 pub mod Changed
 pub mod Palettes
+pub mod Many
 pub mod Rescued
 pub mod Numbered

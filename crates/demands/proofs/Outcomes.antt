@@ -9,7 +9,7 @@ use Rattle.promises.proofs.Calls.{one-outcome, one-export}
 use Rattle.changes.specs.Changes.{roomAfter}
 use Rattle.changes_c.specs.Export.{countBytes}
 use Rattle.rescue_bytes.proofs.Outcomes as rescue
-use Rattle.grants.specs.Contracts.{Formats, Checks, Applies, Prunes, ReadsRoot, ReadsKey, Counts, ReadsAt, Proves, Palettes, Changes, Verifies, Hashes, Rescues}
+use Rattle.grants.specs.Contracts.{Formats, Checks, Applies, Prunes, ReadsRoot, ReadsKey, Counts, ReadsAt, Proves, Palettes, Changes, Verifies, VerifiesMany, Hashes, Rescues}
 
 module _ {s : Bytes} {a b : ℕ} where
   pub one-format : {t u : Bytes} → Formats s a t → Formats s b u → (a ≡ b) × (t ≡ u)
@@ -59,6 +59,9 @@ module _ {s : Bytes} {a b : ℕ} where
 module _ {a b : ℕ} where
   pub one-verify : {root k x f g h : Bytes} → Verifies root k x f a g → Verifies root k x f b h → (a ≡ b) × (g ≡ h)
   one-verify x y = (x .answer ∙ sym (y .answer), x .found ∙ sym (y .found))
+
+  pub one-verify-many : {root list row old g h : Bytes} → VerifiesMany root list row old a g → VerifiesMany root list row old b h → (a ≡ b) × (g ≡ h)
+  one-verify-many x y = (x .answer ∙ sym (y .answer), x .told ∙ sym (y .told))
 
   pub one-sha256 : {x g h : Bytes} → Hashes x a g → Hashes x b h → (a ≡ b) × (g ≡ h)
   one-sha256 x y = (x .answer ∙ sym (y .answer), x .digest ∙ sym (y .digest))

@@ -137,13 +137,13 @@ answer-never-0 s v list room n e z = go (wholeKeys list) (headerOf counted s) re
     go true (header c o l) f i = palette-never-0 (storeOf s) v (keysIn list) room n i z
 
 -- a palette that was accepted
-record Given (s : Bytes) (v : ℕ) (list : Bytes) (room : ℕ) (ps : List Proof) : Type 0 where
-  capacity : ℕ
-  oldest : ℕ
-  latest : ℕ
-  headed : headerOf counted s ≡ header capacity oldest latest
-  each : ProofOfEach (proof (storeOf s) v) (keysIn list) ps
-  fits : lengthTogether ps ≤ room
+pub record Given (s : Bytes) (v : ℕ) (list : Bytes) (room : ℕ) (ps : List Proof) : Type 0 where
+  pub capacity : ℕ
+  pub oldest : ℕ
+  pub latest : ℕ
+  pub headed : headerOf counted s ≡ header capacity oldest latest
+  pub each : ProofOfEach (proof (storeOf s) v) (keysIn list) ps
+  pub fits : lengthTogether ps ≤ room
 
 given-is : (s : Bytes) (v : ℕ) (list : Bytes) (room : ℕ) (ps : List Proof) → paletteAnswer s v list room ≡ accepted ps → Given s v list room ps
 unfolding paletteAnswer palette
@@ -171,16 +171,16 @@ given-is s v list room ps = go (wholeKeys list) (headerOf counted s) (isKept (st
         }
 
 module _ {s : Bytes} {v : ℕ} {list room f t g : Bytes} (w : Palettes s v list room f 0 t g) where
-  there-are : (ps : List Proof) × (palettedInto s v list room ≡ accepted ps)
+  pub there-are : (ps : List Proof) × (palettedInto s v list room ≡ accepted ps)
   there-are = accepted-of (palettedInto s v list room) (λ n e. answer-never-0 s v list (length room) n e) (w .answer)
 
-  its-given : Given s v list (length room) (there-are .0)
+  pub its-given : Given s v list (length room) (there-are .0)
   its-given = given-is s v list (length room) (there-are .0) (there-are .1)
 
-  room-is : t ≡ proofsBytes (there-are .0) ++ drop (length (proofsBytes (there-are .0))) room
+  pub room-is : t ≡ proofsBytes (there-are .0) ++ drop (length (proofsBytes (there-are .0))) room
   room-is = w .proofs ∙ ap (λ a. roomAfter a room) (there-are .1)
 
-  told-is : wholeKeys list ≡ true → num g ≡ lengthTogether (there-are .0)
+  pub told-is : wholeKeys list ≡ true → num g ≡ lengthTogether (there-are .0)
   told-is whole =
       let few = together-most (storeOf s) v (keysIn list) (there-are .0) (its-given .each) in
       let many = keys-counted list whole in
@@ -200,7 +200,7 @@ module _ (s : Bytes) (v : ℕ) (slots : All (SlotForm counted) (storeOf s .slots
   joined-bytes [] h (then-given x c) e = absurd e
   joined-bytes (p ∷ ps) h (then-given x c) e = ap₂ _++_ (its-bytes (h .0) x (e .0)) (joined-bytes ps (h .1) c (e .1))
 
-  together-long : (keys : List Bytes) (ps : List Proof) → All Whole32 keys → ProofOfEach (proof (storeOf s) v) keys ps → length (proofsBytes ps) ≡ lengthTogether ps
+  pub together-long : (keys : List Bytes) (ps : List Proof) → All Whole32 keys → ProofOfEach (proof (storeOf s) v) keys ps → length (proofsBytes ps) ≡ lengthTogether ps
   together-long [] [] h e = refl
   together-long [] (p ∷ ps) h e = absurd e
   together-long (k ∷ keys) [] h e = absurd e
@@ -358,9 +358,8 @@ module _ (s : Bytes) (w : SoundBytes s) (v : ℕ) (kept : Kept (storeOf s) v) (s
     form : ProofForm p
     form = proof-form (storeOf s) v k p slots whole e
 
-    is-accepted : {f₁ root f₂ found : Bytes} {r₁ r₂ : ℕ} → ReadsRoot s v f₁ r₁ root → Verifies root k (proofBytes p) f₂ r₂ found →
-        (r₂ ≡ 0) × (found ≡ foundBytes (answerOf k (grantsOfVersion s v)))
-    is-accepted y z =
+    pub is-verified : {f₁ root : Bytes} {r₁ : ℕ} → ReadsRoot s v f₁ r₁ root → verified root k (proofBytes p) ≡ accepted (answerOf k (grantsOfVersion s v))
+    is-verified y =
         let a = root-of-tree w kept y in
         let h = hash leafHash innerHash (unversioned (treeOfVersion s v)) in
         let long = hash-whole (unversioned (treeOfVersion s v)) .0 in
@@ -368,7 +367,11 @@ module _ (s : Bytes) (w : SoundBytes s) (v : ℕ) (kept : Kept (storeOf s) v) (s
         let holds : checked leafHash innerHash h k p ≡ accepted (answerOf k (grantsOfVersion s v)) =
         subst (λ q. checked leafHash innerHash h k q ≡ accepted (answerOf k (grantsOfVersion s v))) same (its k whole .2)
         in
-        verify-left z (ap (λ q. verified q k (proofBytes p)) (a .1) ∙ checker-on h k p long (whole .0) form holds)
+        ap (λ q. verified q k (proofBytes p)) (a .1) ∙ checker-on h k p long (whole .0) form holds
+
+    is-accepted : {f₁ root f₂ found : Bytes} {r₁ r₂ : ℕ} → ReadsRoot s v f₁ r₁ root → Verifies root k (proofBytes p) f₂ r₂ found →
+        (r₂ ≡ 0) × (found ≡ foundBytes (answerOf k (grantsOfVersion s v)))
+    is-accepted y z = verify-left z (is-verified y)
 
   each-accepted : (keys : List Bytes) (ps : List Proof) (rest : Bytes) → All Whole32 keys → ProofOfEach (proof (storeOf s) v) keys ps →
       EachAccepted s v keys (cutApart (length keys) (proofsBytes ps ++ rest))

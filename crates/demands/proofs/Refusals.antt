@@ -41,8 +41,9 @@ use Rattle.prove_c.specs.Export.{provedInto, lengthBytes}
 use Rattle.changes.specs.Changes as compared
 use Rattle.changes_c.specs.Export.{countBytes}
 use Rattle.verify.specs.Verify.{verified}
+use Rattle.verify_rows.specs.Rows.{overFront, manyVerified}
 use Rattle.rescue_bytes.proofs.Outcomes.{refused-export-leaves}
-use Rattle.grants.specs.Contracts.{Formats, Applies, Prunes, ReadsRoot, ReadsKey, Counts, ReadsAt, Proves, Changes, Rescues, Verifies}
+use Rattle.grants.specs.Contracts.{Formats, Applies, Prunes, ReadsRoot, ReadsKey, Counts, ReadsAt, Proves, Changes, Rescues, Verifies, VerifiesMany}
 
 -- One of the numbers in a list.
 abbrev pub OneOf : List ℕ → ℕ → Type 0
@@ -249,3 +250,10 @@ refused-rescue-writes-nothing w h = refused-export-leaves w h
 module _ {root k x f : Bytes} {r : ℕ} {g : Bytes} (w : Verifies root k x f r g) where
   pub refused-verify-writes-nothing : (r ≡ 0 → ⊥) → g ≡ f
   refused-verify-writes-nothing = found-kept (verified root k x) (w .answer) (w .found)
+
+-- Many proofs at once.
+module _ {root list row old : Bytes} {r : ℕ} {new : Bytes} (w : VerifiesMany root list row old r new) where
+  pub refused-verify-many-writes-nothing : (r ≡ 0 → ⊥) → new ≡ old
+  refused-verify-many-writes-nothing h =
+      let e = refused-of (manyVerified root list row (length old)) (λ z. h (w .answer ∙ z)) in
+      w .told ∙ ap (λ a. toldOf (λ b. overFront b old) a old) (e .1)

@@ -3,4 +3,5 @@ pub mod Tables
 pub mod Words
 pub mod Claims
 pub mod Palettes
+pub mod Many
 pub mod Desk

@@ -3,11 +3,12 @@
 -- 2026-09 a position is tested for 20 after the root's lookup. Assumes nothing.
 use Prim.Native.Nat.{ℕ}
 use mathlib.Core.List.{[], _∷_, _++_}
+use lib.ListN.{length}
 use Rattle.terms.specs.Bits.{Bytes}
 use Rattle.palette_rules.specs.Palette.{keysIn}
 use Rattle.refusals.specs.Exactly.{Table}
 use Rattle.refusals.specs.Rows.{WrongLength, NotSound, Not32, NotKeys}
-use Rattle.refusals.specs.Orders.{headerRows, batchRows, versionRows, lookupRows, keyRows, placingRows, positionRows, provingRows, proofRows, askingRows, togetherRows, comparisonRows, holdingRows, rescueRows}
+use Rattle.refusals.specs.Orders.{headerRows, batchRows, versionRows, lookupRows, keyRows, placingRows, positionRows, provingRows, proofRows, askingRows, togetherRows, comparisonRows, holdingRows, rowRows, rescueRows}
 
 -- 1, 2; then 3 by full soundness.
 abbrev pub soundRows : Bytes → Table
@@ -79,6 +80,10 @@ rescuingRows s old oldest latest = rescueRows s old oldest latest
 -- The proof check: 12; then 10, 11.
 abbrev pub verifyRows : Bytes → Bytes → Bytes → Table
 verifyRows root k x = (12, Not32 (root ∷ k ∷ [])) ∷ holdingRows root k x
+
+-- Many proofs at once: 12; then 10, for the row alone; then 9.
+abbrev pub verifyManyRows : Bytes → Bytes → Bytes → Bytes → Table
+verifyManyRows root list row room = rowRows root list (length (keysIn list)) row room
 
 -- A hash is never refused.
 abbrev pub sha256Rows : Table

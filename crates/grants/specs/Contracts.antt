@@ -16,6 +16,7 @@ use Rattle.palette_c.specs.Export as palette
 use Rattle.changes_c.specs.Export as compare
 use Rattle.rescue_bytes.specs.Rescues as rescue
 use Rattle.verify.specs.Verify as verify
+use Rattle.verify_rows.specs.Rows as rows
 
 -- Formatting the bytes s answers r and leaves the bytes t.
 pub record Formats (s : Bytes) (r : ℕ) (t : Bytes) : Type 0 where
@@ -72,6 +73,10 @@ Rescues oldest latest s old f r t g = rescue.RescueExports oldest latest s old f
 -- Checking the bytes x as a proof of the key k against a root answers r; the array f for what is found is left as g.
 abbrev pub Verifies : Bytes → Bytes → Bytes → Bytes → ℕ → Bytes → Type 0
 Verifies root k x f r g = verify.Verifies root k x f r g
+
+-- Checking the bytes of a row as proofs of the keys of a list against a root answers r; the buffer old for the answers is left as new.
+abbrev pub VerifiesMany : Bytes → Bytes → Bytes → Bytes → ℕ → Bytes → Type 0
+VerifiesMany root list row old r new = rows.VerifiesMany root list row old r new
 
 -- Hashing the bytes x answers 0; the array for the digest is left as g.
 pub record Hashes (x : Bytes) (r : ℕ) (g : Bytes) : Type 0 where

@@ -1,7 +1,7 @@
 // The public calls, for C, Rust and others to link. Each answers 0 where it is accepted, else document 01's number of refusal; a refused
 // call writes nothing, its answer included. A slice is passed as a pointer and a length, an array as a pointer alone.
 use terms::Form;
-ghost use Rattle.grants.specs.Contracts.{Formats, Checks, Applies, Prunes, ReadsRoot, ReadsKey, Counts, ReadsAt, Proves, Palettes, Changes, Rescues, Verifies, Hashes};
+ghost use Rattle.grants.specs.Contracts.{Formats, Checks, Applies, Prunes, ReadsRoot, ReadsKey, Counts, ReadsAt, Proves, Palettes, Changes, Rescues, Verifies, VerifiesMany, Hashes};
 
 // Makes a fresh store of any bytes of the right length.
 #[no_mangle]
@@ -136,6 +136,20 @@ pub extern "C" fn grants_verify(root: &[u8], key: &[u8], proof: &[u8], found: &m
     ensures { λ r. ⌜ Verifies (now (root .entry)) (now (key .entry)) (now (proof .entry)) (now (found .entry)) r (now (found .exit)) ⌝ }
 {
     verify::grants_verify(root, key, proof, found)
+}
+
+// What each proof of a row shows of its key against one root: 34 bytes for each key, the number that the single check would answer and what it
+// would leave in 33 bytes of zeros.
+#[no_mangle]
+pub extern "C" fn grants_verify_many(
+    root: &[u8],
+    keys: &[u8],
+    proofs: &[u8],
+    answers: &mut [u8],
+) -> u32
+    ensures { λ r. ⌜ VerifiesMany (now (root .entry)) (now (keys .entry)) (now (proofs .entry)) (now (answers .entry)) r (now (answers .exit)) ⌝ }
+{
+    verify_many::grants_verify_many(root, keys, proofs, answers)
 }
 
 // SHA-256 of the bytes; never refused.

@@ -54,7 +54,7 @@ pub keys-are-bytes : (list : Bytes) → All Byte list → All Whole32 (keysIn li
 unfolding keysIn
 keys-are-bytes list b = keys-bytes (length list / keySize) list (omega arith) b
 
-keys-many : (n : ℕ) (list : Bytes) → length (keysFrom n list) ≡ n
+pub keys-many : (n : ℕ) (list : Bytes) → length (keysFrom n list) ≡ n
 keys-many zero list = refl
 keys-many (suc n) list = ap suc (keys-many n (drop keySize list))
 

@@ -4,7 +4,7 @@ use Prim.Native.Nat.{ℕ}
 use mathlib.Core.List.{List, [], _∷_}
 use Rattle.terms.specs.Bits.{Bytes}
 use Rattle.refusals.specs.Exactly.{Table}
-use Rattle.refusals.specs.Rows.{WrongLength, WrongHeader, StopsRoot, StopsGet, StopsProve, StopsAt, PastNumber, Lost, Unsound, BatchOffForm, NotAscending, NotAbove, TooFewFree, NotKept, TooLong, ProofOffForm, DoesNotHold, EmptyVersion, NotBothKept, TooManyVisits, ListTooLong, AskedOfEmpty, StopsPalette, TooLongTogether, WrongSizes, OldestAbove, NoVersion}
+use Rattle.refusals.specs.Rows.{WrongLength, WrongHeader, StopsRoot, StopsGet, StopsProve, StopsAt, PastNumber, Lost, Unsound, BatchOffForm, NotAscending, NotAbove, TooFewFree, NotKept, TooLong, ProofOffForm, DoesNotHold, EmptyVersion, NotBothKept, TooManyVisits, ListTooLong, AskedOfEmpty, StopsPalette, TooLongTogether, NotRootAndKeys, NotPieces, AnswersTooLong, WrongSizes, OldestAbove, NoVersion}
 
 -- 1, 2.
 abbrev pub headerRows : Bytes → Table
@@ -61,6 +61,11 @@ comparisonRows s first second limit room =
 -- The proof check's own: 10, 11.
 abbrev pub holdingRows : Bytes → Bytes → Bytes → Table
 holdingRows root k x = (10, ProofOffForm x) ∷ (11, DoesNotHold root k x) ∷ []
+
+-- Many proofs at once, for n keys: 12, 10, 9.
+abbrev pub rowRows : Bytes → Bytes → ℕ → Bytes → Bytes → Table
+rowRows root list n row room =
+    (12, NotRootAndKeys root list) ∷ (10, NotPieces n row) ∷ (9, AnswersTooLong n room) ∷ []
 
 -- A rescue (document 02, 2026-08): 1, 2, 3.
 abbrev pub rescueRows : Bytes → Bytes → ℕ → ℕ → Table

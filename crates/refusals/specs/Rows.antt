@@ -3,7 +3,7 @@ use Prim.Native.Nat.{ℕ, _+_, _*_, _≤_, _<_}
 use mathlib.Core.Path.{_≡_}
 use mathlib.Core.Logic.{_⊎_}
 use mathlib.Core.Bool.{false}
-use mathlib.Core.List.{List, []}
+use mathlib.Core.List.{List, [], _∷_}
 use lib.ListN.{length}
 use Rattle.terms.specs.declared.Form.the-variants.{Counted as counted}
 use Rattle.terms.specs.Bits.{Bytes, All}
@@ -162,6 +162,22 @@ StopsPalette s v keys t = FirstAsked (proof (storeOf s) v) (λ k. StopsProve s v
 -- 9 of a palette: all together don't fit.
 abbrev pub TooLongTogether : Bytes → ℕ → List Bytes → Bytes → Type 0
 TooLongTogether s v keys room = (ps : List Proof) × ProofOfEach (proof (storeOf s) v) keys ps × (length room < lengthTogether ps)
+
+-- 12 of many proofs: the root isn't 32 bytes, or the list isn't 0 to 256 whole keys.
+abbrev pub NotRootAndKeys : Bytes → Bytes → Type 0
+NotRootAndKeys root list = Not32 (root ∷ []) ⊎ NotKeys list
+
+-- A piece is as long as its first four bytes say, at least 4.
+abbrev pub Piece : Bytes → Type 0
+Piece x = (4 ≤ length x) × (field 0 4 x ≡ length x)
+
+-- 10 of many proofs: the bytes aren't n pieces one after the other, none over.
+abbrev pub NotPieces : ℕ → Bytes → Type 0
+NotPieces n row = (xs : List Bytes) → All Piece xs → length xs ≡ n → row ≡ flat xs → ⊥
+
+-- 9 of many proofs: fewer than 34 bytes for each of n answers.
+abbrev pub AnswersTooLong : ℕ → Bytes → Type 0
+AnswersTooLong n room = length room < 34 * n
 
 -- 1 of a rescue (document 02, 2026-08): a size that is wrong or not equal.
 abbrev pub WrongSizes : Bytes → Bytes → Type 0

@@ -10,7 +10,7 @@ const EDGE: usize = 64;
 const MARK: u8 = 0xC3;
 
 /// A call on a copy that lies between marked edges: its answer, and the copy after it.
-fn lent<T>(bytes: &[u8], call: impl FnOnce(&mut [u8]) -> T) -> (T, Vec<u8>) {
+pub fn lent<T>(bytes: &[u8], call: impl FnOnce(&mut [u8]) -> T) -> (T, Vec<u8>) {
     let mut all = vec![MARK; bytes.len() + 2 * EDGE];
     let end = EDGE + bytes.len();
     all[EDGE..end].copy_from_slice(bytes);

@@ -14,6 +14,7 @@ mod finding;
 mod hostile;
 mod ours;
 mod rescuing;
+mod rows;
 mod stack;
 mod tally;
 
@@ -382,10 +383,12 @@ fn all(rounds: u64, first: u64, tally: &mut Tally) {
     finding::named(tally);
     counting::named(tally);
     rescuing::named(tally);
+    rows::named(first, tally);
     for n in 0..rounds {
         let seed = first.wrapping_add(n).wrapping_mul(0x9E37_79B9_7F4A_7C15);
         round(seed, tally);
         rescuing::round(seed, tally);
+        rows::round(seed, tally);
         if n % 10 == 0 {
             applying::history(seed, tally);
             finding::round(seed, tally);

@@ -66,6 +66,16 @@ extern "C" {
         proof_len: usize,
         found: *mut [u8; 33],
     ) -> u32;
+    fn grants_verify_many(
+        root: *const u8,
+        root_len: usize,
+        keys: *const u8,
+        keys_len: usize,
+        proofs: *const u8,
+        proofs_len: usize,
+        answers: *mut u8,
+        answers_len: usize,
+    ) -> u32;
     fn grants_sha256(bytes: *const u8, len: usize, digest: *mut [u8; 32]) -> u32;
 }
 
@@ -226,6 +236,17 @@ pub fn verify(root: &[u8], key: &[u8], proof: &[u8]) -> Result<Option<Bytes32>, 
         })
     })
     .map(verdict)
+}
+
+/// 34 bytes for each key, at the front of the answers.
+pub fn verify_many(root: &[u8], keys: &[u8], proofs: &[u8], answers: &mut [u8]) -> Result<(), Refusal> {
+    let (to, most) = (answers.as_mut_ptr(), answers.len());
+    match recorded("verify_many", &[read(root), read(keys), read(proofs), written(answers)], || unsafe {
+        grants_verify_many(root.as_ptr(), root.len(), keys.as_ptr(), keys.len(), proofs.as_ptr(), proofs.len(), to, most)
+    }) {
+        0 => Ok(()),
+        number => Err(number),
+    }
 }
 
 pub fn sha256(bytes: &[u8]) -> Bytes32 {

@@ -95,6 +95,15 @@ pub fn of_positions() -> [(&'static str, usize); 2] {
     [("count", count), ("at", most(move || assert_eq!(crate::ours::at(&t, 2, 1).map(|g| g.1), Ok([2; 32]))))]
 }
 
+/// Many proofs': a row of 256, of any proofs.
+#[allow(dead_code)]
+pub fn of_verify_many() -> usize {
+    let mut piece = vec![72, 0, 0, 0, 16, 0, 0, 0];
+    piece.resize(72, 0);
+    let row = piece.repeat(256);
+    most(move || assert_eq!(crate::ours::verify_many(&ZEROS, &[0; 256 * 32], &row, &mut vec![0; 256 * 34]), Ok(())))
+}
+
 /// Check's and prune's: both hold the arrays of the passes, whatever the store.
 #[allow(dead_code)]
 pub fn of_check_and_prune() -> [(&'static str, usize); 2] {

@@ -464,6 +464,7 @@ fn stacks() {
         print(name, used);
     }
     print("palette", stack::of_palette());
+    print("verify_many", stack::of_verify_many());
     print("changes", stack::of_changes());
     print("rescue", stack::of_rescue());
     let applies = stack::of_apply();

@@ -1,0 +1,125 @@
+-- Many proofs checked at once, over the contracts: the answers are those of the single checks; and what a palette gave is cut back into its
+-- proofs, each of which is answered with 0 and what its key read finds. Assumes nothing.
+use Prim.Native.Nat.{ℕ, suc, _*_, _≤_}
+use mathlib.Core.Path.{_≡_, refl, ap, ap₂, sym, _∙_}
+use mathlib.Core.Bool.{true}
+use mathlib.Core.List.{List, [], _∷_, _++_, map}
+use lib.ListN.{length, take, drop, length-map}
+use lib.Seq.{take-at}
+use Rattle.terms.specs.declared.Form.the-variants.{Counted as counted}
+use Rattle.terms.specs.Bits.{Bytes, Byte, All, Whole32}
+use Rattle.terms.specs.Fields.{num, flat, zeroBytes}
+use Rattle.terms.specs.Records.{Proof}
+use Rattle.meaning.specs.Tree.{unversioned}
+use Rattle.meaning.specs.Sound.{Kept}
+use Rattle.meaning.specs.Calls.{accepted}
+use Rattle.meaning.specs.Answers.{numberOf, toldOf, foundAfter}
+use Rattle.meaning.specs.Proving.{HoldsGrant, proof}
+use Rattle.shown.proofs.Theorems.{empty-is-fourteen}
+use Rattle.palette_rules.specs.Palette.{wholeKeys, keysIn}
+use Rattle.palette_rules.specs.Claims.{ProofOfEach}
+use Rattle.palette_rules.proofs.Keys.{keys-are-bytes}
+use Rattle.nodehash.specs.Node.{leafHash, innerHash}
+use Rattle.proofrecords.specs.ProofBytes.{proofBytes, ProofForm}
+use Rattle.layout.specs.Slots.{SlotForm}
+use Rattle.layout.specs.Stores.{storeOf}
+use Rattle.promises.specs.Calls.{SoundBytes}
+use Rattle.promises.proofs.Calls.{sound-form}
+use Rattle.palette.specs.Palettes.{proofsBytes}
+use Rattle.verify_rows.specs.Rows.{ownLength, answerBytes, answersOf, overFront}
+use Rattle.verify_rows.proofs.Cutting.{proofs-sized}
+use Rattle.verify_rows.proofs.Answered.{accepted-if-0, row-pieces, answered-pieces, answers-long}
+use Rattle.grants.specs.Contracts.{ReadsRoot, Palettes, VerifiesMany}
+use Rattle.demands.specs.Claims.{treeOfVersion}
+use Rattle.demands.specs.Many.{SingleChecks, none-checked, then-checked, BesideSingleChecks, KeyReads, none-read, then-read, answersFor, RowShown}
+use Rattle.demands.proofs.Refusals.{no-refusal}
+use Rattle.demands.proofs.Hashes.{hash-whole}
+use Rattle.demands.proofs.Forms.{proof-form}
+use Rattle.demands.proofs.Showing.{root-of-tree, key-of-grants}
+use Rattle.demands.proofs.Palettes.{there-are, its-given, room-is, told-is, together-long, is-verified}
+
+-- the answers of single checks, one after the other
+single-answers : {root : Bytes} {keys xs answers : List Bytes} → SingleChecks root keys xs answers → flat answers ≡ answersOf root keys xs
+unfolding answerBytes
+single-answers none-checked = refl
+single-answers (then-checked w c) = ap₂ _++_ (ap₂ _∷_ (w .answer) (w .found)) (single-answers c)
+
+as-many : {root : Bytes} {keys xs answers : List Bytes} → SingleChecks root keys xs answers → length keys ≡ length xs
+as-many none-checked = refl
+as-many (then-checked w c) = ap suc (as-many c)
+
+-- Exactly what the single checks answer, key by key.
+pub many-are-single-checks : {root list row old new : Bytes} → VerifiesMany root list row old 0 new → BesideSingleChecks root list row old new
+unfolding ownLength
+many-are-single-checks {root} {list} {row} {old} {new} w = record {
+  same = λ {pieces = xs} {answers} sized is c.
+      w .told
+      ∙ ap (λ a. toldOf (λ b. overFront b old) a old) (accepted-if-0 root list row (length old) (sym (w .answer)))
+      ∙ ap (λ b. overFront b old) (ap (answersOf root (keysIn list)) (row-pieces root list row xs sized (sym (as-many c)) is) ∙ sym (single-answers c));
+  long = λ {pieces = xs} {answers} c. ap length (single-answers c) ∙ answers-long root (keysIn list) xs (as-many c);
+}
+
+proofs-flat : (ps : List Proof) → proofsBytes ps ≡ flat (map proofBytes ps)
+proofs-flat [] = refl
+proofs-flat (p ∷ ps) = ap (proofBytes p ++_) (proofs-flat ps)
+
+-- On a sound store, in a kept version.
+module _ (s : Bytes) (w : SoundBytes s) (v : ℕ) (kept : Kept (storeOf s) v) where
+  slots : All (SlotForm counted) (storeOf s .slots)
+  slots = sound-form (storeOf s) refl (w .sound) .each
+
+  -- a version in which a key was given its proof holds a grant
+  holds : (k : Bytes) → Whole32 k → {p : Proof} → proof (storeOf s) v k ≡ accepted p → HoldsGrant (storeOf s) v
+  holds k whole e z = no-refusal (sym e ∙ empty-is-fourteen leafHash innerHash (storeOf s) (w .sound) v kept k whole z)
+
+  forms : (keys : List Bytes) (ps : List Proof) → All Whole32 keys → ProofOfEach (proof (storeOf s) v) keys ps → All ProofForm ps × (length ps ≡ length keys)
+  forms [] [] h e = (tt, refl)
+  forms [] (p ∷ ps) h e = absurd e
+  forms (k ∷ keys) [] h e = absurd e
+  forms (k ∷ keys) (p ∷ ps) h e =
+      let r = forms keys ps (h .1) (e .1) in ((proof-form (storeOf s) v k p slots (h .0) (e .0), r .0), ap suc (r .1))
+
+  each-answered : {f root : Bytes} {r : ℕ} → ReadsRoot s v f r root → (keys : List Bytes) (ps : List Proof) → All Whole32 keys →
+      ProofOfEach (proof (storeOf s) v) keys ps → answersOf root keys (map proofBytes ps) ≡ flat (answersFor s v keys)
+  unfolding answerBytes
+  each-answered y [] [] h e = refl
+  each-answered y [] (p ∷ ps) h e = absurd e
+  each-answered y (k ∷ keys) [] h e = absurd e
+  each-answered y (k ∷ keys) (p ∷ ps) h e =
+      ap₂ _++_
+      (ap (λ a. numberOf a ∷ foundAfter a (zeroBytes 33)) (is-verified s w v kept (holds k (h .0) (e .0)) k (h .0) p (e .0) y))
+      (each-answered y keys ps (h .1) (e .1))
+
+  module _ (list : Bytes) (asked : All Byte list) (whole : wholeKeys list ≡ true) where
+    keys : All Whole32 (keysIn list)
+    keys = keys-are-bytes list asked
+
+    answered : {room f t g f₁ root old new : Bytes} {r₁ r : ℕ} → Palettes s v list room f 0 t g → ReadsRoot s v f₁ r₁ root →
+        VerifiesMany root list (take (num g) t) old r new → 34 * length (keysIn list) ≤ length old →
+        (r ≡ 0) × (new ≡ flat (answersFor s v (keysIn list)) ++ drop (34 * length (keysIn list)) old)
+    answered {t = t} {g = g} {root = root} {old = old} x y z fits =
+        let ps = there-are x .0 in
+        let each = its-given x .each in
+        let form = forms (keysIn list) ps keys each in
+        let many : length (map proofBytes ps) ≡ length (keysIn list) = length-map ps proofBytes ∙ form .1 in
+        let row : take (num g) t ≡ flat (map proofBytes ps) =
+        ap (take (num g)) (room-is x)
+        ∙ take-at (proofsBytes ps) _ (num g) (together-long s v slots (keysIn list) ps keys each ∙ sym (told-is x whole))
+        ∙ proofs-flat ps in
+        let root32 : length root ≡ 32 = ap length (root-of-tree w kept y .1) ∙ hash-whole (unversioned (treeOfVersion s v)) .0 in
+        let said = answered-pieces root list (take (num g) t) (map proofBytes ps) (proofs-sized ps (form .0)) many row (length old) root32 whole fits in
+        let same = each-answered y (keysIn list) ps keys each in
+        let long : length (flat (answersFor s v (keysIn list))) ≡ 34 * length (keysIn list) =
+        ap length (sym same) ∙ answers-long root (keysIn list) (map proofBytes ps) (sym many) in (
+          z .answer ∙ ap numberOf said,
+          z .told ∙ ap (λ a. toldOf (λ b. overFront b old) a old) said ∙ ap (λ b. overFront b old) same
+              ∙ ap (λ n. flat (answersFor s v (keysIn list)) ++ drop n old) long,
+        )
+
+    reads-are : {ks found : List Bytes} → All Whole32 ks → KeyReads s v ks found → answersFor s v ks ≡ map (λ g. 0 ∷ g) found
+    reads-are h none-read = refl
+    reads-are h (then-read x c) = ap₂ _∷_ (ap (0 ∷_) (sym (key-of-grants w kept (h .0) x .1))) (reads-are (h .1) c)
+
+    -- What a palette gives is answered with 0 for every key, and with what the key reads find.
+    pub palette-row-is-shown : RowShown s v list
+    palette-row-is-shown = record { answered = λ x y z h. answered x y z h; as-read = λ c. reads-are keys c }

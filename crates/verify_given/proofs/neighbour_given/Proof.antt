@@ -1,0 +1,44 @@
+-- `verify_given::neighbour_given` meets its contract: the path, then the order of the keys.
+-- Assumes nothing.
+use native.Mathlib.Omega.{arith}
+use mathlib.Core.Path.{sym, _∙_}
+use borrow.Author.Tests.{not-true, not-false}
+use borrow.Author.Needs.{needs}
+use Rattle.terms.specs.Fields.{slice}
+use Rattle.meaning.specs.Checking.{neighbourHolds}
+use Rattle.proofrecords.specs.ProofBytes.{presenceIn}
+use Rattle.proofrecords.proofs.Forms.{presence-whole}
+use Rattle.verify_given.proofs.neighbour_given.Statement.{statement}
+use Rattle.verify_given.proofs.neighbour_given.Tie as tie
+
+returns : tie.Need-returns
+unfolding neighbourHolds
+returns c = rw (sym (c .before .before .before .pre .1) ∙ not-true _ (c .if1 .taken))
+
+sub-beyond : tie.Need-sub-beyond
+sub-beyond c = search needs
+
+part-beyond-start : tie.Need-part-beyond-start
+part-beyond-start c = search needs
+
+part-beyond-end : tie.Need-part-beyond-end
+part-beyond-end c = let w = presence-whole (c .before .before .before .args .p .now) (c .before .before .before .pre .0) in omega arith
+
+beyond-requires : tie.Need-beyond-requires
+beyond-requires c κs = search needs
+
+returns-2 : tie.Need-returns-2
+unfolding neighbourHolds presenceIn slice
+returns-2 c =
+    rw (sym (c .before .before .before .before .before .pre .1) ∙ not-false _ (c .before .before .if1 .left)) (c .beyond .ensures)
+
+pub neighbour-given-spec : {M : Type 1} → statement M
+neighbour-given-spec =
+    tie.close
+    (tie.spec
+    returns
+    sub-beyond
+    part-beyond-start
+    part-beyond-end
+    beyond-requires
+    returns-2)

@@ -1,0 +1,163 @@
+-- `verify_given::neighbours_given` meets its contract: by the flags, each neighbour is checked where it lies.
+-- Assumes nothing.
+use Prim.Native.Nat.{_+_, _<_, _≤_}
+use native.Mathlib.Omega.{arith}
+use mathlib.Core.Path.{ap, ap₂, sym, _∙_}
+use lib.ListN.{length}
+use borrow.Author.Needs.{needs}
+use Rattle.verify_neighbours.specs.Neighbours.{leads, loneNeighbour, bothNeighbours}
+use Rattle.terms.specs.Bits.{left, right}
+use Rattle.hash.specs.Hash.{hashBytes}
+use Rattle.proofrecords.specs.ProofBytes.{isPresence, leftLength, flags}
+use Rattle.proofrecords.proofs.Forms.{absence-head, one-there, flags-both, left-there, right-there, both-room, rest-part, left-part, right-part, above-two}
+use Rattle.verify_neighbours.proofs.Neighbours.{left-shown, right-shown, both-shown}
+use Rattle.verify_given.proofs.neighbours_given.Statement.{statement}
+use Rattle.verify_given.proofs.neighbours_given.Tie as tie
+
+head : (c : tie.Start) → 40 ≤ length (c .args .proof .now)
+head c = absence-head (c .args .proof .now) (c .pre .0)
+
+get-u16-requires : tie.Need-get-u16-requires
+get-u16-requires c κs = let w = head (c .before .before) in omega arith
+
+sub-lone-given : tie.Need-sub-lone-given
+sub-lone-given c = let w = head (c .before .before .before .before) in omega arith
+
+part-lone-given-start : tie.Need-part-lone-given-start
+part-lone-given-start c = let w = head (c .before .before .before .before) in omega arith
+
+part-lone-given-end : tie.Need-part-lone-given-end
+part-lone-given-end c = search needs
+
+lone-given-requires : tie.Need-lone-given-requires
+unfolding flags
+lone-given-requires c κs =
+    let s = c .before .before .before .before .before in
+    let x = s .args .proof .now in
+    let f = sym (c .before .before .get-u16 .ensures) ∙ c .before .if1 .taken in
+    (ap isPresence (rest-part 40 x) ∙ one-there x (s .pre .0) (omega arith), s .pre .1 .lone (omega arith) ∙ sym (ap (leads (hashBytes (s .args .root))) (rest-part 40 x)))
+
+returns : tie.Need-returns
+unfolding flags
+returns c =
+    let a = c .before .before .before .before .before .before .args in
+    let root = hashBytes (a .root) in
+    let f = sym (c .before .before .before .get-u16 .ensures) ∙ c .before .before .if1 .taken in
+    c .lone-given .ensures ∙ ap (loneNeighbour left root (a .key .now)) (rest-part 40 (a .proof .now)) ∙ sym (left-shown root (a .key .now) (a .proof .now) f)
+
+sub-lone-given-2 : tie.Need-sub-lone-given-2
+sub-lone-given-2 c = let w = head (c .before .before .before .before .before) in omega arith
+
+part-lone-given-start-2 : tie.Need-part-lone-given-start-2
+part-lone-given-start-2 c = let w = head (c .before .before .before .before .before) in omega arith
+
+part-lone-given-end-2 : tie.Need-part-lone-given-end-2
+part-lone-given-end-2 c = search needs
+
+lone-given-requires-2 : tie.Need-lone-given-requires-2
+unfolding flags
+lone-given-requires-2 c κs =
+    let s = c .before .before .before .before .before .before in
+    let x = s .args .proof .now in
+    let f = sym (c .before .before .before .get-u16 .ensures) ∙ c .before .if2 .taken in
+    (ap isPresence (rest-part 40 x) ∙ one-there x (s .pre .0) (omega arith), s .pre .1 .lone (omega arith) ∙ sym (ap (leads (hashBytes (s .args .root))) (rest-part 40 x)))
+
+returns-2 : tie.Need-returns-2
+unfolding flags
+returns-2 c =
+    let a = c .before .before .before .before .before .before .before .args in
+    let root = hashBytes (a .root) in
+    let f = sym (c .before .before .before .before .get-u16 .ensures) ∙ c .before .before .if2 .taken in
+    c .lone-given2 .ensures ∙ ap (loneNeighbour right root (a .key .now)) (rest-part 40 (a .proof .now)) ∙ sym (right-shown root (a .key .now) (a .proof .now) f)
+
+-- past the two tests of the flags there are two neighbours
+two-flagged : (c : tie.Else2) → 2 < flags (c .before .before .before .before .before .args .proof .now)
+unfolding flags
+two-flagged c =
+    let s = c .before .before .before .before .before in
+    let e = c .before .before .get-u16 .ensures in
+    above-two (s .args .proof .now) (s .pre .0) (rw (← e) (c .before .if1 .left)) (rw (← e) (c .if2 .left))
+
+room : (c : tie.Else2) → let x = c .before .before .before .before .before .args .proof .now in 112 + leftLength x ≤ length x
+room c = let s = c .before .before .before .before .before in both-room (s .args .proof .now) (s .pre .0) (two-flagged c)
+
+get-u32-requires : tie.Need-get-u32-requires
+get-u32-requires c κs = let m = room c in omega arith
+
+cast-e : tie.Need-cast-e
+cast-e c = search needs
+
+add-e : tie.Need-add-e
+add-e c = search needs
+
+sub-both-given : tie.Need-sub-both-given
+sub-both-given c = search needs
+
+part-both-given-start : tie.Need-part-both-given-start
+part-both-given-start c = search needs
+
+part-both-given-end : tie.Need-part-both-given-end
+unfolding leftLength
+part-both-given-end c = let m = room (c .before) in omega arith
+
+sub-both-given-2 : tie.Need-sub-both-given-2
+unfolding leftLength
+sub-both-given-2 c = let m = room (c .before .before) in omega arith
+
+part-both-given-start-2 : tie.Need-part-both-given-start-2
+unfolding leftLength
+part-both-given-start-2 c = let m = room (c .before .before) in omega arith
+
+part-both-given-end-2 : tie.Need-part-both-given-end-2
+part-both-given-end-2 c = search needs
+
+both-given-requires : tie.Need-both-given-requires
+unfolding leftLength
+both-given-requires c κs =
+    let s = c .before .before .before .before .before .before .before .before in
+    let x = s .args .proof .now in
+    let root = hashBytes (s .args .root) in
+    let t = two-flagged (c .before .before .before) in
+    let e = c .before .before .get-u32 .ensures in (
+      ap isPresence (left-part _ x e) ∙ left-there x (s .pre .0) t,
+      (ap isPresence (right-part _ x e) ∙ right-there x (s .pre .0) t, (s .pre .1 .leftward t ∙ sym (ap (leads root) (left-part _ x e)), s .pre .1 .rightward t ∙ sym (ap (leads root) (right-part _ x e)))),
+    )
+
+returns-3 : tie.Need-returns-3
+unfolding leftLength
+returns-3 c =
+    let s = c .before .before .before .before .before .before .before .before .before in
+    let root = hashBytes (s .args .root) in
+    let k = s .args .key .now in
+    let x = s .args .proof .now in
+    let e = c .before .before .before .get-u32 .ensures in
+    c .both-given .ensures
+    ∙ ap₂ (bothNeighbours root k) (left-part _ x e) (right-part _ x e)
+    ∙ sym (both-shown root k x (flags-both x (s .pre .0) (two-flagged (c .before .before .before .before))))
+
+pub neighbours-given-spec : {M : Type 1} → statement M
+neighbours-given-spec =
+    tie.close
+    (tie.spec
+    get-u16-requires
+    sub-lone-given
+    part-lone-given-start
+    part-lone-given-end
+    lone-given-requires
+    returns
+    sub-lone-given-2
+    part-lone-given-start-2
+    part-lone-given-end-2
+    lone-given-requires-2
+    returns-2
+    get-u32-requires
+    cast-e
+    add-e
+    sub-both-given
+    part-both-given-start
+    part-both-given-end
+    sub-both-given-2
+    part-both-given-start-2
+    part-both-given-end-2
+    both-given-requires
+    returns-3)

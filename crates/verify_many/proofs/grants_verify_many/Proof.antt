@@ -1,0 +1,107 @@
+-- `verify_many::grants_verify_many` meets its contract. 12, 10, 9, or the answers. Assumes nothing.
+use native.Mathlib.Omega.{arith}
+use mathlib.Core.Path.{sym, _∙_}
+use borrow.Author.Tests.{not-true, not-false}
+use borrow.Author.Needs.{needs}
+use Rattle.verify_many.proofs.Call.{whole-sizes, plan-known, refuses, root-off, keys-off, row-off, no-room, accepts, root-whole}
+use Rattle.verify_many.proofs.grants_verify_many.Statement.{statement}
+use Rattle.verify_many.proofs.grants_verify_many.Tie as tie
+
+returns : tie.Need-returns
+returns c =
+    let a = c .before .before .before .before .before .args in
+    refuses (a .root .now) (a .keys .now) (a .proofs .now) (a .answers .now) 12 (root-off (a .root .now) (a .keys .now) (a .proofs .now) (a .answers .now) (c .if1 .taken))
+
+whole-keys-requires : tie.Need-whole-keys-requires
+whole-keys-requires c κs = search needs
+
+returns-2 : tie.Need-returns-2
+returns-2 c =
+    let a = c .before .before .before .before .before .before .before .args in
+    refuses (a .root .now) (a .keys .now) (a .proofs .now) (a .answers .now) 12
+    (keys-off (a .root .now) (a .keys .now) (a .proofs .now) (a .answers .now) (c .before .before .if1 .left) (sym (c .before .whole-keys .ensures) ∙ not-true _ (c .if2 .taken)))
+
+gather-requires : tie.Need-gather-requires
+gather-requires c κs =
+    let u = c .before .before in
+    let w = whole-sizes _ (sym (u .before .whole-keys .ensures) ∙ not-false _ (u .if2 .left)) in
+    (w .0, search needs, search needs)
+
+returns-3 : tie.Need-returns-3
+returns-3 c =
+    let u = c .before .before .before .before .before in
+    let a = u .before .before .before .before .before .before .before .args in
+    refuses (a .root .now) (a .keys .now) (a .proofs .now) (a .answers .now) 10
+    (row-off (a .root .now) (a .keys .now) (a .proofs .now) (a .answers .now) (u .before .before .if1 .left) (sym (u .before .whole-keys .ensures) ∙ not-false _ (u .if2 .left)) (sym (c .before .before .gather .ensures .whole-is) ∙ not-true _ (c .if3 .taken)))
+
+mul-if4 : tie.Need-mul-if4
+mul-if4 c =
+    let u = c .before .before .before .before .before in
+    let w = whole-sizes _ (sym (u .before .whole-keys .ensures) ∙ not-false _ (u .if2 .left)) in
+    omega (arith, w .0)
+
+returns-4 : tie.Need-returns-4
+returns-4 c =
+    let v = c .before in
+    let u = v .before .before .before .before .before in
+    let a = u .before .before .before .before .before .before .before .args in
+    refuses (a .root .now) (a .keys .now) (a .proofs .now) (a .answers .now) 9
+    (no-room (a .root .now) (a .keys .now) (a .proofs .now) (a .answers .now) (u .before .before .if1 .left) (sym (u .before .whole-keys .ensures) ∙ not-false _ (u .if2 .left)) (sym (v .before .before .gather .ensures .whole-is) ∙ not-false _ (v .if3 .left)) (omega arith))
+
+hash-at-requires : tie.Need-hash-at-requires
+hash-at-requires c κs = search needs
+
+lead-many-requires : tie.Need-lead-many-requires
+lead-many-requires c κs =
+    let v = c .before .before .before .before in
+    let u = v .before .before .before .before .before in
+    let w = whole-sizes _ (sym (u .before .whole-keys .ensures) ∙ not-false _ (u .if2 .left)) in
+    let q = v .before .before .gather .ensures .plan (not-false _ (v .if3 .left)) in
+    let f = q .few in
+    (omega (arith, w .0), omega (arith, w .0), q .lie)
+
+put-answers-requires : tie.Need-put-answers-requires
+put-answers-requires c κs =
+    let v = c .before .before .before .before .before .before .before .before in
+    let u = v .before .before .before .before .before in
+    let w = whole-sizes _ (sym (u .before .whole-keys .ensures) ∙ not-false _ (u .if2 .left)) in
+    let g = v .before .before .gather .ensures in (
+      w .0,
+      w .1,
+      omega (arith, c .before .before .before .before .before .before .before .if4 .left),
+      sym (g .whole-is) ∙ not-false _ (v .if3 .left),
+      plan-known _ _ _ _ _ _ _ _ (g .plan (not-false _ (v .if3 .left))) (c .before .before .before .lead-many .ensures),
+    )
+
+same-length : tie.Need-same-length
+same-length c = search needs
+
+returns-5 : tie.Need-returns-5
+returns-5 c =
+    let x = c .before .before .before .before .before .before .before .before .before .before in
+    let v = x .before in
+    let u = v .before .before .before .before .before in
+    let a = u .before .before .before .before .before .before .before .args in
+    let r = u .before .before .if1 .left in
+    accepts (a .root .now) (a .keys .now) (a .proofs .now) (a .answers .now) r (sym (u .before .whole-keys .ensures) ∙ not-false _ (u .if2 .left))
+    (sym (v .before .before .gather .ensures .whole-is) ∙ not-false _ (v .if3 .left)) _ _ (omega (arith, x .if4 .left))
+    (root-whole (a .root .now) _ r (c .before .before .before .before .before .before .before .before .before .hash-at .ensures .1))
+    (search needs)
+    (c .before .before .put-answers .ensures)
+
+pub grants-verify-many-spec : {M : Type 1} → statement M
+grants-verify-many-spec =
+    tie.close
+    (tie.spec
+    returns
+    whole-keys-requires
+    returns-2
+    gather-requires
+    returns-3
+    mul-if4
+    returns-4
+    hash-at-requires
+    lead-many-requires
+    put-answers-requires
+    same-length
+    returns-5)
