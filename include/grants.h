@@ -4,7 +4,7 @@
  * version, or that it has none; whoever has the version's root checks it with grants_verify alone. examples/editor.c shows all of it.
  *
  * Each call returns 0 where it is accepted, else a number of refusal; a refused call writes nothing, its answer included. The reads (root, get,
- * count, at, prove, palette) return 64 bits: the number in the low half, and in the high half a slot + 1 where they name one; who keeps 32 bits has the number
+ * count, at, prove, palette, pocket_prove) return 64 bits: the number in the low half, and in the high half a slot + 1 where they name one; who keeps 32 bits has the number
  * alone. Buffers lent to one call do not overlap. A pointer is never null, also where its length is 0. The calls keep no state, take no lock and allocate nothing; a
  * store may be used from any thread that owns it. All numbers in buffers are little-endian. Every call takes any bytes: bad input is refused.
  * The stack that each call takes is in docs/FIGURES.md; every byte of a store, a batch and a proof is in docs/FORMAT.md, and
@@ -13,12 +13,12 @@
  *
  *   1  the store's length isn't 24 + 128n, n in 1 to 16,384
  *   2  a header field isn't right, its capacity isn't n, or oldest is above latest
- *   3  the store isn't sound (check, apply, prune, changes), or the walk says so (reads); rescue: no version can be rescued
+ *   3  the store isn't sound (check, apply, prune, changes, figures), or the walk says so (reads); rescue: no version can be rescued
  *   4  the batch isn't whole records in form, or has over 1,024
  *   5  the batch's keys aren't strictly ascending
  *   7  fewer free slots than new records
- *   8  the version isn't in oldest to latest
- *   9  the proof, the proofs together or the list are longer than the room
+ *   8  the version isn't in oldest to latest; figures: not a range of 1 to 1,024 such versions
+ *   9  the proof, the proofs together, the list or the figures are longer than the room
  *  10  the proof isn't one whole record in form, no byte over
  *  11  the proof is in form, but doesn't hold
  *  12  a key or root handed in isn't 32 bytes, or a list of keys isn't 0 to 256 whole keys
@@ -26,6 +26,7 @@
  *  14  the version is empty, so there is no proof
  *  17  a record is lost: a child that is wanted stands in no slot (reads)
  *  18  the number isn't above latest
+ *  19  a leaf is shown with more than 32 steps, outside the pocket profile
  *  20  the position isn't below the number of grants
  *
  * 'Refused' below names a call's numbers in the order in which it tests for them: where several are deserved, the first is given.
@@ -109,6 +110,12 @@ uint64_t grants_prove(const uint8_t *store, size_t store_len, uint32_t version, 
 uint64_t grants_palette(const uint8_t *store, size_t store_len, uint32_t version, const uint8_t *keys, size_t keys_len, uint8_t *room,
                         size_t room_len, uint8_t length[4]);
 
+/* The same as grants_prove for a device that keeps little: where a leaf that the proof shows has more than 32 steps, the key's or a neighbour's, it is
+   refused with 19. Its proofs have at most 1,128 bytes, of absence 2,296; else they are the bytes of grants_prove.
+   Refused: 12, 1, 2, 8, 14, 3 or 17, 19, 9. */
+uint64_t grants_pocket_prove(const uint8_t *store, size_t store_len, uint32_t version, const uint8_t *key, size_t key_len, uint8_t *room,
+                             size_t room_len, uint8_t length[4]);
+
 /* What changed from one kept version to another: every key added, removed or given another value, in key order, each once. The list goes to the
    front of room as records of 72 bytes; the rest of room stays. Either version may be the later one; swapped, they list what undoes it.
      insert: length 72 (4 bytes), kind 1 (2), 2 zero bytes, key 32, the new value 32
@@ -118,6 +125,14 @@ uint64_t grants_palette(const uint8_t *store, size_t store_len, uint32_t version
    node and they don't have the same record; 32,769 is always enough. records: how many the list has, 4 bytes. Refused: 1, 2, 3, 8, 13, 9. */
 uint32_t grants_changes(const uint8_t *store, size_t store_len, uint32_t first, uint32_t second, uint32_t limit, uint8_t *room,
                         size_t room_len, uint8_t records[4]);
+
+/* The figures of the kept versions from first to last, 1 to 1,024 of them, published or not, each counted over that version's tree. For each version 16
+   bytes at the front of room; the rest of room stays:
+     leaves, which are its grants (4 bytes), inner nodes (4), the longest path (4), the sum of all path lengths (4)
+   The path of a grant has as many steps as its proof; a version without a grant has zeros. totals: how many different records stand in the range's trees (4
+   bytes), and the records of each version added up (4), at most 16,777,216. Refused: 1, 2, 3, 8 (any other range), 9. */
+uint32_t grants_figures(const uint8_t *store, size_t store_len, uint32_t first, uint32_t last, uint8_t *room, size_t room_len,
+                        uint8_t totals[8]);
 
 /* Rescues what is good of a damaged store: makes in target, a buffer of equal length, a sound store of the longest run of versions, none before
    oldest, that ends at latest and whose trees are whole in the source. The source may have any contents; its header isn't looked at, so oldest (0
@@ -147,6 +162,11 @@ uint32_t grants_verify(const uint8_t *root, size_t root_len, const uint8_t *key,
    pieces as keys, or some are over), 9 (fewer than 34 bytes a key). */
 uint32_t grants_verify_many(const uint8_t *root, size_t root_len, const uint8_t *keys, size_t keys_len, const uint8_t *proofs, size_t proofs_len,
                             uint8_t *answers, size_t answers_len);
+
+/* The same as grants_verify for proofs of at most 32 steps for each leaf shown, so of at most 2,296 bytes: a longer one in form is refused with 19, whether
+   it holds or not. Refused: 12, 10, 19, 11. */
+uint32_t grants_pocket_verify(const uint8_t *root, size_t root_len, const uint8_t *key, size_t key_len, const uint8_t *proof, size_t proof_len,
+                              uint8_t found[33]);
 
 /* SHA-256 of any bytes. Never refused. */
 uint32_t grants_sha256(const uint8_t *bytes, size_t len, uint8_t digest[32]);

@@ -72,12 +72,25 @@ export class Store {
   /** What changed from one kept version to another, in the order of keys, with at most so many visits (32,769 are always enough) and bytes of
    * the library's list (all that it can take). Refused: 1, 2, 3, 8, 13, 9. */
   changes(first: number, second: number, limit?: number, most?: number): Changed[];
+  /** As `prove`; 19 where a leaf that the proof shows has more than 32 steps. */
+  provePocket(version: number, key: Bytes, most?: number): Uint8Array;
+  /** What is counted over the trees of the kept versions from first to last, 1 to 1,024 of them. */
+  figures(first: number, last: number, most?: number): { versions: Figures[]; distinct: number; records: number };
 }
 
 /** A key with its value. */
 export interface Grant {
   key: Uint8Array;
   value: Uint8Array;
+}
+
+/** What is counted over the tree of one version. */
+export interface Figures {
+  version: number;
+  leaves: number;
+  innerNodes: number;
+  longestPath: number;
+  pathSum: number;
 }
 
 /** A key that was added (`before` is null), removed (`after` is null) or given another value. */
@@ -109,6 +122,8 @@ export class Grants {
   /** What each proof of a row shows of its key against one root, up to 256 at once: as `verify`, or its refusal, 10 or 11, in its place. The row is a list
    * of proofs as `palette` gives it, or their bytes one after the other. Refused: 12, 10 (it isn't as many pieces as keys, by their own lengths). */
   verifyMany(root: Bytes, keys: readonly Bytes[], row: readonly Bytes[] | Bytes): (Found | Refused)[];
+  /** As `verify` for proofs of at most 32 steps for each leaf shown; 19 for others. */
+  verifyPocket(root: Bytes, key: Bytes, proof: Bytes): Found;
   sha256(bytes: Bytes): Uint8Array;
   /** The key that stands for a name: the SHA-256 of its UTF-8 bytes. */
   name(text: string): Uint8Array;

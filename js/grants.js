@@ -161,6 +161,9 @@ function found([flag, ...value]) {
 
 // The bytes of one answer of many: a number, and the 33 bytes of what is found.
 const ANSWER = 34;
+// No proof of the pocket profile is longer.
+const LONGEST_POCKET = 2296;
+
 // No comparison of two versions takes more visits.
 const MOST_VISITS = 32769;
 
@@ -267,6 +270,25 @@ export class Store {
     return proof.slice(0, u32(length, 0));
   }
 
+  // The same in the pocket profile: 19 where a leaf that the proof shows has more than 32 steps.
+  provePocket(version, key, most = LONGEST_POCKET) {
+    if (!Number.isInteger(most) || most < 0) throw new RangeError('room is a whole number of bytes');
+    const [proof, length] = this.#machine.call('pocket_prove', 'store', versionOf(version), bytesOf(key), room(Math.min(most, LONGEST_POCKET)), answer(4));
+    return proof.slice(0, u32(length, 0));
+  }
+
+  // What is counted over the trees of the kept versions from first to last, 1 to 1,024 of them, and over all of them.
+  figures(first, last, most = Infinity) {
+    if (most !== Infinity && (!Number.isInteger(most) || most < 0)) throw new RangeError('room is a whole number of bytes');
+    const many = Math.min(Math.max(versionOf(last) - versionOf(first) + 1, 0), 1024);
+    const [numbers, totals] = this.#machine.call('figures', 'store', first, last, room(Math.min(most, 16 * many)), answer(8));
+    const versions = Array.from({ length: many }, (_, i) => {
+      const [leaves, innerNodes, longestPath, pathSum] = [0, 4, 8, 12].map((at) => u32(numbers, 16 * i + at));
+      return { version: first + i, leaves, innerNodes, longestPath, pathSum };
+    });
+    return { versions, distinct: u32(totals, 0), records: u32(totals, 4) };
+  }
+
   // The proofs for up to 256 keys, in the order asked, each as prove would give it. 12, 1, 2, 8, then of the first key refused 14, 3 or 17; then 9.
   palette(version, keys, most = LONGEST_PROOF * Math.min(keys.length, 256)) {
     if (!Number.isInteger(most) || most < 0) throw new RangeError('room is a whole number of bytes');
@@ -317,6 +339,11 @@ export class Grants {
       const [number, ...bytes] = answers.subarray(ANSWER * i, ANSWER * (i + 1));
       return number === 0 ? found(bytes) : new Refused(number);
     });
+  }
+
+  // The same for proofs of at most 32 steps for each leaf shown; 19 for others.
+  verifyPocket(root, key, proof) {
+    return found(this.#machine.call('pocket_verify', bytesOf(root), bytesOf(key), bytesOf(proof), answer(33))[0]);
   }
 
   sha256(bytes) {

@@ -17,7 +17,7 @@ pub enum Error {
     Size,
     /// 2: a header field isn't right, its capacity isn't n, or oldest is above latest.
     Header,
-    /// 3: the store isn't sound (check, apply, prune, changes), or a read met what can't be: a leaf whose key doesn't begin with its place, or, going by
+    /// 3: the store isn't sound (check, apply, prune, changes, figures), or a read met what can't be: a leaf whose key doesn't begin with its place, or, going by
     /// counts to a position, a child that isn't there or a leaf with positions left over ([`Store::met_at`](crate::Store::met_at) tells which);
     /// rescue: no version can be rescued.
     Unsound,
@@ -30,9 +30,9 @@ pub enum Error {
     BatchOrder,
     /// 7: fewer free slots than new records.
     NoRoom,
-    /// 8: the version isn't in oldest to latest.
+    /// 8: the version isn't in oldest to latest; figures: not a range of 1 to 1,024 such versions.
     VersionNotKept,
-    /// 9: the proof, the proofs together or the list are longer than the room.
+    /// 9: the proof, the proofs together, the list or the figures are longer than the room.
     ProofTooLong,
     /// 10: the proof isn't one whole record in form, no byte over.
     ProofForm,
@@ -48,12 +48,14 @@ pub enum Error {
     Lost,
     /// 18: the number to publish under isn't above latest.
     NotAboveLatest,
+    /// 19: a leaf is shown with more than 32 steps, outside the pocket profile.
+    OutsidePocket,
     /// 20: the position isn't below the number of grants.
     NoSuchPosition,
 }
 
 /// The table of the rules, number 1 first, in the words of include/grants.h.
-const TABLE: [(u32, Error, &str); 16] = [
+const TABLE: [(u32, Error, &str); 17] = [
     (
         1,
         Error::Size,
@@ -67,7 +69,7 @@ const TABLE: [(u32, Error, &str); 16] = [
     (
         3,
         Error::Unsound,
-        "the store isn't sound (check, apply, prune, changes), or the walk says so (reads); rescue: no version can be rescued",
+        "the store isn't sound (check, apply, prune, changes, figures), or the walk says so (reads); rescue: no version can be rescued",
     ),
     (
         4,
@@ -83,12 +85,12 @@ const TABLE: [(u32, Error, &str); 16] = [
     (
         8,
         Error::VersionNotKept,
-        "the version isn't in oldest to latest",
+        "the version isn't in oldest to latest; figures: not a range of 1 to 1,024 such versions",
     ),
     (
         9,
         Error::ProofTooLong,
-        "the proof, the proofs together or the list are longer than the room",
+        "the proof, the proofs together, the list or the figures are longer than the room",
     ),
     (
         10,
@@ -121,6 +123,11 @@ const TABLE: [(u32, Error, &str); 16] = [
         "a record is lost: a child that is wanted stands in no slot (reads)",
     ),
     (18, Error::NotAboveLatest, "the number isn't above latest"),
+    (
+        19,
+        Error::OutsidePocket,
+        "a leaf is shown with more than 32 steps, outside the pocket profile",
+    ),
     (
         20,
         Error::NoSuchPosition,
@@ -180,7 +187,7 @@ mod tests {
         let numbers: Vec<u32> = TABLE.iter().map(|(_, error, _)| error.number()).collect();
         assert_eq!(
             numbers,
-            [1, 2, 3, 4, 5, 7, 8, 9, 10, 11, 12, 13, 14, 17, 18, 20]
+            [1, 2, 3, 4, 5, 7, 8, 9, 10, 11, 12, 13, 14, 17, 18, 19, 20]
         );
         for number in 0..=25 {
             let listed = numbers.contains(&number).then_some(number);

@@ -75,6 +75,34 @@ extern "C" {
         target_len: usize,
         answer: *mut [u8; 16],
     ) -> u32;
+    fn grants_figures(
+        store: *const u8,
+        store_len: usize,
+        first: u32,
+        last: u32,
+        room: *mut u8,
+        room_len: usize,
+        totals: *mut [u8; 8],
+    ) -> u32;
+    fn grants_pocket_prove(
+        store: *const u8,
+        store_len: usize,
+        version: u32,
+        key: *const u8,
+        key_len: usize,
+        room: *mut u8,
+        room_len: usize,
+        length: *mut [u8; 4],
+    ) -> u64;
+    fn grants_pocket_verify(
+        root: *const u8,
+        root_len: usize,
+        key: *const u8,
+        key_len: usize,
+        proof: *const u8,
+        proof_len: usize,
+        found: *mut [u8; 33],
+    ) -> u32;
     fn grants_verify(
         root: *const u8,
         root_len: usize,
@@ -293,6 +321,60 @@ pub fn verify_many(
             answers.len(),
         )
     })
+}
+
+pub fn figures(store: &[u8], first: u32, last: u32, room: &mut [u8]) -> Result<[u8; 8], Error> {
+    let mut totals = [0; 8];
+    accepted(unsafe {
+        grants_figures(
+            store.as_ptr(),
+            store.len(),
+            first,
+            last,
+            room.as_mut_ptr(),
+            room.len(),
+            &mut totals,
+        )
+    })?;
+    Ok(totals)
+}
+
+pub fn pocket_prove(
+    store: &[u8],
+    version: u32,
+    key: &[u8],
+    room: &mut [u8],
+) -> Result<[u8; 4], Error> {
+    let mut length = [0; 4];
+    read(unsafe {
+        grants_pocket_prove(
+            store.as_ptr(),
+            store.len(),
+            version,
+            key.as_ptr(),
+            key.len(),
+            room.as_mut_ptr(),
+            room.len(),
+            &mut length,
+        )
+    })?;
+    Ok(length)
+}
+
+pub fn pocket_verify(root: &[u8], key: &[u8], proof: &[u8]) -> Result<[u8; 33], Error> {
+    let mut found = [0; 33];
+    accepted(unsafe {
+        grants_pocket_verify(
+            root.as_ptr(),
+            root.len(),
+            key.as_ptr(),
+            key.len(),
+            proof.as_ptr(),
+            proof.len(),
+            &mut found,
+        )
+    })?;
+    Ok(found)
 }
 
 pub fn sha256(bytes: &[u8]) -> [u8; 32] {

@@ -45,6 +45,7 @@ mod counts;
 mod damage;
 mod error;
 mod ffi;
+mod figures;
 mod form;
 mod hex;
 mod palette;
@@ -59,13 +60,14 @@ pub use changes::{Change, Changes, MOST_VISITS};
 pub use counts::Positions;
 pub use damage::{Met, Missing};
 pub use error::Error;
+pub use figures::{Figures, RangeFigures, RANGE_VERSIONS};
 pub use form::{
     old_store_bytes, store_bytes, HEADER_BYTES, MOST_SLOTS, OLD_SLOT_BYTES, RECORD_BYTES,
     SLOT_BYTES,
 };
 pub use hex::{from_hex, to_hex, HexError};
 pub use palette::{Palette, RefusedAt, PALETTE_KEYS};
-pub use proof::{verify, verify_many, Proof, PROOF_BYTES};
+pub use proof::{verify, verify_pocket, verify_many, Proof, POCKET_BYTES, PROOF_BYTES};
 pub use records::{Body, Child, Place, Record};
 pub use rescue::{Rescued, Slot};
 pub use store::{Applied, Header, Store};

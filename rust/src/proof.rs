@@ -3,6 +3,9 @@ use crate::{ffi, Error, Key, Value};
 /// The longest proof has this many bytes.
 pub const PROOF_BYTES: usize = 17_080;
 
+/// The longest proof of the pocket profile: no leaf that it shows has more than 32 steps.
+pub const POCKET_BYTES: usize = 2_296;
+
 /// That a key is in a version, or that it isn't. Whoever has the version's root can check it; nothing else need be trusted.
 ///
 /// ```
@@ -123,6 +126,33 @@ fn answered(answer: &[u8]) -> Result<Option<Value>, Error> {
         None => Ok(found(bytes.try_into().expect("33 bytes"))),
         Some(error) => Err(error),
     }
+}
+
+/// The same as [`verify`] for proofs of the pocket profile, of at most 32 steps for each leaf shown; others in form are refused with 19, whether they hold or
+/// not. Refused: 12, 10, 19, 11.
+///
+/// ```
+/// use grants::{verify, verify_pocket, Batch, Error, Store};
+///
+/// // Two keys that part at bit 40: each has 41 steps.
+/// let mut store = Store::with_capacity(64)?;
+/// let mut far = [0; 32];
+/// far[5] = 0x80;
+/// let mut batch = Batch::new();
+/// batch.insert([0; 32], [7; 32]).unwrap().insert(far, [8; 32]).unwrap();
+/// let root = store.apply(1, &batch)?.root;
+/// let proof = store.prove(1, far)?;
+/// assert!(verify(root, far, &proof)?.is_some());
+/// assert_eq!(verify_pocket(root, far, &proof), Err(Error::OutsidePocket));
+/// assert_eq!(store.prove_pocket(1, far), Err(Error::OutsidePocket));
+/// # Ok::<(), Error>(())
+/// ```
+pub fn verify_pocket(
+    root: impl AsRef<[u8]>,
+    key: impl AsRef<[u8]>,
+    proof: impl AsRef<[u8]>,
+) -> Result<Option<Value>, Error> {
+    ffi::pocket_verify(root.as_ref(), key.as_ref(), proof.as_ref()).map(found)
 }
 
 /// 1 and the value, or 0.

@@ -1,11 +1,12 @@
 use crate::changes::{Changes, LIST_BYTES};
+use crate::figures::{RangeFigures, RANGE_VERSIONS};
 use crate::form::{
     at, store_bytes, HEADER_BYTES, MOST_SLOTS, OLD_HEADER_KIND, OLD_SLOT_BYTES, RECORD_BYTES,
     SLOT_BYTES,
 };
 use crate::palette::{Palette, PALETTE_KEYS};
 use crate::records::{self, Record};
-use crate::{ffi, proof, Batch, Error, Key, Proof, Root, Value, PROOF_BYTES};
+use crate::{ffi, proof, Batch, Error, Key, Proof, Root, Value, POCKET_BYTES, PROOF_BYTES};
 
 const MOST_OLD: usize = MOST_SLOTS as usize;
 
@@ -163,6 +164,26 @@ impl<B: AsRef<[u8]>> Store<B> {
     ) -> Result<usize, Error> {
         let length = ffi::prove(self.as_bytes(), version, key.as_ref(), room)?;
         Ok(u32::from_le_bytes(length) as usize)
+    }
+
+    /// The same as [`Store::prove`] in the pocket profile: where a leaf that the proof shows has more than 32 steps it is refused with 19. The proof has at most
+    /// [`POCKET_BYTES`]. Refused: 12, 1, 2, 8, 14, 3 or 17, 19.
+    pub fn prove_pocket(&self, version: u32, key: impl AsRef<[u8]>) -> Result<Proof, Error> {
+        let mut room = vec![0; POCKET_BYTES];
+        let length = ffi::pocket_prove(self.as_bytes(), version, key.as_ref(), &mut room)?;
+        room.truncate(u32::from_le_bytes(length) as usize);
+        Ok(Proof::from_bytes(room))
+    }
+
+    /// The figures of the kept versions from first to last, 1 to [`RANGE_VERSIONS`](crate::RANGE_VERSIONS) of them: of each what is counted over its tree, and
+    /// what is counted over all. Refused: 1, 2, 3, 8.
+    pub fn figures(&self, first: u32, last: u32) -> Result<RangeFigures, Error> {
+        let versions = last
+            .checked_sub(first)
+            .map_or(0, |more| more.min(RANGE_VERSIONS - 1) + 1);
+        let mut room = vec![0; 16 * versions as usize];
+        let totals = ffi::figures(self.as_bytes(), first, last, &mut room)?;
+        Ok(RangeFigures::read(first, &room, totals))
     }
 
     /// The proofs for several keys of a version, in the order asked, a key asked for twice twice. Where the proof for one of them is refused, the first

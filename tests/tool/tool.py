@@ -1593,6 +1593,7 @@ def a_store_of_the_old_form():
             ("list", "old"),
             ("list", "old", "--from", 0),
             ("diff", "old", 0),
+            ("report", "old"),
             ("history", "old", A),
             ("log", "old"),
             ("export", "old"),
@@ -1684,6 +1685,57 @@ def diff_between_two_versions():
     answered(0, "apply", "d", "-", "--no-book", input=answered(0, "diff", "d", 2, 1, "--batch"))
     assert answered(0, "root", "d", 3) == answered(0, "root", "d", 1)
     assert answered(0, "diff", "d", 1, 3).splitlines() == ["version 1 to 3: 0 added, 0 removed, 0 changed"]
+
+
+@test
+def report_of_a_range():
+    answered(0, "format", "r", 60)
+    answered(0, "apply", "r", "-", "--date", "2026-01-05", input=FOUR)
+    answered(0, "apply", "r", "-", "--number", 5, "--date", "2026-02-05", input=WITHDRAW)
+    out = answered(0, "report", "r").splitlines()
+    assert [line.split() for line in out[1:4]] == [
+        ["0", "0", "0", "0", "0", "-"],
+        ["1", "to", "4", "2026-01-05", "00:00", "4", "3", "7", "3", "2.25"],
+        ["5", "2026-02-05", "00:00", "3", "2", "5", "2", "1.67"],
+    ]
+    # Seven records, and a leaf, an inner node and a root more; 4 times 7 and 5.
+    assert out[4:] == ["versions 0 to 5: 10 distinct records, 33 over all versions"]
+    told = json.loads(answered(0, "report", "r", "--from", 4, "--json"))
+    assert (told["first"], told["last"], told["distinct_records"], told["records"]) == (4, 5, 10, 12)
+    assert told["versions"][0] == {"version": 4, "grants": 4, "inner_nodes": 3, "longest_path": 3, "path_sum": 9}
+    assert answered(0, "report", "r", "--from", 1, "--to", 2, "--csv").splitlines()[1:] == ["1,4,3,3,9", "2,4,3,3,9"]
+    assert "versions 1 to 5" in answered(0, "report", "r", "--from", "2026-01-05")
+    refused(2, "choose one", "report", "r", "--csv", "--json")
+    refused(2, "--from", "report", "r", "--from", "spring")
+    refused(18, "The range was 3 to 6", "report", "r", "--from", 3, "--to", 6)
+    refused(18, "1 to 1024 versions", "report", "r", "--from", 5, "--to", 4)
+    answered(0, "report", "r", "--svg", "picture")
+    picture = read("picture").decode()
+    assert picture.startswith("<svg") and "by date" in picture and picture.count("<path d=") >= 4
+    refused(3, "picture", "report", "r", "--svg", "picture")
+    answered(0, "report", "r", "--svg", "picture", "--force", "--no-book")
+    assert "by version" in read("picture").decode()
+    # More numbers than a range has: the last 1,024.
+    answered(0, "apply", "r", "/dev/null", "--number", 5000)
+    assert answered(0, "report", "r").splitlines()[-1].startswith("versions 3977 to 5000: ")
+
+
+@test
+def proofs_of_the_pocket_profile():
+    answered(0, "format", "p", 60)
+    far = "0000000000" + "80" + 26 * "00"
+    answered(0, "apply", "p", "-", "--no-book", input="+ %s %s\n+ %s %s\n" % (64 * "0", value(1), far, value(2)))
+    refused(29, "32 steps", "prove", "p", far, "--pocket")
+    answered(0, "prove", "p", far, "--out", "long")
+    root = answered(0, "root", "p").split()[0]
+    answered(0, "verify", root, far, "long")
+    refused(29, "32 steps", "verify", root, far, "long", "--pocket")
+    refused(29, "32 steps", "verify", 64 * "1", far, "long", "--pocket")
+    s = desk()
+    assert answered(0, "prove", s, A, "--pocket") == answered(0, "prove", s, A)
+    answered(0, "prove", s, A, "--out", "short", "--pocket")
+    assert answered(0, "verify", answered(0, "root", s).split()[0], A, "short", "--pocket").startswith("present ")
+    refused(2, "--pocket is for one key", "prove", s, A, B, "--version", 1, "--pocket")
 
 
 @test

@@ -69,6 +69,20 @@ async function publishing(tally, grants) {
   tally.equal('last month', refused(() => grants.verify(second.root, lyrics, then)), 11);
   tally.equal('a byte over', refused(() => grants.verify(first.root, lyrics, [...then, 0].reduce((h, b) => h + b.toString(16).padStart(2, '0'), ''))), 10);
   tally.equal('a short root', refused(() => grants.verify(first.root.slice(1), lyrics, then)), 12);
+  tally.equal('a pocket proof', toHex(store.provePocket(1, lyrics)), toHex(then));
+  tally.equal('a pocket check', grants.verifyPocket(first.root, lyrics, then), { present: true, value: read });
+  tally.equal('a pocket check, last month', refused(() => grants.verifyPocket(second.root, lyrics, then)), 11);
+  const deep = await grants.format(64);
+  const [near, far] = [new Uint8Array(32), new Uint8Array(32)];
+  far[5] = 0x80;
+  const apart = deep.apply(1, [{ key: near, value: read }, { key: far, value: read }]);
+  tally.equal('41 steps', [refused(() => deep.provePocket(1, far)), refused(() => grants.verifyPocket(apart.root, far, deep.prove(1, far)))], [19, 19]);
+  tally.equal('figures', deep.figures(0, 1), {
+    versions: [{ version: 0, leaves: 0, innerNodes: 0, longestPath: 0, pathSum: 0 }, { version: 1, leaves: 2, innerNodes: 41, longestPath: 41, pathSum: 82 }],
+    distinct: 43,
+    records: 43,
+  });
+  tally.equal('no range', [refused(() => deep.figures(1, 0)), refused(() => deep.figures(0, 2)), refused(() => deep.figures(0, 1, 31))], [8, 8, 9]);
   tally.equal('no bytes', refused(() => grants.verify('', '', '')), 12);
   for (const odd of ['abc', 'xy', ' ab', null, undefined, 7, [1, 2]]) tally.equal(`key ${odd}`, refused(() => grants.verify(first.root, odd, then)), 'TypeError');
   for (const odd of [-1, 1.5, 2 ** 32, NaN, '1', undefined, 1n]) tally.equal(`version ${odd}`, refused(() => store.get(odd, lyrics)), 'RangeError');

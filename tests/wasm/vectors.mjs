@@ -121,6 +121,23 @@ class Program {
     });
   }
 
+  pocket(store, name, k, version, most) {
+    this.tried(`pocket prove ${name} in version ${version}, buffer ${most} bytes`, store, () => {
+      const proof = Buffer.from(store.provePocket(version, k, most));
+      const kind = proof.readUInt16LE(4) === 16 ? 'steps' : 'flags';
+      const shown = this.grants.verifyPocket(store.root(version), k, proof);
+      return `length ${proof.length}, ${kind} ${proof.readUInt16LE(6)}; pocket check: ${this.found(shown)}`;
+    });
+  }
+
+  figures(store, first, last, most) {
+    this.tried(`figures ${first} to ${last}, buffer ${most} bytes`, store, () => {
+      const { versions, distinct, records } = store.figures(first, last, most);
+      const each = versions.slice(0, 8).map((it) => `; ${it.leaves} ${it.innerNodes} ${it.longestPath} ${it.pathSum}`);
+      return `distinct ${distinct}, sum ${records}${each.join('')}`;
+    });
+  }
+
   root(store, version) {
     this.tried(`root of ${version}`, store, () => toHex(store.root(version)), '');
   }
@@ -331,6 +348,9 @@ class Program {
     this.section = '2026-01';
     for (const [first, second, limit] of [[0, 1, 7], [1, 2, 7], [2, 1, 7], [2, 3, 3], [3, 4, 5], [5, 6, 1], [4, 4, 1], [1, 2, 6]]) this.changes(store, first, second, limit, 288);
     for (const [second, limit, most] of [[2, 6, 215], [2, 7, 215], [2, 7, 216], [7, 0, 215]]) this.changes(store, 1, second, limit, most);
+    this.section = '2026-14';
+    for (const [first, last, most] of [[0, 6, 112], [0, 6, 111], [1, 0, 0], [1, 7, 0], [2, 3, 32]]) this.figures(store, first, last, most);
+    for (const [version, most] of [[1, 171], [1, 170], [2, 316], [6, 316]]) this.pocket(store, 'B', key(B), version, most);
     this.section = 'M7';
     this.prune(store, 4);
     this.look(store, 3);
@@ -348,6 +368,8 @@ class Program {
     this.say(`  came  leaves at 256 bits: ${leaves}, levels with an inner node: ${levels((it) => it.kind === INNER_KIND)}, levels in all: ${levels(() => true)}`);
     this.prove(deep, 'the first', key(A), 1, 8520);
     this.prove(deep, 'the second', key(A, 1), 1, 8520);
+    for (const most of [8520, 0]) this.pocket(deep, 'the first', key(A), 1, most);
+    this.figures(deep, 1, 1, 16);
     this.section = 'M11';
     this.prune(store, 4);
     this.prune(store, 8);

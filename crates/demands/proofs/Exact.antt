@@ -74,7 +74,7 @@ check-exactly {s} {r} w = exactly (checkRows s) r refl (go w)
     go (check.sound c o l e f) = past (headerRows s) ((3, NotSound s) ∷ []) 0 (after-header s e) (inr (λ n. n f, refl))
 
 -- A call that tests soundness: 1, 2, 3; then its own.
-does-first : {A : Type 0} (call : Store → Result A) (s : Bytes) (more : Table) (a : Answer A) {t : Bytes} →
+pub does-first : {A : Type 0} (call : Store → Result A) (s : Bytes) (more : Table) (a : Answer A) {t : Bytes} →
     First more (numberOf (call (storeOf s) .answer)) → Does call s a t → First (headerRows s ++ (3, NotSound s) ∷ more) (numberOf a)
 does-first call s more a f (wrong-header {m} e) = let h = header-row s e in within (headerRows s) ((3, NotSound s) ∷ more) m (h .0) (h .1)
 does-first call s more a f (not-sound e n) = past (headerRows s) ((3, NotSound s) ∷ more) 3 (after-header s e) (inl (n, refl))
@@ -102,7 +102,7 @@ pub prune-exactly : (n : ℕ) {s f t g : Bytes} {r : ℕ} → Prunes n s f r t g
 prune-exactly n {s} {r = r} w = exactly (pruneRows n s) r refl (export-first (prune n) s (versionRows s n) (prune-first n s) w)
 
 -- A read: 1, 2; then its own.
-read-stopped : {A : Type 0} {early later : Table} {stops : Trouble → Type 0} (s : Bytes) (a : Answer A) →
+pub read-stopped : {A : Type 0} {early later : Table} {stops : Trouble → Type 0} (s : Bytes) (a : Answer A) →
     ((c o l : ℕ) → headerOf counted s ≡ header c o l → Stopped early later stops (numberOf a)) →
     Stopped (headerRows s ++ early) later stops (numberOf (byHeader (headerOf counted s) a))
 read-stopped {early = early} {later = later} {stops = stops} s a f = go (headerOf counted s) refl
@@ -112,7 +112,7 @@ read-stopped {early = early} {later = later} {stops = stops} s a f = go (headerO
     go (header c o l) e = stopped-past (headerRows s) early (after-header s e) (f c o l e)
 
 -- A key: 12; then the rest.
-key-stopped : {A : Type 0} {early later : Table} {stops : Trouble → Type 0} (k : Bytes) (a : Answer A) → Stopped early later stops (numberOf a) →
+pub key-stopped : {A : Type 0} {early later : Table} {stops : Trouble → Type 0} (k : Bytes) (a : Answer A) → Stopped early later stops (numberOf a) →
     Stopped ((12, Not32 (k ∷ [])) ∷ early) later stops (numberOf (cond (eqb (length k) 32) a (refused 12)))
 key-stopped {early = early} {later = later} {stops = stops} k a w = go (eqb (length k) 32) refl
   where

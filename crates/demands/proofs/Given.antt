@@ -114,7 +114,7 @@ module _ {s : Bytes} {v : ℕ} {k room f t g : Bytes} (w : Proves s v k room f 0
   its-length : proofLength its-proof ≤ 17080
   its-length = proofs-have-17080-bytes (storeOf s) v k its-proof (its-tests .proved)
 
-  told-length : num g ≡ proofLength its-proof
+  pub told-length : num g ≡ proofLength its-proof
   told-length =
       let h = its-length in
       ap num (w .told ∙ ap (λ a. lengthBytes a f) is-given) ∙ num-le 4 (proofLength its-proof) (omega arith)

@@ -46,7 +46,7 @@ use Rattle.read_counts_c.specs.Export.{grantBytes}
 use Rattle.grants.specs.Contracts.{Formats, ReadsRoot, ReadsKey, Proves, Rescues, Verifies, Counts, ReadsAt}
 use Rattle.meaning.specs.Counting.{grantAt}
 use Rattle.meaning.specs.Answers.{foundBytes, numberOf, toldOf}
-use Rattle.demands.specs.Calls.{Called, formats, applies, prunes, checks, reads-root, reads-key, counts, reads-at, proves, palettes, compares, verifies, verifies-many, hashes, Calls, none-yet, then-called, Life, rescues-from, rescues-into, Begins, by-format, by-rescue, takenOver}
+use Rattle.demands.specs.Calls.{Called, formats, applies, prunes, checks, reads-root, reads-key, counts, reads-at, proves, palettes, compares, figures, pocket-proves, verifies, pocket-verifies, verifies-many, hashes, Calls, none-yet, then-called, Life, rescues-from, rescues-into, Begins, by-format, by-rescue, takenOver}
 use Rattle.demands.specs.Claims.{grantsOfVersion, AfterHistory}
 use Rattle.demands.proofs.Hashes.{leaf-hash-whole, inner-hash-whole}
 use Rattle.demands.proofs.Stored.{stored-is, stored-sound, formatted-form, prune-form, apply-form}
@@ -148,10 +148,13 @@ called-keeps es (reads-at w) k = k
 called-keeps es (proves w) k = k
 called-keeps es (palettes w) k = k
 called-keeps es (compares w) k = k
+called-keeps es (figures w) k = k
+called-keeps es (pocket-proves w) k = k
 called-keeps es (rescues-from w) k = k
 called-keeps es (rescues-into n h w) k = rescue-into es n h w k
 called-keeps es (verifies w) k = k
 called-keeps es (verifies-many w) k = k
+called-keeps es (pocket-verifies w) k = k
 called-keeps es (hashes w) k = k
 
 calls-keep : {s t : Bytes} {history : List (Call × Bool)} (es : List Entry) → Calls s history t → Keeping s es →

@@ -19,3 +19,5 @@ pub mod Palettes
 pub mod Many
 pub mod Rescued
 pub mod Numbered
+pub mod Figured
+pub mod Pocket

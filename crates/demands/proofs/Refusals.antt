@@ -148,7 +148,7 @@ module _ {s : Bytes} {v : ℕ} {f : Bytes} {r : ℕ} {g : Bytes} (w : ReadsRoot 
       let e = refused-of (rootAnswer s v) (λ z. h (w .answer ∙ z)) in w .root ∙ ap (λ a. rootBytes a f) (e .1)
 
 -- What a key's answer leaves of an array.
-found-kept : {f g : Bytes} {r : ℕ} (a : Answer Verdict) → r ≡ numberOf a → g ≡ foundAfter a f → (r ≡ 0 → ⊥) → g ≡ f
+pub found-kept : {f g : Bytes} {r : ℕ} (a : Answer Verdict) → r ≡ numberOf a → g ≡ foundAfter a f → (r ≡ 0 → ⊥) → g ≡ f
 found-kept {f} a e h n = let d = refused-of a (λ z. n (e ∙ z)) in h ∙ ap (λ b. foundAfter b f) (d .1)
 
 -- A key read.

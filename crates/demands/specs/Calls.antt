@@ -13,7 +13,7 @@ use Rattle.layout.specs.Stores.{storeOf}
 use Rattle.batch.specs.Batch.{batchOf}
 use Rattle.rescue_bytes.specs.Rescues.{slotsIn}
 use Rattle.rescue_bytes.specs.Claims.{runLedger}
-use Rattle.grants.specs.Contracts.{Formats, Checks, Applies, Prunes, ReadsRoot, ReadsKey, Counts, ReadsAt, Proves, Palettes, Changes, Rescues, Verifies, VerifiesMany, Hashes}
+use Rattle.grants.specs.Contracts.{Formats, Checks, Applies, Prunes, ReadsRoot, ReadsKey, Counts, ReadsAt, Proves, Palettes, Changes, Rescues, Figures, PocketProves, Verifies, PocketVerifies, VerifiesMany, Hashes}
 
 -- What a rescued store takes over: the grants of its versions, from the first that was reported to latest, by the source's trees.
 abbrev pub takenOver : Bytes → ℕ → Bytes → List Entry
@@ -37,6 +37,8 @@ pub data Called (s : Bytes) : Call × Bool → Bytes → Type 0 where
   proves : {v r : ℕ} {k room f t g : Bytes} → Proves s v k room f r t g → Called s (looking, false) s
   palettes : {v r : ℕ} {list room f t g : Bytes} → Palettes s v list room f r t g → Called s (looking, false) s
   compares : {first second limit r : ℕ} {room f t g : Bytes} → Changes first second limit s room f r t g → Called s (looking, false) s
+  figures : {first last r : ℕ} {room f t g : Bytes} → Figures first last s room f r t g → Called s (looking, false) s
+  pocket-proves : {v r : ℕ} {k room f t g : Bytes} → PocketProves s v k room f r t g → Called s (looking, false) s
   -- the source of a rescue is looked at; its target begins anew, with what the source's trees of the run hold (2026-08)
   rescues-from : {oldest latest r : ℕ} {old f t g : Bytes} → Rescues oldest latest s old f r t g → Called s (looking, false) s
   rescues-into : {oldest latest r : ℕ} {source f t g : Bytes} → latest ≤ top32 → All Byte source → Rescues oldest latest source s f r t g →
@@ -44,6 +46,7 @@ pub data Called (s : Bytes) : Call × Bool → Bytes → Type 0 where
   -- and these are lent none
   verifies : {r : ℕ} {root k x f g : Bytes} → Verifies root k x f r g → Called s (looking, false) s
   verifies-many : {r : ℕ} {root list row old new : Bytes} → VerifiesMany root list row old r new → Called s (looking, false) s
+  pocket-verifies : {r : ℕ} {root k x f g : Bytes} → PocketVerifies root k x f r g → Called s (looking, false) s
   hashes : {r : ℕ} {x g : Bytes} → Hashes x r g → Called s (looking, false) s
 
 -- Calls one after the other, from the bytes s to the bytes t, with their history.

@@ -1,6 +1,8 @@
 pub mod Calls
 pub mod Tables
 pub mod Words
+pub mod Quarter
+pub mod Pocket
 pub mod Claims
 pub mod Palettes
 pub mod Many

@@ -9,6 +9,7 @@ use Rattle.palette_rules.specs.Palette.{keysIn}
 use Rattle.refusals.specs.Exactly.{Table}
 use Rattle.refusals.specs.Rows.{WrongLength, NotSound, Not32, NotKeys}
 use Rattle.refusals.specs.Orders.{headerRows, batchRows, versionRows, lookupRows, keyRows, placingRows, positionRows, provingRows, proofRows, askingRows, togetherRows, comparisonRows, holdingRows, rowRows, rescueRows}
+use Rattle.refusals.specs.Orders.{rangeRows, pocketRows, pocketHoldingRows}
 
 -- 1, 2; then 3 by full soundness.
 abbrev pub soundRows : Bytes → Table
@@ -77,6 +78,14 @@ changesRows s first second limit room = soundRows s ++ comparisonRows s first se
 abbrev pub rescuingRows : Bytes → Bytes → ℕ → ℕ → Table
 rescuingRows s old oldest latest = rescueRows s old oldest latest
 
+-- Document 02, 2026-14: the figures: 1, 2, 3 by full soundness; then 8, 9.
+abbrev pub figuresRows : Bytes → ℕ → ℕ → Bytes → Table
+figuresRows s first last room = soundRows s ++ rangeRows s first last room
+
+-- Document 02, 2026-14: the pocket prover: 12; then 1, 2; then 8, 14, 17 or 3, 19, 9.
+abbrev pub pocketProveRows : Bytes → ℕ → Bytes → Bytes → Table
+pocketProveRows s v k room = (12, Not32 (k ∷ [])) ∷ headerRows s ++ pocketRows s v k room
+
 -- The proof check: 12; then 10, 11.
 abbrev pub verifyRows : Bytes → Bytes → Bytes → Table
 verifyRows root k x = (12, Not32 (root ∷ k ∷ [])) ∷ holdingRows root k x
@@ -84,6 +93,10 @@ verifyRows root k x = (12, Not32 (root ∷ k ∷ [])) ∷ holdingRows root k x
 -- Many proofs at once: 12; then 10, for the row alone; then 9.
 abbrev pub verifyManyRows : Bytes → Bytes → Bytes → Bytes → Table
 verifyManyRows root list row room = rowRows root list (length (keysIn list)) row room
+
+-- Document 02, 2026-14: the pocket check: 12; then 10, 19, 11.
+abbrev pub pocketVerifyRows : Bytes → Bytes → Bytes → Table
+pocketVerifyRows root k x = (12, Not32 (root ∷ k ∷ [])) ∷ pocketHoldingRows root k x
 
 -- A hash is never refused.
 abbrev pub sha256Rows : Table

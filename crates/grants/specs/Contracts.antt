@@ -15,8 +15,11 @@ use Rattle.prove_c.specs.Export as prove
 use Rattle.palette_c.specs.Export as palette
 use Rattle.changes_c.specs.Export as compare
 use Rattle.rescue_bytes.specs.Rescues as rescue
+use Rattle.figures_c.specs.Export as figures
+use Rattle.pocket_prove_c.specs.Export as pocket-prove
 use Rattle.verify.specs.Verify as verify
 use Rattle.verify_rows.specs.Rows as rows
+use Rattle.pocket_verify.specs.Verify as pocket-verify
 
 -- Formatting the bytes s answers r and leaves the bytes t.
 pub record Formats (s : Bytes) (r : ℕ) (t : Bytes) : Type 0 where
@@ -70,6 +73,14 @@ Changes first second limit s room f r t g = compare.Changes first second limit s
 abbrev pub Rescues : ℕ → ℕ → Bytes → Bytes → Bytes → ℕ → Bytes → Bytes → Type 0
 Rescues oldest latest s old f r t g = rescue.RescueExports oldest latest s old f r t g
 
+-- The figures of the bytes s from version first to last answer r; the room is left as t, the array f for the totals as g.
+abbrev pub Figures : ℕ → ℕ → Bytes → Bytes → Bytes → ℕ → Bytes → Bytes → Type 0
+Figures first last s room f r t g = figures.Figures first last s room f r t g
+
+-- Proving the key k in version v of the bytes s in the pocket profile answers r; the room is left as t, the array f for the proof's length as g.
+abbrev pub PocketProves : Bytes → ℕ → Bytes → Bytes → Bytes → ℕ → Bytes → Bytes → Type 0
+PocketProves s v k room f r t g = pocket-prove.PocketProves s v k room f r t g
+
 -- Checking the bytes x as a proof of the key k against a root answers r; the array f for what is found is left as g.
 abbrev pub Verifies : Bytes → Bytes → Bytes → Bytes → ℕ → Bytes → Type 0
 Verifies root k x f r g = verify.Verifies root k x f r g
@@ -77,6 +88,10 @@ Verifies root k x f r g = verify.Verifies root k x f r g
 -- Checking the bytes of a row as proofs of the keys of a list against a root answers r; the buffer old for the answers is left as new.
 abbrev pub VerifiesMany : Bytes → Bytes → Bytes → Bytes → ℕ → Bytes → Type 0
 VerifiesMany root list row old r new = rows.VerifiesMany root list row old r new
+
+-- Checking the bytes x as a proof of the pocket profile answers r; the array f for what is found is left as g.
+abbrev pub PocketVerifies : Bytes → Bytes → Bytes → Bytes → ℕ → Bytes → Type 0
+PocketVerifies root k x f r g = pocket-verify.PocketVerifies root k x f r g
 
 -- Hashing the bytes x answers 0; the array for the digest is left as g.
 pub record Hashes (x : Bytes) (r : ℕ) (g : Bytes) : Type 0 where

@@ -1,7 +1,7 @@
 // The public calls, for C, Rust and others to link. Each answers 0 where it is accepted, else document 01's number of refusal; a refused
 // call writes nothing, its answer included. A slice is passed as a pointer and a length, an array as a pointer alone.
 use terms::Form;
-ghost use Rattle.grants.specs.Contracts.{Formats, Checks, Applies, Prunes, ReadsRoot, ReadsKey, Counts, ReadsAt, Proves, Palettes, Changes, Rescues, Verifies, VerifiesMany, Hashes};
+ghost use Rattle.grants.specs.Contracts.{Formats, Checks, Applies, Prunes, ReadsRoot, ReadsKey, Counts, ReadsAt, Proves, Palettes, Changes, Rescues, Figures, PocketProves, Verifies, PocketVerifies, VerifiesMany, Hashes};
 
 // Makes a fresh store of any bytes of the right length.
 #[no_mangle]
@@ -130,6 +130,35 @@ pub extern "C" fn grants_rescue(
     rescue_c::grants_rescue(source, oldest, latest, target, answer)
 }
 
+// Writes for each version from first to last its leaves, its inner nodes, its longest path and the sum of its path lengths to the front of the room, 4 bytes each; totals: distinct
+// records, and the sum of records over versions, little-endian.
+#[no_mangle]
+pub extern "C" fn grants_figures(
+    store: &[u8],
+    first: u32,
+    last: u32,
+    room: &mut [u8],
+    totals: &mut [u8; 8],
+) -> u32
+    ensures { λ r. ⌜ Figures first last (now (store .entry)) (now (room .entry)) (now (totals .entry)) r (now (room .exit)) (now (totals .exit)) ⌝ }
+{
+    figures_c::grants_figures(store, first, last, room, totals)
+}
+
+// Writes the proof for a key in a version as grants_prove does, if no leaf that it shows has more than 32 steps.
+#[no_mangle]
+pub extern "C" fn grants_pocket_prove(
+    store: &[u8],
+    version: u32,
+    key: &[u8],
+    room: &mut [u8],
+    length: &mut [u8; 4],
+) -> u64
+    ensures { λ r. ⌜ PocketProves (now (store .entry)) version (now (key .entry)) (now (room .entry)) (now (length .entry)) r (now (room .exit)) (now (length .exit)) ⌝ }
+{
+    pocket_prove_c::grants_pocket_prove(store, version, key, room, length)
+}
+
 // What a proof shows of a key against a root: 1 and the value, or 0 and 32 zero bytes for 'absent'.
 #[no_mangle]
 pub extern "C" fn grants_verify(root: &[u8], key: &[u8], proof: &[u8], found: &mut [u8; 33]) -> u32
@@ -150,6 +179,19 @@ pub extern "C" fn grants_verify_many(
     ensures { λ r. ⌜ VerifiesMany (now (root .entry)) (now (keys .entry)) (now (proofs .entry)) (now (answers .entry)) r (now (answers .exit)) ⌝ }
 {
     verify_many::grants_verify_many(root, keys, proofs, answers)
+}
+
+// The same for a proof of which no leaf shown has more than 32 steps.
+#[no_mangle]
+pub extern "C" fn grants_pocket_verify(
+    root: &[u8],
+    key: &[u8],
+    proof: &[u8],
+    found: &mut [u8; 33],
+) -> u32
+    ensures { λ r. ⌜ PocketVerifies (now (root .entry)) (now (key .entry)) (now (proof .entry)) (now (found .entry)) r (now (found .exit)) ⌝ }
+{
+    pocket_verify::grants_pocket_verify(root, key, proof, found)
 }
 
 // SHA-256 of the bytes; never refused.

@@ -1,13 +1,14 @@
--- Inside the profile the pocket checker and the full one agree, and so do the provers; what the pocket prover gives, the pocket checker accepts. Assumes
--- nothing.
-use Prim.Native.Nat.{ℕ, _+_, _≤_}
+-- Inside the profile the pocket checker and the full one agree, and so do the provers; what the pocket prover gives, the pocket checker accepts; which
+-- proofs are inside, and how long they are. Assumes nothing.
+use Prim.Native.Nat.{ℕ, _+_, _<_, _≤_}
 use native.Mathlib.Omega.{arith}
 use mathlib.Core.Path.{_≡_, refl, ap, sym, _∙_}
+use mathlib.Core.Logic.{inl, inr}
 use mathlib.Core.Bool.{Bool, true, false, cond, _&&_}
 use mathlib.Core.Option.{Option, none, some}
 use lib.ListN.{length}
 use lib.Dec.{ltb}
-use borrow.Author.Tests.{leb-true}
+use borrow.Author.Tests.{leb-true, leb-false}
 use Rattle.terms.specs.Bits.{Bytes, Whole32}
 use Rattle.terms.specs.Records.{Presence, Absence, Proof, presence, absence, Store}
 use Rattle.terms.proofs.Tests.{and-left, and-right}
@@ -19,7 +20,7 @@ use Rattle.meaning.specs.Reading.{Verdict, readRoot, answerOf}
 use Rattle.meaning.specs.Proving.{HoldsGrant, proof, presenceLength, neighbourLength, proofLength, fitted, prove}
 use Rattle.meaning.specs.Checking.{checked}
 use Rattle.shown.proofs.Theorems.{shown}
-use Rattle.pocket.specs.Pocket.{pocketSteps, shortPath, shortNeighbour, small, inProfile, pocketProve, pocketChecked}
+use Rattle.pocket.specs.Pocket.{pocketSteps, Shows, Outside, shortPath, shortNeighbour, small, inProfile, pocketProve, pocketChecked}
 
 module _ (leafHash innerHash : Bytes → Bytes → Bytes) (root k : Bytes) (p : Proof) where
   -- Inside the profile, the pocket checker and the full one agree;
@@ -76,10 +77,51 @@ pocket-is-shown leafHash innerHash st s v kept k whole holds root read room p e 
     accepted-same : {x y : Proof} → _≡_ {A = Answer Proof} (accepted x) (accepted y) → x ≡ y
     accepted-same e = cc
 
--- A proof inside the profile has at most 1,128 bytes for each leaf shown, 2,296 in all.
-short-length : (p : Presence) → shortPath p ≡ true → presenceLength p ≤ 1128
+-- The test is right: no leaf that a proof inside shows has more than 32 steps, and one of a proof outside has.
+short-exactly : (p : Presence) → shortPath p ≡ true → pocketSteps < length (p .steps) → ⊥
+unfolding shortPath
+short-exactly p e h = absurd (omega (arith, leb-true (length (p .steps)) pocketSteps e))
+
+long-exactly : (p : Presence) → shortPath p ≡ false → pocketSteps < length (p .steps)
+unfolding shortPath
+long-exactly p e = omega (arith, leb-false (length (p .steps)) pocketSteps e)
+
+neighbour-inside : (o : Option Presence) (q : Presence) → shortNeighbour o ≡ true → o ≡ some q → pocketSteps < length (q .steps) → ⊥
+neighbour-inside o q e f = short-exactly q (sym (ap shortNeighbour f) ∙ e)
+
+pub inside-shows-short : (p : Proof) → small p ≡ true → Outside p → ⊥
+inside-shows-short (presence p) e (q, same, long) = short-exactly q (sym (ap shortPath same) ∙ e) long
+inside-shows-short (absence a) e (q, inl same, long) =
+    neighbour-inside (a .leftward) q (and-left (shortNeighbour (a .leftward)) (shortNeighbour (a .rightward)) e) same long
+inside-shows-short (absence a) e (q, inr same, long) =
+    neighbour-inside (a .rightward) q (and-right (shortNeighbour (a .leftward)) (shortNeighbour (a .rightward)) e) same long
+
+pub outside-shows-long : (p : Proof) → small p ≡ false → Outside p
+outside-shows-long (presence p) e = (p, refl, long-exactly p e)
+outside-shows-long (absence a) e = go (a .leftward) refl (a .rightward) refl e
+  where
+    go : (l : Option Presence) → a .leftward ≡ l → (r : Option Presence) → a .rightward ≡ r → shortNeighbour l && shortNeighbour r ≡ false → Outside (absence a)
+    go none x none y e = let z : _≡_ {A = ℕ} 0 1 = cc in absurd (omega arith)
+    go none x (some q) y e = (q, inr y, long-exactly q e)
+    go (some p) x none y e = by-left (shortPath p) refl e
+      where
+        by-left : (b : Bool) → shortPath p ≡ b → b && true ≡ false → Outside (absence a)
+        by-left true f e = let z : _≡_ {A = ℕ} 0 1 = cc in absurd (omega arith)
+        by-left false f e = (p, inl x, long-exactly p f)
+    go (some p) x (some q) y e = by-left (shortPath p) refl e
+      where
+        by-left : (b : Bool) → shortPath p ≡ b → b && shortPath q ≡ false → Outside (absence a)
+        by-left true f e = (q, inr y, long-exactly q e)
+        by-left false f e = (p, inl x, long-exactly p f)
+
+-- A presence proof inside the profile has at most 1,128 bytes, with 32 steps just that; an absence proof at most 2,296.
+pub short-length : (p : Presence) → shortPath p ≡ true → presenceLength p ≤ 1128
 unfolding shortPath presenceLength
 short-length p e = omega (arith, leb-true (length (p .steps)) pocketSteps e)
+
+pub thirty-two-steps-have-1128-bytes : (p : Presence) → length (p .steps) ≡ pocketSteps → presenceLength p ≡ 1128
+unfolding presenceLength
+thirty-two-steps-have-1128-bytes p e = omega (arith, e)
 
 short-neighbour : (o : Option Presence) → shortNeighbour o ≡ true → neighbourLength o ≤ 1128
 short-neighbour none e = omega arith
@@ -91,3 +133,10 @@ pocket-proofs-have-2296-bytes (absence a) e =
     let l = shortNeighbour (a .leftward) in
     let r = shortNeighbour (a .rightward) in
     omega (arith, short-neighbour (a .leftward) (and-left l r e), short-neighbour (a .rightward) (and-right l r e))
+
+pub two-of-32-steps-have-2296-bytes : (a : Absence) (p q : Presence) → a .leftward ≡ some p → a .rightward ≡ some q → length (p .steps) ≡ pocketSteps →
+    length (q .steps) ≡ pocketSteps → proofLength (absence a) ≡ 2296
+two-of-32-steps-have-2296-bytes a p q e f l r =
+    let x = ap neighbourLength e ∙ thirty-two-steps-have-1128-bytes p l in
+    let y = ap neighbourLength f ∙ thirty-two-steps-have-1128-bytes q r in
+    omega (arith, x, y)

@@ -1,4 +1,5 @@
 -- The pocket check as the code makes it: the lengths, then what is outside the profile, then the full check. Assumes nothing.
+use Prim.Native.Nat.{ℕ}
 use mathlib.Core.Path.{_≡_, refl, ap, sym, _∙_}
 use mathlib.Core.Bool.{Bool, true, false, cond, _&&_, not, false≢true}
 use mathlib.Core.Option.{Option, none, some}
@@ -8,12 +9,13 @@ use borrow.Author.Tests.{eq-eqb, ne-eqb, not-true, not-false}
 use Rattle.terms.specs.Bits.{Bytes}
 use Rattle.terms.specs.Records.{Proof, presence, absence}
 use Rattle.meaning.specs.Calls.{refused}
+use Rattle.meaning.specs.Answers.{numberOf, foundAfter}
 use Rattle.nodehash.specs.Node.{leafHash, innerHash}
 use Rattle.proofrecords.specs.ProofBytes.{isPresence, presenceIn, isAbsence, absenceIn, proofIn}
 use Rattle.pocket.specs.Pocket.{shortPath, small, pocketChecked}
 use Rattle.pocket.proofs.Theorems.{inside-they-agree, outside-is-refused}
-use Rattle.verify.specs.Verify.{judged, verified}
-use Rattle.pocket_verify.specs.Verify.{pocketJudged, pocketVerified, outsideOf, outside}
+use Rattle.verify.specs.Verify.{judged, verified, Verifies}
+use Rattle.pocket_verify.specs.Verify.{pocketJudged, pocketVerified, PocketVerifies, outsideOf, outside}
 
 -- which bytes are outside, by their form
 module _ (x : Bytes) where
@@ -62,3 +64,10 @@ same-judged root k (some p) h = inside-they-agree leafHash innerHash root k p (n
 pub not-outside : (root k x : Bytes) → outside x ≡ false → pocketVerified root k x ≡ verified root k x
 unfolding outside pocketVerified verified
 not-outside root k x h = ap (λ a. cond (eqb (length root) 32 && eqb (length k) 32) a (refused 12)) (same-judged root k (proofIn x) h)
+
+-- what the call leaves: a refusal nothing, else what the full check leaves
+pub pocket-refused : {root k x : Bytes} {n : ℕ} (f : Bytes) → refused n ≡ pocketVerified root k x → PocketVerifies root k x f n f
+pocket-refused f e = record { answer = ap (λ a. numberOf a) e; found = ap (λ a. foundAfter a f) e }
+
+pub as-full : {root k x f g : Bytes} {r : ℕ} → pocketVerified root k x ≡ verified root k x → Verifies root k x f r g → PocketVerifies root k x f r g
+as-full {f = f} e w = record { answer = w .answer ∙ ap (λ a. numberOf a) (sym e); found = w .found ∙ ap (λ a. foundAfter a f) (sym e) }

@@ -4,8 +4,7 @@ ghost use mathlib.Core.Bool.{true};
 ghost use Rattle.terms.specs.Records.{absence};
 ghost use Rattle.pocket.specs.Pocket.{shortPath, small};
 ghost use Rattle.proofrecords.specs.ProofBytes.{isPresence, presenceIn, isAbsence, absenceIn};
-ghost use Rattle.verify.specs.Says.{says};
-ghost use Rattle.pocket_verify.specs.Verify.{outside, pocketVerified};
+ghost use Rattle.pocket_verify.specs.Verify.{outside, PocketVerifies};
 use fields::get_u16;
 use fields::get_u32;
 use pocket::POCKET_STEPS;
@@ -14,8 +13,7 @@ use proofrecords::FLAGS_AT;
 use proofrecords::STEPS_AT;
 use refusal_numbers::NOT_32_BYTES;
 use refusal_numbers::OUTSIDE_POCKET;
-use verify::Checked;
-use verify::verify;
+use verify::grants_verify;
 use verify_form::is_absence;
 use verify_form::is_presence;
 
@@ -56,18 +54,24 @@ fn is_outside(p: &[u8]) -> bool
     false
 }
 
-// What a proof of the profile says of a key under a root: any bytes may be handed in.
-pub fn pocket_verify(root: &[u8], key: &[u8], proof: &[u8]) -> Checked
-    ensures { λ r. ⌜ says r ≡ pocketVerified (now (root .entry)) (now (key .entry)) (now (proof .entry)) ⌝ }
+// The pocket check for callers in other languages: as `grants_verify`, with 19 for a proof in form that is outside the profile.
+#[no_mangle]
+pub extern "C" fn grants_pocket_verify(
+    root: &[u8],
+    key: &[u8],
+    proof: &[u8],
+    found: &mut [u8; 33],
+) -> u32
+    ensures { λ r. ⌜ PocketVerifies (now (root .entry)) (now (key .entry)) (now (proof .entry)) (now (found .entry)) r (now (found .exit)) ⌝ }
 {
     if root.len() != 32 {
-        return Checked::Refused(NOT_32_BYTES);
+        return NOT_32_BYTES;
     }
     if key.len() != 32 {
-        return Checked::Refused(NOT_32_BYTES);
+        return NOT_32_BYTES;
     }
     if is_outside(proof) {
-        return Checked::Refused(OUTSIDE_POCKET);
+        return OUTSIDE_POCKET;
     }
-    verify(root, key, proof)
+    grants_verify(root, key, proof, found)
 }

@@ -3,3 +3,5 @@ pub mod Trees
 pub mod Ranges
 pub mod Theorems
 pub mod Samples
+pub mod Small
+pub mod Told

@@ -8,3 +8,5 @@ pub mod Proofs
 pub mod Changes
 pub mod Rescues
 pub mod Positions
+pub mod Figures
+pub mod Pocket

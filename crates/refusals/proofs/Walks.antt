@@ -145,54 +145,62 @@ module _ (s : Bytes) (formed : Formed (storeOf s)) (v : ℕ) (k : Bytes) where
   refused-8 : isKept (storeOf s) v ≡ false → proof (storeOf s) v k ≡ refused 8
   refused-8 e = proof-by-searches (storeOf s) v k ∙ ap (λ b. cond b (proveSeen k (seen (scan (storeOf s)) v)) (refused 8)) e
 
-  same-proof : {p q : Proof} → _≡_ {A = Answer Proof} (accepted p) (accepted q) → p ≡ q
+  pub same-proof : {p q : Proof} → _≡_ {A = Answer Proof} (accepted p) (accepted q) → p ≡ q
   same-proof e = cc
 
-  abbrev Deserved : Bytes → ℕ → Type 0
-  Deserved room n = Stopped (provingRows s v) ((9, TooLong s v k room) ∷ []) (StopsProve s v k) n
+  -- Proving, and what is done with the proof afterwards: a refusal stays, and an accepted proof is refused by later rows or given.
+  module _ (later : Table) (give : Answer Proof → Answer Proof) (stays : (n : ℕ) → give (refused n) ≡ refused n)
+      (given : (p : Proof) → proof (storeOf s) v k ≡ accepted p → First later (numberOf (give (accepted p)))) where
+    abbrev Deserved : ℕ → Type 0
+    Deserved n = Stopped (provingRows s v) later (StopsProve s v k) n
 
-  module _ (room : Bytes) (kept : isKept (storeOf s) v ≡ true) where
-    not-8 : NotKept s v → ⊥
-    not-8 n = n (kept-said (storeOf s) v kept)
+    module _ (kept : isKept (storeOf s) v ≡ true) where
+      not-8 : NotKept s v → ⊥
+      not-8 n = n (kept-said (storeOf s) v kept)
 
-    -- with a root, proving is stopped, or the proof fits, or 9
-    rooted : (EmptyVersion s v → ⊥) → (a : Answer Proof) → proof (storeOf s) v k ≡ a → Deserved room (numberOf (fitted (length room) a))
-    rooted full (refused n) f = go (end-refused (walk k 0 [] (seen (scan (storeOf s)) v)) (sym (proof-is kept) ∙ f))
+      -- with a root, proving is stopped, or there is a proof
+      rooted : (EmptyVersion s v → ⊥) → (a : Answer Proof) → proof (storeOf s) v k ≡ a → Deserved (numberOf (give a))
+      rooted full (refused n) f = subst (λ a. Deserved (numberOf a)) (sym (stays n)) (go (end-refused (walk k 0 [] (seen (scan (storeOf s)) v)) (sym (proof-is kept) ∙ f)))
+        where
+          go : By n → Deserved n
+          go (inl (t, e)) =
+              let g = sym (proof-is kept) ∙ f ∙ ap refused e in
+              met (not-8, (full, tt)) t (proof-stopped-exactly (storeOf s) formed v k t .0 g)
+              (λ u p. one-refusal t u g (proof-stopped-exactly (storeOf s) formed v k u .1 p)) e
+          go (inr fourteen) =
+              absurd (full (empty-exactly (storeOf s) v .0 (fourteen-exactly-without-root (storeOf s) formed v k .0 (f ∙ ap refused fourteen) .1)))
+      rooted full (accepted p) f = passed (not-8, (full, tt)) not-stopped (given p f)
+        where
+          not-stopped : (t : Trouble) → StopsProve s v k t → ⊥
+          not-stopped t l = let z = sym f ∙ proof-is kept ∙ proof-stopped-exactly (storeOf s) formed v k t .1 l in clash (cc)
+
+      by-root : (x : Sight) → rootSight (storeOf s) v ≡ x → Deserved (numberOf (give (proof (storeOf s) v k)))
+      by-root nothing e =
+          subst (λ a. Deserved (numberOf a)) (sym (ap give (fourteen-exactly-without-root (storeOf s) formed v k .1 (kept, e)) ∙ stays 14))
+          (tested (inr (not-8, inl (empty-exactly (storeOf s) v .0 e, refl))) (λ z. absurd (omega arith)))
+      by-root (matches r) e = rooted (λ w. let f = sym e ∙ empty-exactly (storeOf s) v .1 w in clash (cc)) (proof (storeOf s) v k) refl
+      by-root (spoilt i) e = rooted (λ w. let f = sym e ∙ empty-exactly (storeOf s) v .1 w in clash (cc)) (proof (storeOf s) v k) refl
+
+    pub proof-stopped : Deserved (numberOf (give (proof (storeOf s) v k)))
+    proof-stopped = go (isKept (storeOf s) v) refl
       where
-        go : By n → Deserved room n
-        go (inl (t, e)) =
-            let g = sym (proof-is kept) ∙ f ∙ ap refused e in
-            met (not-8, (full, tt)) t (proof-stopped-exactly (storeOf s) formed v k t .0 g)
-            (λ u p. one-refusal t u g (proof-stopped-exactly (storeOf s) formed v k u .1 p)) e
-        go (inr fourteen) =
-            absurd (full (empty-exactly (storeOf s) v .0 (fourteen-exactly-without-root (storeOf s) formed v k .0 (f ∙ ap refused fourteen) .1)))
-    rooted full (accepted p) f = passed (not-8, (full, tt)) not-stopped (fits (ltb (length room) (proofLength p)) refl)
-      where
-        not-stopped : (t : Trouble) → StopsProve s v k t → ⊥
-        not-stopped t l = let z = sym f ∙ proof-is kept ∙ proof-stopped-exactly (storeOf s) formed v k t .1 l in clash (cc)
-
-        fits : (b : Bool) → ltb (length room) (proofLength p) ≡ b →
-            First ((9, TooLong s v k room) ∷ []) (numberOf {A = Proof} (cond b (refused 9) (accepted p)))
-        fits true e = inl ((p, f, ltb-true (length room) (proofLength p) e), refl)
-        fits false e =
-            inr (λ t. absurd (omega (arith, ltb-false (length room) (proofLength p) e, ap proofLength (same-proof (sym f ∙ t .1)), t .2)), refl)
-
-    by-root : (x : Sight) → rootSight (storeOf s) v ≡ x → Deserved room (numberOf (fitted (length room) (proof (storeOf s) v k)))
-    by-root nothing e =
-        subst (λ a. Deserved room (numberOf (fitted (length room) a))) (sym (fourteen-exactly-without-root (storeOf s) formed v k .1 (kept, e)))
-        (tested (inr (not-8, inl (empty-exactly (storeOf s) v .0 e, refl))) (λ z. absurd (omega arith)))
-    by-root (matches r) e = rooted (λ w. let f = sym e ∙ empty-exactly (storeOf s) v .1 w in clash (cc)) (proof (storeOf s) v k) refl
-    by-root (spoilt i) e = rooted (λ w. let f = sym e ∙ empty-exactly (storeOf s) v .1 w in clash (cc)) (proof (storeOf s) v k) refl
+        go : (b : Bool) → isKept (storeOf s) v ≡ b → Deserved (numberOf (give (proof (storeOf s) v k)))
+        go true e = by-root e (rootSight (storeOf s) v) refl
+        go false e =
+            subst (λ a. Deserved (numberOf a)) (sym (ap give (refused-8 e) ∙ stays 8)) (tested (inl (not-kept s v e, refl)) (λ z. absurd (omega arith)))
 
   pub refused-by : isKept (storeOf s) v ≡ true → {n : ℕ} → proof (storeOf s) v k ≡ refused n → ((t : Trouble) × (n ≡ refusalOf t)) ⊎ (n ≡ 14)
   refused-by kept f = end-refused (walk k 0 [] (seen (scan (storeOf s)) v)) (sym (proof-is kept) ∙ f)
 
-  pub prove-stopped : (room : Bytes) → Deserved room (numberOf (prove (storeOf s) v k (length room)))
-  unfolding prove
-  prove-stopped room = go (isKept (storeOf s) v) refl
+  -- row 9: the proof there is fits, or is too long
+  pub fits-first : (room : Bytes) (p : Proof) → proof (storeOf s) v k ≡ accepted p → First ((9, TooLong s v k room) ∷ []) (numberOf (fitted (length room) (accepted p)))
+  fits-first room p f = go (ltb (length room) (proofLength p)) refl
     where
-      go : (b : Bool) → isKept (storeOf s) v ≡ b → Deserved room (numberOf (fitted (length room) (proof (storeOf s) v k)))
-      go true e = by-root room e (rootSight (storeOf s) v) refl
+      go : (b : Bool) → ltb (length room) (proofLength p) ≡ b → First ((9, TooLong s v k room) ∷ []) (numberOf {A = Proof} (cond b (refused 9) (accepted p)))
+      go true e = inl ((p, f, ltb-true (length room) (proofLength p) e), refl)
       go false e =
-          subst (λ a. Deserved room (numberOf (fitted (length room) a))) (sym (refused-8 e))
-          (tested (inl (not-kept s v e, refl)) (λ z. absurd (omega arith)))
+          inr (λ t. absurd (omega (arith, ltb-false (length room) (proofLength p) e, ap proofLength (same-proof (sym f ∙ t .1)), t .2)), refl)
+
+  pub prove-stopped : (room : Bytes) → Stopped (provingRows s v) ((9, TooLong s v k room) ∷ []) (StopsProve s v k) (numberOf (prove (storeOf s) v k (length room)))
+  unfolding prove
+  prove-stopped room = proof-stopped ((9, TooLong s v k room) ∷ []) (fitted (length room)) (λ n. refl) (fits-first room)

@@ -1,10 +1,11 @@
--- Document 01, 'Numbers of refusal', 14 of 2026-03, 17 of 2026-07, 18 of 2026-13 and 20 of 2026-09: rows in the order in which they are tested, as far as the calls
+-- Document 01, 'Numbers of refusal', 14 of 2026-03, 17 of 2026-07, 18 of 2026-13, 19 of 2026-14 and 20 of 2026-09: rows in the order in which they are tested, as far as the calls
 -- share them or the definitions of `meaning` test them. Assumes nothing.
 use Prim.Native.Nat.{ℕ}
 use mathlib.Core.List.{List, [], _∷_}
 use Rattle.terms.specs.Bits.{Bytes}
 use Rattle.refusals.specs.Exactly.{Table}
 use Rattle.refusals.specs.Rows.{WrongLength, WrongHeader, StopsRoot, StopsGet, StopsProve, StopsAt, PastNumber, Lost, Unsound, BatchOffForm, NotAscending, NotAbove, TooFewFree, NotKept, TooLong, ProofOffForm, DoesNotHold, EmptyVersion, NotBothKept, TooManyVisits, ListTooLong, AskedOfEmpty, StopsPalette, TooLongTogether, NotRootAndKeys, NotPieces, AnswersTooLong, WrongSizes, OldestAbove, NoVersion}
+use Rattle.refusals.specs.Rows.{NoKeptRange, FiguresTooLong, OutsidePocket, ProvedOutside}
 
 -- 1, 2.
 abbrev pub headerRows : Bytes → Table
@@ -70,3 +71,16 @@ rowRows root list n row room =
 -- A rescue (document 02, 2026-08): 1, 2, 3.
 abbrev pub rescueRows : Bytes → Bytes → ℕ → ℕ → Table
 rescueRows s old oldest latest = (1, WrongSizes s old) ∷ (2, OldestAbove oldest latest) ∷ (3, NoVersion s oldest latest) ∷ []
+
+-- The figures' own (document 02, 2026-14): 8, 9.
+abbrev pub rangeRows : Bytes → ℕ → ℕ → Bytes → Table
+rangeRows s first last room = (8, NoKeptRange s first last) ∷ (9, FiguresTooLong first last room) ∷ []
+
+-- The pocket prover's own (document 02, 2026-14): 8, 14, then 17 or 3, 19, 9.
+abbrev pub pocketRows : Bytes → ℕ → Bytes → Bytes → Table
+pocketRows s v k room =
+    (8, NotKept s v) ∷ (14, EmptyVersion s v) ∷ (17, Lost (StopsProve s v k)) ∷ (3, Unsound (StopsProve s v k)) ∷ (19, ProvedOutside s v k) ∷ (9, TooLong s v k room) ∷ []
+
+-- The pocket check's own (document 02, 2026-14): 10, 19, 11.
+abbrev pub pocketHoldingRows : Bytes → Bytes → Bytes → Table
+pocketHoldingRows root k x = (10, ProofOffForm x) ∷ (19, OutsidePocket x) ∷ (11, DoesNotHold root k x) ∷ []

@@ -1,5 +1,5 @@
--- Document 01, 'Numbers of refusal', 14 of 2026-03, 17 of 2026-07, 18 of 2026-13 and 20 of 2026-09: the rows, each a proposition in its words. Assumes nothing.
-use Prim.Native.Nat.{ℕ, _+_, _*_, _≤_, _<_}
+-- Document 01, 'Numbers of refusal', 14 of 2026-03, 17 of 2026-07, 18 of 2026-13, 19 of 2026-14 and 20 of 2026-09: the rows, each a proposition in its words. Assumes nothing.
+use Prim.Native.Nat.{ℕ, _+_, _*_, _-_, _≤_, _<_}
 use mathlib.Core.Path.{_≡_}
 use mathlib.Core.Logic.{_⊎_}
 use mathlib.Core.Bool.{false}
@@ -25,6 +25,8 @@ use Rattle.ways.specs.Ways as ways
 use Rattle.ways.specs.Ways.{RootStopped, KeyStopped, ProofStopped}
 use Rattle.ways.specs.Positions.{Number, Position}
 use Rattle.rescue_bytes.specs.Rescues.{NoRun}
+use Rattle.quarter.specs.Figures.{figuresSize, mostVersions}
+use Rattle.pocket.specs.Pocket.{Outside}
 use Rattle.nodehash.specs.Node.{leafHash, innerHash}
 use Rattle.proofrecords.specs.ProofBytes.{proofBytes, ProofForm}
 use Rattle.layout.specs.Sizes.{headerSize, headerKind, mostSlots, kindAt, capacityAt, oldestAt, latestAt, slotSize}
@@ -190,3 +192,26 @@ OldestAbove oldest latest = latest < oldest
 -- 3 of a rescue: no version, for no run ends at latest.
 abbrev pub NoVersion : Bytes → ℕ → ℕ → Type 0
 NoVersion s oldest latest = NoRun s oldest latest
+
+-- A range of 1 to 1,024 kept versions (document 02, 2026-14).
+pub record KeptRange (s : Bytes) (first last : ℕ) : Type 0 where
+  pub first-kept : Kept (storeOf s) first
+  pub last-kept : Kept (storeOf s) last
+  pub some : first ≤ last
+  pub few : last < first + mostVersions
+
+-- 8 of the figures: any other range.
+abbrev pub NoKeptRange : Bytes → ℕ → ℕ → Type 0
+NoKeptRange s first last = KeptRange s first last → ⊥
+
+-- 9 of the figures: 16 bytes for each version don't fit.
+abbrev pub FiguresTooLong : ℕ → ℕ → Bytes → Type 0
+FiguresTooLong first last room = length room < figuresSize * (last - first + 1)
+
+-- 19 (document 02, 2026-14), of the pocket check: the bytes are a proof in form, and a leaf that it shows has more than 32 steps;
+abbrev pub OutsidePocket : Bytes → Type 0
+OutsidePocket x = (p : Proof) × ProofIs x p × Outside p
+
+-- and of the pocket prover: so it is with the proof there is.
+abbrev pub ProvedOutside : Bytes → ℕ → Bytes → Type 0
+ProvedOutside s v k = (p : Proof) × (proof (storeOf s) v k ≡ accepted p) × Outside p

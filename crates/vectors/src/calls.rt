@@ -23,7 +23,7 @@ pub fn slots(store: &[u8]) -> usize {
     (store.len() - 24) / 128
 }
 
-fn refused(no: u32, end: &[u8]) {
+pub fn refused(no: u32, end: &[u8]) {
     say::text(b"refused with ");
     say::count(no as usize);
     say::text(end);
@@ -210,7 +210,7 @@ pub fn word(l: &[u8], n: usize) -> &[u8] {
 }
 
 // Whether a line asks for a version and a key; if so, the front of what came.
-fn asks(call: &[u8], l: &[u8]) -> bool {
+pub fn asks(call: &[u8], l: &[u8]) -> bool {
     if NONE <= number(word(l, 1)) {
         return false;
     }
@@ -222,7 +222,7 @@ fn asks(call: &[u8], l: &[u8]) -> bool {
     true
 }
 
-fn say_found(found: &[u8; 33]) {
+pub fn say_found(found: &[u8; 33]) {
     if found[0] == 0 {
         say::text(b"absent\n");
         return;

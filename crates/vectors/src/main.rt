@@ -5,6 +5,7 @@ mod calls;
 mod compared;
 mod counted;
 mod damaged;
+mod figured;
 mod harmed;
 mod several;
 
@@ -155,6 +156,17 @@ fn by_counts(l: &[u8], c: &[u8], store: &mut [u8]) -> bool {
     }
     if same(c, b"at") {
         return counted::at(l, store);
+    }
+    by_figures(l, c, store)
+}
+
+// The figures of a range and the pocket profile.
+fn by_figures(l: &[u8], c: &[u8], store: &mut [u8]) -> bool {
+    if same(c, b"figures") {
+        return figured::figures(l, store);
+    }
+    if same(c, b"pocket") {
+        return figured::pocket(l, store);
     }
     harm(l, c, store)
 }

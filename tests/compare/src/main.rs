@@ -13,6 +13,7 @@ mod finding;
 #[allow(dead_code)] // those of roots are the passes' alone
 mod hostile;
 mod ours;
+mod quarter;
 mod rescuing;
 mod rows;
 mod stack;
@@ -384,11 +385,13 @@ fn all(rounds: u64, first: u64, tally: &mut Tally) {
     counting::named(tally);
     rescuing::named(tally);
     rows::named(first, tally);
+    quarter::named(tally);
     for n in 0..rounds {
         let seed = first.wrapping_add(n).wrapping_mul(0x9E37_79B9_7F4A_7C15);
         round(seed, tally);
         rescuing::round(seed, tally);
         rows::round(seed, tally);
+        quarter::round(seed, tally);
         if n % 10 == 0 {
             applying::history(seed, tally);
             finding::round(seed, tally);

@@ -57,6 +57,34 @@ extern "C" {
         target_len: usize,
         answer: *mut [u8; 16],
     ) -> u32;
+    fn grants_figures(
+        store: *const u8,
+        store_len: usize,
+        first: u32,
+        last: u32,
+        room: *mut u8,
+        room_len: usize,
+        totals: *mut [u8; 8],
+    ) -> u32;
+    fn grants_pocket_prove(
+        store: *const u8,
+        store_len: usize,
+        version: u32,
+        key: *const u8,
+        key_len: usize,
+        room: *mut u8,
+        room_len: usize,
+        length: *mut [u8; 4],
+    ) -> u64;
+    fn grants_pocket_verify(
+        root: *const u8,
+        root_len: usize,
+        key: *const u8,
+        key_len: usize,
+        proof: *const u8,
+        proof_len: usize,
+        found: *mut [u8; 33],
+    ) -> u32;
     fn grants_verify(
         root: *const u8,
         root_len: usize,
@@ -227,6 +255,37 @@ pub fn rescue(source: &[u8], oldest: u32, latest: u32, target: &mut [u8]) -> Res
         })
     })?;
     Ok((u32_at(&answer, 0), u32_at(&answer, 4), u32_at(&answer, 8), u32_at(&answer, 12)))
+}
+
+/// Distinct records, and the sum of records over versions; the numbers of each version are at the front of the room.
+pub fn figures(store: &[u8], first: u32, last: u32, room: &mut [u8]) -> Result<(u32, u32), Refusal> {
+    let (to, most) = (room.as_mut_ptr(), room.len());
+    let totals = answered(|totals| {
+        recorded("figures", &[read(store), number(first), number(last), written(room), array(totals)], || unsafe {
+            grants_figures(store.as_ptr(), store.len(), first, last, to, most, totals)
+        })
+    })?;
+    Ok((u32_at(&totals, 0), u32_at(&totals, 4)))
+}
+
+/// The length of the proof, at the front of the room.
+pub fn pocket_prove(store: &[u8], version: u32, key: &[u8], room: &mut [u8]) -> Result<u32, Stopped> {
+    let (to, most) = (room.as_mut_ptr(), room.len());
+    read_so(|length| {
+        recorded("pocket_prove", &[read(store), number(version), read(key), written(room), array(length)], || unsafe {
+            grants_pocket_prove(store.as_ptr(), store.len(), version, key.as_ptr(), key.len(), to, most, length)
+        })
+    })
+    .map(u32::from_le_bytes)
+}
+
+pub fn pocket_verify(root: &[u8], key: &[u8], proof: &[u8]) -> Result<Option<Bytes32>, Refusal> {
+    answered(|found| {
+        recorded("pocket_verify", &[read(root), read(key), read(proof), array(found)], || unsafe {
+            grants_pocket_verify(root.as_ptr(), root.len(), key.as_ptr(), key.len(), proof.as_ptr(), proof.len(), found)
+        })
+    })
+    .map(verdict)
 }
 
 pub fn verify(root: &[u8], key: &[u8], proof: &[u8]) -> Result<Option<Bytes32>, Refusal> {

@@ -102,6 +102,13 @@ impl Word for Result<(u32, u32, u32, u32), u32> {
     }
 }
 
+/// The totals of a range: whether a record stands in more than one of its versions.
+impl Word for Result<(u32, u32), u32> {
+    fn word(&self) -> String {
+        self.map_or_else(|n| n.to_string(), |(distinct, records)| if distinct == records { "each once" } else { "some in several" }.into())
+    }
+}
+
 /// The first byte of a store that is not as the second program left it.
 fn difference(ours: &[u8], second: &[u8]) -> Option<String> {
     let differ = ours.iter().zip(second).filter(|(a, b)| a != b).count();

@@ -56,6 +56,14 @@ fn decode(s: &[u8]) -> Option<Proof> {
     rest.is_empty().then_some(Proof::Absent { key: b32_at(s, 8), left, right })
 }
 
+/// How many steps each leaf has that a proof in form shows.
+pub fn shown(s: &[u8]) -> Option<Vec<usize>> {
+    Some(match decode(s)? {
+        Proof::Present(p) => vec![p.steps.len()],
+        Proof::Absent { left, right, .. } => [left, right].iter().flatten().map(|p| p.steps.len()).collect(),
+    })
+}
+
 fn leads(p: &Presence, root: &Bytes32) -> bool {
     let mut h = leaf_hash(&p.key, &p.value);
     for s in &p.steps {

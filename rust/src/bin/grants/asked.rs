@@ -129,14 +129,14 @@ pub fn version(args: &Args, i: usize, store: &Bytes, path: &Path) -> Result<u32,
             "VERSION and --at both say which version: name one of them".to_string(),
         )),
         (Some(word), None) => number("VERSION", word),
-        (None, Some(day)) => on_day(args, store, path, &day),
+        (None, Some(day)) => on_day(args, store, path, "--at", &day),
         (None, None) => Ok(store.header().map_or(0, |header| header.latest)),
     }
 }
 
 /// The version that was the latest at the end of a day, by the book's dates of versions whose roots the library confirms.
-fn on_day(args: &Args, store: &Bytes, path: &Path, day: &str) -> Result<u32, Fail> {
-    let (_, end) = book::date("--at", day)?;
+pub fn on_day(args: &Args, store: &Bytes, path: &Path, what: &str, day: &str) -> Result<u32, Fail> {
+    let (_, end) = book::date(what, day)?;
     let book = Book::of(args, Some(path))?;
     let refused = refused(store, path);
     let header = store.header().map_err(&refused)?;

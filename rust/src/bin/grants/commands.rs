@@ -164,8 +164,17 @@ pub fn get(args: &Args, out: &mut Out) -> Result<u8, Fail> {
     )
 }
 
+/// The pocket profile has no call for several keys.
+fn one_proof(args: &Args) -> Result<(), Fail> {
+    match args.has("--pocket") {
+        true => Err(Fail::Usage("--pocket is for one key".to_string())),
+        false => Ok(()),
+    }
+}
+
 pub fn prove(args: &Args, out: &mut Out) -> Result<u8, Fail> {
     if args.has("--version") {
+        one_proof(args)?;
         return palette::prove(args, out);
     }
     if args.word(3).is_some() {
@@ -179,7 +188,11 @@ pub fn prove(args: &Args, out: &mut Out) -> Result<u8, Fail> {
     let store = read_store(path)?;
     let version = version(args, 2, &store, path)?;
     let refused = refused_read(&store, path, version, Some(&key));
-    let proof = store.prove(version, &key).map_err(&refused)?;
+    let proof = match args.has("--pocket") {
+        true => store.prove_pocket(version, &key),
+        false => store.prove(version, &key),
+    }
+    .map_err(&refused)?;
     let bytes = proof.as_bytes();
     let root = store.root(version).map_err(&refused)?;
     let value = store.get(version, &key).map_err(&refused)?;
@@ -246,14 +259,18 @@ pub fn proof_advice(error: Error, path: &Path) -> String {
 
 pub fn verify(args: &Args, out: &mut Out) -> Result<u8, Fail> {
     if args.word(3).is_some() {
+        one_proof(args)?;
         return palette::verify(args, out);
     }
     let root = known_root(args)?;
     let key = key(args, 1, None)?;
     let path = args.path(2);
     let proof = proof_bytes(files::read(path, PROOF_LIMIT)?)?;
-    let value =
-        grants::verify(&root, &key, &proof).map_err(|e| Fail::Refused(e, proof_advice(e, path)))?;
+    let value = match args.has("--pocket") {
+        true => grants::verify_pocket(&root, &key, &proof),
+        false => grants::verify(&root, &key, &proof),
+    }
+    .map_err(|e| Fail::Refused(e, proof_advice(e, path)))?;
     let value = value.map(|v| v.to_string());
     let line = match &value {
         Some(value) => format!("present {value}"),

@@ -3,7 +3,9 @@
 use crate::args::{Args, Choice};
 use crate::fail::Fail;
 use crate::out::Out;
-use crate::{commands, counts, diff, grow, listing, names, publish, rescue, show, statement};
+use crate::{
+    commands, counts, diff, grow, listing, names, publish, report, rescue, show, statement,
+};
 
 pub struct Command {
     pub name: &'static str,
@@ -259,6 +261,7 @@ the answer.",
             JSON,
             AT,
             valued("--version", "VERSION", "the version; every word after STORE is then a key"),
+            flag("--pocket", "refuse with 19 a proof that shows a leaf with more than 32 steps"),
             valued("--out", "FILE", "write the proof's bytes to FILE (- for standard output)"),
             FORCE,
             BOOK,
@@ -283,6 +286,7 @@ with their hex digits; it may be -. No store is needed.",
                 "VERSION",
                 "refuse a ROOT file of an older version than this, the highest that was seen",
             ),
+            flag("--pocket", "refuse with 19 a proof that shows a leaf with more than 32 steps"),
             BOOK,
         ],
         run: commands::verify,
@@ -327,6 +331,30 @@ takes and that makes the one version's grants of the other's; --records writes t
             FORCE,
         ],
         run: diff::diff,
+    },
+    Command {
+        name: "report",
+        usage: "STORE",
+        what: "the figures of a range of versions: grants, inner nodes, paths, records",
+        help: "\
+A line for each publishing of the range, with the versions that read as it: its grants, inner nodes and records, its longest path and
+its mean path (a path has as many steps as the grant's proof); then how many different records stand in the range, and the records of
+each version added up. A range has at most 1024 versions, published or not; without --from it is the last 1024 that are kept. --from
+and --to take a version, or a DATE: the version that was the latest at the end of that day (UTC), by the book. --csv and --json have
+a row for each version. --svg draws grants and records, by date where the book has a date for each publishing, else by version.
+The store is checked first. STORE may be -.",
+        words: (1, 1),
+        choices: &[
+            JSON,
+            valued("--from", "VERSION|DATE", "the first version of the range"),
+            valued("--to", "VERSION|DATE", "the last version of the range; else the latest"),
+            flag("--csv", "a row for each version, with commas"),
+            valued("--svg", "FILE", "draw a picture to FILE"),
+            FORCE,
+            BOOK,
+            NO_BOOK,
+        ],
+        run: report::report,
     },
     Command {
         name: "history",

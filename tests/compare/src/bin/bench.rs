@@ -356,6 +356,24 @@ fn positions(random: &mut Random) {
     }
 }
 
+/// The figures of a range: of as many publishings as a store of one grant a batch keeps, up to 1,024, and of versions between two publishings.
+fn quarters(random: &mut Random) {
+    let (many, _) = filled(random, 16_384, 1, 16_384, 0);
+    let (mut between, _) = filled(random, 16_384, 256, 15_000, 0);
+    let latest = second::bytes::store(&between).unwrap().latest;
+    apply_to_sound(&mut between, latest + 1_024, &[]).expect("a free slot");
+    let last = second::bytes::store(&many).unwrap().latest;
+    for (name, s, first, last) in [("publishings", &many, last.saturating_sub(1_023), last), ("versions-between", &between, latest, latest + 1_023)] {
+        let n = last - first + 1;
+        let (mut room, mut other) = (vec![0; 16 * n as usize], vec![0; 16 * n as usize]);
+        let mut asked = || assert!(black_box(ours::figures(s, first, last, &mut room)).is_ok());
+        compare(&format!("figures-of-{n}-{name}"), 1, &mut asked, || assert!(black_box(second::figures(s, first, last, &mut other)).is_ok()));
+        let best = |call: &mut dyn FnMut()| (0..3).map(|_| milliseconds(call)).fold(f64::MAX, f64::min);
+        let (figures, check) = (best(&mut asked), best(&mut || assert_eq!(ours::check(s), Ok(()))));
+        println!("where figures-of-{n}-{name} {figures:.3}ms, {:.2} times check, which takes {check:.3}ms", figures / check);
+    }
+}
+
 /// The records of the tree of so many random grants, as one batch would place them, all of version 1.
 fn tree(random: &mut Random, grants: usize) -> Vec<Record> {
     let mut all: Vec<([u8; 32], [u8; 32])> = (0..grants).map(|_| (random.hash(), random.hash())).collect();
@@ -499,6 +517,9 @@ fn main() {
     if std::env::args().nth(1).as_deref() == Some("positions") {
         return positions(&mut Random(37));
     }
+    if std::env::args().nth(1).as_deref() == Some("figures") {
+        return quarters(&mut Random(41));
+    }
     if std::env::args().nth(1).as_deref() == Some("rescue") {
         return rescues();
     }
@@ -539,6 +560,7 @@ fn main() {
     gaps();
     missing(&mut Random(29));
     positions(&mut Random(37));
+    quarters(&mut Random(41));
     rescues();
     stacks();
 }

@@ -1,0 +1,294 @@
+-- Document 02, 2026-14, the pocket profile over the contracts: two outcomes are equal, each number of refusal is given exactly if its row deserves it, a refused
+-- call writes nothing, and inside the profile prover and check are the full ones. Assumes nothing.
+use Prim.Native.Nat.{ℕ, _≤_}
+use native.Mathlib.Omega.{arith}
+use mathlib.Core.Path.{_≡_, refl, ap, sym, _∙_, subst}
+use mathlib.Core.Logic.{_↔_, inl, inr}
+use mathlib.Core.Bool.{Bool, true, false, cond, _&&_}
+use mathlib.Core.List.{[], _∷_}
+use mathlib.Core.Option.{Option, none, some}
+use lib.ListN.{length, take}
+use lib.Dec.{eqb, ltb}
+use borrow.Author.Tests.{eqb-true, eqb-false, eq-eqb}
+use Rattle.terms.specs.declared.Form.the-variants.{Counted as counted}
+use Rattle.terms.specs.Bits.{Bytes, Byte, All, Whole32}
+use Rattle.terms.specs.Fields.{le, num}
+use Rattle.terms.specs.Records.{Proof}
+use Rattle.meaning.specs.Sound.{Kept}
+use Rattle.meaning.specs.Calls.{Answer, refused, accepted}
+use Rattle.meaning.specs.Reading.{spoiltRecord, answerOf}
+use Rattle.meaning.specs.Proving.{HoldsGrant, proof, proofLength, fitted, prove}
+use Rattle.meaning.specs.Answers.{numberOf, foundAfter, foundBytes, toldOf}
+use Rattle.proofrecords.specs.ProofBytes.{proofIn}
+use Rattle.proofrecords.proofs.Proofs.{proof-back}
+use Rattle.layout.specs.Headers.{Headed, refusal, header, headerOf}
+use Rattle.layout.specs.Stores.{storeOf}
+use Rattle.promises.specs.Calls.{SoundBytes}
+use Rattle.promises.proofs.Calls.{sound-form}
+use Rattle.read_open.specs.Headed.{byHeader}
+use Rattle.prove.specs.Proving.{proveAnswer, roomAfter}
+use Rattle.pocket.specs.Pocket.{Outside, small, inProfile, pocketProve}
+use Rattle.pocket.proofs.Theorems.{inside-shows-short, outside-shows-long, pocket-proofs-have-2296-bytes}
+use Rattle.pocket_prove.specs.Proving.{pocketAnswer}
+use Rattle.pocket_prove_c.specs.Export.{pocketInto}
+use Rattle.verify.specs.Verify.{verified}
+use Rattle.pocket_verify.specs.Verify.{pocketJudged, pocketVerified}
+use Rattle.pocket_verify.proofs.Theorems.{inside-as-the-full-check, off-form-as-the-full-check}
+use Rattle.refusals.specs.Exactly.{Exactly, NoneOf, low, Names}
+use Rattle.refusals.specs.Rows.{Not32, StopsProve, TooLong, ProvedOutside, OutsidePocket}
+use Rattle.refusals.specs.Orders.{pocketHoldingRows}
+use Rattle.refusals.proofs.Exactly.{First, exactly}
+use Rattle.refusals.proofs.Headers.{records-formed}
+use Rattle.refusals.proofs.Stopped.{Stopped, stopped-first, stopped-names}
+use Rattle.refusals.proofs.Proofs.{off-form, proof-is}
+use Rattle.refusals.proofs.Pocket.{pocket-form-first, pocket-stopped}
+use Rattle.grants.specs.Contracts.{ReadsRoot, Proves, Verifies, PocketProves, PocketVerifies}
+use Rattle.demands.specs.Tables.{proveTests, pocketProveRows, pocketVerifyRows}
+use Rattle.demands.specs.Claims.{grantsOfVersion}
+use Rattle.demands.specs.Pocket.{BesideTheFullCheck, BesideTheFullProver, PocketShown}
+use Rattle.demands.proofs.Refusals.{never-0, header-numbers, refused-of, found-kept}
+use Rattle.demands.proofs.Exact.{read-stopped, key-stopped}
+use Rattle.demands.proofs.Forms.{proof-form}
+use Rattle.demands.proofs.Given.{proof-long, its-proof, its-tests, told-length, front-is}
+use Rattle.demands.proofs.Showing.{sound-is-shown}
+
+module _ {a b : ℕ} where
+  pub one-pocket-prove : {s : Bytes} {v : ℕ} {k room f t u g h : Bytes} → PocketProves s v k room f a t g → PocketProves s v k room f b u h →
+      (a ≡ b) × (t ≡ u) × (g ≡ h)
+  one-pocket-prove x y = (x .answer ∙ sym (y .answer), x .proof ∙ sym (y .proof), x .told ∙ sym (y .told))
+
+  pub one-pocket-verify : {root k x f g h : Bytes} → PocketVerifies root k x f a g → PocketVerifies root k x f b h → (a ≡ b) × (g ≡ h)
+  one-pocket-verify x y = (x .answer ∙ sym (y .answer), x .found ∙ sym (y .found))
+
+-- The prover: 12, 1, 2, 8, 14, 17 or 3, 19, 9, and the slot beside 3.
+module _ {s : Bytes} {v : ℕ} {k room f : Bytes} {r : ℕ} {t g : Bytes} (h : All Byte s) (w : PocketProves s v k room f r t g) where
+  pocket-answers : Stopped (proveTests s v k) ((19, ProvedOutside s v k) ∷ (9, TooLong s v k room) ∷ []) (StopsProve s v k) r
+  unfolding pocketAnswer
+  pocket-answers =
+      subst (Stopped (proveTests s v k) ((19, ProvedOutside s v k) ∷ (9, TooLong s v k room) ∷ []) (StopsProve s v k)) (sym (w .answer))
+      (key-stopped k (byHeader (headerOf counted s) (pocketProve (storeOf s) v k (length room)))
+      (read-stopped s (pocketProve (storeOf s) v k (length room)) (λ c o l e. pocket-stopped s (records-formed s h e) v k room)))
+
+  pub pocket-prove-exactly : Exactly (pocketProveRows s v k room) (low r)
+  pocket-prove-exactly = exactly (pocketProveRows s v k room) (low r) refl (stopped-first refl refl pocket-answers)
+
+  pub pocket-prove-names-slot : Names (λ i. NoneOf (proveTests s v k) × StopsProve s v k (spoiltRecord i)) r
+  pocket-prove-names-slot = stopped-names refl refl pocket-answers
+
+pub refused-pocket-prove-writes-nothing : {s : Bytes} {v : ℕ} {k room f : Bytes} {r : ℕ} {t g : Bytes} → PocketProves s v k room f r t g → (r ≡ 0 → ⊥) →
+    (t ≡ room) × (g ≡ f)
+refused-pocket-prove-writes-nothing {s} {v} {k} {room} {f} w h =
+    let e = refused-of (pocketInto s v k room) (λ z. h (w .answer ∙ z)) in
+    (w .proof ∙ ap (λ a. roomAfter a room) (e .1), w .told ∙ ap (λ a. toldOf (λ p. le 4 (proofLength p)) a f) (e .1))
+
+-- The check: 12, 10, 19, 11.
+pub pocket-verify-exactly : {root k x f : Bytes} {r : ℕ} {g : Bytes} → All Byte x → PocketVerifies root k x f r g → Exactly (pocketVerifyRows root k x) r
+unfolding pocketVerified
+pocket-verify-exactly {root} {k} {x} {r = r} h w =
+    exactly (pocketVerifyRows root k x) r refl
+    (subst (First (pocketVerifyRows root k x)) (sym (w .answer)) (sizes (eqb (length root) 32) (eqb (length k) 32) refl refl))
+  where
+    form : (o : Option Proof) → proofIn x ≡ o → First (pocketHoldingRows root k x) (numberOf (pocketJudged root k o))
+    form none e = inl (off-form x h e, refl)
+    form (some p) e = pocket-form-first x h root k p e
+
+    sizes : (a b : Bool) → eqb (length root) 32 ≡ a → eqb (length k) 32 ≡ b →
+        First (pocketVerifyRows root k x) (numberOf (cond (a && b) (pocketJudged root k (proofIn x)) (refused 12)))
+    sizes false b e f = inl (λ z. eqb-false (length root) 32 e (z .0), refl)
+    sizes true false e f = inl (λ z. eqb-false (length k) 32 f (z .1 .0), refl)
+    sizes true true e f = inr (λ n. n (eqb-true (length root) 32 e, (eqb-true (length k) 32 f, tt)), form (proofIn x) refl)
+
+pub refused-pocket-verify-writes-nothing : {root k x f : Bytes} {r : ℕ} {g : Bytes} → PocketVerifies root k x f r g → (r ≡ 0 → ⊥) → g ≡ f
+refused-pocket-verify-writes-nothing {root} {k} {x} w = found-kept (pocketVerified root k x) (w .answer) (w .found)
+
+-- a proof that isn't outside is inside
+not-outside : (p : Proof) → (Outside p → ⊥) → small p ≡ true
+not-outside p h = go (small p) refl
+  where
+    go : (b : Bool) → small p ≡ b → b ≡ true
+    go true e = refl
+    go false e = absurd (h (outside-shows-long p e))
+
+-- The check beside the full one.
+module _ (root k x : Bytes) (bytes : All Byte x) where
+  as-full : (OutsidePocket x → ⊥) → pocketVerified root k x ≡ verified root k x
+  as-full h = go (proofIn x) refl
+    where
+      go : (o : Option Proof) → proofIn x ≡ o → pocketVerified root k x ≡ verified root k x
+      go none e = off-form-as-the-full-check root k x e
+      go (some p) e = inside-as-the-full-check root k x p e (not-outside p (λ o. h (p, proof-is x bytes p e, o)))
+
+  pub as-verifies : {f g : Bytes} {r : ℕ} → (OutsidePocket x → ⊥) → PocketVerifies root k x f r g → Verifies root k x f r g
+  as-verifies {f} h w = record { answer = w .answer ∙ ap (λ a. numberOf a) (as-full h); found = w .found ∙ ap (λ a. foundAfter a f) (as-full h) }
+
+  inside : {f g g₁ : Bytes} {r r₁ : ℕ} → (OutsidePocket x → ⊥) → PocketVerifies root k x f r g → Verifies root k x f r₁ g₁ → (r ≡ r₁) × (g ≡ g₁)
+  inside h w y = let z = as-verifies h w in (z .answer ∙ sym (y .answer), z .found ∙ sym (y .found))
+
+  nineteen : {f g : Bytes} {r : ℕ} → PocketVerifies root k x f r g → (r ≡ 19) ↔ ((length root ≡ 32) × (length k ≡ 32) × OutsidePocket x)
+  nineteen {r = r} w = (there, back)
+    where
+      rows : Exactly (pocketVerifyRows root k x) r
+      rows = pocket-verify-exactly bytes w
+
+      sized : (a b : Bool) → eqb (length root) 32 ≡ a → eqb (length k) 32 ≡ b → (Not32 (root ∷ k ∷ []) → ⊥) → (length root ≡ 32) × (length k ≡ 32)
+      sized true true e f h = (eqb-true (length root) 32 e, eqb-true (length k) 32 f)
+      sized false b e f h = absurd (h (λ z. eqb-false (length root) 32 e (z .0)))
+      sized true false e f h = absurd (h (λ z. eqb-false (length k) 32 f (z .1 .0)))
+
+      there : r ≡ 19 → (length root ≡ 32) × (length k ≡ 32) × OutsidePocket x
+      there e =
+          let d = rows .each .1 .1 .0 .0 e in
+          let l = sized (eqb (length root) 32) (eqb (length k) 32) refl refl (d .0 .0 .1) in
+          (l .0, l .1, d .1)
+
+      back : (length root ≡ 32) × (length k ≡ 32) × OutsidePocket x → r ≡ 19
+      back (a, b, o) = rows .each .1 .1 .0 .1 (((tt, λ n. n (a, (b, tt))), λ f. f (o .0) (o .1)), o)
+
+  accepted-inside : {f g : Bytes} → PocketVerifies root k x f 0 g → OutsidePocket x → ⊥
+  accepted-inside w o = go (pocket-verify-exactly bytes w .each .1 .1 .1 .1 .0 refl)
+    where
+      go : {A B : Type 0} → ((A × (OutsidePocket x → ⊥)) × B) → ⊥
+      go h = h .0 .1 o
+
+  accepted-short : {f g : Bytes} → PocketVerifies root k x f 0 g → length x ≤ 2296
+  unfolding pocketVerified
+  accepted-short w = go (proofIn x) refl
+    where
+      sized : (b : Bool) (o : Option Proof) → 0 ≡ numberOf (cond b (pocketJudged root k o) (refused 12)) → o ≡ none → ⊥
+      sized true none e f = absurd (omega arith)
+      sized false none e f = absurd (omega arith)
+      sized b (some p) e f = let z : _≡_ {A = ℕ} 0 1 = cc in absurd (omega arith)
+
+      go : (o : Option Proof) → proofIn x ≡ o → length x ≤ 2296
+      go none e = absurd (sized (eqb (length root) 32 && eqb (length k) 32) (proofIn x) (w .answer) e)
+      go (some p) e =
+          let is = proof-is x bytes p e in
+          let few = pocket-proofs-have-2296-bytes p (not-outside p (λ o. accepted-inside w (p, is, o))) in
+          omega (arith, ap length (is .bytes) ∙ proof-long p (is .form), few)
+
+  -- Inside the profile, the pocket check and the full one agree; 19 exactly if a leaf shown has more than 32 steps.
+  pub pocket-check-beside-full : BesideTheFullCheck root k x
+  pocket-check-beside-full = record {
+    inside = λ h w y. inside h w y;
+    nineteen = λ w. nineteen w;
+    accepted = λ w y. let e = inside (accepted-inside w) w y in (sym (e .0), e .1);
+    short = λ w. accepted-short w;
+  }
+
+-- The prover beside the full one.
+same-in-profile : (room : ℕ) (a : Answer Proof) → ((p : Proof) → a ≡ accepted p → small p ≡ true) → fitted room (inProfile a) ≡ fitted room a
+same-in-profile room (refused n) h = refl
+same-in-profile room (accepted p) h = ap (λ b. fitted room (cond b (accepted p) (refused 19))) (h p refl)
+
+module _ (s : Bytes) (v : ℕ) (k : Bytes) where
+  as-proved : (room : ℕ) → (ProvedOutside s v k → ⊥) → pocketAnswer s v k room ≡ proveAnswer s v k room
+  unfolding pocketAnswer proveAnswer pocketProve prove
+  as-proved room h =
+      ap (λ a. cond (eqb (length k) 32) (byHeader (headerOf counted s) a) (refused 12))
+      (same-in-profile room (proof (storeOf s) v k) (λ p e. not-outside p (λ o. h (p, e, o))))
+
+  as-proves : {room f t g : Bytes} {r : ℕ} → (ProvedOutside s v k → ⊥) → PocketProves s v k room f r t g → Proves s v k room f r t g
+  as-proves {room} {f} h w =
+      let e = as-proved (length room) h in record {
+        answer = w .answer ∙ ap (λ a. numberOf a) e;
+        proof = w .proof ∙ ap (λ a. roomAfter a room) e;
+        told = w .told ∙ ap (λ a. toldOf (λ p. le 4 (proofLength p)) a f) e;
+      }
+
+  prover-inside : {room f t t₁ g g₁ : Bytes} {r r₁ : ℕ} → (ProvedOutside s v k → ⊥) → PocketProves s v k room f r t g → Proves s v k room f r₁ t₁ g₁ →
+      (r ≡ r₁) × (t ≡ t₁) × (g ≡ g₁)
+  prover-inside h w y =
+      let z = as-proves h w in (z .answer ∙ sym (y .answer), z .proof ∙ sym (y .proof), z .told ∙ sym (y .told))
+
+  -- where it answers 0, the proof there is isn't outside
+  given-inside : {room f t g : Bytes} → PocketProves s v k room f 0 t g → ProvedOutside s v k → ⊥
+  unfolding pocketAnswer pocketProve
+  given-inside {room} w (p, e, o) = go (eqb (length k) 32) (headerOf counted s) (small p) refl header-not-0 (w .answer ∙ ap (λ a. numberOf (cond (eqb (length k) 32) (byHeader (headerOf counted s) (fitted (length room) (inProfile a))) (refused 12))) e)
+    where
+      header-not-0 : (n : ℕ) → headerOf counted s ≡ refusal n → n ≡ 0 → ⊥
+      header-not-0 n e = never-0 (1 ∷ 2 ∷ []) refl (header-numbers s e)
+
+      go : (b : Bool) (x : Headed) (c : Bool) → small p ≡ c → ((n : ℕ) → x ≡ refusal n → n ≡ 0 → ⊥) →
+          0 ≡ numberOf (cond b (byHeader x (fitted (length room) (cond c (accepted p) (refused 19)))) (refused 12)) → ⊥
+      go false x c d f z = absurd (omega arith)
+      go true (refusal n) c d f z = f n refl (sym z)
+      go true (header a b l) false d f z = absurd (omega arith)
+      go true (header a b l) true d f z = inside-shows-short p d o
+
+  prover-short : {room f t g : Bytes} → PocketProves s v k room f 0 t g → num g ≤ 2296
+  prover-short w =
+      let y = as-proves (given-inside w) w in
+      let few = pocket-proofs-have-2296-bytes (its-proof y) (not-outside (its-proof y) (λ o. given-inside w (its-proof y, its-tests y .proved, o))) in
+      omega (arith, told-length y, few)
+
+  -- Inside the profile, the provers give the same bytes.
+  pub pocket-prover-beside-full : BesideTheFullProver s v k
+  pocket-prover-beside-full = record {
+    inside = λ h w y. prover-inside h w y;
+    given = λ w y. let e = prover-inside (given-inside w) w y in (sym (e .0), e .1, e .2);
+    short = λ w. prover-short w;
+  }
+
+-- On a sound store, in a kept version that holds a grant.
+module _ {s : Bytes} (w : SoundBytes s) (v : ℕ) (kept : Kept (storeOf s) v) (k : Bytes) (whole : Whole32 k) (some : HoldsGrant (storeOf s) v) where
+  into : (room : Bytes) → pocketInto s v k room ≡ pocketProve (storeOf s) v k (length room)
+  unfolding pocketAnswer
+  into room = rw (eq-eqb (length k) 32 (whole .0), w .headed)
+
+  abbrev proved : Proof
+  proved = sound-is-shown w v kept k whole some .proved
+
+  is-proved : proof (storeOf s) v k ≡ accepted proved
+  is-proved = sound-is-shown w v kept k whole some .is-proved
+
+  fitted-19 : (room : ℕ) (b : Bool) → numberOf (fitted room (cond b (accepted proved) (refused 19))) ≡ 19 → b ≡ false
+  fitted-19 room false e = refl
+  fitted-19 room true e = go (ltb room (proofLength proved)) e
+    where
+      go : (b : Bool) → numberOf {A = Proof} (cond b (refused 9) (accepted proved)) ≡ 19 → true ≡ false
+      go true f = absurd (omega arith)
+      go false f = absurd (omega arith)
+
+  shown-19 : {room f t g : Bytes} {r : ℕ} → PocketProves s v k room f r t g → (r ≡ 19) ↔ ProvedOutside s v k
+  unfolding pocketProve
+  shown-19 {room} {r = r} x =
+      let is : r ≡ numberOf (fitted (length room) (cond (small proved) (accepted proved) (refused 19))) =
+      x .answer ∙ ap (λ a. numberOf a) (into room) ∙ ap (λ a. numberOf (fitted (length room) (inProfile a))) is-proved in
+      (there is, back is)
+    where
+      there : r ≡ numberOf (fitted (length room) (cond (small proved) (accepted proved) (refused 19))) → r ≡ 19 → ProvedOutside s v k
+      there is e = (proved, is-proved, outside-shows-long proved (fitted-19 (length room) (small proved) (sym is ∙ e)))
+
+      back : r ≡ numberOf (fitted (length room) (cond (small proved) (accepted proved) (refused 19))) → ProvedOutside s v k → r ≡ 19
+      back is (p, e, o) = go (small proved) refl is
+        where
+          same : p ≡ proved
+          same = let f = sym e ∙ is-proved in cc
+
+          go : (b : Bool) → small proved ≡ b → r ≡ numberOf (fitted (length room) (cond b (accepted proved) (refused 19))) → r ≡ 19
+          go false f z = z
+          go true f z = absurd (inside-shows-short proved f (subst Outside same o))
+
+  with-room : {room f t g : Bytes} {r : ℕ} → (ProvedOutside s v k → ⊥) → 2296 ≤ length room → PocketProves s v k room f r t g → r ≡ 0
+  with-room h long x =
+      let few = pocket-proofs-have-2296-bytes proved (not-outside proved (λ o. h (proved, is-proved, o))) in
+      sound-is-shown w v kept k whole some .given (as-proves s v k h x) .1 (omega arith)
+
+  is-checked : {room f t g f₁ root f₂ found : Bytes} {r₁ r₂ : ℕ} → PocketProves s v k room f 0 t g → ReadsRoot s v f₁ r₁ root →
+      PocketVerifies root k (take (num g) t) f₂ r₂ found → (r₁ ≡ 0) × (r₂ ≡ 0) × (found ≡ foundBytes (answerOf k (grantsOfVersion s v)))
+  is-checked {t = t} {g} {root = root} {f₂} x y z =
+      let given = as-proves s v k (given-inside s v k x) x in
+      let p = its-proof given in
+      let form = proof-form (storeOf s) v k p (sound-form (storeOf s) refl (w .sound) .each) whole (its-tests given .proved) in
+      let short = not-outside p (λ o. given-inside s v k x (p, its-tests given .proved, o)) in
+      let same = inside-as-the-full-check root k (take (num g) t) p (ap proofIn (front-is given form) ∙ proof-back p form) short in
+      sound-is-shown w v kept k whole some .checked given y
+      (record { answer = z .answer ∙ ap (λ a. numberOf a) same; found = z .found ∙ ap (λ a. foundAfter a f₂) same })
+
+  -- What the pocket prover gives the pocket check accepts.
+  pub sound-is-shown-in-pocket : PocketShown s v k
+  sound-is-shown-in-pocket = record {
+    nineteen = λ x. shown-19 x;
+    room = λ h long x. with-room h long x;
+    checked = λ x y z. is-checked x y z;
+  }

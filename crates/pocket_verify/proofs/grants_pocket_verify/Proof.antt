@@ -1,0 +1,41 @@
+-- `pocket_verify::grants_pocket_verify` meets its contract: the lengths, then the profile, then the full check. Assumes nothing.
+use mathlib.Core.Path.{sym, _∙_}
+use Rattle.pocket_verify.proofs.Checks.{root-off, key-off, is-outside, not-outside, pocket-refused, as-full}
+use borrow.Author.Needs.{needs}
+use Rattle.pocket_verify.proofs.grants_pocket_verify.Statement.{statement}
+use Rattle.pocket_verify.proofs.grants_pocket_verify.Tie as tie
+
+returns : tie.Need-returns
+returns c =
+    let a = c .before .before .before .before .args in
+    pocket-refused (a .found .now) (root-off (a .root .now) (a .key .now) (a .proof .now) (c .if1 .taken))
+
+returns-2 : tie.Need-returns-2
+returns-2 c =
+    let a = c .before .before .before .before .before .args in
+    pocket-refused (a .found .now) (key-off (a .root .now) (a .key .now) (a .proof .now) (c .before .if1 .left) (c .if2 .taken))
+
+is-outside-requires : tie.Need-is-outside-requires
+is-outside-requires c κs = search needs
+
+returns-3 : tie.Need-returns-3
+returns-3 c =
+    let o = c .before in
+    let k = o .before in
+    let a = k .before .before .before .before .before .args in
+    pocket-refused (a .found .now)
+    (is-outside (a .root .now) (a .key .now) (a .proof .now) (k .before .if1 .left) (k .if2 .left) (sym (o .is-outside .ensures) ∙ c .if3 .taken))
+
+grants-verify-requires : tie.Need-grants-verify-requires
+grants-verify-requires c κs = search needs
+
+returns-4 : tie.Need-returns-4
+returns-4 c =
+    let i = c .before .before in
+    let o = i .before in
+    let a = o .before .before .before .before .before .before .args in
+    as-full (not-outside (a .root .now) (a .key .now) (a .proof .now) (sym (o .is-outside .ensures) ∙ i .if3 .left)) (c .grants-verify .ensures)
+
+pub grants-pocket-verify-spec : {M : Type 1} → statement M
+grants-pocket-verify-spec =
+    tie.close (tie.spec returns returns-2 is-outside-requires returns-3 grants-verify-requires returns-4)
