@@ -13,7 +13,7 @@
  *
  *   1  the store's length isn't 24 + 128n, n in 1 to 16,384
  *   2  a header field isn't right, its capacity isn't n, or oldest is above latest
- *   3  the store isn't sound (check, apply, prune, changes, figures), or the walk says so (reads); rescue: no version can be rescued
+ *   3  the store isn't sound (check, apply, prune, changes, figures, finding), or the walk says so (reads); rescue: no version can be rescued
  *   4  the batch isn't whole records in form, or has over 1,024
  *   5  the batch's keys aren't strictly ascending
  *   7  fewer free slots than new records
@@ -147,9 +147,21 @@ uint32_t grants_figures(const uint8_t *store, size_t store_len, uint32_t first, 
 uint32_t grants_rescue(const uint8_t *source, size_t source_len, uint32_t oldest, uint32_t latest, uint8_t *target, size_t target_len,
                        uint8_t answer[16]);
 
+/* What a forged proof would cost. Of a proof that grants_verify accepts for a key against the root of a version of this store: whether it tells the truth
+   about that version, of its key and of each neighbour that it shows; and if it doesn't, the messages that it took. docs/FORGERY.md says it in plain words.
+   finding, 131 bytes:
+     0, then zero bytes: the proof tells the truth
+     1, then two messages of 65 bytes: they differ, and their SHA-256 is the same
+     2, then a message of 65 bytes, then zero bytes: its SHA-256 is 32 zero bytes
+   The messages are among those of the version's nodes and those hashed while checking. It is proved that a proof that says something false always gives 1 or
+   2, and that a true one never does; no one knows such messages, so 0 is what to expect. Refused: 12, 1, 2, 3, 8, 14, 10, 11. */
+uint32_t grants_finding(const uint8_t *store, size_t store_len, uint32_t version, const uint8_t *key, size_t key_len, const uint8_t *proof,
+                        size_t proof_len, uint8_t finding[131]);
+
 /* What a proof shows of a key against a root: all that an editor needs. The root must come from who signs it; the proof may come from anybody.
    found: 1 and the value for 'present', 0 and 32 zero bytes for 'absent'. Any number but 0 means that the proof shows nothing.
-   Where the signed root is 32 zero bytes nothing is granted, and no proof is needed: none is accepted against it.
+   Where the signed root is 32 zero bytes nothing is granted, and no proof is needed: none is accepted against it, short of a message whose SHA-256 is 32
+   zero bytes, which no one knows (docs/FORGERY.md).
    Refused: 12, 10, 11. */
 uint32_t grants_verify(const uint8_t *root, size_t root_len, const uint8_t *key, size_t key_len, const uint8_t *proof, size_t proof_len,
                        uint8_t found[33]);

@@ -66,6 +66,8 @@ export class Store {
   at(version: number, position: number | bigint): Grant;
   /** The proof that a key is in a version, or that it isn't, in at most so many bytes. Refused: 12, 1, 2, 8, 14, 3 or 17, 9. */
   prove(version: number, key: Bytes, most?: number): Uint8Array;
+  /** What is found of a proof for a key in a version. 12, 1, 2, 3, 8, 14, 10, 11. */
+  finding(version: number, key: Bytes, proof: Bytes): Finding;
   /** The proofs for up to 256 keys, in the order asked, in at most so many bytes together. Refused: 12, 1, 2, 8, then of the first key refused 14, 3 or 17;
    * then 9. */
   palette(version: number, keys: readonly Bytes[], most?: number): Uint8Array[];
@@ -98,6 +100,12 @@ export interface Changed {
   key: Uint8Array;
   before: Uint8Array | null;
   after: Uint8Array | null;
+}
+
+/** Whether a proof that is accepted tells the truth; if it doesn't, two different messages of 65 bytes with equal SHA-256, or one whose SHA-256 is zero. */
+export interface Finding {
+  truth: boolean;
+  messages: Uint8Array[];
 }
 
 /** What a rescue gave back: versions `first` to latest. The numbers are those of the two buffers compared. */

@@ -289,6 +289,14 @@ export class Store {
     return { versions, distinct: u32(totals, 0), records: u32(totals, 4) };
   }
 
+  // What is found of a proof for a key in a version that verify accepts against the version's root: `truth`, or that it isn't, with the messages that it took:
+  // two different ones with equal SHA-256, or one whose SHA-256 is zero. 12, 1, 2, 3, 8, 14, 10, 11.
+  finding(version, key, proof) {
+    const [wrote] = this.#machine.call('finding', 'store', versionOf(version), bytesOf(key), bytesOf(proof), answer(131));
+    const messages = wrote[0] === 0 ? [] : wrote[0] === 1 ? [wrote.slice(1, 66), wrote.slice(66)] : [wrote.slice(1, 66)];
+    return { truth: wrote[0] === 0, messages };
+  }
+
   // The proofs for up to 256 keys, in the order asked, each as prove would give it. 12, 1, 2, 8, then of the first key refused 14, 3 or 17; then 9.
   palette(version, keys, most = LONGEST_PROOF * Math.min(keys.length, 256)) {
     if (!Number.isInteger(most) || most < 0) throw new RangeError('room is a whole number of bytes');

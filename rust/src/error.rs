@@ -17,7 +17,7 @@ pub enum Error {
     Size,
     /// 2: a header field isn't right, its capacity isn't n, or oldest is above latest.
     Header,
-    /// 3: the store isn't sound (check, apply, prune, changes, figures), or a read met what can't be: a leaf whose key doesn't begin with its place, or, going by
+    /// 3: the store isn't sound (check, apply, prune, changes, figures, finding), or a read met what can't be: a leaf whose key doesn't begin with its place, or, going by
     /// counts to a position, a child that isn't there or a leaf with positions left over ([`Store::met_at`](crate::Store::met_at) tells which);
     /// rescue: no version can be rescued.
     Unsound,
@@ -69,7 +69,7 @@ const TABLE: [(u32, Error, &str); 17] = [
     (
         3,
         Error::Unsound,
-        "the store isn't sound (check, apply, prune, changes, figures), or the walk says so (reads); rescue: no version can be rescued",
+        "the store isn't sound (check, apply, prune, changes, figures, finding), or the walk says so (reads); rescue: no version can be rescued",
     ),
     (
         4,

@@ -103,6 +103,16 @@ extern "C" {
         proof_len: usize,
         found: *mut [u8; 33],
     ) -> u32;
+    fn grants_finding(
+        store: *const u8,
+        store_len: usize,
+        version: u32,
+        key: *const u8,
+        key_len: usize,
+        proof: *const u8,
+        proof_len: usize,
+        finding: *mut [u8; 131],
+    ) -> u32;
     fn grants_verify(
         root: *const u8,
         root_len: usize,
@@ -284,6 +294,23 @@ pub fn rescue(
         )
     })?;
     Ok(answer)
+}
+
+pub fn finding(store: &[u8], version: u32, key: &[u8], proof: &[u8]) -> Result<[u8; 131], Error> {
+    let mut finding = [0; 131];
+    accepted(unsafe {
+        grants_finding(
+            store.as_ptr(),
+            store.len(),
+            version,
+            key.as_ptr(),
+            key.len(),
+            proof.as_ptr(),
+            proof.len(),
+            &mut finding,
+        )
+    })?;
+    Ok(finding)
 }
 
 pub fn verify(root: &[u8], key: &[u8], proof: &[u8]) -> Result<[u8; 33], Error> {

@@ -46,6 +46,7 @@ mod damage;
 mod error;
 mod ffi;
 mod figures;
+mod finding;
 mod form;
 mod hex;
 mod palette;
@@ -61,6 +62,7 @@ pub use counts::Positions;
 pub use damage::{Met, Missing};
 pub use error::Error;
 pub use figures::{Figures, RangeFigures, RANGE_VERSIONS};
+pub use finding::{Finding, MESSAGE_BYTES};
 pub use form::{
     old_store_bytes, store_bytes, HEADER_BYTES, MOST_SLOTS, OLD_SLOT_BYTES, RECORD_BYTES,
     SLOT_BYTES,

@@ -204,6 +204,42 @@ def proofs_are_made_and_checked():
 
 
 @test
+def what_a_forged_proof_would_cost():
+    s = desk()
+    root = answered(0, "root", s).strip()
+    for key, found in ((A, value(1)), (B, None)):
+        status, shown = (0, "present %s" % found) if found else (1, "absent")
+        answered(0, "prove", s, key, "--out", "proof", "--force")
+        against = ("verify", root, key, "proof", "--against", s, "--version", 2)
+        first, paragraph = answered(status, *against).splitlines()
+        assert first == shown and paragraph.startswith("The proof tells the truth about version 2: "), paragraph
+        told = json.loads(answered(status, *against, "--json"))
+        assert (told["truth"], told["message"], told["other"], told["value"]) == (True, None, None, found), told
+        # The text has no line for sha256sum: nothing is found.
+        answered(status, *against, "--out", "finding", "--force")
+        text = read("finding").decode()
+        assert "# the proof says: %s\n" % shown in text and all(line.startswith("#") for line in text.splitlines()), text
+        assert answered(status, *against, "--out", "-") == text
+        refused(2, "both write standard output", *against, "--out", "-", "--json")
+        refused(3, "--force replaces it", *against, "--out", "finding")
+        refused(2, "is read by this command", *against, "--out", s, "--force")
+    refused(2, "is not the root of version 1", "verify", root, B, "proof", "--against", s, "--version", 1)
+    refused(21, "not to be trusted", "verify", root, A, "proof", "--against", s, "--version", 2)
+    refused(18, "keeps versions", "verify", root, B, "proof", "--against", s, "--version", 9)
+    refused(2, "--against STORE goes with --version", "verify", root, B, "proof", "--against", s)
+    refused(2, "--version goes with --against", "verify", root, B, "proof", "--version", 2)
+    refused(2, "--out goes with --against", "verify", root, B, "proof", "--out", "other")
+    refused(2, "--against takes one key", "verify", root, A, B, "proof", "--against", s, "--version", 2)
+    # A store that isn't sound, though its root is the one that was signed.
+    with open(s, "rb") as f:
+        bytes_ = bytearray(f.read())
+    bytes_[24 + 80] ^= 1
+    with open("bad", "wb") as f:
+        f.write(bytes_)
+    refused(13, "refused with 3", "verify", root, B, "proof", "--against", "bad", "--version", 2)
+
+
+@test
 def palettes():
     s = desk()
     root = answered(0, "root", s).strip()

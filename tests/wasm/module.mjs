@@ -112,6 +112,12 @@ async function refusing(tally, grants, { store, lyrics }) {
     [9, () => store.prove(1, lyrics, 71)],
     [12, () => store.get(1, lyrics.slice(1))],
     [14, () => store.prove(0, lyrics)],
+    [8, () => store.finding(3, lyrics, new Uint8Array(9))],
+    [14, () => store.finding(0, lyrics, new Uint8Array(9))],
+    [10, () => store.finding(1, lyrics, new Uint8Array(9))],
+    [11, () => store.finding(1, grants.name('another'), store.prove(1, lyrics))],
+    [12, () => store.finding(1, lyrics.slice(1), store.prove(1, lyrics))],
+    [3, () => damaged.finding(1, lyrics, store.prove(1, lyrics))],
     [8, () => store.count(3)],
     [8, () => store.at(3, 0)],
     [20, () => store.at(1, 2)],
@@ -217,6 +223,8 @@ async function counting(tally, grants) {
     tally.equal(`none after in ${version}`, refused(() => store.at(version, keys.length)), 20);
   }
   tally.equal('its value', toHex(store.at(9, 0).value), toHex(grants.name('read')));
+  // Present, and absent between two neighbours.
+  for (const key of [names[3], grants.name('no one')]) tally.equal('the truth', store.finding(1, key, store.prove(1, key)), { truth: true, messages: [] });
   for (const odd of [-1, 1.5, 2 ** 53, NaN, '1', undefined, null, -1n, 2n ** 64n]) tally.equal(`position ${odd}`, refused(() => store.at(1, odd)), 'RangeError');
   for (const most of [2 ** 53 - 1, 2n ** 53n, 2n ** 64n - 1n]) tally.equal(`position ${most}`, refused(() => store.at(1, most)), 20);
   // A leaf in slot 0, one in slot 1, the root in slot 2.

@@ -18,6 +18,7 @@ export async function published(): Promise<number> {
   const count: number = store.count(version);
   const grant = store.at(version, BigInt(count) - 1n);
   const least: Uint8Array = store.at(version, 0).key;
+  const truth: boolean = store.finding(version, least, store.prove(version, least)).truth;
   // @ts-expect-error a position is a number
   store.at(version, '0');
   // @ts-expect-error a publishing has a number
@@ -29,5 +30,5 @@ export async function published(): Promise<number> {
   const { store: rescued, first } = await grants.rescue(store.bytes(), 0, version);
   // @ts-expect-error a rescue ends at a version
   await grants.rescue(store.bytes(), 0);
-  return newRecords + first + rescued.latest + least.length + grant.value.length;
+  return newRecords + first + rescued.latest + least.length + grant.value.length + Number(truth);
 }

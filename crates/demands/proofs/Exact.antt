@@ -38,10 +38,15 @@ use Rattle.changed.specs.Compare.{compare}
 use Rattle.verify.specs.Verify.{judged, verified}
 use Rattle.verify_rows.specs.Rows.{ownLength, cutsInto, answerSize, manyVerified}
 use Rattle.verify_rows.proofs.Cutting.{cut-exactly}
+use Rattle.sha256.specs.Sha256.{sha256}
+use Rattle.forgery.specs.Finding.{Finding}
+use Rattle.finding_rules.specs.Call.{finds}
+use Rattle.finding.specs.Finding.{Answers, wrong-key, right-key}
 use Rattle.ways.specs.Ways.{its-root}
 use Rattle.refusals.specs.Exactly.{Table, Exactly, NoneOf, low, Names}
 use Rattle.refusals.specs.Rows.{NotRootAndKeys, NotPieces, AnswersTooLong, NotKeys, StopsPalette, TooLongTogether, NotSound, Not32, StopsRoot, StopsGet, StopsAt, StopsProve, TooLong}
 use Rattle.refusals.specs.Orders.{headerRows, batchRows, versionRows, comparisonRows, holdingRows, rowRows}
+use Rattle.refusals.specs.Orders.{foundRows}
 use Rattle.refusals.proofs.Exactly.{First, past, within, exactly}
 use Rattle.refusals.proofs.Headers.{length-wrong, length-right, after-header, header-row, records-formed}
 use Rattle.refusals.proofs.Batches.{batch-first}
@@ -51,9 +56,12 @@ use Rattle.refusals.proofs.Positions.{number-stopped, position-stopped}
 use Rattle.refusals.proofs.Palettes.{palette-stopped, keys-whole, keys-torn}
 use Rattle.refusals.proofs.Changes.{changes-first}
 use Rattle.refusals.proofs.Rescues.{rescue-first}
+use Rattle.refusals.proofs.Findings.{finding-first}
 use Rattle.refusals.proofs.Proofs.{off-form, form-first}
 use Rattle.demands.specs.Tables.{formatRows, checkRows, applyRows, pruneRows, rootRows, rootTests, getRows, getTests, countRows, atRows, atTests, proveRows, proveTests, paletteTests, paletteRows, changesRows, verifyRows, verifyManyRows, sha256Rows, rescuingRows}
 use Rattle.grants.specs.Contracts.{Formats, Checks, Applies, Prunes, ReadsRoot, ReadsKey, Counts, ReadsAt, Proves, Palettes, Changes, Verifies, VerifiesMany, Hashes, Rescues}
+use Rattle.demands.specs.Tables.{findingRows}
+use Rattle.grants.specs.Contracts.{Finds}
 
 -- Format: 1.
 pub format-exactly : {s t : Bytes} {r : ℕ} → Formats s r t → Exactly (formatRows s) r
@@ -233,6 +241,16 @@ changes-exactly first second limit {s} {room} {r = r} w =
 pub rescue-exactly : (oldest latest : ℕ) {s old f t g : Bytes} {r : ℕ} → Rescues oldest latest s old f r t g →
     Exactly (rescuingRows s old oldest latest) r
 rescue-exactly oldest latest {s} {old} {r = r} w = exactly (rescuingRows s old oldest latest) r refl (rescue-first s old oldest latest w)
+
+-- What is found of a proof: 12; then 1, 2, 3; then 8, 14, 10, 11.
+pub finding-exactly : {s : Bytes} {v : ℕ} {k x f : Bytes} {r : ℕ} {g : Bytes} → All Byte x → Finds s v k x f r g → Exactly (findingRows s v k x) r
+finding-exactly {s} {v} {k} {x} {r = r} h w =
+    exactly (findingRows s v k x) r refl (subst (First (findingRows s v k x)) (sym (w .number)) (go (w .answers)))
+  where
+    go : {a : Answer Finding} → Answers s v k x a → First (findingRows s v k x) (numberOf a)
+    go (wrong-key n) = inl (λ z. n (z .0), refl)
+    go (right-key {a} e d) =
+        inr (λ n. n (e, tt), does-first (finds sha256 v k (proofIn x)) s (foundRows s v k x) a (finding-first s v k x h) d)
 
 -- The proof check: 12, 10, 11.
 pub verify-exactly : {root k x f : Bytes} {r : ℕ} {g : Bytes} → All Byte x → Verifies root k x f r g → Exactly (verifyRows root k x) r

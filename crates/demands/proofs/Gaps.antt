@@ -27,6 +27,7 @@ use Rattle.batch.specs.Batch.{batchOf}
 use Rattle.format.specs.Format.{formatBytes}
 use Rattle.promises.specs.Calls.{wrong-header, not-sound, refuses, accepts, Exports, exports-refusal, exports-answer}
 use Rattle.demands.specs.Calls.{Called, formats, applies, prunes, checks, reads-root, reads-key, counts, reads-at, proves, palettes, compares, figures, pocket-proves, verifies, pocket-verifies, verifies-many, hashes, Calls, none-yet, then-called, WithoutGaps, Life, rescues-from, rescues-into}
+use Rattle.demands.specs.Calls.{finds}
 use Rattle.grants.specs.Contracts.{Formats}
 use Rattle.demands.proofs.Hashes.{leaf-hash-whole, inner-hash-whole}
 use Rattle.demands.proofs.Stored.{stored-is, formatted-form, prune-form, apply-form}
@@ -80,6 +81,7 @@ module _ {s : Bytes} {es : List Entry} (k : Keeping s es) where
   called-after (compares w) gap = refl
   called-after (figures w) gap = refl
   called-after (pocket-proves w) gap = refl
+  called-after (finds w) gap = refl
   called-after (rescues-from w) gap = refl
   called-after (rescues-into n h w) gap = absurd gap
   called-after (verifies w) gap = refl
@@ -101,6 +103,7 @@ form-of (palettes w) = tt
 form-of (compares w) = tt
 form-of (figures w) = tt
 form-of (pocket-proves w) = tt
+form-of (finds w) = tt
 form-of (rescues-from w) = tt
 form-of (rescues-into n h w) = tt
 form-of (verifies w) = tt

@@ -46,7 +46,7 @@ use Rattle.read_counts_c.specs.Export.{grantBytes}
 use Rattle.grants.specs.Contracts.{Formats, ReadsRoot, ReadsKey, Proves, Rescues, Verifies, Counts, ReadsAt}
 use Rattle.meaning.specs.Counting.{grantAt}
 use Rattle.meaning.specs.Answers.{foundBytes, numberOf, toldOf}
-use Rattle.demands.specs.Calls.{Called, formats, applies, prunes, checks, reads-root, reads-key, counts, reads-at, proves, palettes, compares, figures, pocket-proves, verifies, pocket-verifies, verifies-many, hashes, Calls, none-yet, then-called, Life, rescues-from, rescues-into, Begins, by-format, by-rescue, takenOver}
+use Rattle.demands.specs.Calls.{Called, formats, applies, prunes, checks, reads-root, reads-key, counts, reads-at, proves, palettes, compares, figures, pocket-proves, verifies, pocket-verifies, verifies-many, hashes, Calls, none-yet, then-called, Life, rescues-from, rescues-into, finds, Begins, by-format, by-rescue, takenOver}
 use Rattle.demands.specs.Claims.{grantsOfVersion, AfterHistory}
 use Rattle.demands.proofs.Hashes.{leaf-hash-whole, inner-hash-whole}
 use Rattle.demands.proofs.Stored.{stored-is, stored-sound, formatted-form, prune-form, apply-form}
@@ -150,6 +150,7 @@ called-keeps es (palettes w) k = k
 called-keeps es (compares w) k = k
 called-keeps es (figures w) k = k
 called-keeps es (pocket-proves w) k = k
+called-keeps es (finds w) k = k
 called-keeps es (rescues-from w) k = k
 called-keeps es (rescues-into n h w) k = rescue-into es n h w k
 called-keeps es (verifies w) k = k

@@ -21,3 +21,4 @@ pub mod Rescued
 pub mod Numbered
 pub mod Figured
 pub mod Pocket
+pub mod Forged

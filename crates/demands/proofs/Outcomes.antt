@@ -1,15 +1,27 @@
 -- Demand 1: two outcomes that the contract of a public call allows are equal, in the answer and in every byte. Most contracts are equations, so
 -- both outcomes are the same term; the others are by cases that exclude each other. Assumes nothing.
 use Prim.Native.Nat.{ℕ}
-use mathlib.Core.Path.{_≡_, ap, sym, _∙_}
+use mathlib.Core.Path.{_≡_, refl, ap, sym, _∙_}
 use Rattle.terms.specs.Bits.{Bytes}
 use Rattle.check_store.proofs.Answers.{one-answer}
-use Rattle.meaning.specs.Answers.{numberOf}
+use Rattle.meaning.specs.Calls.{Answer}
+use Rattle.meaning.specs.Answers.{numberOf, toldOf}
 use Rattle.promises.proofs.Calls.{one-outcome, one-export}
 use Rattle.changes.specs.Changes.{roomAfter}
 use Rattle.changes_c.specs.Export.{countBytes}
 use Rattle.rescue_bytes.proofs.Outcomes as rescue
 use Rattle.grants.specs.Contracts.{Formats, Checks, Applies, Prunes, ReadsRoot, ReadsKey, Counts, ReadsAt, Proves, Palettes, Changes, Verifies, VerifiesMany, Hashes, Rescues}
+use Rattle.forgery.specs.Finding.{Finding}
+use Rattle.finding_rules.specs.Call.{findingBytes}
+use Rattle.finding.specs.Finding.{Answers, wrong-key, right-key}
+use Rattle.grants.specs.Contracts.{Finds}
+
+-- what is found of a proof has one answer
+one-found : {s : Bytes} {v : ℕ} {k x : Bytes} {p q : Answer Finding} → Answers s v k x p → Answers s v k x q → p ≡ q
+one-found (wrong-key m) (wrong-key n) = refl
+one-found (wrong-key m) (right-key l d) = absurd (m l)
+one-found (right-key l d) (wrong-key m) = absurd (m l)
+one-found (right-key l c) (right-key m d) = one-outcome c d .0
 
 module _ {s : Bytes} {a b : ℕ} where
   pub one-format : {t u : Bytes} → Formats s a t → Formats s b u → (a ≡ b) × (t ≡ u)
@@ -51,6 +63,11 @@ module _ {s : Bytes} {a b : ℕ} where
         x .list ∙ ap (λ z. roomAfter z room) o ∙ sym (y .list),
         x .told ∙ ap (λ z. countBytes z f) o ∙ sym (y .told),
       )
+
+  pub one-finding : {v : ℕ} {k x f g h : Bytes} → Finds s v k x f a g → Finds s v k x f b h → (a ≡ b) × (g ≡ h)
+  one-finding {f = f} x y =
+      let o = one-found (x .answers) (y .answers) in
+      (x .number ∙ ap numberOf o ∙ sym (y .number), x .told ∙ ap (λ z. toldOf findingBytes z f) o ∙ sym (y .told))
 
   pub one-rescue : {oldest latest : ℕ} {old f t u g h : Bytes} → Rescues oldest latest s old f a t g → Rescues oldest latest s old f b u h →
       (a ≡ b) × (t ≡ u) × (g ≡ h)

@@ -40,10 +40,12 @@ use Rattle.prove.specs.Proving.{proveAnswer, roomAfter}
 use Rattle.prove_c.specs.Export.{provedInto, lengthBytes}
 use Rattle.changes.specs.Changes as compared
 use Rattle.changes_c.specs.Export.{countBytes}
+use Rattle.finding_rules.specs.Call.{findingBytes}
 use Rattle.verify.specs.Verify.{verified}
 use Rattle.verify_rows.specs.Rows.{overFront, manyVerified}
 use Rattle.rescue_bytes.proofs.Outcomes.{refused-export-leaves}
 use Rattle.grants.specs.Contracts.{Formats, Applies, Prunes, ReadsRoot, ReadsKey, Counts, ReadsAt, Proves, Changes, Rescues, Verifies, VerifiesMany}
+use Rattle.grants.specs.Contracts.{Finds}
 
 -- One of the numbers in a list.
 abbrev pub OneOf : List ℕ → ℕ → Type 0
@@ -245,6 +247,12 @@ module _ {first second limit : ℕ} {s room f : Bytes} {r : ℕ} {t g : Bytes} (
 pub refused-rescue-writes-nothing : {oldest latest : ℕ} {s old f t g : Bytes} {r : ℕ} → Rescues oldest latest s old f r t g → (r ≡ 0 → ⊥) →
     (t ≡ old) × (g ≡ f)
 refused-rescue-writes-nothing w h = refused-export-leaves w h
+
+-- What is found of a proof.
+module _ {s : Bytes} {v : ℕ} {k x f : Bytes} {r : ℕ} {g : Bytes} (w : Finds s v k x f r g) where
+  pub refused-finding-writes-nothing : (r ≡ 0 → ⊥) → g ≡ f
+  refused-finding-writes-nothing h =
+      let e = refused-of (w .answer) (λ z. h (w .number ∙ z)) in w .told ∙ ap (λ a. toldOf findingBytes a f) (e .1)
 
 -- The proof check.
 module _ {root k x f : Bytes} {r : ℕ} {g : Bytes} (w : Verifies root k x f r g) where

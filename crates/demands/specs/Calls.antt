@@ -13,7 +13,7 @@ use Rattle.layout.specs.Stores.{storeOf}
 use Rattle.batch.specs.Batch.{batchOf}
 use Rattle.rescue_bytes.specs.Rescues.{slotsIn}
 use Rattle.rescue_bytes.specs.Claims.{runLedger}
-use Rattle.grants.specs.Contracts.{Formats, Checks, Applies, Prunes, ReadsRoot, ReadsKey, Counts, ReadsAt, Proves, Palettes, Changes, Rescues, Figures, PocketProves, Verifies, PocketVerifies, VerifiesMany, Hashes}
+use Rattle.grants.specs.Contracts.{Formats, Checks, Applies, Prunes, ReadsRoot, ReadsKey, Counts, ReadsAt, Proves, Palettes, Changes, Rescues, Finds, Figures, PocketProves, Verifies, PocketVerifies, VerifiesMany, Hashes}
 
 -- What a rescued store takes over: the grants of its versions, from the first that was reported to latest, by the source's trees.
 abbrev pub takenOver : Bytes → ℕ → Bytes → List Entry
@@ -43,6 +43,7 @@ pub data Called (s : Bytes) : Call × Bool → Bytes → Type 0 where
   rescues-from : {oldest latest r : ℕ} {old f t g : Bytes} → Rescues oldest latest s old f r t g → Called s (looking, false) s
   rescues-into : {oldest latest r : ℕ} {source f t g : Bytes} → latest ≤ top32 → All Byte source → Rescues oldest latest source s f r t g →
       Called s (taking (takenOver source latest g), eqb r 0) t
+  finds : {v r : ℕ} {k x f g : Bytes} → Finds s v k x f r g → Called s (looking, false) s
   -- and these are lent none
   verifies : {r : ℕ} {root k x f g : Bytes} → Verifies root k x f r g → Called s (looking, false) s
   verifies-many : {r : ℕ} {root list row old new : Bytes} → VerifiesMany root list row old r new → Called s (looking, false) s

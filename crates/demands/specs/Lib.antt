@@ -6,4 +6,5 @@ pub mod Pocket
 pub mod Claims
 pub mod Palettes
 pub mod Many
+pub mod Forged
 pub mod Desk

@@ -10,6 +10,7 @@ use Rattle.refusals.specs.Exactly.{Table}
 use Rattle.refusals.specs.Rows.{WrongLength, NotSound, Not32, NotKeys}
 use Rattle.refusals.specs.Orders.{headerRows, batchRows, versionRows, lookupRows, keyRows, placingRows, positionRows, provingRows, proofRows, askingRows, togetherRows, comparisonRows, holdingRows, rowRows, rescueRows}
 use Rattle.refusals.specs.Orders.{rangeRows, pocketRows, pocketHoldingRows}
+use Rattle.refusals.specs.Orders.{foundRows}
 
 -- 1, 2; then 3 by full soundness.
 abbrev pub soundRows : Bytes → Table
@@ -85,6 +86,10 @@ figuresRows s first last room = soundRows s ++ rangeRows s first last room
 -- Document 02, 2026-14: the pocket prover: 12; then 1, 2; then 8, 14, 17 or 3, 19, 9.
 abbrev pub pocketProveRows : Bytes → ℕ → Bytes → Bytes → Table
 pocketProveRows s v k room = (12, Not32 (k ∷ [])) ∷ headerRows s ++ pocketRows s v k room
+
+-- Document 02, 2026-12: what is found of a proof: 12; then 1, 2, 3 by full soundness; then 8, 14, 10, 11.
+abbrev pub findingRows : Bytes → ℕ → Bytes → Bytes → Table
+findingRows s v k x = (12, Not32 (k ∷ [])) ∷ soundRows s ++ foundRows s v k x
 
 -- The proof check: 12; then 10, 11.
 abbrev pub verifyRows : Bytes → Bytes → Bytes → Table

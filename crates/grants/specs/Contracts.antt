@@ -17,6 +17,7 @@ use Rattle.changes_c.specs.Export as compare
 use Rattle.rescue_bytes.specs.Rescues as rescue
 use Rattle.figures_c.specs.Export as figures
 use Rattle.pocket_prove_c.specs.Export as pocket-prove
+use Rattle.finding_c.specs.Export as finding
 use Rattle.verify.specs.Verify as verify
 use Rattle.verify_rows.specs.Rows as rows
 use Rattle.pocket_verify.specs.Verify as pocket-verify
@@ -80,6 +81,11 @@ Figures first last s room f r t g = figures.Figures first last s room f r t g
 -- Proving the key k in version v of the bytes s in the pocket profile answers r; the room is left as t, the array f for the proof's length as g.
 abbrev pub PocketProves : Bytes → ℕ → Bytes → Bytes → Bytes → ℕ → Bytes → Bytes → Type 0
 PocketProves s v k room f r t g = pocket-prove.PocketProves s v k room f r t g
+
+-- What is found of the bytes x as a proof for the key k in version v of the bytes s: the call answers r; the array f for what is found is left
+-- as g.
+abbrev pub Finds : Bytes → ℕ → Bytes → Bytes → Bytes → ℕ → Bytes → Type 0
+Finds s v k x f r g = finding.Finds s v k x f r g
 
 -- Checking the bytes x as a proof of the key k against a root answers r; the array f for what is found is left as g.
 abbrev pub Verifies : Bytes → Bytes → Bytes → Bytes → ℕ → Bytes → Type 0

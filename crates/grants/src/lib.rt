@@ -1,7 +1,7 @@
 // The public calls, for C, Rust and others to link. Each answers 0 where it is accepted, else document 01's number of refusal; a refused
 // call writes nothing, its answer included. A slice is passed as a pointer and a length, an array as a pointer alone.
 use terms::Form;
-ghost use Rattle.grants.specs.Contracts.{Formats, Checks, Applies, Prunes, ReadsRoot, ReadsKey, Counts, ReadsAt, Proves, Palettes, Changes, Rescues, Figures, PocketProves, Verifies, PocketVerifies, VerifiesMany, Hashes};
+ghost use Rattle.grants.specs.Contracts.{Formats, Checks, Applies, Prunes, ReadsRoot, ReadsKey, Counts, ReadsAt, Proves, Palettes, Changes, Rescues, Finds, Figures, PocketProves, Verifies, PocketVerifies, VerifiesMany, Hashes};
 
 // Makes a fresh store of any bytes of the right length.
 #[no_mangle]
@@ -157,6 +157,21 @@ pub extern "C" fn grants_pocket_prove(
     ensures { λ r. ⌜ PocketProves (now (store .entry)) version (now (key .entry)) (now (room .entry)) (now (length .entry)) r (now (room .exit)) (now (length .exit)) ⌝ }
 {
     pocket_prove_c::grants_pocket_prove(store, version, key, room, length)
+}
+
+// What is found of a proof for a key in a version that is accepted against the version's root: 0 where it tells the truth; else 1 and two different
+// messages of 65 bytes with equal SHA-256, or 2 and one whose SHA-256 is zero; zero bytes where there is none.
+#[no_mangle]
+pub extern "C" fn grants_finding(
+    store: &[u8],
+    version: u32,
+    key: &[u8],
+    proof: &[u8],
+    finding: &mut [u8; 131],
+) -> u32
+    ensures { λ r. ⌜ Finds (now (store .entry)) version (now (key .entry)) (now (proof .entry)) (now (finding .entry)) r (now (finding .exit)) ⌝ }
+{
+    finding_c::grants_finding(store, version, key, proof, finding)
 }
 
 // What a proof shows of a key against a root: 1 and the value, or 0 and 32 zero bytes for 'absent'.

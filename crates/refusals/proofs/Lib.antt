@@ -10,3 +10,4 @@ pub mod Rescues
 pub mod Positions
 pub mod Figures
 pub mod Pocket
+pub mod Findings

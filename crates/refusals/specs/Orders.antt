@@ -6,6 +6,7 @@ use Rattle.terms.specs.Bits.{Bytes}
 use Rattle.refusals.specs.Exactly.{Table}
 use Rattle.refusals.specs.Rows.{WrongLength, WrongHeader, StopsRoot, StopsGet, StopsProve, StopsAt, PastNumber, Lost, Unsound, BatchOffForm, NotAscending, NotAbove, TooFewFree, NotKept, TooLong, ProofOffForm, DoesNotHold, EmptyVersion, NotBothKept, TooManyVisits, ListTooLong, AskedOfEmpty, StopsPalette, TooLongTogether, NotRootAndKeys, NotPieces, AnswersTooLong, WrongSizes, OldestAbove, NoVersion}
 use Rattle.refusals.specs.Rows.{NoKeptRange, FiguresTooLong, OutsidePocket, ProvedOutside}
+use Rattle.refusals.specs.Rows.{HoldsNoGrant, rootOfVersion}
 
 -- 1, 2.
 abbrev pub headerRows : Bytes → Table
@@ -84,3 +85,7 @@ pocketRows s v k room =
 -- The pocket check's own (document 02, 2026-14): 10, 19, 11.
 abbrev pub pocketHoldingRows : Bytes → Bytes → Bytes → Table
 pocketHoldingRows root k x = (10, ProofOffForm x) ∷ (19, OutsidePocket x) ∷ (11, DoesNotHold root k x) ∷ []
+
+-- A finding's own (document 02, 2026-12): 8, 14; then 10, 11 against the version's root.
+abbrev pub foundRows : Bytes → ℕ → Bytes → Bytes → Table
+foundRows s v k x = (8, NotKept s v) ∷ (14, HoldsNoGrant s v) ∷ holdingRows (rootOfVersion s v) k x

@@ -10,7 +10,7 @@ use Rattle.terms.specs.Bits.{Bytes, All}
 use Rattle.terms.specs.Fields.{field, slice, flat, zeroBytes}
 use Rattle.terms.specs.Records.{Ask, Proof}
 use Rattle.terms.specs.Form.{AskForm}
-use Rattle.meaning.specs.Tree.{nextTree}
+use Rattle.meaning.specs.Tree.{hash, unversioned, nextTree, grantsIn}
 use Rattle.meaning.specs.Store.{treeAtVersion, freeSlots, newRecords}
 use Rattle.meaning.specs.Sound.{Kept, Sound}
 use Rattle.meaning.specs.Calls.{refused, accepted, ascending}
@@ -215,3 +215,11 @@ OutsidePocket x = (p : Proof) × ProofIs x p × Outside p
 -- and of the pocket prover: so it is with the proof there is.
 abbrev pub ProvedOutside : Bytes → ℕ → Bytes → Type 0
 ProvedOutside s v k = (p : Proof) × (proof (storeOf s) v k ≡ accepted p) × Outside p
+
+-- 14 of a finding (document 02, 2026-12): the version holds no grant.
+abbrev pub HoldsNoGrant : Bytes → ℕ → Type 0
+HoldsNoGrant s v = grantsIn (treeAtVersion (storeOf s) v) ≡ []
+
+-- The root that its 11 is against: the hash of the version's tree.
+abbrev pub rootOfVersion : Bytes → ℕ → Bytes
+rootOfVersion s v = hash leafHash innerHash (unversioned (treeAtVersion (storeOf s) v))

@@ -6,6 +6,7 @@ mod compared;
 mod counted;
 mod damaged;
 mod figured;
+mod forged;
 mod harmed;
 mod several;
 
@@ -167,6 +168,14 @@ fn by_figures(l: &[u8], c: &[u8], store: &mut [u8]) -> bool {
     }
     if same(c, b"pocket") {
         return figured::pocket(l, store);
+    }
+    by_finding(l, c, store)
+}
+
+// What a forged proof would cost.
+fn by_finding(l: &[u8], c: &[u8], store: &mut [u8]) -> bool {
+    if same(c, b"finding") {
+        return forged::finding(l, store);
     }
     harm(l, c, store)
 }

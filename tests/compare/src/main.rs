@@ -9,6 +9,7 @@ mod both;
 mod cases;
 mod counting;
 mod finding;
+mod forging;
 #[path = "../../passes/src/hostile.rs"]
 #[allow(dead_code)] // those of roots are the passes' alone
 mod hostile;
@@ -383,6 +384,7 @@ fn all(rounds: u64, first: u64, tally: &mut Tally) {
     applying::named(first, tally);
     finding::named(tally);
     counting::named(tally);
+    forging::named(tally);
     rescuing::named(tally);
     rows::named(first, tally);
     quarter::named(tally);
@@ -396,6 +398,7 @@ fn all(rounds: u64, first: u64, tally: &mut Tally) {
             applying::history(seed, tally);
             finding::round(seed, tally);
             counting::round(seed, tally);
+            forging::round(seed, tally);
         }
         if n % 4_000 == 0 && !ours::record::running() {
             applying::large(seed, tally);

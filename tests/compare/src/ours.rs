@@ -3,6 +3,7 @@
 
 use record::{array, long, number, read, recorded, written};
 use second::bytes::{b32_at, u32_at};
+use second::forged::{Finding, Message};
 use second::{Bytes32, Refusal, Stopped};
 
 #[path = "record.rs"]
@@ -84,6 +85,16 @@ extern "C" {
         proof: *const u8,
         proof_len: usize,
         found: *mut [u8; 33],
+    ) -> u32;
+    fn grants_finding(
+        store: *const u8,
+        store_len: usize,
+        version: u32,
+        key: *const u8,
+        key_len: usize,
+        proof: *const u8,
+        proof_len: usize,
+        finding: *mut [u8; 131],
     ) -> u32;
     fn grants_verify(
         root: *const u8,
@@ -286,6 +297,28 @@ pub fn pocket_verify(root: &[u8], key: &[u8], proof: &[u8]) -> Result<Option<Byt
         })
     })
     .map(verdict)
+}
+
+/// What is found of a proof for a key in a version.
+pub fn finding(store: &[u8], version: u32, key: &[u8], proof: &[u8]) -> Result<Finding, Refusal> {
+    let told = answered(|a| {
+        recorded("finding", &[read(store), number(version), read(key), read(proof), array(a)], || unsafe {
+            grants_finding(store.as_ptr(), store.len(), version, key.as_ptr(), key.len(), proof.as_ptr(), proof.len(), a)
+        })
+    })?;
+    let part = |at: usize| -> Message { told[at..at + 65].try_into().unwrap() };
+    match told[0] {
+        0 => {
+            assert!(told == [0; 131], "the truth, and bytes beside it");
+            Ok(Finding::Nothing)
+        }
+        1 => Ok(Finding::Two(part(1), part(66))),
+        2 => {
+            assert!(part(66) == [0; 65], "one message, and bytes after it");
+            Ok(Finding::Zero(part(1)))
+        }
+        other => panic!("no finding: {other}"),
+    }
 }
 
 pub fn verify(root: &[u8], key: &[u8], proof: &[u8]) -> Result<Option<Bytes32>, Refusal> {

@@ -137,6 +137,22 @@ pub fn of_changes() -> usize {
     most(move || assert_eq!(crate::ours::changes(&s, 1, 2, u32::MAX, &mut vec![0; 288]), Ok(4)))
 }
 
+/// A finding's most of a true proof: an absence proof with two neighbours at 256 bits. With SHA-256 no proof leads to the search.
+#[allow(dead_code)]
+pub fn of_finding() -> usize {
+    let key = |last: u8| {
+        let mut k = ZEROS;
+        k[31] = last;
+        k
+    };
+    let mut s = cases::fresh(600, 0, 0);
+    let asks: Vec<u8> = [0, 1, 6, 7].iter().flat_map(|&l| ask_bytes(&Ask { key: key(l), value: Some([1; 32]) })).collect();
+    second::apply(&mut s, 1, &asks).unwrap();
+    let mut proof = vec![0; 17_080];
+    assert_eq!(crate::ours::prove(&s, 1, &key(3), &mut proof), Ok(17_080));
+    most(move || assert_eq!(crate::ours::finding(&s, 1, &key(3), &proof), Ok(second::forged::Finding::Nothing)))
+}
+
 /// A rescue's most: the same two versions, so that both trees are walked to the last bit.
 #[allow(dead_code)]
 pub fn of_rescue() -> usize {

@@ -95,6 +95,13 @@ impl Word for Result<(u32, [u8; 32], u32), u32> {
     }
 }
 
+/// What is found of a proof.
+impl Word for Result<second::forged::Finding, u32> {
+    fn word(&self) -> String {
+        self.map_or_else(|n| n.to_string(), |f| if f == second::forged::Finding::Nothing { "the truth" } else { "a finding" }.into())
+    }
+}
+
 /// A rescue's first version and three numbers: whether every used slot was kept.
 impl Word for Result<(u32, u32, u32, u32), u32> {
     fn word(&self) -> String {

@@ -1,8 +1,8 @@
 //! 01, 'Checking': a proof against a root; 02, 2026-03: without a neighbour a proof is off form.
 
 use crate::bytes::{b32_at, u16_at, u32_at};
+use crate::forged::{Hashing, Sha256};
 use crate::proof::{Presence, Step};
-use crate::sha256::{inner_hash, leaf_hash};
 use crate::{Bytes32, Refusal, ZEROS};
 
 /// One whole presence record at the front, and the bytes after it.
@@ -25,12 +25,14 @@ fn presence(s: &[u8]) -> Option<(Presence, &[u8])> {
     Some((Presence { key: b32_at(s, 8), value: b32_at(s, 40), steps }, &s[length..]))
 }
 
-enum Proof {
+#[derive(Clone)]
+pub enum Proof {
     Present(Presence),
     Absent { key: Bytes32, left: Option<Presence>, right: Option<Presence> },
 }
 
-fn decode(s: &[u8]) -> Option<Proof> {
+/// One whole record in form, no byte over.
+pub fn decode(s: &[u8]) -> Option<Proof> {
     if s.len() < 8 || u32_at(s, 0) as usize != s.len() {
         return None;
     }
@@ -64,10 +66,10 @@ pub fn shown(s: &[u8]) -> Option<Vec<usize>> {
     })
 }
 
-fn leads(p: &Presence, root: &Bytes32) -> bool {
-    let mut h = leaf_hash(&p.key, &p.value);
+fn leads(by: &impl Hashing, p: &Presence, root: &Bytes32) -> bool {
+    let mut h = by.leaf(&p.key, &p.value);
     for s in &p.steps {
-        h = if s.side { inner_hash(&s.sibling, &h) } else { inner_hash(&h, &s.sibling) };
+        h = if s.side { by.inner(&s.sibling, &h) } else { by.inner(&h, &s.sibling) };
     }
     h == *root
 }
@@ -91,28 +93,23 @@ fn part(left: &[Step], right: &[Step]) -> bool {
 pub fn verify(root: &[u8], key: &[u8], proof: &[u8]) -> Result<Option<Bytes32>, Refusal> {
     let root: Bytes32 = root.try_into().map_err(|_| 12u32)?;
     let key: Bytes32 = key.try_into().map_err(|_| 12u32)?;
-    match decode(proof).ok_or(10u32)? {
-        Proof::Present(p) => {
-            if p.key == key && leads(&p, &root) {
-                Ok(Some(p.value))
-            } else {
-                Err(11)
-            }
-        }
+    accepted(&Sha256, &root, &key, &decode(proof).ok_or(10u32)?).ok_or(11)
+}
+
+/// What a proof in form shows if it holds, under any hash of nodes.
+pub fn accepted(by: &impl Hashing, root: &Bytes32, key: &Bytes32, proof: &Proof) -> Option<Option<Bytes32>> {
+    match proof {
+        Proof::Present(p) => (p.key == *key && leads(by, p, root)).then_some(Some(p.value)),
         Proof::Absent { key: k, left, right } => {
-            let led = [&left, &right].into_iter().flatten().all(|p| leads(p, &root));
-            let ordered = left.as_ref().map_or(true, |p| p.key < key) && right.as_ref().map_or(true, |p| key < p.key);
-            let shape = match (&left, &right) {
+            let led = [left, right].into_iter().flatten().all(|p| leads(by, p, root));
+            let ordered = left.as_ref().map_or(true, |p| p.key < *key) && right.as_ref().map_or(true, |p| *key < p.key);
+            let shape = match (left, right) {
                 (None, None) => false,
                 (Some(l), None) => outermost(true, &l.steps),
                 (None, Some(r)) => outermost(false, &r.steps),
                 (Some(l), Some(r)) => part(&l.steps, &r.steps),
             };
-            if k == key && led && ordered && shape {
-                Ok(None)
-            } else {
-                Err(11)
-            }
+            (k == key && led && ordered && shape).then_some(None)
         }
     }
 }

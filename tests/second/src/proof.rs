@@ -4,11 +4,13 @@ use crate::bytes::{self, bit, Body, Child, Form, Place, Record, Store, FORM};
 use crate::tree::{Index, Sight};
 use crate::{alone, spoiled, Bytes32, Refusal, Stopped};
 
+#[derive(Clone)]
 pub struct Step {
     pub side: bool,
     pub sibling: Bytes32,
 }
 
+#[derive(Clone)]
 pub struct Presence {
     pub key: Bytes32,
     pub value: Bytes32,

@@ -6,6 +6,7 @@ use crate::book::Book;
 use crate::dates;
 use crate::fail::Fail;
 use crate::files::{self, Locked, PROOF_LIMIT};
+use crate::finding::{self, Accepted};
 use crate::held;
 use crate::json::Json;
 use crate::missing::{self, refused_read};
@@ -260,6 +261,9 @@ pub fn proof_advice(error: Error, path: &Path) -> String {
 pub fn verify(args: &Args, out: &mut Out) -> Result<u8, Fail> {
     if args.word(3).is_some() {
         one_proof(args)?;
+        if args.has("--against") {
+            return Err(Fail::Usage("--against takes one key and its proof".to_string()));
+        }
         return palette::verify(args, out);
     }
     let root = known_root(args)?;
@@ -271,6 +275,15 @@ pub fn verify(args: &Args, out: &mut Out) -> Result<u8, Fail> {
         false => grants::verify(&root, &key, &proof),
     }
     .map_err(|e| Fail::Refused(e, proof_advice(e, path)))?;
+    if let Some(store) = args.value("--against").map(Path::new) {
+        let of = Accepted { root: root.as_ref(), key: key.as_ref(), proof: &proof, value };
+        return finding::against(args, store, &of, out);
+    }
+    for name in ["--version", "--out"] {
+        if args.has(name) {
+            return Err(Fail::Usage(format!("{name} goes with --against STORE")));
+        }
+    }
     let value = value.map(|v| v.to_string());
     let line = match &value {
         Some(value) => format!("present {value}"),

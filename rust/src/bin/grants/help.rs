@@ -10,7 +10,8 @@ which then stands for its SHA-256. Where a file is read, - is standard input; --
 
 const STATUS: &str = "\
 exit status: 0 accepted; 1 absent (get, verify, list, history); 2 the command line is wrong; 3 a file can't be read or
-written; 4 the book can't tell, a store can't grow, or a root is past its date or not the rescued one; 10 + N refused with number N of docs/RULES.md.
+written; 4 the book can't tell, a store can't grow, a root is past its date or not the rescued one, or verify --against
+finds an accepted proof false; 10 + N refused with number N of docs/RULES.md.
 A command that fails leaves the store as it was.";
 
 /// Whether the library's proofs were checked where it was built; rust/build.rs reads it beside the archive.

@@ -10,6 +10,7 @@ mod dates;
 mod diff;
 mod fail;
 mod files;
+mod finding;
 mod grow;
 mod held;
 mod help;

@@ -277,7 +277,11 @@ Prints 'present' and the value, or 'absent' with exit status 1. Of several keys,
 asked for, a line each: exit status 0 only if all are present, 1 if all proofs are accepted and some key is absent, else 10
 and the number of the first refusal, which names its key. ROOT is 64 hex digits, or a file that `grants root --out`
 wrote and whose signature you have checked; one that is past its date is refused. PROOF is a file with the proof's bytes, or
-with their hex digits; it may be -. No store is needed.",
+with their hex digits; it may be -. No store is needed.
+
+With --against STORE and --version VERSION, whose root ROOT then must be, the proof is also held against that version's grants:
+it tells the truth, or the two different messages with equal SHA-256, or the one whose SHA-256 is zero, that it took to forge
+it are named, with exit status 4. --out writes that as a text for sha256sum. docs/FORGERY.md says what it means.",
         words: (3, usize::MAX),
         choices: &[
             JSON,
@@ -287,6 +291,10 @@ with their hex digits; it may be -. No store is needed.",
                 "refuse a ROOT file of an older version than this, the highest that was seen",
             ),
             flag("--pocket", "refuse with 19 a proof that shows a leaf with more than 32 steps"),
+            valued("--against", "STORE", "hold the proof against a version's grants"),
+            valued("--version", "VERSION", "the version, with --against"),
+            valued("--out", "FILE", "write what is found to FILE (- for standard output)"),
+            FORCE,
             BOOK,
         ],
         run: commands::verify,

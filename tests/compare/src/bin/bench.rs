@@ -1,7 +1,8 @@
 //! The library's calls beside the second program, in one run: short runs of the two in turn, the best of each. Then where apply's time goes,
 //! that it does not grow with the versions, and the stack that each call takes. With the argument `stack` that last part alone, with
 //! `changes` the comparisons alone, with `gaps` the publishings under numbers with gaps, with `beside-check` apply and prune beside check, with
-//! `missing` the reads that miss a record, with `rescue` the rescues, with `positions` the numbers of grants and the grants by position.
+//! `missing` the reads that miss a record, with `rescue` the rescues, with `positions` the numbers of grants and the grants by position, with
+//! `figures` the figures of a range, with `finding` what is found of a true proof.
 
 #[path = "../cases.rs"]
 #[allow(dead_code)]
@@ -374,6 +375,28 @@ fn quarters(random: &mut Random) {
     }
 }
 
+/// 2026-12: what is found of a true proof, of a key that is there and of one that isn't, in a full store: beside the second program, and beside check on the
+/// same store, with which the call begins. The search for a finding runs only where an accepted proof is false, which SHA-256 allows no test of.
+fn findings(random: &mut Random) {
+    for capacity in [1_024, 16_384] {
+        let (s, keys) = filled(random, capacity, capacity / 64, capacity, 0);
+        let latest = second::bytes::store(&s).unwrap().latest;
+        let there = *keys.iter().find(|k| matches!(ours::get(&s, latest, &k[..]), Ok(Some(_)))).expect("a grant");
+        for (name, key) in [("present", there), ("absent", random.hash())] {
+            let mut proof = vec![0; 17_080];
+            let length = ours::prove(&s, latest, &key, &mut proof).unwrap() as usize;
+            proof.truncate(length);
+            let mut asked = || assert_eq!(black_box(ours::finding(&s, latest, &key, &proof)), Ok(second::forged::Finding::Nothing));
+            compare(&format!("finding-{name}-{capacity}"), 3, &mut asked, || {
+                assert_eq!(black_box(second::finding(&s, latest, &key, &proof)), Ok(second::forged::Finding::Nothing))
+            });
+            let best = |call: &mut dyn FnMut()| (0..12).map(|_| processor(call)).fold(f64::MAX, f64::min);
+            let (finding, check) = (best(&mut asked), best(&mut || assert_eq!(ours::check(&s), Ok(()))));
+            println!("where finding-{name}-{capacity} {finding:.3}ms, {:.2} times check, which takes {check:.3}ms", finding / check);
+        }
+    }
+}
+
 /// The records of the tree of so many random grants, as one batch would place them, all of version 1.
 fn tree(random: &mut Random, grants: usize) -> Vec<Record> {
     let mut all: Vec<([u8; 32], [u8; 32])> = (0..grants).map(|_| (random.hash(), random.hash())).collect();
@@ -387,9 +410,12 @@ fn stored(capacity: usize, latest: u32, records: &[Record]) -> Vec<u8> {
     s
 }
 
-/// Milliseconds of processor time, so that other work on the machine breaks no bar.
+/// Milliseconds of processor time, so that other work on the machine breaks no bar. The kernel counts up to its last look at the thread: a yield is one.
 fn processor(call: &mut dyn FnMut()) -> f64 {
-    let now = || std::fs::read_to_string("/proc/thread-self/schedstat").unwrap().split(' ').next().unwrap().parse::<f64>().unwrap() / 1e6;
+    let now = || {
+        std::thread::yield_now();
+        std::fs::read_to_string("/proc/thread-self/schedstat").unwrap().split(' ').next().unwrap().parse::<f64>().unwrap() / 1e6
+    };
     let start = now();
     call();
     now() - start
@@ -484,6 +510,7 @@ fn stacks() {
     print("palette", stack::of_palette());
     print("verify_many", stack::of_verify_many());
     print("changes", stack::of_changes());
+    print("finding", stack::of_finding());
     print("rescue", stack::of_rescue());
     let applies = stack::of_apply();
     applies.iter().for_each(|(name, used)| print(&format!("apply-{name}"), *used));
@@ -519,6 +546,9 @@ fn main() {
     }
     if std::env::args().nth(1).as_deref() == Some("figures") {
         return quarters(&mut Random(41));
+    }
+    if std::env::args().nth(1).as_deref() == Some("finding") {
+        return findings(&mut Random(43));
     }
     if std::env::args().nth(1).as_deref() == Some("rescue") {
         return rescues();
@@ -561,6 +591,7 @@ fn main() {
     missing(&mut Random(29));
     positions(&mut Random(37));
     quarters(&mut Random(41));
+    findings(&mut Random(43));
     rescues();
     stacks();
 }

@@ -1,0 +1,58 @@
+-- `forged_truth::has_value` meets its contract: case by case of the key read. Assumes nothing.
+use native.Mathlib.Omega.{arith}
+use mathlib.Core.Path.{_∙_}
+use Rattle.terms.specs.Bits.{Byte}
+use Rattle.terms.proofs.Lists.{all-of}
+use Rattle.hash.specs.Hash.{hashBytes}
+use Rattle.forged_truth.proofs.Reading.{sound-size, refused-value, same-value, no-value}
+use borrow.Author.Needs.{needs}
+use Rattle.forged_truth.proofs.has_value.Statement.{statement}
+use Rattle.forged_truth.proofs.has_value.Tie as tie
+
+walk-read-requires : tie.Need-walk-read-requires
+walk-read-requires c κs = let s = c .before .before in (sound-size (s .pre .0 .sound), s .pre .1)
+
+enum-told : tie.Need-enum-told
+enum-told c = search needs
+
+enum-known-read : tie.Need-enum-known-read
+enum-known-read c = search needs
+
+same-hash-requires : tie.Need-same-hash-requires
+same-hash-requires c κs = search needs
+
+enum-told-2 : tie.Need-enum-told-2
+enum-told-2 c = search needs
+
+returns : tie.Need-returns
+returns c =
+    let w = c .before .before in
+    let s = w .before .before .before in
+    refused-value (s .pre .0) (s .args .key .now) (s .pre .1, all-of Byte (s .args .key .now) 0 (λ i _. omega (arith, w .before .shared-slice-known2 .given i))) (w .walk-read .result) (w .walk-read .ensures) (hashBytes (s .args .value)) (c .enum-told .given .1)
+
+returns-2 : tie.Need-returns-2
+returns-2 c =
+    let m = c .before .before in
+    let w = m .before .before in
+    let s = w .before .before .before in
+    c .same-hash .ensures
+    ∙ same-value (s .pre .0) (s .args .key .now) (s .pre .1, all-of Byte (s .args .key .now) 0 (λ i _. omega (arith, w .before .shared-slice-known2 .given i))) (w .walk-read .result) (w .walk-read .ensures) (hashBytes (s .args .value)) (m .read .given .1)
+
+returns-3 : tie.Need-returns-3
+returns-3 c =
+    let w = c .before .before in
+    let s = w .before .before .before in
+    no-value (s .pre .0) (s .args .key .now) (s .pre .1, all-of Byte (s .args .key .now) 0 (λ i _. omega (arith, w .before .shared-slice-known2 .given i))) (w .walk-read .result) (w .walk-read .ensures) (hashBytes (s .args .value)) (c .enum-told2 .given .1)
+
+pub has-value-spec : {M : Type 1} → statement M
+has-value-spec =
+    tie.close
+    (tie.spec
+    walk-read-requires
+    enum-told
+    enum-known-read
+    same-hash-requires
+    enum-told-2
+    returns
+    returns-2
+    returns-3)
