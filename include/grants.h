@@ -41,8 +41,8 @@
 #define GRANTS_NUMBER(r) ((uint32_t)(r))
 #define GRANTS_SLOT(r) ((int64_t)((uint64_t)(r) >> 32) - 1)
 
-/* The bytes of a store of n slots, and of one of the old form, whose inner records have no counts. Every call refuses a store of the old form,
-   with 1 by its size or with 2 by the kind in its header (24 + 120 x 16 is 24 + 128 x 15). */
+/* The bytes of a store of n slots, and of one of the old form, whose inner records have no counts. Every call but grants_over refuses a store
+   of the old form, with 1 by its size or with 2 by the kind in its header (24 + 120 x 16 is 24 + 128 x 15). */
 #define GRANTS_SIZE(n) (24 + 128 * (size_t)(n))
 #define GRANTS_OLD_SIZE(n) (24 + 120 * (size_t)(n))
 
@@ -157,6 +157,15 @@ uint32_t grants_rescue(const uint8_t *source, size_t source_len, uint32_t oldest
    2, and that a true one never does; no one knows such messages, so 0 is what to expect. Refused: 12, 1, 2, 3, 8, 14, 10, 11. */
 uint32_t grants_finding(const uint8_t *store, size_t store_len, uint32_t version, const uint8_t *key, size_t key_len, const uint8_t *proof,
                         size_t proof_len, uint8_t finding[131]);
+
+/* Makes in the target, of GRANTS_SIZE(n) bytes, the store of a source of the old form, of GRANTS_OLD_SIZE(n) bytes: slots, versions, roots, reads and
+   proofs stay as they are, and the counts of the inner records are filled in. The source is checked where it lies; the target's former bytes don't
+   matter, and a refused call leaves them. Moved back again it is the source, byte for byte.
+   Refused: 1 (a length is wrong, or they are not of the same capacity), 2, 3 (the source isn't sound). */
+uint32_t grants_over(const uint8_t *source, size_t source_len, uint8_t *target, size_t target_len);
+
+/* And back: in the target, of GRANTS_OLD_SIZE(n) bytes, the store of a source of GRANTS_SIZE(n) bytes, in the old form. Refused: 1, 2, 3. */
+uint32_t grants_back(const uint8_t *source, size_t source_len, uint8_t *target, size_t target_len);
 
 /* What a proof shows of a key against a root: all that an editor needs. The root must come from who signs it; the proof may come from anybody.
    found: 1 and the value for 'present', 0 and 32 zero bytes for 'absent'. Any number but 0 means that the proof shows nothing.

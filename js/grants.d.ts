@@ -42,8 +42,12 @@ export class Store {
   readonly capacity: number;
   readonly oldest: number;
   readonly latest: number;
-  /** Whether this is a store of the old form, with slots of 120 bytes, by size and header: every call refuses it, and says so. */
+  /** Whether this is a store of the old form, with slots of 120 bytes, by size and header, that could not be moved over: every call refuses it, and says so. */
   readonly oldForm: boolean;
+  /** Whether it was opened from a store of the old form, and was moved over in memory: roots, reads and proofs are what they were. */
+  readonly movedOver: boolean;
+  /** The store's bytes in the old form. Refused: 1, 2, 3. */
+  movedBack(): Uint8Array;
   /** Makes the store fresh and empty again, whatever it holds. Refused: 1. */
   format(): void;
   /** Nothing where the store is sound. Refused: 1, 2, 3. */
@@ -137,7 +141,7 @@ export class Grants {
   name(text: string): Uint8Array;
   /** A fresh store of so many slots. Refused: 1. */
   format(capacity: number): Promise<Store>;
-  /** A store of any bytes, copied. */
+  /** A store of any bytes, copied. A sound one of the old form is moved over in memory, and `movedOver` says so. */
   open(bytes: Bytes): Promise<Store>;
   /** The good versions of a damaged store: the longest run, none before oldest, that ends at latest; the bytes' header isn't looked at. Compare
    * `store.root(latest)` with the signed root: a root record whose retired-since was damaged makes withdrawn grants seem in force in later

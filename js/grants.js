@@ -1,5 +1,5 @@
 // The calls of the grant store for Node, browsers and workers. What a store, a batch or a proof is worth is always the WebAssembly's word.
-import { AT, DELETE_KIND, DELETE_LENGTH, HEADER_BYTES, INSERT_KIND, LONGEST_PROOF, MOST_SLOTS, OLD_FORM, RECORD_BYTES, SLOT_BYTES, isOldForm, storeBytes, u16, u32 } from './form.js';
+import { AT, DELETE_KIND, DELETE_LENGTH, HEADER_BYTES, INSERT_KIND, LONGEST_PROOF, MOST_SLOTS, OLD_FORM, OLD_SLOT_BYTES, RECORD_BYTES, SLOT_BYTES, isOldForm, oldStoreBytes, storeBytes, u16, u32 } from './form.js';
 import { REFUSALS } from './refusals.js';
 
 // A call was refused, and changed nothing. Where a read was refused for a spoilt record, `slot` is the slot that has it, else null. `oldForm` says that
@@ -192,9 +192,11 @@ export function batch(changes) {
 // A store in memory of its own.
 export class Store {
   #machine;
+  #movedOver;
 
-  constructor(machine) {
+  constructor(machine, movedOver = false) {
     this.#machine = machine;
+    this.#movedOver = movedOver;
   }
 
   // A copy of the store's bytes.
@@ -215,9 +217,20 @@ export class Store {
     return u32(this.bytes(), AT.latest);
   }
 
-  // Whether this is a store of the old form, which every call refuses.
+  // Whether this is a store of the old form, which every call refuses: one that could not be moved over.
   get oldForm() {
     return isOldForm(this.bytes());
+  }
+
+  // Whether the bytes that it was opened with were a store of the old form, and were moved over in memory.
+  get movedOver() {
+    return this.#movedOver;
+  }
+
+  // The store's bytes in the old form.
+  movedBack() {
+    const slots = Math.floor(Math.max(this.bytes().length - HEADER_BYTES, 0) / SLOT_BYTES);
+    return this.#machine.call('back', 'store', room(oldStoreBytes(slots)))[0];
   }
 
   format() {
@@ -381,9 +394,19 @@ export class Grants {
     return { store: new Store(machine), first: u32(wrote, 0), same: u32(wrote, 4), other: u32(wrote, 8), out: u32(wrote, 12) };
   }
 
-  // A store of any bytes, copied; `check` says whether it is sound.
+  // A store of any bytes, copied; `check` says whether it is sound. A sound one of the old form is moved over in memory, and `movedOver` says so.
   async open(bytes) {
-    return new Store(await this.#opened(bytesOf(bytes)));
+    const given = bytesOf(bytes);
+    const machine = await this.#opened(given);
+    if (!isOldForm(given)) return new Store(machine);
+    try {
+      const [moved] = machine.call('over', 'store', room(storeBytes((given.length - HEADER_BYTES) / OLD_SLOT_BYTES)));
+      machine.keep(moved);
+      return new Store(machine, true);
+    } catch (refused) {
+      if (!(refused instanceof Refused)) throw refused;
+      return new Store(machine);
+    }
   }
 
   async #opened(bytes) {

@@ -173,10 +173,11 @@ async function openStore(name, bytes) {
     at('sound').textContent = `This store is not to be used. Refused with ${refused.number}: ${refused.sentence}.${why}`;
     return;
   }
-  records = recordsOf(bytes);
+  records = recordsOf(store.bytes());
   const { oldest, latest, capacity } = store;
   at('sound').className = 'granted';
-  at('sound').textContent = `Sound: versions ${oldest} to ${latest}, ${capacity} slots.`;
+  const moved = store.movedOver ? ' It is a store of the old form (slots of 120 bytes), and is shown as it was moved over in memory; the file is as it was.' : '';
+  at('sound').textContent = `Sound: versions ${oldest} to ${latest}, ${capacity} slots.${moved}`;
   const body = element('tbody');
   const spans = spansOf(records, oldest, latest);
   for (const { first, last } of spans.slice(-MOST_ROWS).reverse()) {

@@ -113,6 +113,18 @@ extern "C" {
         proof_len: usize,
         finding: *mut [u8; 131],
     ) -> u32;
+    fn grants_over(
+        source: *const u8,
+        source_len: usize,
+        target: *mut u8,
+        target_len: usize,
+    ) -> u32;
+    fn grants_back(
+        source: *const u8,
+        source_len: usize,
+        target: *mut u8,
+        target_len: usize,
+    ) -> u32;
     fn grants_verify(
         root: *const u8,
         root_len: usize,
@@ -311,6 +323,28 @@ pub fn finding(store: &[u8], version: u32, key: &[u8], proof: &[u8]) -> Result<[
         )
     })?;
     Ok(finding)
+}
+
+pub fn over(source: &[u8], target: &mut [u8]) -> Result<(), Error> {
+    accepted(unsafe {
+        grants_over(
+            source.as_ptr(),
+            source.len(),
+            target.as_mut_ptr(),
+            target.len(),
+        )
+    })
+}
+
+pub fn back(source: &[u8], target: &mut [u8]) -> Result<(), Error> {
+    accepted(unsafe {
+        grants_back(
+            source.as_ptr(),
+            source.len(),
+            target.as_mut_ptr(),
+            target.len(),
+        )
+    })
 }
 
 pub fn verify(root: &[u8], key: &[u8], proof: &[u8]) -> Result<[u8; 33], Error> {

@@ -49,6 +49,7 @@ mod figures;
 mod finding;
 mod form;
 mod hex;
+mod moving;
 mod palette;
 mod proof;
 mod records;

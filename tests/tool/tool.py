@@ -1634,7 +1634,6 @@ def a_store_of_the_old_form():
             ("log", "old"),
             ("export", "old"),
             ("show", "old"),
-            ("stat", "old"),
         ):
             untouched("old", status, sentence, *words)
     told = json.loads(answered(12, "check", "old", "--json"))
@@ -1645,6 +1644,46 @@ def a_store_of_the_old_form():
     write("old", store_bytes(15))
     answered(0, "check", "old")
     assert store_bytes(15)[HEADER:] == old(16)[HEADER:]
+
+
+@test
+def a_store_goes_over_and_back():
+    """In its own file, which is kept, and into another one; every root as it was."""
+    m = market()
+    with open(m, "rb") as f:
+        new = f.read()
+    roots = [answered(0, "root", m, version) for version in (1, 2, 3)]
+    assert answered(0, "stat", m).startswith("form      new, slots of 128 bytes\n")
+    # Nothing is written in a dry run, nor where it is already so.
+    told = json.loads(answered(0, "move", m, "--to", "old", "--dry-run", "--json"))
+    assert (told["form"], told["written"], told["kept"]) == ("old", False, m + ".old"), told
+    untouched(m, 11, "is a store of the new form already", "move", m, "--to", "new")
+    assert not os.path.exists(m + ".old")
+    answered(0, "move", m, "--to", "old")
+    with open(m, "rb") as f:
+        old = f.read()
+    with open(m + ".old", "rb") as f:
+        assert f.read() == new
+    capacity = (len(new) - HEADER) // SLOT
+    assert len(old) == HEADER + OLD_SLOT * capacity and old[4] == 1
+    assert "old, slots of 120 bytes (grants move brings it over)" in answered(0, "stat", m)
+    assert json.loads(answered(0, "stat", m, "--json"))["form"] == "old"
+    # What is kept is not written over.
+    untouched(m, 3, "move it away, or say --no-keep", "move", m, "--to", "new")
+    answered(0, "move", m, "out", "--to", "new")
+    with open("out", "rb") as f:
+        assert f.read() == new
+    with open(m + ".book", "rb") as f, open("out.book", "rb") as g:
+        assert f.read() == g.read()
+    answered(0, "move", m, "--to", "new", "--no-keep")
+    with open(m, "rb") as f:
+        assert f.read() == new
+    assert roots == [answered(0, "root", m, version) for version in (1, 2, 3)]
+    # A damaged one is refused, and stays.
+    write("bad", old[:HEADER + 50] + bytes([old[HEADER + 50] ^ 1]) + old[HEADER + 51:])
+    untouched("bad", 13, "is a store of the old form, and damaged", "move", "bad", "--to", "new")
+    refused(2, "--to is missing", "move", m)
+    refused(2, "a store is moved to", "move", m, "--to", "older")
 
 
 @test

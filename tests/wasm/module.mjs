@@ -244,9 +244,11 @@ async function counting(tally, grants) {
 
 // A store of 20 slots, and one of 16, whose size a store of 15 slots has today.
 async function oldForm(tally, grants) {
+  // Not sound: a slot holds one byte.
   for (const [slots, number, kind, old] of [[20, 1, 1, true], [16, 2, 1, true], [16384, 2, 1, true], [20, 1, 4, false], [16, 2, 9, false]]) {
     const bytes = new Uint8Array(oldStoreBytes(slots));
     bytes.set([24, 0, 0, 0, kind, 0, 0, 0, slots & 255, slots >> 8]);
+    bytes[100] = 1;
     const store = await grants.open(bytes);
     tally.equal(`old form, ${slots} slots, kind ${kind}`, store.oldForm, old);
     const calls = [() => store.check(), () => store.root(0), () => store.get(0, '00'.repeat(32)), () => store.count(0), () => store.at(0, 0), () => store.apply(1, []), () => store.prune(0), () => store.changes(0, 0)];
@@ -266,6 +268,15 @@ async function oldForm(tally, grants) {
   const cut = await grants.open(new Uint8Array(oldStoreBytes(20) - 1).fill(24, 0, 1).fill(1, 4, 5));
   tally.equal('an old store cut short', [cut.oldForm, refused(() => cut.check())], [false, 1]);
   tally.equal('a store of today', (await grants.format(15)).oldForm, false);
+  // A sound one is moved over in memory, and back it has its bytes.
+  const made = await grants.format(20);
+  made.apply(1, [{ key: '00'.repeat(32), value: '01'.repeat(32) }, { key: '40'.repeat(32), value: '02'.repeat(32) }]);
+  const back = made.movedBack();
+  tally.equal('moved back', [back.length, made.movedOver], [oldStoreBytes(20), false]);
+  const over = await grants.open(back);
+  tally.equal('moved over', [over.oldForm, over.movedOver, over.count(1), toHex(over.root(1))], [false, true, 2, toHex(made.root(1))]);
+  tally.equal('there and back', [toHex(over.bytes()) === toHex(made.bytes()), toHex(over.movedBack()) === toHex(back)], [true, true]);
+  tally.equal('an empty one', (await grants.open(empty(16))).movedOver, true);
   tally.equal('no bytes', (await grants.open(new Uint8Array(0))).oldForm, false);
 }
 

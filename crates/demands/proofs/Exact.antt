@@ -10,7 +10,7 @@ use mathlib.Core.Option.{Option, none, some}
 use lib.ListN.{length}
 use lib.Dec.{eqb, leb}
 use borrow.Author.Tests.{eqb-true, eqb-false, leb-true, leb-false}
-use Rattle.terms.specs.declared.Form.the-variants.{Counted as counted}
+use Rattle.terms.specs.declared.Form.the-variants.{Plain as plain, Counted as counted}
 use Rattle.terms.specs.Bits.{Bytes, Byte, All}
 use Rattle.terms.specs.Records.{Store, Proof}
 use Rattle.meaning.specs.Calls.{Answer, refused, accepted, Result, apply, prune}
@@ -57,9 +57,10 @@ use Rattle.refusals.proofs.Palettes.{palette-stopped, keys-whole, keys-torn}
 use Rattle.refusals.proofs.Changes.{changes-first}
 use Rattle.refusals.proofs.Rescues.{rescue-first}
 use Rattle.refusals.proofs.Findings.{finding-first}
+use Rattle.refusals.proofs.Moves.{move-first}
 use Rattle.refusals.proofs.Proofs.{off-form, form-first}
-use Rattle.demands.specs.Tables.{formatRows, checkRows, applyRows, pruneRows, rootRows, rootTests, getRows, getTests, countRows, atRows, atTests, proveRows, proveTests, paletteTests, paletteRows, changesRows, verifyRows, verifyManyRows, sha256Rows, rescuingRows}
-use Rattle.grants.specs.Contracts.{Formats, Checks, Applies, Prunes, ReadsRoot, ReadsKey, Counts, ReadsAt, Proves, Palettes, Changes, Verifies, VerifiesMany, Hashes, Rescues}
+use Rattle.demands.specs.Tables.{formatRows, checkRows, applyRows, pruneRows, rootRows, rootTests, getRows, getTests, countRows, atRows, atTests, proveRows, proveTests, paletteTests, paletteRows, changesRows, verifyRows, verifyManyRows, sha256Rows, rescuingRows, overRows, backRows}
+use Rattle.grants.specs.Contracts.{Formats, Checks, Applies, Prunes, ReadsRoot, ReadsKey, Counts, ReadsAt, Proves, Palettes, Changes, Verifies, VerifiesMany, Hashes, Rescues, MovesOver, MovesBack}
 use Rattle.demands.specs.Tables.{findingRows}
 use Rattle.grants.specs.Contracts.{Finds}
 
@@ -251,6 +252,13 @@ finding-exactly {s} {v} {k} {x} {r = r} h w =
     go (wrong-key n) = inl (λ z. n (z .0), refl)
     go (right-key {a} e d) =
         inr (λ n. n (e, tt), does-first (finds sha256 v k (proofIn x)) s (foundRows s v k x) a (finding-first s v k x h) d)
+
+-- A move over, and back: 1, 2, 3.
+pub over-exactly : {s old t : Bytes} {r : ℕ} → MovesOver s old r t → Exactly (overRows s old) r
+over-exactly {s} {old} {r = r} w = exactly (overRows s old) r refl (move-first plain s old w)
+
+pub back-exactly : {s old t : Bytes} {r : ℕ} → MovesBack s old r t → Exactly (backRows s old) r
+back-exactly {s} {old} {r = r} w = exactly (backRows s old) r refl (move-first counted s old w)
 
 -- The proof check: 12, 10, 11.
 pub verify-exactly : {root k x f : Bytes} {r : ℕ} {g : Bytes} → All Byte x → Verifies root k x f r g → Exactly (verifyRows root k x) r

@@ -26,7 +26,7 @@ use Rattle.layout.proofs.Stores.{length-slots}
 use Rattle.batch.specs.Batch.{batchOf}
 use Rattle.format.specs.Format.{formatBytes}
 use Rattle.promises.specs.Calls.{wrong-header, not-sound, refuses, accepts, Exports, exports-refusal, exports-answer}
-use Rattle.demands.specs.Calls.{Called, formats, applies, prunes, checks, reads-root, reads-key, counts, reads-at, proves, palettes, compares, figures, pocket-proves, verifies, pocket-verifies, verifies-many, hashes, Calls, none-yet, then-called, WithoutGaps, Life, rescues-from, rescues-into}
+use Rattle.demands.specs.Calls.{Called, formats, applies, prunes, checks, reads-root, reads-key, counts, reads-at, proves, palettes, compares, figures, pocket-proves, verifies, pocket-verifies, verifies-many, hashes, Calls, none-yet, then-called, WithoutGaps, Life, rescues-from, rescues-into, moves-back, moves-over}
 use Rattle.demands.specs.Calls.{finds}
 use Rattle.grants.specs.Contracts.{Formats}
 use Rattle.demands.proofs.Hashes.{leaf-hash-whole, inner-hash-whole}
@@ -84,6 +84,8 @@ module _ {s : Bytes} {es : List Entry} (k : Keeping s es) where
   called-after (finds w) gap = refl
   called-after (rescues-from w) gap = refl
   called-after (rescues-into n h w) gap = absurd gap
+  called-after (moves-back w) gap = refl
+  called-after (moves-over h w) gap = absurd gap
   called-after (verifies w) gap = refl
   called-after (verifies-many w) gap = refl
   called-after (pocket-verifies w) gap = refl
@@ -106,6 +108,8 @@ form-of (pocket-proves w) = tt
 form-of (finds w) = tt
 form-of (rescues-from w) = tt
 form-of (rescues-into n h w) = tt
+form-of (moves-back w) = tt
+form-of (moves-over h w) = tt
 form-of (verifies w) = tt
 form-of (verifies-many w) = tt
 form-of (pocket-verifies w) = tt

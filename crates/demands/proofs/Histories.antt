@@ -9,8 +9,9 @@ use mathlib.Core.List.{List, [], _∷_}
 use mathlib.Core.Option.{Option, none, some}
 use lib.ListN.{length, take}
 use lib.Dec.{eqb}
-use borrow.Author.Tests.{eq-eqb, ne-eqb}
-use Rattle.terms.specs.declared.Form.the-variants.{Counted as counted}
+use borrow.Author.Tests.{eq-eqb, ne-eqb, eqb-true, eqb-false}
+use Rattle.terms.specs.declared.Form.{Form}
+use Rattle.terms.specs.declared.Form.the-variants.{Plain as plain, Counted as counted}
 use Rattle.terms.specs.Bits.{Bytes, Byte, All, Whole32}
 use Rattle.terms.specs.Fields.{le, num, field}
 use Rattle.terms.specs.Records.{Grant, Ask, Store, zeros}
@@ -21,15 +22,16 @@ use Rattle.meaning.specs.Sound.{Kept}
 use Rattle.meaning.specs.Calls.{refused, accepted, Result}
 use Rattle.meaning.specs.Reading.{answerOf}
 use Rattle.meaning.specs.History.{Call, formatting, applying, pruning, Entry, entry, noted, ledger, grantsOf, Holds}
-use Rattle.meaning.specs.Course.{CallForm}
-use Rattle.histories.proofs.Histories.{Keeps, keeps-holds, keeps-formatted, keeps-calls}
+use Rattle.meaning.specs.Course.{CallForm, held}
+use Rattle.histories.proofs.Histories.{Keeps, keeps-holds, keeps-held, keeps-formatted, keeps-calls}
 use Rattle.histories.proofs.Theorems.{records-stand-in-their-lifetimes, paths-have-at-most-256-steps}
 use Rattle.nodehash.specs.Node.{leafHash, innerHash}
 use Rattle.layout.specs.Sizes.{roomOf}
 use Rattle.layout.specs.Headers.{Headed, refusal, header, sizeRight}
-use Rattle.layout.specs.Stores.{storeOf, storeBytes}
+use Rattle.layout.specs.Stores.{storeIn, storeOf, storeBytes}
 use Rattle.layout.proofs.Headers.{size-right-of, size-says}
 use Rattle.layout.proofs.Headers as headers
+use Rattle.layout.proofs.Stores.{store-back}
 use Rattle.batch.specs.Batch.{batchOf}
 use Rattle.batch.proofs.Batches.{batch-of-back}
 use Rattle.format.specs.Format.{formatAnswer, formatBytes}
@@ -43,22 +45,30 @@ use Rattle.rescue_bytes.proofs.Worth.{worth}
 use Rattle.rescue_bytes.proofs.Ledger.{rescued-keeps}
 use Rattle.rescue_bytes.proofs.Report.{first-told}
 use Rattle.read_counts_c.specs.Export.{grantBytes}
-use Rattle.grants.specs.Contracts.{Formats, ReadsRoot, ReadsKey, Proves, Rescues, Verifies, Counts, ReadsAt}
+use Rattle.move_rules.specs.Moves.{other, Moves}
+use Rattle.move_rules.proofs.Outcomes.{moved-was-sound}
+use Rattle.move_rules.proofs.Theorems.{accepted-move-is-worth}
+use Rattle.move_rules.proofs.Ledger.{moved-keeps}
+use Rattle.grants.specs.Contracts.{Formats, ReadsRoot, ReadsKey, Proves, Rescues, MovesOver, Verifies, Counts, ReadsAt}
 use Rattle.meaning.specs.Counting.{grantAt}
 use Rattle.meaning.specs.Answers.{foundBytes, numberOf, toldOf}
-use Rattle.demands.specs.Calls.{Called, formats, applies, prunes, checks, reads-root, reads-key, counts, reads-at, proves, palettes, compares, figures, pocket-proves, verifies, pocket-verifies, verifies-many, hashes, Calls, none-yet, then-called, Life, rescues-from, rescues-into, finds, Begins, by-format, by-rescue, takenOver}
+use Rattle.demands.specs.Calls.{Called, formats, applies, prunes, checks, reads-root, reads-key, counts, reads-at, proves, palettes, compares, figures, pocket-proves, verifies, pocket-verifies, verifies-many, hashes, Calls, none-yet, then-called, Life, rescues-from, rescues-into, moves-back, moves-over, finds, Begins, by-format, by-rescue, as-found, by-over, by-back, takenOver}
 use Rattle.demands.specs.Claims.{grantsOfVersion, AfterHistory}
 use Rattle.demands.proofs.Hashes.{leaf-hash-whole, inner-hash-whole}
 use Rattle.demands.proofs.Stored.{stored-is, stored-sound, formatted-form, prune-form, apply-form}
 use Rattle.demands.proofs.Given.{told-short}
 use Rattle.demands.proofs.Showing.{root-of-tree, key-of-grants, sound-is-shown, fourteen-exactly-if-empty}
 use Rattle.demands.proofs.Numbered.{sound-is-numbered}
-use Rattle.demands.proofs.Refusals.{never-0, apply-refusals, prune-refusals}
+use Rattle.demands.proofs.Refusals.{never-0, apply-refusals, prune-refusals, refused-over-writes-nothing}
+
+-- what is kept of bytes of a form
+pub record KeepingIn (f : Form) (s : Bytes) (es : List Entry) : Type 0 where
+  pub bytes : s ≡ storeBytes (storeIn f s)
+  pub keeps : Keeps leafHash innerHash (storeIn f s) es
 
 -- what is kept from call to call
-pub record Keeping (s : Bytes) (es : List Entry) : Type 0 where
-  pub bytes : s ≡ storeBytes (storeOf s)
-  pub keeps : Keeps leafHash innerHash (storeOf s) es
+abbrev pub Keeping : Bytes → List Entry → Type 0
+Keeping s es = KeepingIn counted s es
 
 -- the bytes of a store keep what the store does
 of-store : (st : Store) (es : List Entry) → st .form ≡ counted → Keeps leafHash innerHash st es → Keeping (storeBytes st) es
@@ -121,6 +131,21 @@ rescue-into : {oldest latest : ℕ} {source s f : Bytes} {r : ℕ} {t g : Bytes}
 rescue-into es n h (rescue.exports-refusal {n = m} w) k = rw (ne-eqb m 0 (rescued.never-0 w)) (subst (λ x. Keeping x es) (sym (refused-leaves w)) k)
 rescue-into es n h (rescue.exports-report {r = r} w) k = rescue-taken r n h w
 
+-- a move that was accepted: the target takes over what the source keeps
+moved-on : {from : Form} {s before t : Bytes} (es : List Entry) → All Byte s → Moves from s before 0 t → Keeps leafHash innerHash (storeIn from s) es →
+    KeepingIn (other from) t es
+moved-on es h x k = let w = accepted-move-is-worth h x in record { bytes = w .bytes; keeps = moved-keeps es w k }
+
+moved-over : {source s t : Bytes} {r : ℕ} (es : List Entry) → All Byte source → MovesOver source s r t → Keeping s es →
+    Keeping t (cond (eqb r 0) (held (storeIn plain source)) es)
+moved-over {source} {s} {t} {r} es h x k = go (eqb r 0) refl
+  where
+    go : (b : Bool) → eqb r 0 ≡ b → Keeping t (cond b (held (storeIn plain source)) es)
+    go true e =
+        let z = eqb-true r 0 e in
+        moved-on (held (storeIn plain source)) h (subst (λ n. MovesOver source s n t) z x) (keeps-held leafHash innerHash (storeIn plain source) (moved-was-sound x z .sound))
+    go false e = subst (λ y. Keeping y es) (sym (refused-over-writes-nothing x (eqb-false r 0 e))) k
+
 -- each public call
 pub called-keeps : {s t : Bytes} {e : Call × Bool} (es : List Entry) → Called s e t → Keeping s es →
     Keeping t (cond (e .1) (noted (e .0) es) es)
@@ -153,6 +178,8 @@ called-keeps es (pocket-proves w) k = k
 called-keeps es (finds w) k = k
 called-keeps es (rescues-from w) k = k
 called-keeps es (rescues-into n h w) k = rescue-into es n h w k
+called-keeps es (moves-back w) k = k
+called-keeps es (moves-over h w) k = moved-over es h w k
 called-keeps es (verifies w) k = k
 called-keeps es (verifies-many w) k = k
 called-keeps es (pocket-verifies w) k = k
@@ -220,10 +247,16 @@ formatted-keeps {before} w =
     right true e = refl
     right false e = absurd (omega arith)
 
-begun : {t : Bytes} {start : List Entry} → Begins t start → Keeping t start
+begun : {f : Form} {t : Bytes} {start : List Entry} → Begins f t start → KeepingIn f t start
 begun (by-format w) = formatted-keeps w .1
 begun (by-rescue {latest = latest} {source = source} {t = t} n h w) =
     let (r, x, e) = accepted-report w refl in subst (λ y. Keeping t (takenOver source latest y)) (sym e) (rescue-taken r n h x)
+begun (as-found {s} h w) = record {
+  bytes = sym (store-back s (w .capacity) (w .oldest) (w .latest) h (headers.accepted s (w .capacity) (w .oldest) (w .latest) (w .headed)));
+  keeps = keeps-held leafHash innerHash (storeIn plain s) (w .sound);
+}
+begun (by-over {es = es} h b x) = moved-on es h x (begun b .keeps)
+begun (by-back {history = history} {es = es} h b calls x) = moved-on (ledger history es) h x (calls-keep es calls (begun b) .keeps)
 
 -- Demand 3. After any sequence of public calls a store that only they wrote is sound and holds what its history gives it.
 pub store-after-history : {start : List Entry} {history : List (Call × Bool)} {t : Bytes} → Life start history t → AfterHistory start history t

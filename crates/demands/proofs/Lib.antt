@@ -18,6 +18,7 @@ pub mod Changed
 pub mod Palettes
 pub mod Many
 pub mod Rescued
+pub mod Moved
 pub mod Numbered
 pub mod Figured
 pub mod Pocket

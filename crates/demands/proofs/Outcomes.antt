@@ -10,7 +10,8 @@ use Rattle.promises.proofs.Calls.{one-outcome, one-export}
 use Rattle.changes.specs.Changes.{roomAfter}
 use Rattle.changes_c.specs.Export.{countBytes}
 use Rattle.rescue_bytes.proofs.Outcomes as rescue
-use Rattle.grants.specs.Contracts.{Formats, Checks, Applies, Prunes, ReadsRoot, ReadsKey, Counts, ReadsAt, Proves, Palettes, Changes, Verifies, VerifiesMany, Hashes, Rescues}
+use Rattle.move_rules.proofs.Outcomes as move
+use Rattle.grants.specs.Contracts.{Formats, Checks, Applies, Prunes, ReadsRoot, ReadsKey, Counts, ReadsAt, Proves, Palettes, Changes, Verifies, VerifiesMany, Hashes, Rescues, MovesOver, MovesBack}
 use Rattle.forgery.specs.Finding.{Finding}
 use Rattle.finding_rules.specs.Call.{findingBytes}
 use Rattle.finding.specs.Finding.{Answers, wrong-key, right-key}
@@ -72,6 +73,13 @@ module _ {s : Bytes} {a b : ℕ} where
   pub one-rescue : {oldest latest : ℕ} {old f t u g h : Bytes} → Rescues oldest latest s old f a t g → Rescues oldest latest s old f b u h →
       (a ≡ b) × (t ≡ u) × (g ≡ h)
   one-rescue x y = rescue.one-export x y
+
+module _ {s : Bytes} {a b : ℕ} where
+  pub one-over : {old t u : Bytes} → MovesOver s old a t → MovesOver s old b u → (a ≡ b) × (t ≡ u)
+  one-over x y = move.one-outcome x y
+
+  pub one-back : {old t u : Bytes} → MovesBack s old a t → MovesBack s old b u → (a ≡ b) × (t ≡ u)
+  one-back x y = move.one-outcome x y
 
 module _ {a b : ℕ} where
   pub one-verify : {root k x f g h : Bytes} → Verifies root k x f a g → Verifies root k x f b h → (a ≡ b) × (g ≡ h)

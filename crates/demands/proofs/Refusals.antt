@@ -44,7 +44,8 @@ use Rattle.finding_rules.specs.Call.{findingBytes}
 use Rattle.verify.specs.Verify.{verified}
 use Rattle.verify_rows.specs.Rows.{overFront, manyVerified}
 use Rattle.rescue_bytes.proofs.Outcomes.{refused-export-leaves}
-use Rattle.grants.specs.Contracts.{Formats, Applies, Prunes, ReadsRoot, ReadsKey, Counts, ReadsAt, Proves, Changes, Rescues, Verifies, VerifiesMany}
+use Rattle.move_rules.proofs.Outcomes as move
+use Rattle.grants.specs.Contracts.{Formats, Applies, Prunes, ReadsRoot, ReadsKey, Counts, ReadsAt, Proves, Changes, Rescues, MovesOver, MovesBack, Verifies, VerifiesMany}
 use Rattle.grants.specs.Contracts.{Finds}
 
 -- One of the numbers in a list.
@@ -253,6 +254,13 @@ module _ {s : Bytes} {v : ℕ} {k x f : Bytes} {r : ℕ} {g : Bytes} (w : Finds 
   pub refused-finding-writes-nothing : (r ≡ 0 → ⊥) → g ≡ f
   refused-finding-writes-nothing h =
       let e = refused-of (w .answer) (λ z. h (w .number ∙ z)) in w .told ∙ ap (λ a. toldOf findingBytes a f) (e .1)
+
+-- A move.
+pub refused-over-writes-nothing : {s old t : Bytes} {r : ℕ} → MovesOver s old r t → (r ≡ 0 → ⊥) → t ≡ old
+refused-over-writes-nothing w h = move.refused-writes-nothing w h
+
+pub refused-back-writes-nothing : {s old t : Bytes} {r : ℕ} → MovesBack s old r t → (r ≡ 0 → ⊥) → t ≡ old
+refused-back-writes-nothing w h = move.refused-writes-nothing w h
 
 -- The proof check.
 module _ {root k x f : Bytes} {r : ℕ} {g : Bytes} (w : Verifies root k x f r g) where

@@ -4,16 +4,20 @@ use Prim.Native.Nat.{ℕ, _-_, _≤_}
 use mathlib.Core.Bool.{Bool, false}
 use mathlib.Core.List.{List, [], _∷_}
 use lib.Dec.{eqb}
+use Rattle.terms.specs.declared.Form.{Form}
+use Rattle.terms.specs.declared.Form.the-variants.{Plain as plain, Counted as counted}
 use Rattle.terms.specs.Bits.{Bytes, Byte, All}
 use Rattle.terms.specs.Fields.{field}
 use Rattle.terms.specs.Form.{top32}
-use Rattle.meaning.specs.History.{Call, formatting, applying, pruning, taking, looking, Entry, entry}
+use Rattle.meaning.specs.History.{Call, formatting, applying, pruning, taking, looking, Entry, entry, ledger}
+use Rattle.meaning.specs.Course.{held}
 use Rattle.histories.specs.Claims.{NoGap}
-use Rattle.layout.specs.Stores.{storeOf}
+use Rattle.layout.specs.Stores.{storeIn, storeOf}
 use Rattle.batch.specs.Batch.{batchOf}
 use Rattle.rescue_bytes.specs.Rescues.{slotsIn}
 use Rattle.rescue_bytes.specs.Claims.{runLedger}
-use Rattle.grants.specs.Contracts.{Formats, Checks, Applies, Prunes, ReadsRoot, ReadsKey, Counts, ReadsAt, Proves, Palettes, Changes, Rescues, Finds, Figures, PocketProves, Verifies, PocketVerifies, VerifiesMany, Hashes}
+use Rattle.move_rules.specs.Claims.{SoundIn}
+use Rattle.grants.specs.Contracts.{Formats, Checks, Applies, Prunes, ReadsRoot, ReadsKey, Counts, ReadsAt, Proves, Palettes, Changes, Rescues, MovesOver, MovesBack, Finds, Figures, PocketProves, Verifies, PocketVerifies, VerifiesMany, Hashes}
 
 -- What a rescued store takes over: the grants of its versions, from the first that was reported to latest, by the source's trees.
 abbrev pub takenOver : Bytes → ℕ → Bytes → List Entry
@@ -44,6 +48,11 @@ pub data Called (s : Bytes) : Call × Bool → Bytes → Type 0 where
   rescues-into : {oldest latest r : ℕ} {source f t g : Bytes} → latest ≤ top32 → All Byte source → Rescues oldest latest source s f r t g →
       Called s (taking (takenOver source latest g), eqb r 0) t
   finds : {v r : ℕ} {k x f g : Bytes} → Finds s v k x f r g → Called s (looking, false) s
+  -- so is the source of a move back; the target of a move over begins anew, with what the source's kept versions hold
+  -- (2026-10)
+  moves-back : {r : ℕ} {old t : Bytes} → MovesBack s old r t → Called s (looking, false) s
+  moves-over : {r : ℕ} {source t : Bytes} → All Byte source → MovesOver source s r t →
+      Called s (taking (held (storeIn plain source)), eqb r 0) t
   -- and these are lent none
   verifies : {r : ℕ} {root k x f g : Bytes} → Verifies root k x f r g → Called s (looking, false) s
   verifies-many : {r : ℕ} {root list row old new : Bytes} → VerifiesMany root list row old r new → Called s (looking, false) s
@@ -60,15 +69,23 @@ abbrev pub WithoutGaps : {s t : Bytes} {history : List (Call × Bool)} → Calls
 WithoutGaps none-yet = Unit {0}
 WithoutGaps {s} (then-called {e = e} c calls) = NoGap (e .0) (storeOf s) × WithoutGaps calls
 
--- How a store begins, and the grants by version that it begins with: format accepted some bytes, and there is the empty version 0; or a rescue
--- into some bytes was accepted, and its history counts from the run's first version (2026-08).
-pub data Begins : Bytes → List Entry → Type 0 where
-  by-format : {before t : Bytes} → Formats before 0 t → Begins t (entry 0 [] ∷ [])
+-- How a store of a form begins, and the grants by version that it begins with. A new one: format accepted some bytes,
+-- and there is the empty version 0; or a rescue into some bytes was accepted, and its history counts from the run's
+-- first version (2026-08). An old one without a history starts with what its kept versions hold. A move that was
+-- accepted begins its target, which takes over the source's history: so a life may go over and back any number of times
+-- (2026-10).
+pub data Begins : Form → Bytes → List Entry → Type 0 where
+  by-format : {before t : Bytes} → Formats before 0 t → Begins counted t (entry 0 [] ∷ [])
   by-rescue : {oldest latest : ℕ} {source before f t g : Bytes} → latest ≤ top32 → All Byte source → Rescues oldest latest source before f 0 t g →
-      Begins t (takenOver source latest g)
+      Begins counted t (takenOver source latest g)
+  as-found : {s : Bytes} → All Byte s → SoundIn plain s → Begins plain s (held (storeIn plain s))
+  by-over : {s before t : Bytes} {es : List Entry} → All Byte s → Begins plain s es → MovesOver s before 0 t →
+      Begins counted t es
+  by-back : {first s before t : Bytes} {history : List (Call × Bool)} {es : List Entry} → All Byte s →
+      Begins counted first es → Calls first history s → MovesBack s before 0 t → Begins plain t (ledger history es)
 
 -- A store that only public calls wrote: it began with these grants by version, and these calls came after.
 pub record Life (start : List Entry) (history : List (Call × Bool)) (t : Bytes) : Type 0 where
   pub first : Bytes
-  pub begins : Begins first start
+  pub begins : Begins counted first start
   pub calls : Calls first history t

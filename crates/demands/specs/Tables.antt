@@ -4,11 +4,12 @@
 use Prim.Native.Nat.{ℕ}
 use mathlib.Core.List.{[], _∷_, _++_}
 use lib.ListN.{length}
+use Rattle.terms.specs.declared.Form.the-variants.{Plain as plain, Counted as counted}
 use Rattle.terms.specs.Bits.{Bytes}
 use Rattle.palette_rules.specs.Palette.{keysIn}
 use Rattle.refusals.specs.Exactly.{Table}
 use Rattle.refusals.specs.Rows.{WrongLength, NotSound, Not32, NotKeys}
-use Rattle.refusals.specs.Orders.{headerRows, batchRows, versionRows, lookupRows, keyRows, placingRows, positionRows, provingRows, proofRows, askingRows, togetherRows, comparisonRows, holdingRows, rowRows, rescueRows}
+use Rattle.refusals.specs.Orders.{headerRows, batchRows, versionRows, lookupRows, keyRows, placingRows, positionRows, provingRows, proofRows, askingRows, togetherRows, comparisonRows, holdingRows, rowRows, rescueRows, moveRows}
 use Rattle.refusals.specs.Orders.{rangeRows, pocketRows, pocketHoldingRows}
 use Rattle.refusals.specs.Orders.{foundRows}
 
@@ -90,6 +91,13 @@ pocketProveRows s v k room = (12, Not32 (k ∷ [])) ∷ headerRows s ++ pocketRo
 -- Document 02, 2026-12: what is found of a proof: 12; then 1, 2, 3 by full soundness; then 8, 14, 10, 11.
 abbrev pub findingRows : Bytes → ℕ → Bytes → Bytes → Table
 findingRows s v k x = (12, Not32 (k ∷ [])) ∷ soundRows s ++ foundRows s v k x
+
+-- Document 02, 2026-10: a move over, and back: 1, 2, 3.
+abbrev pub overRows : Bytes → Bytes → Table
+overRows s old = moveRows plain s old
+
+abbrev pub backRows : Bytes → Bytes → Table
+backRows s old = moveRows counted s old
 
 -- The proof check: 12; then 10, 11.
 abbrev pub verifyRows : Bytes → Bytes → Bytes → Table

@@ -2,7 +2,7 @@
 -- to look at stay as they are. A contract that is a record of the room below is the contract of the function there too. Assumes nothing.
 use Prim.Native.Nat.{ℕ}
 use mathlib.Core.Path.{_≡_}
-use Rattle.terms.specs.declared.Form.the-variants.{Counted as counted}
+use Rattle.terms.specs.declared.Form.the-variants.{Plain as plain, Counted as counted}
 use Rattle.terms.specs.Bits.{Bytes}
 use Rattle.sha256.specs.Sha256.{sha256}
 use Rattle.format.specs.Format.{formatAnswer, formatBytes}
@@ -18,6 +18,7 @@ use Rattle.rescue_bytes.specs.Rescues as rescue
 use Rattle.figures_c.specs.Export as figures
 use Rattle.pocket_prove_c.specs.Export as pocket-prove
 use Rattle.finding_c.specs.Export as finding
+use Rattle.move_rules.specs.Moves as move
 use Rattle.verify.specs.Verify as verify
 use Rattle.verify_rows.specs.Rows as rows
 use Rattle.pocket_verify.specs.Verify as pocket-verify
@@ -86,6 +87,14 @@ PocketProves s v k room f r t g = pocket-prove.PocketProves s v k room f r t g
 -- as g.
 abbrev pub Finds : Bytes → ℕ → Bytes → Bytes → Bytes → ℕ → Bytes → Type 0
 Finds s v k x f r g = finding.Finds s v k x f r g
+
+-- Moving the source s, of the old form, over into a target that holds the bytes old answers r; the target is left as t.
+abbrev pub MovesOver : Bytes → Bytes → ℕ → Bytes → Type 0
+MovesOver s old r t = move.Moves plain s old r t
+
+-- Moving the source s, of the new form, back into a target that holds the bytes old answers r; the target is left as t.
+abbrev pub MovesBack : Bytes → Bytes → ℕ → Bytes → Type 0
+MovesBack s old r t = move.Moves counted s old r t
 
 -- Checking the bytes x as a proof of the key k against a root answers r; the array f for what is found is left as g.
 abbrev pub Verifies : Bytes → Bytes → Bytes → Bytes → ℕ → Bytes → Type 0

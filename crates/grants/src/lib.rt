@@ -1,7 +1,7 @@
 // The public calls, for C, Rust and others to link. Each answers 0 where it is accepted, else document 01's number of refusal; a refused
 // call writes nothing, its answer included. A slice is passed as a pointer and a length, an array as a pointer alone.
 use terms::Form;
-ghost use Rattle.grants.specs.Contracts.{Formats, Checks, Applies, Prunes, ReadsRoot, ReadsKey, Counts, ReadsAt, Proves, Palettes, Changes, Rescues, Finds, Figures, PocketProves, Verifies, PocketVerifies, VerifiesMany, Hashes};
+ghost use Rattle.grants.specs.Contracts.{Formats, Checks, Applies, Prunes, ReadsRoot, ReadsKey, Counts, ReadsAt, Proves, Palettes, Changes, Rescues, MovesOver, MovesBack, Finds, Figures, PocketProves, Verifies, PocketVerifies, VerifiesMany, Hashes};
 
 // Makes a fresh store of any bytes of the right length.
 #[no_mangle]
@@ -172,6 +172,22 @@ pub extern "C" fn grants_finding(
     ensures { λ r. ⌜ Finds (now (store .entry)) version (now (key .entry)) (now (proof .entry)) (now (finding .entry)) r (now (finding .exit)) ⌝ }
 {
     finding_c::grants_finding(store, version, key, proof, finding)
+}
+
+// Makes in the target the store of a source of the old form, in the new form with the same capacity, slots kept.
+#[no_mangle]
+pub extern "C" fn grants_over(source: &[u8], target: &mut [u8]) -> u32
+    ensures { λ r. ⌜ MovesOver (now (source .entry)) (now (target .entry)) r (now (target .exit)) ⌝ }
+{
+    move_over::over(source, target)
+}
+
+// And back: the store of a source of the new form in the old one.
+#[no_mangle]
+pub extern "C" fn grants_back(source: &[u8], target: &mut [u8]) -> u32
+    ensures { λ r. ⌜ MovesBack (now (source .entry)) (now (target .entry)) r (now (target .exit)) ⌝ }
+{
+    move_back::back(source, target)
 }
 
 // What a proof shows of a key against a root: 1 and the value, or 0 and 32 zero bytes for 'absent'.

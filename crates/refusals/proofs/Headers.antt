@@ -1,11 +1,12 @@
 -- Rows 1 and 2: what reading a header says is what they deserve; and the records of bytes with a right header are in form. Assumes nothing.
-use Prim.Native.Nat.{ℕ, _+_, _≤_, _<_}
+use Prim.Native.Nat.{ℕ, _+_, _*_, _≤_, _<_}
 use native.Mathlib.Omega.{arith}
 use mathlib.Core.Path.{_≡_, refl, ap, sym, _∙_, subst}
 use mathlib.Core.Logic.{inl, inr}
 use mathlib.Core.Bool.{Bool, true, false, cond, true≢false}
 use lib.ListN.{length}
 use borrow.Author.Tests.{eqb-true, eq-eqb, leb-true, le-leb}
+use Rattle.terms.specs.declared.Form.{Form}
 use Rattle.terms.specs.declared.Form.the-variants.{Counted as counted}
 use Rattle.terms.specs.Bits.{Bytes, Byte, All}
 use Rattle.terms.specs.Fields.{field, slice, zeroBytes, allZero}
@@ -14,13 +15,13 @@ use Rattle.terms.proofs.Lists.{all-at}
 use Rattle.terms.proofs.Fields.{length-slice, zero-bytes, all-zero, all-of-tests, tests-all}
 use Rattle.meaning.specs.Sound.{At}
 use Rattle.ways.proofs.Walking.{Formed}
-use Rattle.layout.specs.Sizes.{roomOf}
+use Rattle.layout.specs.Sizes.{headerKind, slotSize, roomOf}
 use Rattle.layout.specs.Headers.{Headed, refusal, header, sizeRight, headerRight, headerTests, headerOf}
 use Rattle.layout.specs.Slots.{SlotForm}
 use Rattle.layout.specs.Stores.{storeOf}
-use Rattle.layout.proofs.Headers.{room-of, size-right-of, size-says, size-least, accepted}
+use Rattle.layout.proofs.Headers.{size-small, room-of, size-right-of, size-says, size-least, accepted}
 use Rattle.layout.proofs.Stores.{store-form}
-use Rattle.refusals.specs.Rows.{WrongLength, RightHeader, WrongHeader}
+use Rattle.refusals.specs.Rows.{WrongLength, RightHeaderIn, WrongHeader}
 use Rattle.refusals.specs.Orders.{headerRows}
 use Rattle.refusals.specs.Exactly.{NoneOf}
 use Rattle.refusals.proofs.Exactly.{First}
@@ -33,38 +34,37 @@ pub length-right : (s : Bytes) → sizeRight counted (length s) ≡ true → Wro
 length-right s e w = let z = size-says counted (length s) e in w (roomOf counted (length s)) (z .1) (z .2) (z .0)
 
 -- row 2 by the tests of the fields
-module _ (s : Bytes) (size : sizeRight counted (length s) ≡ true) where
+module _ (fm : Form) (s : Bytes) (size : sizeRight fm (length s) ≡ true) where
   zero-said : (i n : ℕ) → i + n ≤ 144 → allZero (slice i n s) ≡ true → slice i n s ≡ zeroBytes n
   zero-said i n h e =
-      let long = size-least counted (length s) size in
-      zero-bytes (slice i n s) e ∙ ap zeroBytes (length-slice i n s (omega arith))
+      zero-bytes (slice i n s) e ∙ ap zeroBytes (length-slice i n s (omega (arith, size-least fm (length s) size, size-small fm)))
 
-  header-said : headerRight counted s ≡ true → RightHeader s
+  pub header-said : headerRight fm s ≡ true → RightHeaderIn fm s
   unfolding headerRight
   header-said e =
-      let t = all-of-tests (headerTests counted s) e in
-      let c = eqb-true (field 8 4 s) (roomOf counted (length s)) (t .1 .1 .1 .0) in
+      let t = all-of-tests (headerTests fm s) e in
+      let c = eqb-true (field 8 4 s) (roomOf fm (length s)) (t .1 .1 .1 .0) in
       record {
         says-24 = eqb-true (field 0 4 s) 24 (t .0);
-        kind = eqb-true (field 4 2 s) 4 (t .1 .0);
+        kind = eqb-true (field 4 2 s) (headerKind fm) (t .1 .0);
         two-zero = zero-said 6 2 (omega arith) (t .1 .1 .0);
-        capacity = omega (arith, size-says counted (length s) size .0, c);
+        capacity = size-says fm (length s) size .0 ∙ ap (λ n. 24 + slotSize fm * n) (sym c);
         ordered = leb-true (field 12 4 s) (field 16 4 s) (t .1 .1 .1 .1 .0);
         four-zero = zero-said 20 4 (omega arith) (t .1 .1 .1 .1 .1 .0);
       }
 
-  said-header : RightHeader s → headerRight counted s ≡ true
+  pub said-header : RightHeaderIn fm s → headerRight fm s ≡ true
   unfolding headerRight
   said-header w =
-      let room = room-of counted (length s) (field 8 4 s) (w .capacity) in
-      tests-all (headerTests counted s) (
+      let room = room-of fm (length s) (field 8 4 s) (w .capacity) in
+      tests-all (headerTests fm s) (
         eq-eqb (field 0 4 s) 24 (w .says-24),
         (
-          eq-eqb (field 4 2 s) 4 (w .kind),
+          eq-eqb (field 4 2 s) (headerKind fm) (w .kind),
           (
             ap allZero (w .two-zero) ∙ all-zero 2,
             (
-              eq-eqb (field 8 4 s) (roomOf counted (length s)) (sym room),
+              eq-eqb (field 8 4 s) (roomOf fm (length s)) (sym room),
               (le-leb (field 12 4 s) (field 16 4 s) (w .ordered), (ap allZero (w .four-zero) ∙ all-zero 4, tt)),
             ),
           ),
@@ -84,8 +84,8 @@ header-is s = go (sizeRight counted (length s)) (headerRight counted s) refl ref
     go : (a b : Bool) → sizeRight counted (length s) ≡ a → headerRight counted s ≡ b →
         Header s (cond a (cond b (header (field 8 4 s) (field 12 4 s) (field 16 4 s)) (refusal 2)) (refusal 1))
     go false b e f = wrong-length (length-wrong s e)
-    go true false e f = wrong-header (length-right s e) (λ w. true≢false (sym (said-header s e w) ∙ f))
-    go true true e f = right (length-right s e) (λ w. w (header-said s e f))
+    go true false e f = wrong-header (length-right s e) (λ w. true≢false (sym (said-header counted s e w) ∙ f))
+    go true true e f = right (length-right s e) (λ w. w (header-said counted s e f))
 
 -- the rows of a right header do not hold, and others come after them
 pub after-header : (s : Bytes) {c o l : ℕ} → headerOf counted s ≡ header c o l → NoneOf (headerRows s)

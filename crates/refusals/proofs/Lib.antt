@@ -11,3 +11,4 @@ pub mod Positions
 pub mod Figures
 pub mod Pocket
 pub mod Findings
+pub mod Moves

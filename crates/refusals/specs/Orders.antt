@@ -2,9 +2,10 @@
 -- share them or the definitions of `meaning` test them. Assumes nothing.
 use Prim.Native.Nat.{ℕ}
 use mathlib.Core.List.{List, [], _∷_}
+use Rattle.terms.specs.declared.Form.{Form}
 use Rattle.terms.specs.Bits.{Bytes}
 use Rattle.refusals.specs.Exactly.{Table}
-use Rattle.refusals.specs.Rows.{WrongLength, WrongHeader, StopsRoot, StopsGet, StopsProve, StopsAt, PastNumber, Lost, Unsound, BatchOffForm, NotAscending, NotAbove, TooFewFree, NotKept, TooLong, ProofOffForm, DoesNotHold, EmptyVersion, NotBothKept, TooManyVisits, ListTooLong, AskedOfEmpty, StopsPalette, TooLongTogether, NotRootAndKeys, NotPieces, AnswersTooLong, WrongSizes, OldestAbove, NoVersion}
+use Rattle.refusals.specs.Rows.{WrongLength, WrongHeader, StopsRoot, StopsGet, StopsProve, StopsAt, PastNumber, Lost, Unsound, BatchOffForm, NotAscending, NotAbove, TooFewFree, NotKept, TooLong, ProofOffForm, DoesNotHold, EmptyVersion, NotBothKept, TooManyVisits, ListTooLong, AskedOfEmpty, StopsPalette, TooLongTogether, NotRootAndKeys, NotPieces, AnswersTooLong, WrongSizes, OldestAbove, NoVersion, WrongRoom, WrongHeaderIn, NotSoundIn}
 use Rattle.refusals.specs.Rows.{NoKeptRange, FiguresTooLong, OutsidePocket, ProvedOutside}
 use Rattle.refusals.specs.Rows.{HoldsNoGrant, rootOfVersion}
 
@@ -89,3 +90,7 @@ pocketHoldingRows root k x = (10, ProofOffForm x) ∷ (19, OutsidePocket x) ∷ 
 -- A finding's own (document 02, 2026-12): 8, 14; then 10, 11 against the version's root.
 abbrev pub foundRows : Bytes → ℕ → Bytes → Bytes → Table
 foundRows s v k x = (8, NotKept s v) ∷ (14, HoldsNoGrant s v) ∷ holdingRows (rootOfVersion s v) k x
+
+-- A move (document 02, 2026-10): 1, 2, 3.
+abbrev pub moveRows : Form → Bytes → Bytes → Table
+moveRows from s old = (1, WrongRoom from s old) ∷ (2, WrongHeaderIn from s) ∷ (3, NotSoundIn from s) ∷ []

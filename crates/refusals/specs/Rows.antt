@@ -5,6 +5,7 @@ use mathlib.Core.Logic.{_⊎_}
 use mathlib.Core.Bool.{false}
 use mathlib.Core.List.{List, [], _∷_}
 use lib.ListN.{length}
+use Rattle.terms.specs.declared.Form.{Form}
 use Rattle.terms.specs.declared.Form.the-variants.{Counted as counted}
 use Rattle.terms.specs.Bits.{Bytes, All}
 use Rattle.terms.specs.Fields.{field, slice, flat, zeroBytes}
@@ -30,7 +31,8 @@ use Rattle.pocket.specs.Pocket.{Outside}
 use Rattle.nodehash.specs.Node.{leafHash, innerHash}
 use Rattle.proofrecords.specs.ProofBytes.{proofBytes, ProofForm}
 use Rattle.layout.specs.Sizes.{headerSize, headerKind, mostSlots, kindAt, capacityAt, oldestAt, latestAt, slotSize}
-use Rattle.layout.specs.Stores.{storeOf}
+use Rattle.layout.specs.Stores.{storeIn, storeOf}
+use Rattle.move_rules.specs.Moves.{other}
 use Rattle.batch.specs.Sizes.{mostRecords}
 use Rattle.batch.specs.Batch.{asks, asksBytes}
 
@@ -39,13 +41,16 @@ abbrev pub WrongLength : Bytes → Type 0
 WrongLength s = (n : ℕ) → 1 ≤ n → n ≤ mostSlots → length s ≡ headerSize + slotSize counted * n → ⊥
 
 -- 2: a header field isn't as 'Bytes' says, its capacity isn't n, or oldest is above latest.
-pub record RightHeader (s : Bytes) : Type 0 where
+pub record RightHeaderIn (f : Form) (s : Bytes) : Type 0 where
   pub says-24 : field 0 4 s ≡ headerSize
-  pub kind : field kindAt 2 s ≡ headerKind counted
+  pub kind : field kindAt 2 s ≡ headerKind f
   pub two-zero : slice 6 2 s ≡ zeroBytes 2
-  pub capacity : length s ≡ headerSize + slotSize counted * field capacityAt 4 s
+  pub capacity : length s ≡ headerSize + slotSize f * field capacityAt 4 s
   pub ordered : field oldestAt 4 s ≤ field latestAt 4 s
   pub four-zero : slice 20 4 s ≡ zeroBytes 4
+
+abbrev pub RightHeader : Bytes → Type 0
+RightHeader s = RightHeaderIn counted s
 
 abbrev pub WrongHeader : Bytes → Type 0
 WrongHeader s = RightHeader s → ⊥
@@ -223,3 +228,17 @@ HoldsNoGrant s v = grantsIn (treeAtVersion (storeOf s) v) ≡ []
 -- The root that its 11 is against: the hash of the version's tree.
 abbrev pub rootOfVersion : Bytes → ℕ → Bytes
 rootOfVersion s v = hash leafHash innerHash (unversioned (treeAtVersion (storeOf s) v))
+
+-- 1 of a move (document 02, 2026-10): a source or target of wrong size; each has its form's, for the same capacity.
+abbrev pub WrongRoom : Form → Bytes → Bytes → Type 0
+WrongRoom from s old =
+    (n : ℕ) → 1 ≤ n → n ≤ mostSlots → length s ≡ headerSize + slotSize from * n →
+    length old ≡ headerSize + slotSize (other from) * n → ⊥
+
+-- 2 of a move: a wrong header of the source, by its own form.
+abbrev pub WrongHeaderIn : Form → Bytes → Type 0
+WrongHeaderIn from s = RightHeaderIn from s → ⊥
+
+-- 3 of a move: the source isn't sound, by its own form.
+abbrev pub NotSoundIn : Form → Bytes → Type 0
+NotSoundIn from s = Sound leafHash innerHash (storeIn from s) → ⊥

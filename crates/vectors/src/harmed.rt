@@ -5,7 +5,7 @@ use script::say;
 use script::words::number;
 use script::words::part;
 
-fn put_byte(store: &mut [u8], at: usize, byte: usize) {
+pub fn put_byte(store: &mut [u8], at: usize, byte: usize) {
     if store.len() <= at {
         return;
     }

@@ -8,6 +8,7 @@ mod damaged;
 mod figured;
 mod forged;
 mod harmed;
+mod moving;
 mod several;
 
 use place::same;
@@ -176,6 +177,17 @@ fn by_figures(l: &[u8], c: &[u8], store: &mut [u8]) -> bool {
 fn by_finding(l: &[u8], c: &[u8], store: &mut [u8]) -> bool {
     if same(c, b"finding") {
         return forged::finding(l, store);
+    }
+    by_moves(l, c, store)
+}
+
+// The moves to the other form.
+fn by_moves(l: &[u8], c: &[u8], store: &mut [u8]) -> bool {
+    if same(c, b"back") {
+        return moving::back(l, store);
+    }
+    if same(c, b"over") {
+        return moving::over(l, store);
     }
     harm(l, c, store)
 }

@@ -3,7 +3,7 @@
 use crate::cases::{self, Random};
 use crate::ours;
 use crate::tally::{Proof, Tally, Word};
-use second::bytes::{HEADER, SLOT};
+use second::bytes::{Form, HEADER, SLOT};
 use second::{Bytes32, Stopped};
 
 const EDGE: usize = 64;
@@ -199,6 +199,30 @@ pub fn rescue(tally: &mut Tally, case: &str, seed: u64, s: &[u8], oldest: u32, l
         let (again, d) = lent(&vec![0xE7; a.len()], |target| ours::rescue(from, o, latest, target));
         let wanted = if from == s { x } else { Ok((first, same + other, 0, 0)) };
         tally.equal("a rescue again", seed, (again, d == a), (wanted, true));
+    }
+    (y, b)
+}
+
+/// A move of a store of a form into a target of these bytes. Each accepted one is then held to what 02 says of every move: the target's former bytes don't
+/// matter, and moved on it is the source again, byte for byte.
+pub fn moved(tally: &mut Tally, case: &str, seed: u64, from: Form, s: &[u8], target: &[u8]) -> (Result<(), u32>, Vec<u8>) {
+    type Move = fn(&[u8], &mut [u8]) -> Result<(), u32>;
+    let (name, ours, theirs, on): (&str, Move, Move, Move) = match from {
+        Form::Plain => ("over", ours::over, second::over, ours::back),
+        Form::Counted => ("back", ours::back, second::back, ours::over),
+    };
+    let before = s.to_vec();
+    let (x, a) = lent(target, |target| ours(s, target));
+    assert!(s == before, "the source was written");
+    let mut b = target.to_vec();
+    let y = theirs(s, &mut b);
+    assert!(y.is_ok() || b == target, "the second program refused and wrote");
+    tally.wrote(name, case, seed, (x, &a), (y, &b));
+    if x.is_ok() {
+        let (again, c) = lent(&vec![0xE7; a.len()], |target| ours(s, target));
+        tally.equal("a move into other bytes", seed, (again, c == a), (Ok(()), true));
+        let (there, d) = lent(&vec![0x18; s.len()], |target| on(&a, target));
+        tally.equal("there and back", seed, (there, d == s), (Ok(()), true));
     }
     (y, b)
 }

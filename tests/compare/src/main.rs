@@ -13,6 +13,7 @@ mod forging;
 #[path = "../../passes/src/hostile.rs"]
 #[allow(dead_code)] // those of roots are the passes' alone
 mod hostile;
+mod moving;
 mod ours;
 mod quarter;
 mod rescuing;
@@ -136,6 +137,7 @@ fn round(seed: u64, tally: &mut Tally) {
         let n = if s.len() < HEADER { 1 } else { cases::number(&mut random, &s) };
         let _ = both::apply(tally, "to a made store", seed, &mut s.clone(), n, &b);
     }
+    moving::round(tally, &mut random, seed, &s);
     both::format(tally, seed, &mut s);
 }
 
@@ -388,6 +390,7 @@ fn all(rounds: u64, first: u64, tally: &mut Tally) {
     rescuing::named(tally);
     rows::named(first, tally);
     quarter::named(tally);
+    moving::named(tally);
     for n in 0..rounds {
         let seed = first.wrapping_add(n).wrapping_mul(0x9E37_79B9_7F4A_7C15);
         round(seed, tally);

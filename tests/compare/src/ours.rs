@@ -96,6 +96,8 @@ extern "C" {
         proof_len: usize,
         finding: *mut [u8; 131],
     ) -> u32;
+    fn grants_over(source: *const u8, source_len: usize, target: *mut u8, target_len: usize) -> u32;
+    fn grants_back(source: *const u8, source_len: usize, target: *mut u8, target_len: usize) -> u32;
     fn grants_verify(
         root: *const u8,
         root_len: usize,
@@ -318,6 +320,22 @@ pub fn finding(store: &[u8], version: u32, key: &[u8], proof: &[u8]) -> Result<F
             Ok(Finding::Zero(part(1)))
         }
         other => panic!("no finding: {other}"),
+    }
+}
+
+pub fn over(source: &[u8], target: &mut [u8]) -> Result<(), Refusal> {
+    let (to, most) = (target.as_mut_ptr(), target.len());
+    match recorded("over", &[read(source), written(target)], || unsafe { grants_over(source.as_ptr(), source.len(), to, most) }) {
+        0 => Ok(()),
+        number => Err(number),
+    }
+}
+
+pub fn back(source: &[u8], target: &mut [u8]) -> Result<(), Refusal> {
+    let (to, most) = (target.as_mut_ptr(), target.len());
+    match recorded("back", &[read(source), written(target)], || unsafe { grants_back(source.as_ptr(), source.len(), to, most) }) {
+        0 => Ok(()),
+        number => Err(number),
     }
 }
 

@@ -160,6 +160,19 @@ pub fn of_rescue() -> usize {
     most(move || assert_eq!(crate::ours::rescue(&s, 0, 2, &mut vec![0; s.len()]).map(|r| r.0), Ok(1)))
 }
 
+/// A move's most, over and back: the same two versions.
+#[allow(dead_code)]
+pub fn of_moves() -> [(&'static str, usize); 2] {
+    let s = deepest_two();
+    let slots = (s.len() - second::bytes::HEADER) / second::bytes::SLOT;
+    let mut old = vec![0; second::bytes::HEADER + second::bytes::Form::Plain.slot() * slots];
+    second::back(&s, &mut old).unwrap();
+    let (t, o) = (s.clone(), old.clone());
+    let back = most(move || assert_eq!(crate::ours::back(&t, &mut vec![0; o.len()]), Ok(())));
+    let over = most(move || assert_eq!(crate::ours::over(&old, &mut vec![0; s.len()]), Ok(())));
+    [("over", over), ("back", back)]
+}
+
 /// Apply's for each of those.
 pub fn of_apply() -> Vec<(String, usize)> {
     let each = |(name, s, b): (String, Vec<u8>, Vec<u8>)| {

@@ -90,6 +90,15 @@ impl Book {
         Ok(book)
     }
 
+    /// The same book beside another store, where there is one to copy.
+    pub fn copied_beside(&self, args: &Args, store: &Path) -> Result<(), Fail> {
+        if !self.is_there() || args.value("--book").is_some() {
+            return Ok(());
+        }
+        let copy = PathBuf::from([store.as_os_str(), OsStr::new(ENDING)].join(OsStr::new("")));
+        files::write(args, &copy, self.text.as_bytes(), &[&self.given])
+    }
+
     /// Whether it could be written, asked before the store is.
     pub fn may_be_written(&self) -> Result<(), Fail> {
         match &self.place {

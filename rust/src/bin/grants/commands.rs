@@ -10,6 +10,7 @@ use crate::finding::{self, Accepted};
 use crate::held;
 use crate::json::Json;
 use crate::missing::{self, refused_read};
+use crate::moving;
 use crate::out::Out;
 use crate::palette;
 use crate::plain::{counted, shown};
@@ -303,13 +304,18 @@ pub fn verify(args: &Args, out: &mut Out) -> Result<u8, Fail> {
 
 pub fn stat(args: &Args, out: &mut Out) -> Result<u8, Fail> {
     let path = args.path(0);
-    let store = read_store(path)?;
+    let mut store = read_store(path)?;
+    let length = store.as_bytes().len();
+    // A store of the old form is told of as what it is brought over.
+    let old = store.is_old_form();
+    if old {
+        store = moving::brought_over(&store, path)?;
+    }
     let header = store.header().map_err(refused(&store, path))?;
     let found = store.slots_found().map_err(refused(&store, path))?;
     let free = found.iter().filter(|slot| **slot == Slot::Free).count();
     let used = header.capacity as usize - free;
     let kept = u64::from(header.latest - header.oldest) + 1;
-    let length = store.as_bytes().len();
     // None where the latest root's record is spoilt.
     let grants = store.count(header.latest).ok();
     // Of a store that isn't sound nothing is guessed.
@@ -332,6 +338,7 @@ pub fn stat(args: &Args, out: &mut Out) -> Result<u8, Fail> {
         });
     if out.json {
         let fields = object(vec![
+            ("form", if old { moving::OLD } else { moving::NEW }.into()),
             ("capacity", header.capacity.into()),
             ("used", used.into()),
             ("free", free.into()),
@@ -348,7 +355,11 @@ pub fn stat(args: &Args, out: &mut Out) -> Result<u8, Fail> {
     let gaps = publishings.filter(|publishings| *publishings as u64 != kept);
     let among = gaps.map_or(String::new(), |n| format!(", {}", counted(n, "publishing")));
     let mut lines = format!(
-        "capacity  {}\nused      {used}\nfree      {free}\nkept      {} to {}, {}{among}\ngrants    {}\nbytes     {length}",
+        "form      {}\ncapacity  {}\nused      {used}\nfree      {free}\nkept      {} to {}, {}{among}\ngrants    {}\nbytes     {length}",
+        match old {
+            true => "old, slots of 120 bytes (grants move brings it over)",
+            false => "new, slots of 128 bytes",
+        },
         counted(header.capacity as usize, "slot"),
         header.oldest,
         header.latest,

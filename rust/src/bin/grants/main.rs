@@ -18,6 +18,7 @@ mod json;
 mod lines;
 mod listing;
 mod missing;
+mod moving;
 mod names;
 mod out;
 mod page;

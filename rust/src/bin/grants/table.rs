@@ -4,7 +4,7 @@ use crate::args::{Args, Choice};
 use crate::fail::Fail;
 use crate::out::Out;
 use crate::{
-    commands, counts, diff, grow, listing, names, publish, report, rescue, show, statement,
+    commands, counts, diff, grow, listing, moving, names, publish, report, rescue, show, statement,
 };
 
 pub struct Command {
@@ -170,6 +170,28 @@ smaller, if all of it fits.",
         words: (2, 2),
         choices: &[JSON, WAIT],
         run: grow::grow,
+    },
+    Command {
+        name: "move",
+        usage: "STORE [OUT]",
+        what: "a store of the old form in that of today, or back",
+        help: "\
+Before inner records had counts, a store had slots of 120 bytes. This brings such a store over into the form of today, which
+the other commands take, or back again: slots, versions, roots and proofs stay as they are, and there and back gives the same
+bytes. Each publishing's root is compared before anything is written. STORE is replaced as a whole, and what it was is kept as
+STORE.old; with OUT it is only read, and its book is copied beside OUT.",
+        words: (1, 2),
+        choices: &[
+            JSON,
+            valued("--to", "FORM", "new, the form of today, or old"),
+            flag("--no-keep", "keep no STORE.old"),
+            DRY_RUN,
+            FORCE,
+            BOOK,
+            NO_BOOK,
+            WAIT,
+        ],
+        run: moving::moved,
     },
     Command {
         name: "rescue",

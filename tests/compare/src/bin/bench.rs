@@ -1,8 +1,8 @@
 //! The library's calls beside the second program, in one run: short runs of the two in turn, the best of each. Then where apply's time goes,
 //! that it does not grow with the versions, and the stack that each call takes. With the argument `stack` that last part alone, with
 //! `changes` the comparisons alone, with `gaps` the publishings under numbers with gaps, with `beside-check` apply and prune beside check, with
-//! `missing` the reads that miss a record, with `rescue` the rescues, with `positions` the numbers of grants and the grants by position, with
-//! `figures` the figures of a range, with `finding` what is found of a true proof.
+//! `missing` the reads that miss a record, with `rescue` the rescues, with `moves` the moves over and back, with `positions` the numbers of grants and
+//! the grants by position, with `figures` the figures of a range, with `finding` what is found of a true proof.
 
 #[path = "../cases.rs"]
 #[allow(dead_code)]
@@ -421,13 +421,11 @@ fn processor(call: &mut dyn FnMut()) -> f64 {
     now() - start
 }
 
-/// 2026-08: rescues of full stores of 16,384 slots, sound ones, so that all comes back: nothing takes longer. Beside check on the same store, and the
-/// second program's walk. Fails above two seconds.
-fn rescues() {
+/// Full stores of 16,384 slots: one version, 75 versions, and 8,000 roots over one tree.
+fn full_stores() -> Vec<Vec<u8>> {
     let mut random = Random(41);
     let capacity = 16_384;
     let mut cases = vec![];
-    let mut slowest = 0f64;
     let (mut least, mut most) = (1_000, 16_000);
     // As many grants as fill the store.
     while most - least > 8 {
@@ -447,7 +445,40 @@ fn rescues() {
         records.push(Record { version: v, retired: if v == 8_000 { 0 } else { v + 1 }, ..root });
     }
     cases.push(stored(capacity, 8_000, &records));
-    for s in cases {
+    cases
+}
+
+/// 2026-10: moves of full stores of 16,384 slots, over and back, beside the second program and beside check on the same store. Fails where one takes more than
+/// 2.5 times check.
+fn moves() {
+    let mut slow = false;
+    for s in full_stores() {
+        let n = (s.len() - second::bytes::HEADER) / second::bytes::SLOT;
+        let mut old = vec![0; second::bytes::HEADER + second::bytes::Form::Plain.slot() * n];
+        assert_eq!(second::back(&s, &mut old), Ok(()));
+        let name = format!("16384-{}-used-{}-versions", cases::taken(&s), second::bytes::store(&s).unwrap().latest);
+        compare_on(&format!("back-{name}"), 5, &vec![0; old.len()], |t| ours::back(&s, t), |t| second::back(&s, t));
+        compare_on(&format!("over-{name}"), 5, &vec![0; s.len()], |t| ours::over(&old, t), |t| second::over(&old, t));
+        let best = |call: &mut dyn FnMut()| (0..9).map(|_| processor(call)).fold(f64::MAX, f64::min);
+        let check = best(&mut || assert_eq!(ours::check(&s), Ok(())));
+        let (mut to_old, mut to_new) = (vec![0; old.len()], vec![0; s.len()]);
+        let back = best(&mut || assert_eq!(ours::back(&s, &mut to_old), Ok(())));
+        let over = best(&mut || assert_eq!(ours::over(&old, &mut to_new), Ok(())));
+        println!("bar back-{name} {back:.3}ms, {:.2} of check's {check:.3}ms, bar 2.5", back / check);
+        println!("bar over-{name} {over:.3}ms, {:.2} of check's {check:.3}ms, bar 2.5", over / check);
+        slow |= back > 2.5 * check || over > 2.5 * check;
+    }
+    if slow {
+        println!("bench: a move takes more than 2.5 times check");
+        std::process::exit(1);
+    }
+}
+
+/// 2026-08: rescues of full stores of 16,384 slots, sound ones, so that all comes back: nothing takes longer. Beside check on the same store, and the
+/// second program's walk. Fails above two seconds.
+fn rescues() {
+    let mut slowest = 0f64;
+    for s in full_stores() {
         let store = second::bytes::store(&s).unwrap();
         assert_eq!(ours::check(&s), Ok(()));
         let oldest = store.oldest.max(1);
@@ -512,6 +543,9 @@ fn stacks() {
     print("changes", stack::of_changes());
     print("finding", stack::of_finding());
     print("rescue", stack::of_rescue());
+    for (name, used) in stack::of_moves() {
+        print(name, used);
+    }
     let applies = stack::of_apply();
     applies.iter().for_each(|(name, used)| print(&format!("apply-{name}"), *used));
     let most = applies.iter().map(|(_, used)| *used).max().unwrap();
@@ -553,6 +587,9 @@ fn main() {
     if std::env::args().nth(1).as_deref() == Some("rescue") {
         return rescues();
     }
+    if std::env::args().nth(1).as_deref() == Some("moves") {
+        return moves();
+    }
     let mut random = Random(11);
     let proofs: Vec<_> = (0..1000).map(|_| path(&mut random, 20)).collect();
     compare(
@@ -593,5 +630,6 @@ fn main() {
     quarters(&mut Random(41));
     findings(&mut Random(43));
     rescues();
+    moves();
     stacks();
 }

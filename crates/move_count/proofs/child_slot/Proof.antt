@@ -1,0 +1,35 @@
+-- `move_count::child_slot` meets its contract: a guess that is right is what is found. Assumes nothing.
+use native.Mathlib.Omega.{arith}
+use borrow.Author.Needs.{needs}
+use mathlib.Core.Path.{subst}
+use Rattle.place.specs.Place.{placeOf}
+use Rattle.move_count.proofs.Nodes.{no-version}
+use Rattle.move_count.specs.Count.{NodeIn}
+use Rattle.move_count.proofs.child_slot.Statement.{statement}
+use Rattle.move_count.proofs.child_slot.Tie as tie
+
+returns : tie.Need-returns
+returns c = no-version (c .before .before .pre .0) (c .before .before .args .version) (placeOf (c .before .before .args .place)) (c .if1 .taken)
+
+is-node-requires : tie.Need-is-node-requires
+is-node-requires c κs = (c .before .before .pre .0, omega (arith, c .if1 .left), c .before .before .pre .1)
+
+returns-2 : tie.Need-returns-2
+returns-2 c =
+    let a = c .before .before .before .before .args in subst (NodeIn (a .store .now) (a .guess) (a .version) (placeOf (a .place))) (c .if2 .taken) (c .before .is-node .ensures)
+
+find-requires : tie.Need-find-requires
+find-requires c κs = (c .before .before .before .before .pre .0 .size, c .before .before .before .before .pre .1)
+
+returns-3 : tie.Need-returns-3
+returns-3 c = c .find .ensures
+
+pub child-slot-spec : {M : Type 1} → statement M
+child-slot-spec =
+    tie.close
+    (tie.spec
+    returns
+    is-node-requires
+    returns-2
+    find-requires
+    returns-3)

@@ -1,0 +1,31 @@
+-- `move_count::count_leaves` meets its contract: level by level, with guesses. Assumes nothing.
+use native.Mathlib.Omega.{arith}
+use borrow.Author.Needs.{needs}
+use Rattle.layout.proofs.Headers.{size-says}
+use Rattle.terms.specs.declared.Form.the-variants.{Plain as plain}
+use lib.ListN.{length}
+use Rattle.move_count.proofs.count_leaves.Statement.{statement}
+use Rattle.move_count.proofs.count_leaves.Tie as tie
+
+slot-count-requires : tie.Need-slot-count-requires
+slot-count-requires c κs = c .before .pre .0 .size
+
+guess-children-requires : tie.Need-guess-children-requires
+guess-children-requires c κs =
+    let s = c .before .before .before .args .store .now in
+    ((record { size = c .before .before .before .pre .0 .size; many = c .before .slot-count .ensures }), omega (arith, c .before .slot-count .ensures, size-says plain (length s) (c .before .before .before .pre .0 .size)))
+
+count-levels-requires : tie.Need-count-levels-requires
+count-levels-requires c κs = (c .before .before .before .before .before .before .pre .0, (record { size = c .before .before .before .before .before .before .pre .0 .size; many = c .before .before .before .before .slot-count .ensures }), c .before .before .before .before .before .before .pre .1)
+
+returns : tie.Need-returns
+returns c = c .count-levels .ensures
+
+pub count-leaves-spec : {M : Type 1} → statement M
+count-leaves-spec =
+    tie.close
+    (tie.spec
+    slot-count-requires
+    guess-children-requires
+    count-levels-requires
+    returns)

@@ -1,0 +1,22 @@
+-- `move_count::guess_children` meets its contract: whatever is guessed. Assumes nothing.
+use native.Mathlib.Omega.{arith}
+use borrow.Author.Needs.{needs}
+use Rattle.move_count.proofs.guess_children.Statement.{statement}
+use Rattle.move_count.proofs.guess_children.Tie as tie
+
+sort-requires : tie.Need-sort-requires
+sort-requires c κs = (c .before .before .before .pre .0, c .before .before .before .pre .1)
+
+guessed-requires : tie.Need-guessed-requires
+guessed-requires c κs = (c .before .before .before .before .before .before .pre .0, c .before .before .sort .ensures)
+
+returns : tie.Need-returns
+returns c = search needs
+
+pub guess-children-spec : {M : Type 1} → statement M
+guess-children-spec =
+    tie.close
+    (tie.spec
+    sort-requires
+    guessed-requires
+    returns)

@@ -1,0 +1,49 @@
+-- `move_count::leaves_at` meets its contract: what was found, weighed by the table. Assumes nothing.
+use native.Mathlib.Omega.{arith}
+use borrow.Author.Needs.{needs}
+use mathlib.Core.Path.{subst}
+use Rattle.place.specs.Place.{placeOf}
+use Rattle.place.proofs.Places.{proper-count}
+use Rattle.lookup.specs.Lookup.{FoundIn}
+use Rattle.move_count.specs.Count.{plainStore}
+use Rattle.move_count.proofs.Nodes.{found-has, found-weighs, none-weighs}
+use Rattle.move_count.proofs.leaves_at.Statement.{statement}
+use Rattle.move_count.proofs.leaves_at.Tie as tie
+
+child-slot-requires : tie.Need-child-slot-requires
+child-slot-requires c κs = (c .before .pre .0, c .before .pre .1)
+
+enum-known-found : tie.Need-enum-known-found
+enum-known-found c = search needs
+
+weight-of-requires : tie.Need-weight-of-requires
+weight-of-requires c κs =
+    let a = c .before .before .before .before .before .args in
+    found-has (c .before .before .before .before .before .pre .0) (a .version) (placeOf (a .place))
+    (subst (FoundIn (plainStore (a .store .now) .slots) (a .version) (placeOf (a .place))) (c .before .found .given .1) (c .before .before .before .child-slot .ensures))
+
+enum-told : tie.Need-enum-told
+enum-told c = search needs
+
+returns : tie.Need-returns
+returns c =
+    let a = c .before .before .before .before .before .before .args in
+    found-weighs (c .before .before .before .before .before .before .pre .0) (a .version) (placeOf (a .place)) (proper-count (a .place) (c .before .before .before .before .before .before .pre .1)) (c .before .before .before .before .before .before .pre .2)
+    (subst (FoundIn (plainStore (a .store .now) .slots) (a .version) (placeOf (a .place))) (c .before .before .found .given .1) (c .before .before .before .before .child-slot .ensures)) (c .weight-of .ensures)
+
+returns-2 : tie.Need-returns-2
+returns-2 c =
+    let a = c .before .before .before .before .args in
+    none-weighs (c .before .before .before .before .pre .0) (a .version) (placeOf (a .place))
+    (subst (FoundIn (plainStore (a .store .now) .slots) (a .version) (placeOf (a .place))) (c .enum-told .given .1) (c .before .before .child-slot .ensures))
+
+pub leaves-at-spec : {M : Type 1} → statement M
+leaves-at-spec =
+    tie.close
+    (tie.spec
+    child-slot-requires
+    enum-known-found
+    weight-of-requires
+    enum-told
+    returns
+    returns-2)

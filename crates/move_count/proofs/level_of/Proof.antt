@@ -1,0 +1,32 @@
+-- `move_count::level_of` meets its contract: by its kind. Assumes nothing.
+use native.Mathlib.Omega.{arith}
+use borrow.Author.Needs.{needs}
+use Rattle.terms.specs.Bits.{Byte}
+use Rattle.terms.proofs.Lists.{all-of}
+use Rattle.store.proofs.Slots.{slot-within}
+use Rattle.move_count.proofs.Levels.{no-level, its-level}
+use Rattle.move_count.proofs.level_of.Statement.{statement}
+use Rattle.move_count.proofs.level_of.Tie as tie
+
+kind-at-requires : tie.Need-kind-at-requires
+kind-at-requires c κs = slot-within (c .before .pre .1)
+
+returns : tie.Need-returns
+returns c = no-level (c .before .before .before .pre .0) (c .before .before .before .pre .1) (c .before .kind-at .ensures) (c .if1 .taken)
+
+count-at-requires : tie.Need-count-at-requires
+count-at-requires c κs = slot-within (c .before .before .before .pre .1)
+
+returns-2 : tie.Need-returns-2
+returns-2 c =
+    its-level (c .before .before .before .before .pre .0) (c .before .before .before .before .pre .1) (all-of Byte (c .before .before .before .before .args .store .now) 0 (λ i _. omega (arith, c .before .before .before .shared-slice-known .given i))) (c .before .before .kind-at .ensures)
+    (c .before .if1 .left) (c .count-at .ensures)
+
+pub level-of-spec : {M : Type 1} → statement M
+level-of-spec =
+    tie.close
+    (tie.spec
+    kind-at-requires
+    returns
+    count-at-requires
+    returns-2)

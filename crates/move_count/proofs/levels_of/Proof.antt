@@ -1,0 +1,55 @@
+-- `move_count::levels_of` meets its contract: slot by slot. Assumes nothing.
+use Prim.Native.Nat.{_-_, _≤_}
+use native.Mathlib.Omega.{arith}
+use borrow.Author.Needs.{needs}
+use Rattle.check_pass.proofs.Records.{room-has, slot-small}
+use Rattle.move_count.specs.Count.{Leveled}
+use Rattle.move_count.proofs.Levels.{levels-start, levels-next, levels-all}
+use Rattle.move_count.proofs.levels_of.Statement.{statement}
+use Rattle.move_count.proofs.levels_of.Tie as tie
+
+abbrev Inv-loop : tie.InvT-loop
+Inv-loop store n levels₀ i₀ levels i = Leveled store levels i × (i ≤ n)
+
+abbrev μ-loop : tie.MeasureT-loop
+μ-loop store n levels₀ i₀ levels i = n - i
+
+loop-holds : tie.Need-loop-holds Inv-loop μ-loop
+loop-holds c = (levels-start (c .before .args .store .now) (c .before .pre .2), omega arith)
+
+level-of-requires : tie.Need-level-of-requires Inv-loop μ-loop
+level-of-requires c κs = (c .before .before .before .pre .0, room-has (c .before .before .before .pre .1) (c .loop-test .taken))
+
+mul-levels : tie.Need-mul-levels Inv-loop μ-loop
+mul-levels c = omega (arith, slot-small (room-has (c .before .before .before .before .pre .1) (c .before .loop-test .taken)))
+
+element-write-levels : tie.Need-element-write-levels Inv-loop μ-loop
+element-write-levels c = omega (arith, slot-small (room-has (c .before .before .before .before .pre .1) (c .before .loop-test .taken)))
+
+add-i : tie.Need-add-i Inv-loop μ-loop
+add-i c = omega (arith, slot-small (room-has (c .before .before .before .before .pre .1) (c .before .loop-test .taken)))
+
+loop-less : tie.Need-loop-less Inv-loop μ-loop
+loop-less c = omega (arith, c .before .loop-test .taken)
+
+loop-again : tie.Need-loop-again Inv-loop μ-loop
+loop-again c =
+    (levels-next (c .before .before .loop .inv .0) (c .level-of .ensures) (slot-small (room-has (c .before .before .before .before .pre .1) (c .before .loop-test .taken))), omega (arith, c .before .loop-test .taken))
+
+returns : tie.Need-returns Inv-loop μ-loop
+returns c = levels-all (c .before .loop .inv .0) (c .loop-test .left) (c .before .loop .inv .1)
+
+pub levels-of-spec : {M : Type 1} → statement M
+levels-of-spec =
+    tie.close
+    (tie.spec
+    Inv-loop
+    μ-loop
+    loop-holds
+    level-of-requires
+    mul-levels
+    element-write-levels
+    add-i
+    loop-less
+    loop-again
+    returns)

@@ -1,0 +1,4 @@
+pub mod Forms
+pub mod Outcomes
+pub mod Theorems
+pub mod Ledger
