@@ -22,7 +22,7 @@ export interface Applied {
 
 /** A call was refused; it changed nothing. */
 export class Refused extends Error {
-  constructor(number: number, slot?: number | null, oldForm?: boolean);
+  constructor(number: number, slot?: number | null, of?: { call?: string; oldForm?: boolean });
   /** The number of refusal. */
   readonly number: number;
   /** Its sentence. */

@@ -2,11 +2,14 @@
 import { AT, DELETE_KIND, DELETE_LENGTH, HEADER_BYTES, INSERT_KIND, LONGEST_PROOF, MOST_SLOTS, OLD_FORM, OLD_SLOT_BYTES, RECORD_BYTES, SLOT_BYTES, isOldForm, oldStoreBytes, storeBytes, u16, u32 } from './form.js';
 import { REFUSALS } from './refusals.js';
 
+// What a number means in one call alone.
+const OTHERWISE = { 'rescue 3': 'the version that the run must end at can not be rescued' };
+
 // A call was refused, and changed nothing. Where a read was refused for a spoilt record, `slot` is the slot that has it, else null. `oldForm` says that
 // the store is one of the old form.
 export class Refused extends Error {
-  constructor(number, slot = null, oldForm = false) {
-    const sentence = REFUSALS[number] ?? 'a number without a sentence here';
+  constructor(number, slot = null, { call = '', oldForm = false } = {}) {
+    const sentence = OTHERWISE[`${call} ${number}`] ?? REFUSALS[number] ?? 'a number without a sentence here';
     super(`refused with ${number}: ${sentence}${slot === null ? '' : `; the record in slot ${slot} is spoilt`}${oldForm ? `; ${OLD_FORM}` : ''}`);
     this.name = 'Refused';
     this.number = number;
@@ -150,7 +153,7 @@ class Machine {
     }
     const [number, slot] = parted(said);
     // A store of the old form is refused for its size or its header; a rescue may find no version in it.
-    if (number !== 0) throw new Refused(number, slot, number <= 3 && given.includes('store') && isOldForm(this.kept()));
+    if (number !== 0) throw new Refused(number, slot, { call: name, oldForm: number <= 3 && given.includes('store') && isOldForm(this.kept()) });
     return wrote;
   }
 }
@@ -204,17 +207,23 @@ export class Store {
     return this.#machine.kept();
   }
 
-  // What the header says; only `check` says whether the store is sound.
+  // What the header says; only `check` says whether the store is sound. Bytes too few for a header are refused as every call refuses them.
+  #field(at) {
+    const bytes = this.bytes();
+    if (bytes.length < HEADER_BYTES) throw new Refused(1);
+    return u32(bytes, at);
+  }
+
   get capacity() {
-    return u32(this.bytes(), AT.capacity);
+    return this.#field(AT.capacity);
   }
 
   get oldest() {
-    return u32(this.bytes(), AT.oldest);
+    return this.#field(AT.oldest);
   }
 
   get latest() {
-    return u32(this.bytes(), AT.latest);
+    return this.#field(AT.latest);
   }
 
   // Whether this is a store of the old form, which every call refuses: one that could not be moved over.

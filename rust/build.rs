@@ -31,7 +31,11 @@ fn main() {
 }
 
 fn native() -> PathBuf {
-    let checkout = Path::new(&env::var_os("CARGO_MANIFEST_DIR").unwrap()).join("..");
+    // A package that cargo verifies lies deeper in the checkout than the crate.
+    let here = PathBuf::from(env::var_os("CARGO_MANIFEST_DIR").unwrap());
+    let mut above = here.ancestors().skip(1);
+    let checkout = above.find(|folder| folder.join("rust/library").is_file());
+    let checkout = checkout.unwrap_or(Path::new("."));
     for source in ["crates", "crates.txt"] {
         println!("cargo:rerun-if-changed={}", checkout.join(source).display());
     }

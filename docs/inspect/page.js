@@ -1,6 +1,7 @@
 // The page: what is dropped, typed and clicked, the checker's verdicts, and the drawings.
-import { OLD_FORM, isHeader } from '../../js/form.js';
+import { OLD_FORM } from '../../js/form.js';
 import { Refused, fromHex, load, toHex } from '../../js/grants.js';
+import { MOST_BYTES, kindOf } from './files.js';
 import { faultsOf, hashesOf, leavesOf, proofOf, recordsOf, spansOf, treeOf } from './drawing.js';
 
 const at = (id) => document.getElementById(id);
@@ -97,6 +98,8 @@ function check() {
 
 let store;
 let records;
+let names = new Map();
+let shownVersion = 0;
 
 // The proof of a key in a version, by a click.
 function prove(version, key) {
@@ -109,17 +112,23 @@ function prove(version, key) {
   at('result').focus();
 }
 
+// ' “chords sonata” = “read”', where the book has names.
+function named({ key, value }) {
+  const [of, to] = [key, value].map((bytes) => names.get(toHex(bytes)));
+  return of || to ? element('span', { class: 'named' }, ` “${of ?? '?'}” = “${to ?? '?'}”`) : '';
+}
+
 // `made` is the number that the tree was published under: what has it is new there.
 function node(tree, version, made) {
   const place = tree.place || 'root';
-  const names = tree.version === made ? 'new' : '';
+  const look = tree.version === made ? 'new' : '';
   if (tree.below) {
     const below = tree.below.map((child, bit) => child && element('li', {}, `${bit} `, node(child, version, made)));
-    return element('span', {}, element('span', { class: names }, `inner node ${place}, ${tree.counts.join(' + ')} grants below, version ${tree.version}, slot ${tree.slot}`), element('ul', {}, ...below));
+    return element('span', {}, element('span', { class: look }, `inner node ${place}, ${tree.counts.join(' + ')} grants below, version ${tree.version}, slot ${tree.slot}`), element('ul', {}, ...below));
   }
   const button = element('button', { type: 'button', class: 'hex', title: toHex(tree.key) }, `prove ${short(tree.key)}`);
   button.addEventListener('click', () => prove(version, tree.key));
-  return element('span', {}, button, ` = `, element('span', { class: `hex ${names}` }, `${short(tree.value)}`), ` leaf ${place.length > 24 ? `${place.slice(0, 20)}.. (${place.length} bits)` : place}, version ${tree.version}, slot ${tree.slot}`);
+  return element('span', {}, button, ` = `, element('span', { class: `hex ${look}` }, `${short(tree.value)}`), named(tree), ` leaf ${place.length > 24 ? `${place.slice(0, 20)}.. (${place.length} bits)` : place}, version ${tree.version}, slot ${tree.slot}`);
 }
 
 // What became of the keys since the version before, which reads as the publishing before.
@@ -132,6 +141,7 @@ function changes(version) {
 }
 
 function show(version) {
+  shownVersion = version;
   const tree = treeOf(records, version);
   const since = version > store.oldest ? changes(version) : undefined;
   at('tree').replaceChildren(
@@ -169,7 +179,7 @@ async function openStore(name, bytes) {
   } catch (refused) {
     if (!(refused instanceof Refused)) throw refused;
     at('sound').className = 'bad';
-    const why = refused.oldForm ? ` By its size and its header ${OLD_FORM}.` : refused.number === 3 ? met() : '';
+    const why = refused.oldForm ? ` By its size and its header ${OLD_FORM}.` : refused.number === 3 ? `${met()} What is whole in it can be rescued with the command line tool (grants rescue).` : '';
     at('sound').textContent = `This store is not to be used. Refused with ${refused.number}: ${refused.sentence}.${why}`;
     return;
   }
@@ -190,20 +200,46 @@ async function openStore(name, bytes) {
   if (spans.length > MOST_ROWS) at('versions').append(element('p', { class: 'note' }, `The last ${MOST_ROWS} publishings are listed.`));
 }
 
-// A file is a store or a root by its size, else a proof; one of hex digits is taken for the bytes that they stand for.
+const notTaken = (name, why) => say('nothing', 'this file is not taken', [`${name}: ${why}`]);
+
+// What a root that was signed says beside the root. The signature itself is for the program that knows the key.
+function takeStatement({ version, root, until }) {
+  at('root').value = root;
+  const past = until && Date.now() > Date.parse(until);
+  at('stated').className = past ? 'bad' : 'note';
+  at('stated').textContent = `The root of version ${version}${until ? `, ${past ? 'past its date' : 'good until'} ${until}` : ''}. Its signature is not looked at here.`;
+}
+
+// A file is taken for what it is; one of hex digits for the bytes that they stand for.
 async function taken(file) {
   forget();
-  let bytes = new Uint8Array(await file.arrayBuffer());
-  const text = new TextDecoder().decode(bytes).trim();
-  if (/^([0-9a-f]{2})+$/i.test(text)) bytes = fromHex(text);
-  if (bytes.length === 32) at('root').value = toHex(bytes);
-  else if (isHeader(bytes)) await openStore(file.name, bytes);
-  else at('proof').value = toHex(bytes);
+  if (file.size > MOST_BYTES) {
+    notTaken(file.name, `it has ${file.size} bytes, and no root, proof, book or store for this page has more than ${MOST_BYTES}.`);
+    return false;
+  }
+  const it = kindOf(new Uint8Array(await file.arrayBuffer()));
+  if (it.kind === 'root' || it.kind === 'statement') at('stated').textContent = '';
+  if (it.kind === 'root') at('root').value = it.root;
+  else if (it.kind === 'statement') takeStatement(it);
+  else if (it.kind === 'store') await openStore(file.name, it.bytes);
+  else if (it.kind === 'book') takeNames(file.name, it.names);
+  else if (it.kind === 'proof') at('proof').value = toHex(it.bytes);
+  else notTaken(file.name, 'it is neither a root, nor a proof, nor a store, nor a book.');
+  return it.kind !== 'nothing';
+}
+
+// The names of a book are for the eye alone, and nothing is asked by them.
+function takeNames(name, given) {
+  names = given;
+  at('named').textContent = `${given.size} ${given.size === 1 ? 'name' : 'names'} from ${name}, which is not trusted: a name here is what that file says.`;
+  if (at('tree-title')) show(shownVersion);
 }
 
 async function takeAll(files) {
-  for (const file of files) await taken(file);
-  if (at('root').value && at('key').value && at('proof').value) check();
+  let all = true;
+  for (const file of files) all = (await taken(file)) && all;
+  // What was not taken is said, and no verdict takes its place.
+  if (all && at('root').value && at('key').value && at('proof').value) check();
 }
 
 at('ask').addEventListener('submit', (event) => {
@@ -211,6 +247,7 @@ at('ask').addEventListener('submit', (event) => {
   check();
 });
 at('ask').addEventListener('input', forget);
+at('root').addEventListener('input', () => (at('stated').textContent = ''));
 at('file').addEventListener('change', (event) => takeAll(event.target.files));
 for (const kind of ['dragover', 'dragleave', 'drop']) {
   document.addEventListener(kind, (event) => {

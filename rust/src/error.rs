@@ -66,11 +66,7 @@ const TABLE: [(u32, Error, &str); 17] = [
         Error::Header,
         "a header field isn't right, its capacity isn't n, or oldest is above latest",
     ),
-    (
-        3,
-        Error::Unsound,
-        "the store isn't sound (check, apply, prune, changes, figures, finding), or the walk says so (reads); rescue: no version can be rescued",
-    ),
+    (3, Error::Unsound, "the store isn't sound"),
     (
         4,
         Error::BatchForm,

@@ -15,6 +15,9 @@ pub const OLD_SLOT_BYTES: usize = 120;
 /// The bytes of a record of a batch or of a list of changes.
 pub const RECORD_BYTES: usize = 72;
 
+/// Where a store's header has its capacity.
+pub const CAPACITY_AT: std::ops::Range<usize> = at::CAPACITY..at::OLDEST;
+
 /// The bytes of a store with this many slots.
 ///
 /// ```

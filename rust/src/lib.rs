@@ -65,8 +65,8 @@ pub use error::Error;
 pub use figures::{Figures, RangeFigures, RANGE_VERSIONS};
 pub use finding::{Finding, MESSAGE_BYTES};
 pub use form::{
-    old_store_bytes, store_bytes, HEADER_BYTES, MOST_SLOTS, OLD_SLOT_BYTES, RECORD_BYTES,
-    SLOT_BYTES,
+    old_store_bytes, store_bytes, CAPACITY_AT, HEADER_BYTES, MOST_SLOTS, OLD_SLOT_BYTES,
+    RECORD_BYTES, SLOT_BYTES,
 };
 pub use hex::{from_hex, to_hex, HexError};
 pub use palette::{Palette, RefusedAt, PALETTE_KEYS};

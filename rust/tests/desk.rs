@@ -135,7 +135,8 @@ fn sentences_are_those_of_the_header() {
     let header = include_str!("../../include/grants.h");
     for number in [1, 2, 3, 4, 5, 7, 8, 9, 10, 11, 12, 13, 14, 17, 18, 20] {
         let error = Error::from_number(number).unwrap();
-        let row = format!("\n * {number:>3}  {error}\n");
+        // A row may go on with what the number means in single calls.
+        let row = format!("\n * {number:>3}  {error}");
         assert!(header.contains(&row), "{row}");
     }
 }

@@ -156,6 +156,11 @@ async function refusing(tally, grants, { store, lyrics }) {
   tally.equal('its words', new Refused(3, 5).message.endsWith('; the record in slot 5 is spoilt'), true);
   tally.equal('no slots', await grants.format(0).catch((e) => e.number), 1);
   tally.equal('too many slots', await grants.format(1e9).catch((e) => e.number), 1);
+  const few = await grants.open(new Uint8Array(5));
+  for (const field of ['capacity', 'oldest', 'latest']) tally.equal(`the ${field} of five bytes`, refused(() => few[field]), 1);
+  const beyond = await grants.rescue(store.bytes(), 0, 0).catch((e) => [e.number, e.sentence]);
+  tally.equal('what can not be rescued', beyond, [3, 'the version that the run must end at can not be rescued']);
+  tally.equal('what is not sound', new Refused(3).message, "refused with 3: the store isn't sound");
   const odd = await grants.open(new Uint8Array(storeBytes(1)).fill(1));
   tally.equal('a wrong header', refused(() => odd.check()), 2);
   for (const [number, sentence] of Object.entries(REFUSALS)) {

@@ -120,7 +120,7 @@ async function stores() {
   tally.equal('the nodes of the publishing before oldest', await browser.ask(`document.querySelectorAll('#tree .new').length`), 7);
   await browser.drop(tampered);
   await browser.until(`document.getElementById('sound').textContent.startsWith('This store is not')`);
-  tally.holds('a tampered store', (await text('sound')).includes("Refused with 3: the store isn't sound"));
+  tally.holds('a tampered store', (await text('sound')).includes("Refused with 3: the store isn't sound.") && (await text('sound')).endsWith('can be rescued with the command line tool (grants rescue).'));
   tally.equal('and no tree of it', await browser.ask(`document.querySelectorAll('#tree *, #versions *').length`), 0);
   for (const [name, number] of [[old20, 1], [old16, 2]]) {
     await browser.drop(name);
@@ -131,6 +131,32 @@ async function stores() {
   await browser.drop(miscounted);
   await browser.until(`document.getElementById('sound').textContent.includes('Refused with 3: ')`);
   tally.equal('and no tree where a count is wrong', await browser.ask(`document.querySelectorAll('#tree *, #versions *').length`), 0);
+}
+
+// Files that are no proof are taken for what they are, or not at all.
+async function otherFiles() {
+  const statement = (until) => `the root of a grant store\nversion 2\nroot ${now}\nmade 2026-05-11T00:00:00Z\nnot-after ${until}T23:59:59Z\n`;
+  const proofBefore = await browser.ask(`document.getElementById('proof').value`);
+  await fill('root', '');
+  await browser.drop(file('root.txt', statement('2999-01-01')));
+  await browser.until(`document.getElementById('root').value !== ''`);
+  tally.equal('a statement', await browser.ask(`document.getElementById('root').value`), now);
+  tally.equal('what it says', await text('stated'), 'The root of version 2, good until 2999-01-01T23:59:59Z. Its signature is not looked at here.');
+  await browser.drop(file('old.txt', statement('2026-05-12')));
+  await browser.until(`document.getElementById('stated').className === 'bad'`);
+  tally.holds('one past its date', (await text('stated')).includes('past its date 2026-05-12'));
+  await browser.drop(market);
+  await browser.until(`document.getElementById('sound').textContent.startsWith('Sound: versions 0 to 2')`);
+  await clicked('version 2');
+  await browser.drop(file('market.book', `# a book\nname ${toHex(key('chords sonata'))} "chords \\"sonata\\" \\u{1b}"\nname ${toHex(key('write'))} "write"\n`));
+  await browser.until(`document.getElementById('named').textContent !== ''`);
+  tally.holds('names of the book', (await text('tree')).includes('“chords "sonata" \\u{1b}” = “write”') && (await text('named')).startsWith('2 names from market.book, which is not trusted'));
+  for (const [name, bytes, why] of [['notes.txt', 'hello\n', 'it is neither a root'], ['large', new Uint8Array(5_000_001), 'it has 5000001 bytes']]) {
+    await browser.drop(file(name, bytes));
+    await browser.until(`document.getElementById('reason').textContent.includes(${JSON.stringify(`${name}: ${why}`)})`);
+    tally.equal(`${name} is not taken`, await text('verdict'), 'this file is not taken');
+  }
+  tally.equal('none of them was a proof', await browser.ask(`document.getElementById('proof').value`), proofBefore);
 }
 
 async function usable() {
@@ -189,6 +215,7 @@ try {
   await browser.open(pathToFileURL('docs/inspect/inspect.html').href);
   await verdicts();
   await stores();
+  await otherFiles();
   await usable();
   const requests = browser.events.filter((it) => it.method === 'Network.requestWillBeSent').map((it) => it.params.request.url.split(':')[0]);
   tally.equal('nothing is fetched but the page', requests.filter((scheme) => scheme !== 'about'), ['file']);

@@ -1,7 +1,6 @@
 //! The command line: words and options, told apart by what the command declares.
 
 use crate::fail::Fail;
-use crate::table::Command;
 use std::ffi::{OsStr, OsString};
 use std::os::unix::ffi::OsStrExt;
 use std::path::Path;
@@ -13,7 +12,17 @@ pub struct Choice {
     pub help: &'static str,
 }
 
+/// What a command takes: its name and usage, the least and the most words, and its options.
+#[derive(Clone, Copy)]
+pub struct Form {
+    pub name: &'static str,
+    pub usage: &'static str,
+    pub words: (usize, usize),
+    pub choices: &'static [Choice],
+}
+
 pub struct Args {
+    form: Form,
     words: Vec<OsString>,
     chosen: Vec<(&'static str, OsString)>,
 }
@@ -25,11 +34,13 @@ pub fn everywhere(given: &[OsString], name: &str) -> bool {
 }
 
 /// None where help was asked for.
-pub fn parse(command: &Command, given: &[OsString]) -> Result<Option<Args>, Fail> {
+pub fn parse(command: Form, given: &[OsString]) -> Result<Option<Args>, Fail> {
     let mut args = Args {
+        form: command,
         words: vec![],
         chosen: vec![],
     };
+    let command = &command;
     let mut rest = given.iter();
     let mut only_words = false;
     while let Some(word) = rest.next() {
@@ -78,7 +89,7 @@ pub fn parse(command: &Command, given: &[OsString]) -> Result<Option<Args>, Fail
     Ok(Some(args))
 }
 
-fn wrong(command: &Command, why: String) -> Fail {
+fn wrong(command: &Form, why: String) -> Fail {
     Fail::Usage(format!(
         "{why}. Usage: grants {} {}; `grants {} --help` says more",
         command.name, command.usage, command.name
@@ -103,6 +114,16 @@ impl Args {
         self.words[i].to_string_lossy().into_owned()
     }
 
+    /// Whether the command takes an option at all: what isn't taken isn't advised.
+    pub fn takes(&self, name: &str) -> bool {
+        self.form.choices.iter().any(|choice| choice.name == name)
+    }
+
+    /// A word that the other options make necessary is missing.
+    pub fn missing(&self, what: &str) -> Fail {
+        wrong(&self.form, format!("{what} is missing"))
+    }
+
     pub fn has(&self, name: &str) -> bool {
         self.value(name).is_some()
     }
@@ -112,15 +133,23 @@ impl Args {
         chosen.map(|(_, value)| value.as_os_str())
     }
 
+    /// Every value of an option that may be given again; each must be text.
+    pub fn all_said(&self, name: &str) -> Result<Vec<String>, Fail> {
+        let chosen = self.chosen.iter().filter(|(chosen, _)| *chosen == name);
+        chosen.map(|(_, value)| as_text(name, value)).collect()
+    }
+
     /// The value of an option, which must be text.
     pub fn said(&self, name: &str) -> Result<Option<String>, Fail> {
-        let Some(value) = self.value(name) else {
-            return Ok(None);
-        };
-        let text = value.to_str().map(str::to_string);
-        text.map(Some)
-            .ok_or_else(|| Fail::Usage(format!("what follows {name} is no text in UTF-8")))
+        self.value(name)
+            .map(|value| as_text(name, value))
+            .transpose()
     }
+}
+
+fn as_text(name: &str, value: &OsStr) -> Result<String, Fail> {
+    let text = value.to_str().map(str::to_string);
+    text.ok_or_else(|| Fail::Usage(format!("what follows {name} is no text in UTF-8")))
 }
 
 /// A number that fits 32 bits.

@@ -5,13 +5,13 @@ use crate::book::{self, Book, Said};
 use crate::fail::Fail;
 use crate::files::{self, STORE_LIMIT};
 use crate::held;
+pub use crate::held::Bytes;
+use crate::out::beside;
 use crate::plain::{counted, quoted, shown, words, Word};
 use grants::{from_hex, to_hex, Error, HexError, Key, Store, OLD_SLOT_BYTES};
+use std::cell::OnceCell;
 use std::collections::BTreeMap;
-use std::io::Write;
 use std::path::Path;
-
-pub type Bytes = Store<Vec<u8>>;
 
 /// What an editor does without a proof.
 const EMPTY_ADVICE: &str =
@@ -78,33 +78,63 @@ pub fn hex(what: &str, text: &str) -> Result<Vec<u8>, Fail> {
     })
 }
 
-/// A key: 64 hex digits, a name that the book has, or a name in double quotes, which need not be in the book. So a slip in a digit is never
-/// taken for a name.
-pub fn key(args: &Args, i: usize, store: Option<&Path>) -> Result<Vec<u8>, Fail> {
-    let text = args.text(i);
-    if text.starts_with('"') {
-        return match words(&text).as_deref() {
-            Ok([Word::Quoted(name)]) => by_name(&Book::of(args, store)?, name),
-            _ => Err(Fail::Usage(
-                "the key is wrong: a name stands between two double quotes".to_string(),
+/// The 32 bytes of a key or root that the tool itself needs.
+pub fn hex32(what: &str, text: &str) -> Result<[u8; 32], Fail> {
+    let bytes: Result<[u8; 32], _> = hex(what, text)?.try_into();
+    bytes.map_err(|_| Fail::Refused(Error::NotThirtyTwoBytes, LENGTH_ADVICE.to_string()))
+}
+
+/// Keys as they are asked for, with a book that is read once, and only where a name is.
+pub struct Keys<'a> {
+    args: &'a Args,
+    store: Option<&'a Path>,
+    book: OnceCell<Book>,
+}
+
+impl<'a> Keys<'a> {
+    pub fn new(args: &'a Args, store: Option<&'a Path>) -> Keys<'a> {
+        let book = OnceCell::new();
+        Keys { args, store, book }
+    }
+
+    fn book(&self) -> Result<&Book, Fail> {
+        if self.book.get().is_none() {
+            let _ = self.book.set(Book::of(self.args, self.store)?);
+        }
+        Ok(self.book.get_or_init(Book::default))
+    }
+
+    /// A key: 64 hex digits, a name that the book has, or a name in double quotes, which need not be in the book. So a slip in a digit is never
+    /// taken for a name.
+    pub fn key(&self, text: &str) -> Result<Vec<u8>, Fail> {
+        if text.starts_with('"') {
+            return match words(text).as_deref() {
+                Ok([Word::Quoted(name)]) => by_name(self.book()?, name),
+                _ => Err(Fail::Usage(
+                    "the key is wrong: a name stands between two double quotes".to_string(),
+                )),
+            };
+        }
+        if let Ok(key) = text.parse::<Key>() {
+            return Ok(key.as_bytes().to_vec());
+        }
+        let book = self.book()?;
+        if book.knows(text) {
+            return by_name(book, text);
+        }
+        hex("key", text).map_err(|fail| match fail {
+            Fail::Usage(wrong) => Fail::Usage(format!(
+                "{wrong}, and {} has no name {}; a name between double quotes stands for its SHA-256",
+                book.shown(),
+                quoted(text)
             )),
-        };
+            fail => fail,
+        })
     }
-    if let Ok(key) = text.parse::<Key>() {
-        return Ok(key.as_bytes().to_vec());
-    }
-    let book = Book::of(args, store)?;
-    if book.knows(&text) {
-        return by_name(&book, &text);
-    }
-    hex("key", &text).map_err(|fail| match fail {
-        Fail::Usage(wrong) => Fail::Usage(format!(
-            "{wrong}, and {} has no name {}; a name between double quotes stands for its SHA-256",
-            book.shown(),
-            quoted(&text)
-        )),
-        fail => fail,
-    })
+}
+
+pub fn key(args: &Args, i: usize, store: Option<&Path>) -> Result<Vec<u8>, Fail> {
+    Keys::new(args, store).key(&args.text(i))
 }
 
 /// What a name stands for; where that is the book's word alone, it is said.
@@ -117,9 +147,8 @@ fn by_name(book: &Book, name: &str) -> Result<Vec<u8>, Fail> {
 }
 
 /// Says beside the answer what it takes from the book.
-fn note(book: &Book, what: &str) {
-    // Where this can't be written the answer stands all the same.
-    let _ = writeln!(std::io::stderr(), "grants: by {}, {what}", book.shown());
+pub fn note(book: &Book, what: &str) {
+    beside(format_args!("by {}, {what}", book.shown()));
 }
 
 /// The version that is asked for, else the latest; 0 where the header is wrong, which the call that follows will say.

@@ -70,7 +70,10 @@ impl Book {
         }
         if let Some(place) = book.place.clone().filter(|place| place.exists()) {
             let bytes = files::read(&place, LIMIT + 1).map_err(|fail| match fail {
-                Fail::File(why) => Fail::File(format!("{why} (the book; --no-book does without)")),
+                Fail::File(why) if args.takes("--no-book") => {
+                    Fail::File(format!("{why} (the book; --no-book does without)"))
+                }
+                Fail::File(why) => Fail::File(format!("{why} (the book)")),
                 fail => fail,
             })?;
             if bytes.len() as u64 > LIMIT {
@@ -102,7 +105,7 @@ impl Book {
     /// Whether it could be written, asked before the store is.
     pub fn may_be_written(&self) -> Result<(), Fail> {
         match &self.place {
-            Some(place) => files::regular_or_nothing("write", &self.given, place),
+            Some(place) => files::may_replace(&self.given, place),
             None => Ok(()),
         }
     }
@@ -154,6 +157,11 @@ impl Book {
         if !meant.contains(&word) {
             meant.push(word);
         }
+    }
+
+    /// Whether there is a file that it could be written to.
+    pub fn has_place(&self) -> bool {
+        self.place.is_some()
     }
 
     pub fn is_there(&self) -> bool {
@@ -268,14 +276,29 @@ impl Book {
     }
 }
 
-/// Who publishes: `--author`, else GRANTS_AUTHOR, else the user's name.
+/// Refuses a `--book` that is one of these files: it would get lines of a book.
+pub fn is_none_of(args: &Args, given: &[&Path]) -> Result<(), Fail> {
+    match args.value("--book").map(Path::new) {
+        Some(named) if given.iter().any(|file| files::one_file(named, file)) => {
+            Err(Fail::Usage(format!(
+                "{} is read by this command as something else than a book: name another one",
+                shown(named)
+            )))
+        }
+        _ => Ok(()),
+    }
+}
+
+/// Who publishes: `--author`, else GRANTS_AUTHOR, else the user's name, by the environment or by the system.
 pub fn author(args: &Args) -> Result<String, Fail> {
     if let Some(author) = args.said("--author")? {
         return Ok(author);
     }
     let named = ["GRANTS_AUTHOR", "USER", "LOGNAME"];
-    let found = named.iter().find_map(|name| std::env::var(name).ok());
-    Ok(found.unwrap_or_default())
+    let mut found = named.iter().filter_map(|name| std::env::var(name).ok());
+    let found = found.find(|name| !name.is_empty());
+    // What a timer starts has none of them.
+    Ok(found.unwrap_or_else(files::own_user))
 }
 
 /// When it is published: `--date`, else now.

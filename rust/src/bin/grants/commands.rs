@@ -1,28 +1,24 @@
 //! The commands that make one call of the library and say what came.
 
 use crate::args::{number, Args};
-use crate::asked::{key, read_store, refused, version, LENGTH_ADVICE};
-use crate::book::Book;
+use crate::asked::{key, read_store, refused, version};
+use crate::book::{self, Book};
 use crate::dates;
 use crate::fail::Fail;
 use crate::files::{self, Locked, PROOF_LIMIT};
 use crate::finding::{self, Accepted};
 use crate::held;
-use crate::json::Json;
+use crate::json::{object, Json};
 use crate::missing::{self, refused_read};
 use crate::moving;
-use crate::out::Out;
+use crate::out::{both_to_output, Out, ABSENT};
 use crate::palette;
 use crate::plain::{counted, shown};
+use crate::proof::{proof_advice, proof_bytes};
+use crate::sizing::Plan;
 use crate::statement::known_root;
-use grants::{from_hex, to_hex, Error, Slot, Store};
+use grants::{to_hex, Error, Slot, Store};
 use std::path::Path;
-
-pub const ABSENT: u8 = 1;
-
-pub fn object(fields: Vec<(&'static str, Json)>) -> Json {
-    Json::Object(fields)
-}
 
 /// The store of a command that writes it.
 pub fn writable(args: &Args) -> Result<&Path, Fail> {
@@ -46,13 +42,24 @@ pub fn write_book(book: &Book) -> Result<(), Fail> {
 
 pub fn format(args: &Args, out: &mut Out) -> Result<u8, Fail> {
     let path = writable(args)?;
-    let capacity = number("CAPACITY", args.word(1).unwrap_or_default())?;
+    let plan = Plan::of(args)?;
+    let capacity = match (&plan, args.word(1)) {
+        (Some(_), Some(_)) => {
+            return Err(Fail::Usage(
+                "CAPACITY and --for both say how many slots: name one of them".to_string(),
+            ))
+        }
+        (Some(plan), None) => plan.capacity()?,
+        (None, Some(word)) => number("CAPACITY", word)?,
+        (None, None) => return Err(args.missing("CAPACITY")),
+    };
     let store = Store::with_capacity(capacity).map_err(|e| {
         Fail::Refused(
             e,
             format!("{capacity} slots were asked for: a store has 1 to 16,384."),
         )
     })?;
+    book::is_none_of(args, &[path])?;
     Book::of(args, Some(path))?.may_be_written()?;
     let locked = if files::already_there(path) {
         if !args.has("--force") {
@@ -83,9 +90,10 @@ pub fn format(args: &Args, out: &mut Out) -> Result<u8, Fail> {
             ("bytes", length.into()),
         ]),
         format_args!(
-            "{}: {}, {length} bytes",
+            "{}: {}, {length} bytes{}",
             shown(path),
-            counted(capacity as usize, "free slot")
+            counted(capacity as usize, "free slot"),
+            plan.map_or(String::new(), |plan| format!("; {}", plan.advice()))
         ),
     )
 }
@@ -141,10 +149,6 @@ pub fn prune(args: &Args, out: &mut Out) -> Result<u8, Fail> {
     )
 }
 
-pub fn both_to_output() -> Fail {
-    Fail::Usage("--out - and --json would both write standard output".to_string())
-}
-
 pub fn get(args: &Args, out: &mut Out) -> Result<u8, Fail> {
     let path = args.path(0);
     let key = key(args, 1, Some(path))?;
@@ -175,9 +179,12 @@ fn one_proof(args: &Args) -> Result<(), Fail> {
 }
 
 pub fn prove(args: &Args, out: &mut Out) -> Result<u8, Fail> {
-    if args.has("--version") {
+    if args.has("--version") || args.has("--keys") {
         one_proof(args)?;
         return palette::prove(args, out);
+    }
+    if args.word(1).is_none() {
+        return Err(args.missing("KEY"));
     }
     if args.word(3).is_some() {
         return Err(Fail::Usage(
@@ -236,36 +243,16 @@ pub fn prove(args: &Args, out: &mut Out) -> Result<u8, Fail> {
     )
 }
 
-/// A proof's bytes, or their hex digits. Byte 4 of a proof in form is 16 or 17, which is no digit.
-pub fn proof_bytes(bytes: Vec<u8>) -> Result<Vec<u8>, Fail> {
-    let hex_or_space = |b: &u8| b.is_ascii_hexdigit() || b.is_ascii_whitespace();
-    if !bytes.iter().all(hex_or_space) {
-        return Ok(bytes);
-    }
-    let digits: String = bytes.iter().map(|b| char::from(*b)).collect();
-    let digits: String = digits.split_whitespace().collect();
-    from_hex(&digits).map_err(|e| Fail::Refused(Error::ProofForm, format!("It has {e}.")))
-}
-
-/// What to do about a proof that is refused.
-pub fn proof_advice(error: Error, path: &Path) -> String {
-    match error {
-        Error::ProofForm => format!("{} is no proof, or not a whole one: get it again.", shown(path)),
-        Error::ProofFails => {
-            "It shows nothing of this key under this root: are both the ones it was made for? If so, whoever sent it is not to be trusted."
-                .to_string()
-        }
-        _ => LENGTH_ADVICE.to_string(),
-    }
-}
-
 pub fn verify(args: &Args, out: &mut Out) -> Result<u8, Fail> {
-    if args.word(3).is_some() {
+    if args.word(3).is_some() || args.has("--keys") {
         one_proof(args)?;
         if args.has("--against") {
             return Err(Fail::Usage("--against takes one key and its proof".to_string()));
         }
         return palette::verify(args, out);
+    }
+    if args.word(2).is_none() {
+        return Err(args.missing("PROOF"));
     }
     let root = known_root(args)?;
     let key = key(args, 1, None)?;
@@ -320,22 +307,12 @@ pub fn stat(args: &Args, out: &mut Out) -> Result<u8, Fail> {
     let grants = store.count(header.latest).ok();
     // Of a store that isn't sound nothing is guessed.
     let slots = store.slots().ok();
-    let publishings = slots
-        .as_ref()
-        .map(|slots| held::spans(header, slots, []).len());
-    let made = slots.map(|slots| {
-        let records = slots.iter().flatten();
-        records
-            .filter(|record| record.version > header.oldest)
-            .count()
-    });
-    let left = made
-        .filter(|made| *made > 0)
-        .zip(publishings)
-        .map(|(made, publishings)| {
-            let each = made as f64 / (publishings - 1) as f64;
-            (each, (free as f64 / each) as usize)
-        });
+    let spans = slots.as_ref().map(|slots| held::spans(header, slots, []));
+    let publishings = spans.as_ref().map(Vec::len);
+    let each = slots
+        .zip(spans)
+        .and_then(|(slots, spans)| held::usual(&slots, &spans));
+    let left = each.map(|each| (each, (free as f64 / each) as usize));
     if out.json {
         let fields = object(vec![
             ("form", if old { moving::OLD } else { moving::NEW }.into()),
@@ -368,7 +345,7 @@ pub fn stat(args: &Args, out: &mut Out) -> Result<u8, Fail> {
     );
     if let Some((each, left)) = left {
         lines += &format!(
-            "\nleft      about {}, if each makes {each:.1} records as those kept did",
+            "\nleft      about {}, if each makes {each:.1} records as the last ones did",
             counted(left, "publishing")
         );
     }

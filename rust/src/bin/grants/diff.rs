@@ -1,13 +1,16 @@
 //! What changed between two versions, as lines, as JSON, as a batch, and as the library's own records.
 
 use crate::args::{number, Args};
-use crate::asked::{read_store, refused};
+use crate::asked::{read_store, refused, version, Bytes};
+use crate::book::{Book, Said};
 use crate::fail::Fail;
 use crate::files;
+use crate::held;
 use crate::json::Json;
+use crate::listing::{csv, remark, when};
 use crate::out::Out;
-use crate::plain::{counted, shown};
-use grants::{Change, Changes, Error, BATCH_RECORDS, MOST_VISITS};
+use crate::plain::{counted, quoted, shown};
+use grants::{Change, Changes, Error, Key, Value, BATCH_RECORDS, MOST_VISITS};
 use std::path::Path;
 
 /// Of each kind.
@@ -35,25 +38,116 @@ impl Counts {
     }
 }
 
-fn line(change: &Change) -> String {
-    match change {
-        Change::Added { key, value } => format!("+ {key} {value}"),
-        Change::Removed { key, value } => format!("- {key} {value}"),
-        Change::Changed { key, old, new } => format!("~ {key} {old} -> {new}"),
+/// A change with the names that the book has for it.
+struct Shown<'a> {
+    change: Change,
+    book: &'a Book,
+}
+
+impl Shown<'_> {
+    fn name(&self, word: Option<&[u8; 32]>) -> Option<String> {
+        word.and_then(|word| self.book.name(word))
+            .map(str::to_string)
+    }
+
+    /// The key, then its value before and after.
+    fn words(&self) -> (Key, Option<Value>, Option<Value>) {
+        match self.change {
+            Change::Added { key, value } => (key, None, Some(value)),
+            Change::Removed { key, value } => (key, Some(value), None),
+            Change::Changed { key, old, new } => (key, Some(old), Some(new)),
+        }
+    }
+
+    /// The names of the same three.
+    fn names(&self) -> [Option<String>; 3] {
+        let (key, old, new) = self.words();
+        let value = |value: Option<Value>| self.name(value.as_ref().map(Value::as_bytes));
+        [self.name(Some(key.as_bytes())), value(old), value(new)]
+    }
+
+    fn line(&self) -> String {
+        let line = match self.change {
+            Change::Added { key, value } => format!("+ {key} {value}"),
+            Change::Removed { key, value } => format!("- {key} {value}"),
+            Change::Changed { key, old, new } => format!("~ {key} {old} -> {new}"),
+        };
+        let names = self.names();
+        if names.iter().all(Option::is_none) {
+            return line;
+        }
+        let [key, old, new] = names.map(|name| name.map_or("?".to_string(), |n| quoted(&n)));
+        let values = match self.change {
+            Change::Added { .. } => new,
+            Change::Removed { .. } => old,
+            Change::Changed { .. } => format!("{old} -> {new}"),
+        };
+        format!("{line}  {key} = {values}")
+    }
+
+    fn csv(&self) -> String {
+        let (key, old, new) = self.words();
+        let what = match self.change {
+            Change::Added { .. } => "added",
+            Change::Removed { .. } => "removed",
+            Change::Changed { .. } => "changed",
+        };
+        let hex = |value: Option<Value>| value.map_or(String::new(), |value| value.to_string());
+        let [a, b, c] = self.names().map(|name| csv(&name.unwrap_or_default()));
+        format!("{what},{key},{},{},{a},{b},{c}", hex(old), hex(new))
+    }
+
+    fn object(&self) -> Json {
+        let (key, old, new) = self.words();
+        let [key_name, old_name, new_name] = self.names();
+        Json::Object(vec![
+            ("key", key.to_string().into()),
+            ("old", old.map(|value| value.to_string()).into()),
+            ("new", new.map(|value| value.to_string()).into()),
+            ("key_name", key_name.into()),
+            ("old_name", old_name.into()),
+            ("new_name", new_name.into()),
+        ])
     }
 }
 
-fn object(change: &Change) -> Json {
-    let (old, new) = match change {
-        Change::Added { value, .. } => (None, Some(value.to_string())),
-        Change::Removed { value, .. } => (Some(value.to_string()), None),
-        Change::Changed { old, new, .. } => (Some(old.to_string()), Some(new.to_string())),
+/// The two versions that are compared: those that are named, one of a day and the latest, or what the last publishing changed.
+fn versions(args: &Args, store: &Bytes, path: &Path) -> Result<(u32, u32), Fail> {
+    let latest = store.header().map_or(0, |header| header.latest);
+    let second = match args.word(2) {
+        Some(word) => number("SECOND", word)?,
+        None => latest,
     };
-    Json::Object(vec![
-        ("key", change.key().to_string().into()),
-        ("old", old.into()),
-        ("new", new.into()),
-    ])
+    if args.word(1).is_some() && !args.has("--at") {
+        return Ok((number("FIRST", args.word(1).unwrap_or_default())?, second));
+    }
+    if args.has("--at") {
+        return Ok((version(args, 1, store, path)?, second));
+    }
+    let refused = refused(store, path);
+    let slots = store.slots().map_err(&refused)?;
+    let header = store.header().map_err(&refused)?;
+    let last = held::spans(header, &slots, []);
+    let last = last.last().map_or(header.oldest, |span| span.first);
+    Ok((last.saturating_sub(1).max(header.oldest), latest))
+}
+
+/// '2 (2026-05-10 10:00, tove: Lyrics withdrawn)', with what the book says of it.
+fn dated(store: &Bytes, book: &Book, version: u32) -> String {
+    let slots = store.slots().unwrap_or_default();
+    let number = held::published(&slots, version);
+    let Ok(root) = store.root(version) else {
+        return version.to_string();
+    };
+    match book.said(number, root) {
+        Said::Nothing => version.to_string(),
+        Said::Disagrees => format!("{version} (the book disagrees)"),
+        said => {
+            let parts = [when(said), remark(said)];
+            let parts: Vec<String> = parts.into_iter().filter(|p| !p.is_empty()).collect();
+            format!("{version} ({})", parts.join(", "))
+        }
+    }
 }
 
 /// The lines of a batch that `apply` takes.
@@ -75,17 +169,14 @@ fn batch(changes: &Changes) -> Result<String, Fail> {
             None => format!("- {key}\n"),
         };
     }
+    text += &format!("end {}\n", batch.len());
     Ok(text)
 }
 
 pub fn diff(args: &Args, out: &mut Out) -> Result<u8, Fail> {
     let path = args.path(0);
     let store = read_store(path)?;
-    let first = number("FIRST", args.word(1).unwrap_or_default())?;
-    let second = match args.word(2) {
-        Some(word) => number("SECOND", word)?,
-        None => store.header().map_or(0, |header| header.latest),
-    };
+    let (first, second) = versions(args, &store, path)?;
     let limit = match args.value("--limit") {
         Some(word) => number("--limit", word)?,
         None => MOST_VISITS,
@@ -105,41 +196,87 @@ pub fn diff(args: &Args, out: &mut Out) -> Result<u8, Fail> {
             format_args!("{}: {}", shown(to), counted(changes.records(), "record")),
         );
     }
-    if args.has("--batch") {
-        let text = batch(&changes)?;
-        if out.json {
-            return Err(Fail::Usage(
-                "--batch is lines that apply takes, and --json is not: choose one".to_string(),
-            ));
-        }
+    let other = ["--batch", "--csv"].into_iter().find(|form| args.has(form));
+    if let Some(form) = other.filter(|_| out.json) {
+        return Err(Fail::Usage(format!(
+            "{form} and --json are two forms: choose one"
+        )));
+    }
+    let book = Book::of(args, Some(path))?;
+    let list = Compared {
+        store,
+        versions: (first, second),
+        changes,
+        book,
+    };
+    match other {
+        Some("--batch") => list.batch(out),
+        Some(_) => list.csv(out),
+        None if out.json => out.answer(0, list.json(args.has("--stat")), ""),
+        None => list.lines(args.has("--stat"), out),
+    }
+}
+
+/// Two versions compared, to be shown in one of the forms.
+struct Compared {
+    store: Bytes,
+    versions: (u32, u32),
+    changes: Changes,
+    book: Book,
+}
+
+impl Compared {
+    fn shown(&self) -> impl Iterator<Item = Shown<'_>> {
+        self.changes.iter().map(|change| Shown {
+            change,
+            book: &self.book,
+        })
+    }
+
+    fn batch(&self, out: &mut Out) -> Result<u8, Fail> {
+        let text = batch(&self.changes)?;
         let mut answer = out.decided(0);
         answer.raw(text.as_bytes())?;
-        return answer.end();
+        answer.end()
     }
-    let counts = Counts::of(&changes);
-    if out.json {
+
+    fn csv(&self, out: &mut Out) -> Result<u8, Fail> {
+        let mut answer = out.decided(0);
+        answer.line("change,key,old,new,key_name,old_name,new_name")?;
+        for change in self.shown() {
+            answer.line(change.csv())?;
+        }
+        answer.end()
+    }
+
+    fn json(&self, counts_alone: bool) -> Json {
+        let counts = Counts::of(&self.changes);
         let mut fields = vec![
-            ("first", first.into()),
-            ("second", second.into()),
+            ("first", self.versions.0.into()),
+            ("second", self.versions.1.into()),
             ("added", counts.added.into()),
             ("removed", counts.removed.into()),
             ("changed", counts.changed.into()),
         ];
-        if !args.has("--stat") {
-            let list = changes.iter().map(|change| object(&change)).collect();
+        if !counts_alone {
+            let list = self.shown().map(|change| change.object()).collect();
             fields.push(("changes", Json::List(list)));
         }
-        return out.answer(0, Json::Object(fields), "");
+        Json::Object(fields)
     }
-    let mut answer = out.decided(0);
-    if !args.has("--stat") {
-        for change in changes.iter() {
-            answer.line(line(&change))?;
+
+    fn lines(&self, counts_alone: bool, out: &mut Out) -> Result<u8, Fail> {
+        let mut answer = out.decided(0);
+        for change in self.shown().filter(|_| !counts_alone) {
+            answer.line(change.line())?;
         }
+        let dated = |version| dated(&self.store, &self.book, version);
+        answer.line(format_args!(
+            "version {} to {}: {}",
+            dated(self.versions.0),
+            dated(self.versions.1),
+            Counts::of(&self.changes).line()
+        ))?;
+        answer.end()
     }
-    answer.line(format_args!(
-        "version {first} to {second}: {}",
-        counts.line()
-    ))?;
-    answer.end()
 }

@@ -14,10 +14,19 @@ pub enum Fail {
     File(String),
     /// The book beside the store can't say it, or a signed root is past its date: 4.
     Book(String),
+    /// What would be published looks wrong, and an option that the sentence names lets it through: 5.
+    Held(String),
     /// The library refused, or would have: 10 and the number. The sentence says what to do.
     Refused(Error, String),
-    /// The same, and the records that are missing.
-    Damaged(Error, String, Vec<Missing>),
+    /// The same, the records that are missing, and where none is, what is wrong.
+    Damaged(Error, String, Vec<Missing>, Vec<Wrong>),
+}
+
+/// What is wrong with the record in a slot.
+#[derive(Debug)]
+pub struct Wrong {
+    pub slot: u32,
+    pub why: String,
 }
 
 impl Fail {
@@ -26,6 +35,7 @@ impl Fail {
             Fail::Usage(_) => 2,
             Fail::File(_) => 3,
             Fail::Book(_) => 4,
+            Fail::Held(_) => 5,
             Fail::Refused(error, _) | Fail::Damaged(error, ..) => 10 + error.number() as u8,
         }
     }
@@ -49,7 +59,8 @@ impl fmt::Display for Fail {
             Fail::Usage(sentence) | Fail::File(sentence) | Fail::Book(sentence) => {
                 f.write_str(sentence)
             }
-            Fail::Refused(error, advice) | Fail::Damaged(error, advice, _) => {
+            Fail::Held(sentence) => write!(f, "held back: {sentence} Nothing was changed."),
+            Fail::Refused(error, advice) | Fail::Damaged(error, advice, ..) => {
                 write!(f, "refused with {}: {error}. {advice}", error.number())
             }
         }

@@ -2,7 +2,9 @@
 
 use crate::args::{number, Args};
 use crate::fail::{file, why, Fail};
+use crate::out::beside;
 use crate::plain::shown;
+use crate::signals;
 use std::ffi::{OsStr, OsString};
 use std::fs::{self, File, FileType, Metadata, OpenOptions, TryLockError};
 use std::io::{self, Read, Write};
@@ -32,6 +34,11 @@ const NONBLOCK: i32 = 0o4000;
 /// The bytes of a file, or of standard input for '-'.
 pub fn read(path: &Path, limit: u64) -> Result<Vec<u8>, Fail> {
     let mut bytes = Vec::new();
+    if path.as_os_str() == "-" && signals::was_closed(signals::INPUT) {
+        return Err(Fail::File(
+            "cannot read standard input: it is closed".to_string(),
+        ));
+    }
     let read = if path.as_os_str() == "-" {
         io::stdin().lock().take(limit).read_to_end(&mut bytes)
     } else {
@@ -95,12 +102,11 @@ impl Locked {
                     }
                     if !told && since.elapsed() >= Duration::from_secs(1) {
                         told = true;
-                        let _ = writeln!(
-                            io::stderr(),
-                            "grants: waiting for {}, which writes {} (--wait SECONDS bounds this)",
+                        beside(format_args!(
+                            "waiting for {}, which writes {} (--wait SECONDS bounds this)",
                             holder(&held),
                             shown(given)
-                        );
+                        ));
                     }
                     std::thread::sleep(pause);
                     pause = (pause * 2).min(Duration::from_millis(40));
@@ -195,6 +201,29 @@ fn open_to_write(given: &Path, store: &Path) -> Result<File, Fail> {
     open.map_err(|e| stays(&why(&e)))
 }
 
+/// A user's name, else the number.
+fn user(id: u32) -> String {
+    let id = id.to_string();
+    let users = fs::read_to_string("/etc/passwd").unwrap_or_default();
+    let mut lines = users.lines().map(|l| l.split(':').collect::<Vec<_>>());
+    let name = lines.find(|l| l.get(2) == Some(&id.as_str()));
+    name.map_or(id.clone(), |l| l[0].to_string())
+}
+
+/// The user that runs this.
+pub fn own_user() -> String {
+    let own = fs::metadata("/proc/self").ok();
+    own.map(|about| user(about.uid())).unwrap_or_default()
+}
+
+/// Whether two paths lead to one file.
+pub fn one_file(a: &Path, b: &Path) -> bool {
+    match (fs::metadata(a), fs::metadata(b)) {
+        (Ok(a), Ok(b)) => same(&a, &b),
+        _ => false,
+    }
+}
+
 /// Who holds the lock of a file, as far as the system tells.
 fn holder(file: &File) -> String {
     let process = file.metadata().ok().and_then(|about| {
@@ -209,14 +238,8 @@ fn holder(file: &File) -> String {
     let Some(process) = process.filter(|n| *n != 0) else {
         return "another process".to_string();
     };
-    let owner = fs::metadata(format!("/proc/{process}")).ok().map(|about| {
-        let id = about.uid().to_string();
-        let users = fs::read_to_string("/etc/passwd").unwrap_or_default();
-        let mut lines = users.lines().map(|l| l.split(':').collect::<Vec<_>>());
-        let name = lines.find(|l| l.get(2) == Some(&id.as_str()));
-        name.map_or(id.clone(), |l| l[0].to_string())
-    });
-    match owner {
+    let owner = fs::metadata(format!("/proc/{process}")).ok();
+    match owner.map(|about| user(about.uid())) {
         Some(owner) => format!("process {process} of user {owner}"),
         None => format!("process {process}"),
     }
@@ -251,7 +274,7 @@ impl Beside {
             let file = match made {
                 Ok(file) => file,
                 Err(e) if e.kind() == io::ErrorKind::AlreadyExists => {
-                    left_behind(&path, place)?;
+                    left_behind(&path, place);
                     // Where that was removed the same name will do, else the next.
                     match fs::symlink_metadata(&path) {
                         Err(_) => return Beside::make(given, place, mode),
@@ -328,18 +351,19 @@ fn beside_name(place: &Path, n: usize) -> OsString {
     beside
 }
 
-/// Removes what a writer left that is no more; what is held, or may not be removed, stays.
-fn left_behind(path: &Path, place: &Path) -> Result<(), Fail> {
+/// Removes what a writer left that is no more. What is held, may not be removed, or is no file, stays and is stepped around: in a folder that
+/// others may write too, a link that one of them put there hinders no one.
+fn left_behind(path: &Path, place: &Path) {
     let Ok(about) = fs::symlink_metadata(path) else {
-        return Ok(());
+        return;
     };
     if !about.is_file() {
-        return Err(no_file("write", path, &about, "; remove it"));
+        return;
     }
     // A second name of the file itself: it got its own, and the first was to go.
     if fs::symlink_metadata(place).is_ok_and(|there| same(&there, &about)) {
         let _ = fs::remove_file(path);
-        return Ok(());
+        return;
     }
     let open = OpenOptions::new()
         .read(true)
@@ -350,7 +374,6 @@ fn left_behind(path: &Path, place: &Path) -> Result<(), Fail> {
             let _ = fs::remove_file(path);
         }
     }
-    Ok(())
 }
 
 /// The file that a path leads to, through symbolic links; where there is none yet, its place in the folder that will have it.
@@ -404,7 +427,12 @@ fn put_new(given: &Path, place: &Path, bytes: &[u8]) -> Result<(), Fail> {
 }
 
 fn synced(given: &Path, place: &Path) -> Result<(), Fail> {
+    // A name alone is one in the folder where the command runs.
     let folder = place.parent().unwrap_or(Path::new("/"));
+    let folder = match folder.as_os_str().is_empty() {
+        true => Path::new("."),
+        false => folder,
+    };
     File::open(folder).and_then(|f| f.sync_all()).map_err(|e| {
         Fail::File(format!(
             "cannot sync the folder of {}: {}; the new file is there all the same, but may not outlast a loss of power",
@@ -421,10 +449,22 @@ pub fn regular_or_nothing(verb: &str, given: &Path, place: &Path) -> Result<(), 
     }
 }
 
+/// Refuses besides what is read-only: the folder would allow to replace it, and who made it so did not want that.
+pub fn may_replace(given: &Path, place: &Path) -> Result<(), Fail> {
+    regular_or_nothing("write", given, place)?;
+    match fs::symlink_metadata(place) {
+        Ok(about) if about.permissions().readonly() => Err(Fail::File(format!(
+            "cannot write {}: it is read-only (chmod u+w allows it); nothing was changed",
+            shown(given)
+        ))),
+        _ => Ok(()),
+    }
+}
+
 /// Replaces a file beside the store, whose lock keeps other writers away, or makes it.
 pub fn replace(given: &Path, place: &Path, bytes: &[u8]) -> Result<(), Fail> {
     let failed = |e: io::Error| file("write", given, &e);
-    regular_or_nothing("write", given, place)?;
+    may_replace(given, place)?;
     let old = fs::symlink_metadata(place).ok();
     let mode = if old.is_some() { 0o600 } else { 0o666 };
     let mut beside = Beside::make(given, place, mode)?;
@@ -441,7 +481,12 @@ pub fn write(args: &Args, path: &Path, bytes: &[u8], inputs: &[&Path]) -> Result
     }
     let place = |p: &Path| fs::metadata(p).ok().map(|m| (m.dev(), m.ino()));
     if let Some(there) = place(path) {
-        if inputs.iter().any(|input| place(input) == Some(there)) {
+        let books = inputs
+            .iter()
+            .filter_map(|store| beside_store(store, ".book"));
+        let books = books.chain(args.value("--book").map(PathBuf::from));
+        let mut read = inputs.iter().map(|input| input.to_path_buf()).chain(books);
+        if read.any(|input| place(&input) == Some(there)) {
             return Err(Fail::Usage(format!(
                 "{} is read by this command and would be lost: name another file to write",
                 shown(path)

@@ -2,7 +2,8 @@
 
 use crate::args::{number, Args};
 use crate::asked::{read_store, refused};
-use crate::commands::{both_to_output, object, ABSENT};
+use crate::json::object;
+use crate::out::{both_to_output, ABSENT};
 use crate::fail::Fail;
 use crate::files;
 use crate::out::Out;

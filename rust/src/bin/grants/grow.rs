@@ -2,10 +2,11 @@
 
 use crate::args::{number, Args};
 use crate::asked::{refused, Bytes};
-use crate::commands::{object, writable};
+use crate::commands::writable;
 use crate::fail::Fail;
 use crate::files::Locked;
 use crate::held;
+use crate::json::object;
 use crate::out::Out;
 use crate::plain::{counted, shown};
 use grants::{Batch, Error, Store};

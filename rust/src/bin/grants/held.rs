@@ -1,8 +1,27 @@
 //! What the versions of a sound store hold. Records say when keys may have come and gone; the values are those that the library reads.
 
-use crate::asked::Bytes;
-use grants::{Error, Header, Key, Place, Record, Value};
+use grants::{sha256, Body, Error, Header, Key, Place, Record, Store, Value};
 use std::collections::{BTreeMap, BTreeSet};
+
+/// A store as it was read.
+pub type Bytes = Store<Vec<u8>>;
+
+/// The SHA-256 of a record's message (docs/RULES.md).
+pub fn hash(record: &Record) -> [u8; 32] {
+    let none = [0; 32];
+    let (first, left, right) = match record.body {
+        Body::Leaf { key, value } => (1, <[u8; 32]>::from(key), <[u8; 32]>::from(value)),
+        Body::Inner { left, right, .. } => (
+            0,
+            left.map_or(none, |c| c.hash),
+            right.map_or(none, |c| c.hash),
+        ),
+    };
+    let mut message = [first; 65];
+    message[1..33].copy_from_slice(&left);
+    message[33..].copy_from_slice(&right);
+    sha256(&message)
+}
 
 pub type Grants = BTreeMap<Key, Value>;
 
@@ -92,6 +111,30 @@ pub fn spans(
                 .or((first > header.oldest).then_some(first)),
         })
         .collect()
+}
+
+/// How many publishings a guess goes by.
+const LAST: usize = 10;
+
+/// How many records one of the last publishings made: the one in the middle, by their number, so that a list that came all at once counts for no more than
+/// another one. None where no publishing is kept but the oldest, or none made a record.
+pub fn usual(slots: &[Option<Record>], spans: &[Span]) -> Option<f64> {
+    let last = spans.iter().skip(1).rev().take(LAST);
+    let mut made: Vec<usize> = last
+        .map(|span| {
+            let records = slots.iter().flatten();
+            records
+                .filter(|record| record.version == span.first)
+                .count()
+        })
+        .collect();
+    made.sort_unstable();
+    let middle = made.len() / 2;
+    let usual = match made.len() % 2 {
+        0 => (*made.get(middle.checked_sub(1)?)? + *made.get(middle)?) as f64 / 2.0,
+        _ => *made.get(middle)? as f64,
+    };
+    (usual > 0.0).then_some(usual)
 }
 
 /// The number under which a kept version was published: its own, or the one before it that it reads as.

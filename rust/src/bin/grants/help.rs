@@ -11,8 +11,38 @@ which then stands for its SHA-256. Where a file is read, - is standard input; --
 const STATUS: &str = "\
 exit status: 0 accepted; 1 absent (get, verify, list, history); 2 the command line is wrong; 3 a file can't be read or
 written; 4 the book can't tell, a store can't grow, a root is past its date or not the rescued one, or verify --against
-finds an accepted proof false; 10 + N refused with number N of docs/RULES.md.
+finds an accepted proof false; 5 held back, and the sentence names the option that lets it through; 10 + N refused with
+number N of docs/RULES.md.
 A command that fails leaves the store as it was.";
+
+const EXAMPLES: &str = "\
+A grant, published, and its root to be signed:
+
+  grants format market 100
+  printf '+ \"chords sonata\" \"read\"\\n' >first
+  grants apply market first --message 'Spring list' --dry-run
+  grants apply market first --message 'Spring list'
+  grants root market --out root.txt --not-after 2026-12-31
+
+A list that a program makes, published at night; what looks wrong is held back:
+
+  make-list >list && grants import market list --most-removed 20 || mail -s 'not published' desk <list
+
+What an editor does with the proof of a key:
+
+  grants prove market '\"chords sonata\"' --out proof
+  grants verify root.txt '\"chords sonata\"' proof --least 7";
+
+const FILES: &str = "\
+STORE: the store; it is replaced as a whole and never written into.
+
+STORE.book: names, dates and messages, a text for people. Nothing is trusted in it that the library doesn't say.
+
+.STORE.grants-new: the new store while it is written; the next writer removes one that was left.";
+
+const ENVIRONMENT: &str = "\
+GRANTS_AUTHOR: by whom a version is published, where --author doesn't say it; else USER, LOGNAME, or the name that the
+system has for the user.";
 
 /// Whether the library's proofs were checked where it was built; rust/build.rs reads it beside the archive.
 pub const PROOFS: &str = env!("GRANTS_PROOFS");
@@ -88,6 +118,19 @@ pub fn man() -> String {
             text += &format!(".TP\n.B {}{}", plain(&call), plain(help));
         }
     }
+    for (head, section) in [
+        ("EXAMPLES", EXAMPLES),
+        ("FILES", FILES),
+        ("ENVIRONMENT", ENVIRONMENT),
+    ] {
+        text += &format!(".SH {head}\n");
+        for paragraph in section.split("\n\n") {
+            text += &match paragraph.starts_with(' ') {
+                true => format!(".PP\n.nf\n{}.fi\n", plain(paragraph)),
+                false => format!(".PP\n{}", plain(paragraph)),
+            };
+        }
+    }
     text += ".SH EXIT STATUS\n";
     text += &plain(STATUS.strip_prefix("exit status: ").unwrap_or(STATUS));
     text += ".SH SEE ALSO\ndocs/TOOL.md, docs/RULES.md and docs/SIGNING.md of the sources\n";
@@ -97,7 +140,7 @@ pub fn man() -> String {
 pub fn bash() -> String {
     let names: Vec<&str> = COMMANDS.iter().map(|command| command.name).collect();
     let mut text = format!(
-        "_grants() {{\n  local word=${{COMP_WORDS[COMP_CWORD]}} options\n  if [ \"$COMP_CWORD\" = 1 ]; then\n    mapfile -t COMPREPLY < <(compgen -W '{} help --help --version' -- \"$word\")\n    return\n  fi\n  case ${{COMP_WORDS[1]}} in\n",
+        "_grants() {{\n  local word=${{COMP_WORDS[COMP_CWORD]}} options at=1\n  while [ \"$at\" -lt \"$COMP_CWORD\" ] && [ \"${{COMP_WORDS[at]}}\" = --json ]; do at=$((at + 1)); done\n  if [ \"$COMP_CWORD\" = \"$at\" ]; then\n    mapfile -t COMPREPLY < <(compgen -W '{} help --help --version' -- \"$word\")\n    return\n  fi\n  case ${{COMP_WORDS[at]}} in\n",
         names.join(" ")
     );
     for command in COMMANDS {
@@ -109,7 +152,7 @@ pub fn bash() -> String {
         );
     }
     text += &format!("    help) options='{}' ;;\n  esac\n", names.join(" "));
-    text += "  case $word in\n    -*) mapfile -t COMPREPLY < <(compgen -W \"$options\" -- \"$word\") ;;\n    *)\n      if [ \"${COMP_WORDS[1]}\" = help ]; then\n        mapfile -t COMPREPLY < <(compgen -W \"$options\" -- \"$word\")\n      else\n        mapfile -t COMPREPLY < <(compgen -f -- \"$word\")\n      fi ;;\n  esac\n}\ncomplete -o filenames -F _grants grants";
+    text += "  case $word in\n    -*) mapfile -t COMPREPLY < <(compgen -W \"$options\" -- \"$word\") ;;\n    *)\n      if [ \"${COMP_WORDS[at]}\" = help ]; then\n        mapfile -t COMPREPLY < <(compgen -W \"$options\" -- \"$word\")\n      else\n        mapfile -t COMPREPLY < <(compgen -f -- \"$word\")\n      fi ;;\n  esac\n}\ncomplete -o filenames -F _grants grants";
     text
 }
 
@@ -123,7 +166,7 @@ pub fn zsh() -> String {
     for command in COMMANDS {
         text += &format!("  '{}:{}'\n", command.name, quote(command.what));
     }
-    text += ")\nif (( CURRENT == 2 )); then\n  _describe command commands\n  return\nfi\ncase $words[2] in\n";
+    text += ")\nwhile (( CURRENT > 2 )) && [[ $words[2] == --json ]]; do\n  shift words\n  (( CURRENT-- ))\ndone\nif (( CURRENT == 2 )); then\n  _describe command commands\n  return\nfi\ncase $words[2] in\n";
     for command in COMMANDS {
         text += &format!("  {}) _arguments", command.name);
         for choice in command.choices {

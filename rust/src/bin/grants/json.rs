@@ -1,5 +1,6 @@
 //! JSON, as much as is written here: objects, lists, strings, numbers.
 
+use crate::plain::is_hidden;
 use std::fmt::{self, Write};
 
 pub enum Json {
@@ -9,6 +10,10 @@ pub enum Json {
     Text(String),
     List(Vec<Json>),
     Object(Vec<(&'static str, Json)>),
+}
+
+pub fn object(fields: Vec<(&'static str, Json)>) -> Json {
+    Json::Object(fields)
 }
 
 impl From<bool> for Json {
@@ -79,7 +84,8 @@ fn text(f: &mut fmt::Formatter<'_>, s: &str) -> fmt::Result {
     for c in s.chars() {
         match c {
             '"' | '\\' => write!(f, "\\{c}")?,
-            c if u32::from(c) < 0x20 => write!(f, "\\u{:04x}", u32::from(c))?,
+            // What a terminal would obey too: none of it is beyond 16 bits.
+            c if is_hidden(c) => write!(f, "\\u{:04x}", u32::from(c))?,
             c => f.write_char(c)?,
         }
     }

@@ -1,15 +1,14 @@
 //! What the versions hold and when it came: log, list, export, history. The store is checked first.
 
 use crate::args::{number, Args};
-use crate::asked::{key, read_store, refused, version, Bytes};
+use crate::asked::{key, note, read_store, refused, version, Bytes};
 use crate::book::{Book, Said};
-use crate::commands::{object, ABSENT};
 use crate::dates;
 use crate::fail::Fail;
 use crate::held::{self, Span};
-use crate::json::Json;
+use crate::json::{object, Json};
 use crate::missing::refused_read;
-use crate::out::Out;
+use crate::out::{Out, ABSENT};
 use crate::page::{Page, Placed};
 use crate::plain::{counted, escaped, quoted, shown};
 use grants::{to_hex, Error, Header, Key, Record, Root, Slot, Value};
@@ -34,7 +33,7 @@ pub fn ends(bytes: &[u8], full: bool) -> String {
 }
 
 /// 'mira: Spring list', or what can be said instead.
-fn remark(said: Said<'_>) -> String {
+pub fn remark(said: Said<'_>) -> String {
     match said {
         Said::Nothing => String::new(),
         Said::Disagrees => "the book disagrees".to_string(),
@@ -46,7 +45,7 @@ fn remark(said: Said<'_>) -> String {
     }
 }
 
-fn when(said: Said<'_>) -> String {
+pub fn when(said: Said<'_>) -> String {
     match said {
         Said::This(entry) => dates::short(entry.time),
         _ => "-".to_string(),
@@ -303,7 +302,44 @@ struct Listed {
     count: u64,
     page: Option<Page>,
     grants: Vec<Placed>,
+    matched: Option<Matched>,
     book: Book,
+}
+
+/// Of how many grants those are that match, and how many of these have no name to look at.
+struct Matched {
+    of: usize,
+    without_name: usize,
+}
+
+impl Matched {
+    /// '1 of 2 match; 1 has no name'.
+    fn line(&self, matching: usize) -> String {
+        let match_ = if matching == 1 { "matches" } else { "match" };
+        let has = if self.without_name == 1 {
+            "has"
+        } else {
+            "have"
+        };
+        format!(
+            "{matching} of {} {match_}; {} {has} no name",
+            self.of, self.without_name
+        )
+    }
+}
+
+/// Leaves those grants whose key has a name with this part in it.
+fn matching(grants: &mut Vec<Placed>, book: &Book, part: &str) -> Matched {
+    let of = grants.len();
+    let nameless = grants
+        .iter()
+        .filter(|(_, key, _)| book.name(key.as_bytes()).is_none());
+    let without_name = nameless.count();
+    grants.retain(|(_, key, _)| {
+        book.name(key.as_bytes())
+            .is_some_and(|name| name.contains(part))
+    });
+    Matched { of, without_name }
 }
 
 fn listed(args: &Args) -> Result<Listed, Fail> {
@@ -329,12 +365,8 @@ fn listed(args: &Args) -> Result<Listed, Fail> {
         Some(page) => page.read(&store, path, version, count)?,
     };
     let book = Book::of(args, Some(path))?;
-    if let Some(part) = args.said("--match")? {
-        grants.retain(|(_, key, _)| match book.name(key.as_bytes()) {
-            Some(name) => name.contains(&part),
-            None => false,
-        });
-    }
+    let part = args.said("--match")?;
+    let matched = part.map(|part| matching(&mut grants, &book, &part));
     Ok(Listed {
         version,
         published: held::published(&slots, version),
@@ -342,6 +374,7 @@ fn listed(args: &Args) -> Result<Listed, Fail> {
         count,
         page,
         grants,
+        matched,
         book,
     })
 }
@@ -363,6 +396,7 @@ pub fn list(args: &Args, out: &mut Out) -> Result<u8, Fail> {
         count,
         page,
         grants,
+        matched,
         book,
     } = listed(args)?;
     let said = book.said(number, root);
@@ -384,11 +418,17 @@ pub fn list(args: &Args, out: &mut Out) -> Result<u8, Fail> {
             ("count", Json::Number(count)),
             ("grants", Json::List(list.collect())),
         ];
+        if let Some(matched) = &matched {
+            fields.push(("without_name", matched.without_name.into()));
+        }
         fields.extend(said_fields(said));
         return out.answer(status, object(fields), "");
     }
     let mut text = String::new();
     if args.has("--csv") {
+        if let Some(matched) = &matched {
+            note(&book, &matched.line(grants.len()));
+        }
         text += "key,value,key_name,value_name\n";
         for (_, key, value) in &grants {
             let names =
@@ -406,10 +446,12 @@ pub fn list(args: &Args, out: &mut Out) -> Result<u8, Fail> {
             Said::Disagrees => " (the book disagrees)".to_string(),
             Said::Nothing => String::new(),
         };
-        let held = match page {
-            Some(page) => page.heading(count, &grants),
-            None if grants.len() as u64 == count => counted(count, "grant"),
-            None => format!("{} of {}", grants.len(), counted(count, "grant")),
+        let held = match (page, &matched) {
+            (Some(page), _) => page.heading(count, &grants),
+            (None, Some(matched)) => {
+                format!("{}; of all of them", matched.line(grants.len()))
+            }
+            (None, None) => counted(count, "grant"),
         };
         let _ = writeln!(text, "version {version}{published}: {held}, root {root}");
         let widest = grants.last().map_or(0, |(last, ..)| last.to_string().len());
@@ -442,8 +484,9 @@ pub fn named(book: &Book, key: &Key, value: &Value) -> String {
     format!("{key} = {value}")
 }
 
-fn csv(text: &str) -> String {
-    let text = escaped(text);
+/// A field of CSV. A backslash in a name is doubled, so that one that stands for a character of no look is told from it.
+pub fn csv(text: &str) -> String {
+    let text = escaped(&text.replace('\\', "\\\\"));
     if text.contains([',', '"']) {
         return format!("\"{}\"", text.replace('"', "\"\""));
     }
@@ -485,6 +528,8 @@ pub fn export(args: &Args, out: &mut Out) -> Result<u8, Fail> {
         );
         let _ = writeln!(text, "{}", line.trim_end_matches([' ', '#']));
     }
+    // The line by which `import` sees that nothing was cut off.
+    let _ = writeln!(text, "end {}", grants.len());
     if out.json {
         return out.answer(
             0,

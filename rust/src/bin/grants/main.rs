@@ -8,10 +8,13 @@ mod commands;
 mod counts;
 mod dates;
 mod diff;
+mod effect;
 mod fail;
+mod faults;
 mod files;
 mod finding;
 mod grow;
+mod guards;
 mod held;
 mod help;
 mod json;
@@ -20,16 +23,21 @@ mod listing;
 mod missing;
 mod moving;
 mod names;
+mod note;
 mod out;
 mod page;
 mod palette;
 mod picture;
 mod plain;
+mod progress;
+mod proof;
 mod publish;
 mod report;
 mod rescue;
+mod room;
 mod show;
 mod signals;
+mod sizing;
 mod statement;
 mod table;
 
@@ -37,7 +45,6 @@ use fail::Fail;
 use json::Json;
 use out::Out;
 use std::ffi::OsString;
-use std::io::Write;
 use std::process::ExitCode;
 use table::{Command, COMMANDS};
 
@@ -46,17 +53,16 @@ fn main() -> ExitCode {
     let given: Vec<OsString> = std::env::args_os().skip(1).collect();
     let json = args::everywhere(&given, "--json");
     let mut out = Out::new(json);
-    let fail = match run(&given, &mut out) {
+    let fail = match heard().and_then(|()| run(&given, &mut out)) {
         Ok(status) => return ExitCode::from(status),
         Err(fail) => fail,
     };
     let status = fail.status();
     let sentence = plain::escaped(&fail.to_string());
-    // There is nowhere left to say that this could not be written.
-    let _ = writeln!(std::io::stderr(), "grants: {sentence}");
-    let missing = match &fail {
-        Fail::Damaged(_, _, missing) => missing.as_slice(),
-        _ => &[],
+    out::beside(format_args!("{sentence}"));
+    let (missing, wrong) = match &fail {
+        Fail::Damaged(_, _, missing, wrong) => (missing.as_slice(), wrong.as_slice()),
+        _ => (&[] as &[_], &[] as &[_]),
     };
     if json {
         let mut fields = vec![
@@ -70,17 +76,33 @@ fn main() -> ExitCode {
                 Json::List(missing.iter().map(missing::object).collect()),
             ));
         }
+        if fail.lists() {
+            let wrong = wrong.iter().map(missing::wrong_object);
+            fields.push(("wrong", Json::List(wrong.collect())));
+        }
         // The sentence is on standard error already.
         let _ = out.answer(status, Json::Object(fields), "");
     } else if fail.lists() {
         let mut answer = out.decided(status);
         // Where the list can't be written, the sentence and the status stand.
-        let _ = missing
-            .iter()
-            .try_for_each(|one| answer.line(missing::line(one)));
+        let lines = missing.iter().map(missing::line);
+        let _ = lines
+            .chain(wrong.iter().map(missing::wrong_line))
+            .try_for_each(|line| answer.line(line));
         let _ = answer.end();
     }
     ExitCode::from(status)
+}
+
+/// What no one could read is not done at all.
+fn heard() -> Result<(), Fail> {
+    match signals::was_closed(signals::OUTPUT) {
+        true => Err(Fail::File(
+            "standard output is closed, so no one would have the answer; nothing was done"
+                .to_string(),
+        )),
+        false => Ok(()),
+    }
 }
 
 fn run(given: &[OsString], out: &mut Out) -> Result<u8, Fail> {
@@ -105,8 +127,13 @@ fn run(given: &[OsString], out: &mut Out) -> Result<u8, Fail> {
         _ => {}
     }
     let command = named(&first)?;
-    match args::parse(command, rest)? {
-        Some(args) => (command.run)(&args, out),
+    match args::parse(command.form(), rest)? {
+        Some(args) => {
+            progress::begin(command.name, rest.iter().any(|word| word == "-"));
+            let done = (command.run)(&args, out);
+            progress::end();
+            done
+        }
         None => told("help", help::of(command), out),
     }
 }

@@ -1,10 +1,11 @@
 //! Which records a damaged store misses, in words for support and in JSON. The refusal is the library's; the places are read from the slots, for display.
 
 use crate::asked::{refused, Bytes};
-use crate::fail::Fail;
+use crate::fail::{Fail, Wrong};
+use crate::faults;
 use crate::json::Json;
-use crate::plain::{counted, shown};
-use grants::{Error, Key, Met, Missing, Place};
+use crate::plain::{at, counted, shown};
+use grants::{Error, Key, Met, Missing};
 use std::path::Path;
 
 /// What is done about a damaged store.
@@ -69,14 +70,7 @@ pub fn refused_read<'a>(
 fn wants(error: Error, path: &Path, version: u32, missing: Missing) -> Fail {
     let name = shown(path);
     let advice = format!("Version {version} of {name} wants {}, which is {}: {ADVICE}. `grants check` lists all that is missing.", named(&missing), harm(&missing));
-    Fail::Damaged(error, advice, vec![missing])
-}
-
-fn at(place: Place) -> String {
-    match place.count() {
-        0 => "the empty place".to_string(),
-        _ => format!("place {place}"),
-    }
+    Fail::Damaged(error, advice, vec![missing], vec![])
 }
 
 /// What to do about a position of a version that was refused.
@@ -131,18 +125,37 @@ pub fn refused_at<'a>(
     }
 }
 
-/// Check of an unsound store: all that is missing.
+/// 'slot 5: its hash is not the one in slot 9, the record above it'.
+pub fn wrong_line(wrong: &Wrong) -> String {
+    format!("slot {}: {}", wrong.slot, wrong.why)
+}
+
+pub fn wrong_object(wrong: &Wrong) -> Json {
+    Json::Object(vec![
+        ("slot", wrong.slot.into()),
+        ("why", wrong.why.clone().into()),
+    ])
+}
+
+/// Check of an unsound store: all that is missing, and where nothing is, what is wrong.
 pub fn unsound(store: &Bytes, path: &Path) -> Fail {
     let missing = store.missing().unwrap_or_default();
+    let wrong = match missing.len() {
+        0 => faults::of(store),
+        _ => vec![],
+    };
     let name = shown(path);
-    let what = match missing.len() {
-        0 => "No record is missing, but a hash, a count, a key or a lifetime is wrong".to_string(),
-        n => format!("{} missing, listed on standard output", are(n)),
+    let what = match (missing.len(), &wrong[..]) {
+        (0, []) => "No record is missing, but something is wrong".to_string(),
+        (0, [one]) => format!("No record is missing, but one is wrong: {}", wrong_line(one)),
+        (0, [first, ..]) => format!("No record is missing, but {} things are wrong, listed on standard output, the first in slot {}", wrong.len(), first.slot),
+        (n, _) => format!("{} missing, listed on standard output", are(n)),
     };
     Fail::Damaged(
         Error::Unsound,
         format!("{name} is damaged: {ADVICE}. {what}. Nothing was changed."),
         missing,
+        wrong,
     )
 }
 

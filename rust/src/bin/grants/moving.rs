@@ -4,7 +4,8 @@
 use crate::args::Args;
 use crate::asked::{refused, Bytes};
 use crate::book::Book;
-use crate::commands::{object, writable};
+use crate::commands::writable;
+use crate::json::object;
 use crate::fail::Fail;
 use crate::files::{self, Locked, STORE_LIMIT};
 use crate::held;

@@ -2,11 +2,11 @@
 
 use crate::args::Args;
 use crate::asked::{hex, LENGTH_ADVICE};
-use crate::book::Book;
-use crate::commands::{object, writable};
+use crate::book::{self, Book};
+use crate::commands::writable;
 use crate::fail::Fail;
 use crate::files::Locked;
-use crate::json::Json;
+use crate::json::{object, Json};
 use crate::out::Out;
 use crate::plain::quoted;
 use grants::{to_hex, Error};
@@ -20,6 +20,7 @@ pub fn name(args: &Args, out: &mut Out) -> Result<u8, Fail> {
         .ok_or_else(|| Fail::Usage("a name is text in UTF-8".to_string()))?;
     let path = writable(args)?;
     let _locked = Locked::take(args, path)?;
+    book::is_none_of(args, &[path])?;
     let mut book = Book::of(args, Some(path))?;
     let word = match args.word(2) {
         Some(digits) => hex("key", &digits.to_string_lossy())?,

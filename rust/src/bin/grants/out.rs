@@ -2,8 +2,23 @@
 
 use crate::fail::Fail;
 use crate::json::Json;
+use crate::progress;
 use std::fmt;
 use std::io::{self, BufWriter, ErrorKind, Write};
+
+/// The exit status of an accepted command that shows a key to be absent.
+pub const ABSENT: u8 = 1;
+
+pub fn both_to_output() -> Fail {
+    Fail::Usage("--out - and --json would both write standard output".to_string())
+}
+
+/// A line on standard error beside the answer, in one write, so that no other process's line falls into it.
+pub fn beside(line: fmt::Arguments<'_>) {
+    progress::hide();
+    // Where this can't be written the answer stands all the same.
+    let _ = io::stderr().write_all(format!("grants: {line}\n").as_bytes());
+}
 
 pub struct Out {
     to: BufWriter<io::Stdout>,
@@ -28,6 +43,7 @@ impl Out {
     }
 
     pub fn decided(&mut self, status: u8) -> Answer<'_> {
+        progress::end();
         Answer { out: self, status }
     }
 

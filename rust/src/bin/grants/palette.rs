@@ -1,13 +1,13 @@
 //! The proofs of several keys, made and checked at once.
 
 use crate::args::{number, Args};
-use crate::asked::{key, read_store, refused, LENGTH_ADVICE};
-use crate::commands::{both_to_output, object, proof_advice, proof_bytes, ABSENT};
+use crate::asked::{self, read_store, refused, Bytes, Keys, LENGTH_ADVICE};
 use crate::fail::Fail;
 use crate::files;
-use crate::json::Json;
-use crate::out::Out;
-use crate::plain::{counted, shown};
+use crate::json::{object, Json};
+use crate::out::{both_to_output, Out, ABSENT};
+use crate::plain::{counted, quoted, shown, words, Word};
+use crate::proof::{proof_advice, proof_bytes};
 use crate::statement::known_root;
 use grants::{to_hex, Error, Key, Palette, Value, PALETTE_KEYS, PROOF_BYTES};
 use std::path::Path;
@@ -15,33 +15,70 @@ use std::path::Path;
 /// The most bytes of a file of proofs: hex digits, with some room for what stands between them.
 const PALETTE_LIMIT: u64 = 4 * (PALETTE_KEYS * PROOF_BYTES) as u64;
 
-/// The keys of the words from one to another. A list is whole keys, so each must be one.
+/// The keys that are asked for: the lines of `--keys`, else the words from one to another. A list is whole keys, so each must be one.
 fn keys(args: &Args, from: usize, to: usize, store: Option<&Path>) -> Result<Vec<Key>, Fail> {
-    let each = (from..to).map(|i| {
-        let bytes: Result<[u8; 32], Vec<u8>> = key(args, i, store)?.try_into();
+    let asked = match args.value("--keys") {
+        Some(file) => lines(Path::new(file))?,
+        None => (from..to).map(|i| args.text(i)).collect(),
+    };
+    let known = Keys::new(args, store);
+    let each = asked.iter().zip(1..).map(|(text, i)| {
+        let bytes: Result<[u8; 32], Vec<u8>> = known.key(text)?.try_into();
         bytes.map(Key::from).map_err(|bytes| {
             let has = counted(bytes.len(), "byte");
-            let advice = format!("Key {} has {has}. {LENGTH_ADVICE}", i + 1 - from);
+            let advice = format!("Key {i} has {has}. {LENGTH_ADVICE}");
             Fail::Refused(Error::NotThirtyTwoBytes, advice)
         })
     });
     each.collect()
 }
 
-fn words(args: &Args) -> usize {
+/// The keys of a file, a line each; empty lines and what follows '#' are passed over.
+fn lines(path: &Path) -> Result<Vec<String>, Fail> {
+    let bytes = files::read(path, files::BATCH_LIMIT)?;
+    let off_form = |line: usize, why: &str| {
+        Fail::Usage(format!("line {line} of {} is no key: {why}", shown(path)))
+    };
+    let text = std::str::from_utf8(&bytes).map_err(|_| off_form(1, "it is no text in UTF-8"))?;
+    let mut keys = vec![];
+    for (line, at) in text.trim_start_matches('\u{feff}').lines().zip(1..) {
+        match &words(line).map_err(|why| off_form(at, why))?[..] {
+            [] => {}
+            [Word::Plain(digits)] => keys.push(digits.clone()),
+            [Word::Quoted(name)] => keys.push(quoted(name)),
+            _ => return Err(off_form(at, "a line has one key")),
+        }
+    }
+    Ok(keys)
+}
+
+fn count(args: &Args) -> usize {
     args.rest(0).count()
+}
+
+/// The version that several keys are asked for in: with `--keys` as for one key, else by `--version`.
+fn version(args: &Args, store: &Bytes, path: &Path) -> Result<u32, Fail> {
+    let twice = "--version and --at both say which version: name one of them";
+    match (args.value("--version"), args.has("--keys")) {
+        (Some(_), _) if args.has("--at") => Err(Fail::Usage(twice.to_string())),
+        (Some(_), true) if args.word(1).is_some() => Err(Fail::Usage(
+            "with --keys the words are STORE and VERSION alone".to_string(),
+        )),
+        (Some(word), _) => number("VERSION", word),
+        (None, _) => asked::version(args, 1, store, path),
+    }
 }
 
 pub fn prove(args: &Args, out: &mut Out) -> Result<u8, Fail> {
     let path = args.path(0);
-    if args.has("--at") {
+    if args.has("--keys") && args.word(2).is_some() {
         return Err(Fail::Usage(
-            "--version and --at both say which version: name one of them".to_string(),
+            "with --keys the words are STORE and VERSION alone".to_string(),
         ));
     }
-    let version = number("VERSION", args.value("--version").unwrap_or_default())?;
-    let keys = keys(args, 1, words(args), Some(path))?;
+    let keys = keys(args, 1, count(args), Some(path))?;
     let store = read_store(path)?;
+    let version = version(args, &store, path)?;
     let refused = refused(&store, path);
     let palette = store.palette(version, &keys).map_err(|error| match error {
         Error::NotThirtyTwoBytes => Fail::Refused(
@@ -96,7 +133,12 @@ pub fn prove(args: &Args, out: &mut Out) -> Result<u8, Fail> {
 
 pub fn verify(args: &Args, out: &mut Out) -> Result<u8, Fail> {
     let root = known_root(args)?;
-    let last = words(args) - 1;
+    let last = count(args) - 1;
+    if args.has("--keys") && last > 1 {
+        return Err(Fail::Usage(
+            "with --keys the words are ROOT and PROOF alone".to_string(),
+        ));
+    }
     let keys = keys(args, 1, last, None)?;
     let path = args.path(last);
     let palette = Palette::from_bytes(proof_bytes(files::read(path, PALETTE_LIMIT)?)?);

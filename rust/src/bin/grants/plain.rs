@@ -1,5 +1,6 @@
 //! Text for people: counts, paths and names, with nothing in them that a terminal would obey.
 
+use grants::Place;
 use std::fmt::{Display, Write};
 use std::path::Path;
 
@@ -9,8 +10,16 @@ pub fn counted<N: Display + PartialEq + From<u8>>(n: N, what: &str) -> String {
     format!("{n} {what}{s}")
 }
 
+/// 'place 0110', 'the empty place'.
+pub fn at(place: Place) -> String {
+    match place.count() {
+        0 => "the empty place".to_string(),
+        _ => format!("place {place}"),
+    }
+}
+
 /// Whether a terminal would obey the character, or show text in another order for it.
-fn is_hidden(c: char) -> bool {
+pub fn is_hidden(c: char) -> bool {
     c.is_control()
         || matches!(c, '\u{200e}' | '\u{200f}' | '\u{202a}'..='\u{202e}' | '\u{2066}'..='\u{2069}')
 }
@@ -46,6 +55,11 @@ pub fn quoted(text: &str) -> String {
     }
     line.push('"');
     line
+}
+
+/// A word that a shell takes as it stands.
+pub fn in_shell(text: &str) -> String {
+    format!("'{}'", escaped(text).replace('\'', "'\\''"))
 }
 
 /// A word of a line: as it stands, or what was in double quotes.

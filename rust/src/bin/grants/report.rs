@@ -3,7 +3,7 @@
 use crate::args::{number, Args};
 use crate::asked::{on_day, read_store, refused, Bytes};
 use crate::book::{Book, Said};
-use crate::commands::object;
+use crate::json::object;
 use crate::dates;
 use crate::fail::Fail;
 use crate::files;

@@ -2,15 +2,14 @@
 //! there are, is looked up here, so that a person sees what was lost.
 
 use crate::args::{number, Args};
-use crate::asked::{hex, read_store, refused};
-use crate::commands::object;
+use crate::asked::{hex, read_store, refused, Bytes};
 use crate::fail::Fail;
 use crate::files;
-use crate::held;
-use crate::json::Json;
+use crate::held::{self, hash};
+use crate::json::{object, Json};
 use crate::out::Out;
-use crate::plain::{counted, shown};
-use grants::{sha256, to_hex, Body, Error, Place, Record, Root, Slot};
+use crate::plain::{at, counted, shown};
+use grants::{to_hex, Body, Error, Place, Record, Rescued, Root, Slot};
 use std::collections::{BTreeMap, HashMap};
 use std::path::Path;
 
@@ -262,30 +261,6 @@ const WHYS: [&str; 5] = [
     "of no tree",
 ];
 
-fn at(place: Place) -> String {
-    match place.count() {
-        0 => "the empty place".to_string(),
-        _ => format!("place {place}"),
-    }
-}
-
-/// The SHA-256 of a record's message (docs/RULES.md).
-fn hash(record: &Record) -> [u8; 32] {
-    let none = [0; 32];
-    let (first, left, right) = match record.body {
-        Body::Leaf { key, value } => (1, <[u8; 32]>::from(key), <[u8; 32]>::from(value)),
-        Body::Inner { left, right, .. } => (
-            0,
-            left.map_or(none, |c| c.hash),
-            right.map_or(none, |c| c.hash),
-        ),
-    };
-    let mut message = [first; 65];
-    message[1..33].copy_from_slice(&left);
-    message[33..].copy_from_slice(&right);
-    sha256(&message)
-}
-
 /// '3, 7 to 9'.
 fn ranges(numbers: &[usize]) -> String {
     let mut parts: Vec<(usize, usize)> = vec![];
@@ -303,34 +278,85 @@ fn ranges(numbers: &[usize]) -> String {
     parts.collect::<Vec<_>>().join(", ")
 }
 
+/// What a rescue is asked for: the file to write, the versions that it may have, and the root that was signed.
+struct Asked<'a> {
+    to: &'a Path,
+    oldest: u32,
+    latest: u32,
+    signed: Option<Root>,
+}
+
+impl Asked<'_> {
+    fn of(args: &Args, latest: u32) -> Result<Asked<'_>, Fail> {
+        let to = args.word(1).map(Path::new).ok_or_else(|| {
+            Fail::Usage("OUT is missing: the file to write what is rescued to".to_string())
+        })?;
+        if to.as_os_str() == "-" {
+            return Err(Fail::Usage(
+                "a store that is written must be a file, not standard output".to_string(),
+            ));
+        }
+        let oldest = args.value("--oldest").map(|word| number("--oldest", word));
+        let signed = args.said("--root")?.map(|text| root_of(&text));
+        Ok(Asked {
+            to,
+            oldest: oldest.transpose()?.unwrap_or(0),
+            latest,
+            signed: signed.transpose()?,
+        })
+    }
+}
+
+/// What came back, and what is said of it.
+struct Came {
+    store: Bytes,
+    what: Rescued,
+    root: Root,
+    spans: Vec<held::Span>,
+    left_out: Vec<Vec<usize>>,
+    no_earlier: String,
+    newest: Option<u32>,
+}
+
+fn wrong_size(store: &Bytes, path: &Path) -> impl Fn(Error) -> Fail {
+    let (length, name) = (store.as_bytes().len(), shown(path));
+    move |e| {
+        Fail::Refused(e, format!("{name} has {length} bytes: a rescue needs the whole file, with its length. Pad what was cut off with zero bytes."))
+    }
+}
+
 pub fn rescue(args: &Args, out: &mut Out) -> Result<u8, Fail> {
     let path = args.path(0);
     let store = read_store(path)?;
-    let size = |e: Error| {
-        let length = store.as_bytes().len();
-        Fail::Refused(e, format!("{} has {length} bytes: a rescue needs the whole file, with its length. Pad what was cut off with zero bytes.", shown(path)))
-    };
     if store.is_old_form() {
         let error = store.header().err().unwrap_or(Error::Size);
         return Err(refused(&store, path)(error));
     }
-    let mut found = Found::of(store.slots_found().map_err(size)?);
+    let mut found = Found::of(store.slots_found().map_err(wrong_size(&store, path))?);
     let latest = args.value("--latest").map(|word| number("--latest", word));
     let Some(latest) = latest.transpose()? else {
+        // Who named a file to write did not get it.
+        if args.word(1).is_some() {
+            return Err(Fail::Usage(format!(
+                "--latest is missing, the version that the rescue must end at: nothing was written. `grants rescue {}` lists the root records that are there",
+                shown(path)
+            )));
+        }
         return listed(args, &mut found, out);
     };
-    let to = args.word(1).map(Path::new).ok_or_else(|| {
-        Fail::Usage("OUT is missing: the file to write what is rescued to".to_string())
-    })?;
-    if to.as_os_str() == "-" {
-        return Err(Fail::Usage(
-            "a store that is written must be a file, not standard output".to_string(),
-        ));
+    let asked = Asked::of(args, latest)?;
+    let came = came(&store, path, &asked, &mut found)?;
+    files::write(args, asked.to, came.store.as_bytes(), &[path])?;
+    out.changed = true;
+    match out.json {
+        true => out.answer(0, came.json(&asked), ""),
+        false => out.answer(0, Json::Null, came.lines(&asked)),
     }
-    let oldest = args.value("--oldest").map(|word| number("--oldest", word));
-    let oldest = oldest.transpose()?.unwrap_or(0);
-    let signed = args.said("--root")?.map(|text| root_of(&text));
-    let signed = signed.transpose()?;
+}
+
+/// The rescue itself, and the root compared with the one that was signed; nothing is written yet.
+fn came(store: &Bytes, path: &Path, asked: &Asked, found: &mut Found) -> Result<Came, Fail> {
+    let (oldest, latest) = (asked.oldest, asked.latest);
     let (rescued, what) = store.rescue(oldest, latest).map_err(|e| match e {
         Error::Header => Fail::Refused(e, format!("--oldest {oldest} is above --latest {latest}.")),
         Error::Unsound => {
@@ -341,79 +367,91 @@ pub fn rescue(args: &Args, out: &mut Out) -> Result<u8, Fail> {
                 format!("A run ends at --latest, and version {latest} can't be rescued{why}. Without --latest the root records that are there are listed."),
             )
         }
-        other => size(other),
+        other => wrong_size(store, path)(other),
     })?;
     let sure = |e: Error| Fail::Refused(e, "This is a fault of the tool.".to_string());
     let root = rescued.root(latest).map_err(sure)?;
-    if let Some(signed) = signed.filter(|signed| *signed != root) {
+    if let Some(signed) = asked.signed.filter(|signed| *signed != root) {
         return Err(Fail::Book(format!(
             "the root of version {latest} would be {root}, not {signed}: this is not what was signed, and nothing was written. Take another copy, or another --latest"
         )));
     }
     let header = rescued.header().map_err(sure)?;
     let kept = rescued.slots().map_err(sure)?;
-    let spans = held::spans(header, &kept, []);
-    let left_out = found.left_out(&kept, latest);
-    let why = found.no_earlier(what.first, oldest);
-    let newest = found.roots.range(..=latest).next_back().map(|(v, _)| *v);
-    files::write(args, to, rescued.as_bytes(), &[path])?;
-    out.changed = true;
-    if out.json {
+    let newest = found.roots.range(..=latest).next_back();
+    Ok(Came {
+        root,
+        spans: held::spans(header, &kept, []),
+        left_out: found.left_out(&kept, latest),
+        newest: newest.map(|(version, _)| *version),
+        no_earlier: found.no_earlier(what.first, oldest),
+        store: rescued,
+        what,
+    })
+}
+
+impl Came {
+    fn json(&self, asked: &Asked) -> Json {
         let list = |why: usize| {
-            left_out[why]
+            self.left_out[why]
                 .iter()
                 .map(move |slot| object(vec![("slot", (*slot).into()), ("why", WHYS[why].into())]))
         };
-        let publishings = spans.iter().map(|span| {
-            let root = rescued.root(span.first).ok().map(|root| root.to_string());
+        let publishings = self.spans.iter().map(|span| {
+            let root = self.store.root(span.first).ok();
             object(vec![
                 ("first", span.first.into()),
                 ("last", span.last.into()),
-                ("root", root.into()),
+                ("root", root.map(|root| root.to_string()).into()),
             ])
         });
-        let fields = object(vec![
-            ("first", what.first.into()),
-            ("latest", latest.into()),
-            ("root", root.to_string().into()),
-            ("root_compared", signed.is_some().into()),
-            ("newest_root_record", newest.into()),
-            ("same", what.same.into()),
-            ("other", what.other.into()),
-            ("out", what.out.into()),
-            ("no_earlier", why.into()),
+        object(vec![
+            ("first", self.what.first.into()),
+            ("latest", asked.latest.into()),
+            ("root", self.root.to_string().into()),
+            ("root_compared", asked.signed.is_some().into()),
+            ("newest_root_record", self.newest.into()),
+            ("same", self.what.same.into()),
+            ("other", self.what.other.into()),
+            ("out", self.what.out.into()),
+            ("no_earlier", self.no_earlier.as_str().into()),
             ("publishings", Json::List(publishings.collect())),
             (
                 "left_out",
                 Json::List((0..WHYS.len()).flat_map(list).collect()),
             ),
-        ]);
-        return out.answer(0, fields, "");
+        ])
     }
-    let mut lines = format!(
-        "{}: versions {} to {latest} came back, {}\nno earlier: {why}\nrecords: {} as they were, {} with another retired-since; {} left out",
-        shown(to),
-        what.first,
-        counted(spans.len(), "publishing"),
-        what.same,
-        what.other,
-        counted(what.out as usize, "used slot"),
-    );
-    for (why, slots) in WHYS.iter().zip(&left_out).filter(|(_, s)| !s.is_empty()) {
-        lines += &format!("\n  {why}: slot {}", ranges(slots));
-    }
-    lines += &format!("\nroot of version {latest}: {root}\n");
-    lines += match signed {
-        Some(_) => "It is the root that was given.",
-        None => COMPARE,
-    };
-    if let Some(newest) = newest.filter(|newest| *newest < latest) {
-        lines += &format!(
-            "\nWarning: the newest root record is of version {newest}. Versions {} to {latest} read as that one, and no number up to {latest} can be published any more.",
-            newest + 1
+
+    fn lines(&self, asked: &Asked) -> String {
+        let (latest, what) = (asked.latest, &self.what);
+        let mut lines = format!(
+            "{}: versions {} to {latest} came back, {}\nno earlier: {}\nrecords: {} as they were, {} with another retired-since; {} left out",
+            shown(asked.to),
+            what.first,
+            counted(self.spans.len(), "publishing"),
+            self.no_earlier,
+            what.same,
+            what.other,
+            counted(what.out as usize, "used slot"),
         );
+        let left_out = WHYS.iter().zip(&self.left_out);
+        for (why, slots) in left_out.filter(|(_, s)| !s.is_empty()) {
+            lines += &format!("\n  {why}: slot {}", ranges(slots));
+        }
+        lines += &format!("\nroot of version {latest}: {}\n", self.root);
+        lines += match asked.signed {
+            Some(_) => "It is the root that was given.",
+            None => COMPARE,
+        };
+        if let Some(newest) = self.newest.filter(|newest| *newest < latest) {
+            lines += &format!(
+                "\nWarning: the newest root record is of version {newest}. Versions {} to {latest} read as that one, and no number up to {latest} can be published any more.",
+                newest + 1
+            );
+        }
+        lines
     }
-    out.answer(0, Json::Null, lines)
 }
 
 fn root_of(text: &str) -> Result<Root, Fail> {
@@ -429,8 +467,6 @@ fn root_of(text: &str) -> Result<Root, Fail> {
 
 /// The root records that are there: which version could be the latest of a rescue.
 fn listed(args: &Args, found: &mut Found, out: &mut Out) -> Result<u8, Fail> {
-    // Who named a file to write did not get it.
-    let status = if args.word(1).is_some() { 2 } else { 0 };
     let roots = found.roots.clone();
     let mut rows = vec![];
     let mut newest = None;
@@ -452,11 +488,7 @@ fn listed(args: &Args, found: &mut Found, out: &mut Out) -> Result<u8, Fail> {
                 ("why_not", why.into()),
             ])
         });
-        return out.answer(
-            status,
-            object(vec![("roots", Json::List(rows.collect()))]),
-            "",
-        );
+        return out.answer(0, object(vec![("roots", Json::List(rows.collect()))]), "");
     }
     let mut lines = counted(rows.len(), "root record");
     for (version, _, root, why) in &rows {
@@ -471,9 +503,5 @@ fn listed(args: &Args, found: &mut Found, out: &mut Out) -> Result<u8, Fail> {
             shown(args.path(0))
         );
     }
-    if status != 0 {
-        lines +=
-            "\nNothing was written: --latest is missing, the version that the rescue must end at";
-    }
-    out.answer(status, Json::Null, lines)
+    out.answer(0, Json::Null, lines)
 }

@@ -10,7 +10,7 @@ use crate::listing::ends;
 use crate::out::Out;
 use crate::plain::{counted, shown};
 use grants::{to_hex, Body, Child, Error, Key, Place, Record, Root, Value};
-use std::collections::{BTreeMap, BTreeSet};
+use std::collections::{BTreeMap, BTreeSet, HashSet};
 use std::fmt::Write as _;
 use std::io::Write as _;
 use std::path::Path;
@@ -40,6 +40,21 @@ impl Tree {
     }
 }
 
+/// How many records `dot` draws within seconds; its time grows much faster than their number.
+const MOST_DRAWN: usize = 1_000;
+
+fn may_be_drawn(trees: &[Tree]) -> Result<(), Fail> {
+    let slots = trees.iter().flat_map(|tree| tree.nodes.values());
+    let drawn: HashSet<usize> = slots.map(|node| node.slot).collect();
+    if drawn.len() <= MOST_DRAWN {
+        return Ok(());
+    }
+    Err(Fail::Usage(format!(
+        "a picture of {} records would take minutes, and no one could read it: {MOST_DRAWN} at most are drawn. --dot prints the graph, whatever its size",
+        drawn.len()
+    )))
+}
+
 pub fn show(args: &Args, out: &mut Out) -> Result<u8, Fail> {
     let path = args.path(0);
     let store = read_store(path)?;
@@ -58,6 +73,7 @@ pub fn show(args: &Args, out: &mut Out) -> Result<u8, Fail> {
     }
     let text = match picture {
         Some(to) => {
+            may_be_drawn(&trees)?;
             let picture = svg(&dot(&trees, full))?;
             if to.as_os_str() != "-" {
                 files::write(args, to, &picture, &[path])?;

@@ -3,12 +3,12 @@
 use crate::args::{number, Args};
 use crate::asked::{hex, read_store, version};
 use crate::book::{self, Book, Said};
-use crate::commands::{both_to_output, object};
 use crate::dates;
 use crate::fail::Fail;
 use crate::files::{self, PROOF_LIMIT};
+use crate::json::object;
 use crate::missing::refused_read;
-use crate::out::Out;
+use crate::out::{beside, both_to_output, Out};
 use crate::plain::shown;
 use grants::Root;
 use std::path::Path;
@@ -37,6 +37,14 @@ pub fn root(args: &Args, out: &mut Out) -> Result<u8, Fail> {
 fn stated(args: &Args, path: &Path, version: u32, root: Root) -> Result<Statement, Fail> {
     let until = args.said("--not-after")?;
     let until = until.map(|text| book::date("--not-after", &text));
+    if let Some(Ok((_, last))) = &until {
+        if *last < dates::now() {
+            beside(format_args!(
+                "note: {} is past already: no editor takes this root",
+                dates::text(*last)
+            ));
+        }
+    }
     let published = match Book::of(args, Some(path))?.said(version, root) {
         Said::This(entry) => Some(entry.time),
         _ => None,

@@ -1,10 +1,11 @@
 //! The commands, with what each takes and what its help says. A new command is one more row here; help, the manual page and the completions follow.
 
-use crate::args::{Args, Choice};
+use crate::args::{Args, Choice, Form};
 use crate::fail::Fail;
 use crate::out::Out;
 use crate::{
-    commands, counts, diff, grow, listing, moving, names, publish, report, rescue, show, statement,
+    commands, counts, diff, grow, listing, moving, names, note, publish, report, rescue, show,
+    statement,
 };
 
 pub struct Command {
@@ -17,6 +18,17 @@ pub struct Command {
     pub choices: &'static [Choice],
     /// The exit status of an accepted command: 0, or 1 for absent.
     pub run: fn(&Args, &mut Out) -> Result<u8, Fail>,
+}
+
+impl Command {
+    pub fn form(&self) -> Form {
+        Form {
+            name: self.name,
+            usage: self.usage,
+            words: self.words,
+            choices: self.choices,
+        }
+    }
 }
 
 const fn flag(name: &'static str, help: &'static str) -> Choice {
@@ -70,17 +82,49 @@ const MATCH: Choice = valued(
     "only grants whose key has a name with TEXT in it",
 );
 
+const BY_BOOK: Choice = valued(
+    "--by-book",
+    "NAME",
+    "publish NAME as what the book gives it, which isn't its SHA-256; may be given again",
+);
+
+const MOST_REMOVED: Choice = valued(
+    "--most-removed",
+    "N",
+    "hold it back where more than N grants would be removed; without it, where more than a tenth would",
+);
+const EXPECT_ROOT: Choice = valued(
+    "--expect-root",
+    "HEX",
+    "hold it back where the list that it makes has another root",
+);
+const STRICT: Choice = flag(
+    "--strict",
+    "hold it back where a record changes nothing: a key to remove that isn't there, a value that is",
+);
+
+const KEYS: Choice = valued(
+    "--keys",
+    "FILE",
+    "the keys are the lines of FILE: 64 hex digits, or a name in double quotes",
+);
+
 pub const COMMANDS: &[Command] = &[
     Command {
         name: "format",
-        usage: "STORE CAPACITY",
+        usage: "STORE CAPACITY | STORE --for GRANTS",
         what: "a fresh, empty store with CAPACITY slots",
         help: "\
 CAPACITY is 1 to 16,384. Each record takes a slot; a publishing makes about as many records as there are nodes above and
-at what it changes. The file has 24 + 128 CAPACITY bytes. A file that is already there is left alone, unless --force.",
-        words: (2, 2),
+at what it changes. The file has 24 + 128 CAPACITY bytes. A file that is already there is left alone, unless --force.
+With --for the capacity is estimated (docs/SIZING.md): about 2.4 slots a grant, and room for the versions that are kept.
+Some 6,000 grants fit one store.",
+        words: (1, 2),
         choices: &[
             JSON,
+            valued("--for", "GRANTS", "estimate the capacity for so many grants"),
+            valued("--weekly", "CHANGES", "with so many changes in each week's publishing"),
+            valued("--keep", "VERSIONS", "of which so many versions are kept; else 1"),
             flag("--force", "make a fresh store of a file that is there; what it holds is lost"),
             WAIT,
             BOOK,
@@ -95,7 +139,8 @@ at what it changes. The file has 24 + 128 CAPACITY bytes. A file that is already
         help: "\
 Sound: every kept version is a whole tree with every stored hash true, and every record stands in exactly the versions
 of its lifetime. Of a store that isn't, every record that a kept version wants and that can't be found is listed, with its
-version and place, and its slot where it is spoilt, not lost: for support, not as a promise. STORE may be -.",
+version and place, and its slot where it is spoilt, not lost; where none is missing, what is wrong, by slots: for support,
+not as a promise. STORE may be -.",
         words: (1, 1),
         choices: &[JSON],
         run: commands::check,
@@ -128,6 +173,11 @@ with the version, its root, date, author and message. BATCH may be -.",
             AUTHOR,
             DATE,
             DRY_RUN,
+            BY_BOOK,
+            MOST_REMOVED,
+            EXPECT_ROOT,
+            STRICT,
+            flag("--end", "hold it back where BATCH has no end line"),
             flag("--split", "publish more than 1,024 records as several versions: all of them or none"),
             flag("--binary", "BATCH is binary records, whatever it looks like"),
             WAIT,
@@ -145,7 +195,22 @@ BATCH is text with '+' lines alone, as `grants export` prints it: its grants are
 are deleted. Where that takes more than 1,024 records, several versions are published, all of them or none, the last of them
 under the number given with --number; where it takes none, no version is. BATCH may be -.",
         words: (2, 2),
-        choices: &[JSON, NUMBER, MESSAGE, AUTHOR, DATE, DRY_RUN, WAIT, BOOK, NO_BOOK],
+        choices: &[
+            JSON,
+            NUMBER,
+            MESSAGE,
+            AUTHOR,
+            DATE,
+            DRY_RUN,
+            BY_BOOK,
+            MOST_REMOVED,
+            EXPECT_ROOT,
+            flag("--allow-empty", "publish a list without a grant: every grant is removed"),
+            flag("--no-end", "take a list without an end line"),
+            WAIT,
+            BOOK,
+            NO_BOOK,
+        ],
         run: publish::import,
     },
     Command {
@@ -235,6 +300,7 @@ version and dates, to be signed (docs/SIGNING.md); `grants verify` takes that fi
             DATE,
             FORCE,
             BOOK,
+            NO_BOOK,
         ],
         run: statement::root,
     },
@@ -244,7 +310,7 @@ version and dates, to be signed (docs/SIGNING.md); `grants verify` takes that fi
         what: "the value of a key in a version",
         help: "Prints the value, or 'absent' with exit status 1. Without VERSION, the latest. STORE may be -.",
         words: (2, 3),
-        choices: &[JSON, AT, BOOK],
+        choices: &[JSON, AT, BOOK, NO_BOOK],
         run: commands::get,
     },
     Command {
@@ -254,7 +320,7 @@ version and dates, to be signed (docs/SIGNING.md); `grants verify` takes that fi
         help: "\
 By the counts in the version's root record; no other record is looked at. Without VERSION, the latest. STORE may be -.",
         words: (1, 2),
-        choices: &[JSON, AT, BOOK],
+        choices: &[JSON, AT, BOOK, NO_BOOK],
         run: counts::count,
     },
     Command {
@@ -266,33 +332,35 @@ Prints the key and the value, and their names where they are known. The way ther
 other grant is read. A position that isn't below the number of grants is refused with 20. Without VERSION, the latest. STORE
 may be -.",
         words: (2, 3),
-        choices: &[JSON, AT, BOOK],
+        choices: &[JSON, AT, BOOK, NO_BOOK],
         run: counts::at,
     },
     Command {
         name: "prove",
-        usage: "STORE KEY [VERSION] | STORE KEY.. --version VERSION",
+        usage: "STORE KEY [VERSION] | STORE KEY.. --version VERSION | STORE [VERSION] --keys FILE",
         what: "the proof that a key is in a version, or that it isn't; of several keys, one after the other",
         help: "\
 Prints the proof in hex, or writes its bytes to a file with --out. Without VERSION, the latest. STORE may be -. In a version
 without a grant there is no proof (refused with 14): its root, 32 zero bytes, itself shows that nothing is granted.
-With --version, up to 256 keys: their proofs in the order asked, in one call; where one is refused, the first refusal is
-the answer.",
-        words: (2, usize::MAX),
+With --version or --keys, up to 256 keys: their proofs in the order asked, in one call; where one is refused, the first
+refusal is the answer.",
+        words: (1, usize::MAX),
         choices: &[
             JSON,
             AT,
             valued("--version", "VERSION", "the version; every word after STORE is then a key"),
             flag("--pocket", "refuse with 19 a proof that shows a leaf with more than 32 steps"),
             valued("--out", "FILE", "write the proof's bytes to FILE (- for standard output)"),
+            KEYS,
             FORCE,
             BOOK,
+            NO_BOOK,
         ],
         run: commands::prove,
     },
     Command {
         name: "verify",
-        usage: "ROOT KEY.. PROOF",
+        usage: "ROOT KEY.. PROOF | ROOT PROOF --keys FILE",
         what: "what a proof shows of a key against a root, or the proofs of several keys",
         help: "\
 Prints 'present' and the value, or 'absent' with exit status 1. Of several keys, in the order in which their proofs were
@@ -304,7 +372,7 @@ with their hex digits; it may be -. No store is needed.
 With --against STORE and --version VERSION, whose root ROOT then must be, the proof is also held against that version's grants:
 it tells the truth, or the two different messages with equal SHA-256, or the one whose SHA-256 is zero, that it took to forge
 it are named, with exit status 4. --out writes that as a text for sha256sum. docs/FORGERY.md says what it means.",
-        words: (3, usize::MAX),
+        words: (2, usize::MAX),
         choices: &[
             JSON,
             valued(
@@ -317,7 +385,9 @@ it are named, with exit status 4. --out writes that as a text for sha256sum. doc
             valued("--version", "VERSION", "the version, with --against"),
             valued("--out", "FILE", "write what is found to FILE (- for standard output)"),
             FORCE,
+            KEYS,
             BOOK,
+            NO_BOOK,
         ],
         run: commands::verify,
     },
@@ -340,25 +410,31 @@ position, the rest of the list isn't read and the store isn't checked. Exit stat
             FULL,
             flag("--csv", "a line 'key,value,key_name,value_name', then one for each grant"),
             BOOK,
+            NO_BOOK,
         ],
         run: listing::list,
     },
     Command {
         name: "diff",
-        usage: "STORE FIRST [SECOND]",
-        what: "what changed from one version to another, else to the latest",
+        usage: "STORE [FIRST [SECOND]]",
+        what: "what changed from one version to another, else to the latest; of STORE alone, in the last publishing",
         help: "\
 A line for each key added (+ KEY VALUE), removed (- KEY VALUE) or given another value (~ KEY OLD -> NEW), in key order, and a
-line that counts them. FIRST may be the later one: the list then undoes the other. --batch writes a batch that `grants apply`
+line that counts them, with names, dates and messages where the book has them. --at DATE takes the version of that day for
+FIRST. FIRST may be the later one: the list then undoes the other. --batch writes a batch that `grants apply`
 takes and that makes the one version's grants of the other's; --records writes the library's own list (docs/FORMAT.md).",
-        words: (2, 3),
+        words: (1, 3),
         choices: &[
             JSON,
+            AT,
             flag("--stat", "the counts alone"),
+            flag("--csv", "a line 'change,key,old,new,key_name,old_name,new_name', then one for each change"),
             flag("--batch", "lines that apply takes: a delete without its value, a change as its insert"),
             valued("--records", "FILE", "write the records of 72 bytes to a file"),
             valued("--limit", "N", "refuse with 13 where more places would be visited; else 32769, which is always enough"),
             FORCE,
+            BOOK,
+            NO_BOOK,
         ],
         run: diff::diff,
     },
@@ -394,7 +470,7 @@ The store is checked first. STORE may be -.",
 The oldest kept version first, whatever it holds. Exit status 1 where no kept version has the key. The store is checked
 first. STORE may be -.",
         words: (2, 2),
-        choices: &[JSON, FULL, BOOK],
+        choices: &[JSON, FULL, BOOK, NO_BOOK],
         run: listing::history,
     },
     Command {
@@ -406,7 +482,7 @@ Numbers may have gaps: '5 to 8' is what was published as 5 and read until the ne
 any more. An empty publishing after an empty one leaves nothing in the store, and is listed where the book has it. Date, author and message are the book's; where its line has another root than the store, the book
 disagrees and isn't used. The store is checked first. STORE may be -.",
         words: (1, 1),
-        choices: &[JSON, valued("--last", "N", "the last N publishings only"), FULL, BOOK],
+        choices: &[JSON, valued("--last", "N", "the last N publishings only"), FULL, BOOK, NO_BOOK],
         run: listing::log,
     },
     Command {
@@ -417,7 +493,7 @@ disagrees and isn't used. The store is checked first. STORE may be -.",
 `grants import` takes it, and makes a version with the same root. Names stand for themselves where SHA-256 gives their
 bytes. Without VERSION, the latest. The store is checked first. STORE may be -.",
         words: (1, 2),
-        choices: &[JSON, AT, BOOK],
+        choices: &[JSON, AT, BOOK, NO_BOOK],
         run: listing::export,
     },
     Command {
@@ -429,6 +505,26 @@ NAME stands for KEY, else for its SHA-256. A name that is there already keeps wh
         words: (1, 3),
         choices: &[JSON, WAIT, BOOK],
         run: names::name,
+    },
+    Command {
+        name: "note",
+        usage: "STORE VERSION",
+        what: "a line of the book for a version that has none",
+        help: "\
+Adds what a publishing would have added: the version with its root, date, author and message. A writer that was stopped
+between the store and the book leaves a version without its line, and the next one says so. Where a line agrees already,
+--again adds one that counts in its place.",
+        words: (2, 2),
+        choices: &[
+            JSON,
+            DATE,
+            MESSAGE,
+            AUTHOR,
+            flag("--again", "add a line though there is one that agrees; the last one counts"),
+            WAIT,
+            BOOK,
+        ],
+        run: note::note,
     },
     Command {
         name: "show",
@@ -446,6 +542,7 @@ each record once, so that it shows what they share. Without VERSION, the latest.
             valued("--svg", "FILE", "write a picture to FILE (- for standard output); `dot` must be installed"),
             FORCE,
             BOOK,
+            NO_BOOK,
         ],
         run: show::show,
     },
@@ -455,7 +552,7 @@ each record once, so that it shows what they share. Without VERSION, the latest.
         what: "capacity, free slots, kept versions, grants, bytes, publishings left",
         help: "\
 Tests the header, not soundness. How many more publishings there is room for is a guess: free slots over the records that
-each kept publishing made; none is made of a store that isn't sound. STORE may be -.",
+the middle one of the last ten made; none is made of a store that isn't sound. STORE may be -.",
         words: (1, 1),
         choices: &[JSON],
         run: commands::stat,
