@@ -1,5 +1,5 @@
 # The commands of the README. A fresh machine has the Rattle kit, make and cargo.
-.PHONY: demo test lib tool wasm bench soak fmt rooms
+.PHONY: demo test lib tool wasm dist bench soak fmt rooms
 
 demo:
 	@tests/demo
@@ -8,7 +8,8 @@ demo:
 # edits before it starts the next: batches of four leave fewer cores idle than batches of two.
 test:
 	@RT_JOBS=$${RT_JOBS:-4} tests/gate 'rt ci' tests/format tests/rooms tests/belief tests/sealed tests/sha256/run tests/second/run tests/passes/run \
-		tests/compare/run tests/looks/run tests/rust/run tests/tool/run tests/examples/run tests/wasm/run
+		tests/compare/run tests/looks/run tests/rust/run tests/tool/run tests/examples/run tests/wasm/run \
+		tests/python/run tests/stale/run tests/dist/run
 
 # The static library, proved where `make test` has made the proofs, else the same sources compiled without them; the last line says which.
 lib:
@@ -21,6 +22,10 @@ tool:
 # The library as WebAssembly (target/wasm, js/) and the page that shows a proof (docs/inspect/inspect.html), from the same module.
 wasm:
 	@js/build
+
+# Packages that need no kit, in target/dist: for C, Debian, npm, cargo and Python, with their sums (docs/RELEASE.md).
+dist:
+	@rust/dist
 
 # Tool, manual page, completions, header, libraries and pkg-config file below PREFIX.
 .PHONY: install uninstall

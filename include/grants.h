@@ -1,3 +1,4 @@
+/* SPDX-License-Identifier: Apache-2.0 */
 /* The grant store: a versioned, authenticated key-value store over lent memory.
  *
  * Each publishing of grants is a version, named by a number of the caller's, with one SHA-256 root. From any copy of the store comes a short proof that a key has a value in a
@@ -45,6 +46,13 @@
    of the old form, with 1 by its size or with 2 by the kind in its header (24 + 120 x 16 is 24 + 128 x 15). */
 #define GRANTS_SIZE(n) (24 + 128 * (size_t)(n))
 #define GRANTS_OLD_SIZE(n) (24 + 120 * (size_t)(n))
+
+/* The version of this header: major, minor and patch in a byte each from the high end, 0.1.0 here. docs/RELEASE.md says what stays the same within a major one. */
+#define GRANTS_VERSION 0x00010000
+
+/* What GRANTS_SIZE is made of: a header, and a slot for each record that there is room for, 1 to 16,384. */
+#define GRANTS_HEADER_BYTES 24
+#define GRANTS_SLOT_BYTES 128
 
 #ifdef __cplusplus
 extern "C" {

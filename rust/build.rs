@@ -1,5 +1,5 @@
-//! Links libgrants.a: from the folder that GRANTS_LIB_DIR names, else from target/native of the checkout, where `rust/library` makes it: of
-//! proved functions where this checkout's proofs are made, else of the same sources without them. The file libgrants.proofs beside it says which.
+//! Links libgrants.a: from the folder that GRANTS_LIB_DIR names, else from the one that a packaged crate has for the target's machine (archives), else from
+//! target/native of the checkout, where `rust/library` makes it: of proved functions where this checkout's proofs are made, else of the same sources without them. The file libgrants.proofs beside it says which.
 
 use std::env;
 use std::fs;
@@ -10,7 +10,7 @@ fn main() {
     println!("cargo:rerun-if-env-changed=GRANTS_LIB_DIR");
     let folder = match env::var_os("GRANTS_LIB_DIR") {
         Some(folder) => PathBuf::from(folder),
-        None => native(),
+        None => packed().unwrap_or_else(native),
     };
     let archive = folder.join("libgrants.a");
     assert!(archive.is_file(), "{} is not there", archive.display());
@@ -28,6 +28,22 @@ fn main() {
     println!("cargo:rerun-if-changed={}", proofs.display());
     println!("cargo:rustc-link-search=native={}", folder.display());
     println!("cargo:rustc-link-lib=static=grants");
+}
+
+/// The folder of a packaged crate with the archive for the machine that is compiled for.
+fn packed() -> Option<PathBuf> {
+    let top = PathBuf::from(env::var_os("CARGO_MANIFEST_DIR")?).join("archives");
+    if !top.is_dir() {
+        return None;
+    }
+    let (machine, system) = ("CARGO_CFG_TARGET_ARCH", "CARGO_CFG_TARGET_OS");
+    let (machine, system) = (env::var(machine).ok()?, env::var(system).ok()?);
+    let folder = top.join(format!("{machine}-{system}"));
+    assert!(
+        folder.is_dir(),
+        "this package has no libgrants.a for {machine}-{system}: GRANTS_LIB_DIR may name a folder that has one"
+    );
+    Some(folder)
 }
 
 fn native() -> PathBuf {

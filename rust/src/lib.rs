@@ -43,6 +43,7 @@ mod batch;
 mod changes;
 mod counts;
 mod damage;
+pub mod dates;
 mod error;
 mod ffi;
 mod figures;
@@ -54,6 +55,7 @@ mod palette;
 mod proof;
 mod records;
 mod rescue;
+mod statement;
 mod store;
 mod words;
 
@@ -74,6 +76,7 @@ pub use proof::{verify, verify_pocket, verify_many, Proof, POCKET_BYTES, PROOF_B
 pub use records::{Body, Child, Place, Record};
 pub use rescue::{Rescued, Slot};
 pub use store::{Applied, Header, Store};
+pub use statement::{Seen, Statement, Verdict};
 pub use words::{Key, Root, Value};
 
 /// SHA-256 of any bytes, by the library's own proved code.

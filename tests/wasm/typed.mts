@@ -1,5 +1,6 @@
 // What the types of js/ allow, and what they don't.
 import { load, Refused, type Found, type Store } from '../../js/grants.js';
+import { Seen, Statement, type Verdict } from '../../js/statement.js';
 
 export async function shown(root: string, key: Uint8Array, proof: ArrayBuffer): Promise<string> {
   const grants = await load(new URL('file:///grants-verify.wasm'));
@@ -31,4 +32,13 @@ export async function published(): Promise<number> {
   // @ts-expect-error a rescue ends at a version
   await grants.rescue(store.bytes(), 0);
   return newRecords + first + rescued.latest + least.length + grant.value.length + Number(truth);
+}
+
+export function judged(text: Uint8Array): Verdict | undefined {
+  const statement = Statement.read(text);
+  // @ts-expect-error what was read may be no statement
+  statement.version;
+  // @ts-expect-error a time is a number
+  if (statement) new Seen().take(statement, 'now');
+  return statement ? new Seen({ version: 2 }).take(statement, Date.now() / 1000) : undefined;
 }

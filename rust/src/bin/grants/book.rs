@@ -2,11 +2,10 @@
 //! It is for people. What a store holds is the library's word alone: a line about a version counts only where its root is the one that the library reads.
 
 use crate::args::Args;
-use crate::dates;
 use crate::fail::Fail;
 use crate::files;
 use crate::plain::{quoted, shown, words, Word};
-use grants::{Key, Root};
+use grants::{dates, Key, Root};
 use std::collections::HashMap;
 use std::ffi::OsStr;
 use std::path::{Path, PathBuf};

@@ -3,7 +3,6 @@
 use crate::args::{number, Args};
 use crate::asked::{key, read_store, refused, version};
 use crate::book::{self, Book};
-use crate::dates;
 use crate::fail::Fail;
 use crate::files::{self, Locked, PROOF_LIMIT};
 use crate::finding::{self, Accepted};
@@ -17,7 +16,7 @@ use crate::plain::{counted, shown};
 use crate::proof::{proof_advice, proof_bytes};
 use crate::sizing::Plan;
 use crate::statement::known_root;
-use grants::{to_hex, Error, Slot, Store};
+use grants::{dates, to_hex, Error, Slot, Store};
 use std::path::Path;
 
 /// The store of a command that writes it.

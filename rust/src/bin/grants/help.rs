@@ -134,6 +134,8 @@ pub fn man() -> String {
     text += ".SH EXIT STATUS\n";
     text += &plain(STATUS.strip_prefix("exit status: ").unwrap_or(STATUS));
     text += ".SH SEE ALSO\ndocs/TOOL.md, docs/RULES.md and docs/SIGNING.md of the sources\n";
+    text += ".SH LICENSE\n";
+    text += &plain(env!("CARGO_PKG_LICENSE"));
     text.trim_end().to_string()
 }
 

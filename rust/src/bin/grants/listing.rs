@@ -3,7 +3,6 @@
 use crate::args::{number, Args};
 use crate::asked::{key, note, read_store, refused, version, Bytes};
 use crate::book::{Book, Said};
-use crate::dates;
 use crate::fail::Fail;
 use crate::held::{self, Span};
 use crate::json::{object, Json};
@@ -11,7 +10,7 @@ use crate::missing::refused_read;
 use crate::out::{Out, ABSENT};
 use crate::page::{Page, Placed};
 use crate::plain::{counted, escaped, quoted, shown};
-use grants::{to_hex, Error, Header, Key, Record, Root, Slot, Value};
+use grants::{dates, to_hex, Error, Header, Key, Record, Root, Slot, Value};
 use std::collections::{BTreeMap, BTreeSet};
 use std::fmt::Write as _;
 

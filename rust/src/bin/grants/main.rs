@@ -6,7 +6,6 @@ mod asked;
 mod book;
 mod commands;
 mod counts;
-mod dates;
 mod diff;
 mod effect;
 mod fail;

@@ -4,14 +4,14 @@ use crate::args::{number, Args};
 use crate::asked::{refused, Bytes};
 use crate::book::{self, Book, Entry, Said};
 use crate::commands::writable;
-use crate::dates;
+
 use crate::fail::Fail;
 use crate::files::Locked;
 use crate::held;
 use crate::json::object;
 use crate::out::Out;
 use crate::plain::{quoted, shown};
-use grants::{Error, Root, Store};
+use grants::{dates, Error, Root, Store};
 use std::path::Path;
 
 pub fn note(args: &Args, out: &mut Out) -> Result<u8, Fail> {

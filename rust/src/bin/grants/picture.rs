@@ -1,6 +1,7 @@
 //! Two lines of steps as an SVG picture, drawn here so that nothing else is needed.
 
-use crate::dates;
+
+use grants::dates;
 use std::fmt;
 
 pub struct Picture {

@@ -4,7 +4,7 @@ use crate::args::{number, Args};
 use crate::asked::{note, read_store, refused, Bytes};
 use crate::book::{self, Book, Entry, Said};
 use crate::commands::{writable, write_book};
-use crate::dates;
+
 use crate::effect::{self, Ask, Effect};
 use crate::fail::Fail;
 use crate::files::{self, Locked, BATCH_LIMIT};
@@ -15,7 +15,7 @@ use crate::lines::{self, Named};
 use crate::out::{beside, Out};
 use crate::plain::{counted, quoted, shown};
 use crate::room;
-use grants::{to_hex, Applied, Batch, Error, Key, Root, Store, BATCH_RECORDS};
+use grants::{dates, to_hex, Applied, Batch, Error, Key, Root, Store, BATCH_RECORDS};
 use std::path::Path;
 
 const DAY: i64 = 86_400;

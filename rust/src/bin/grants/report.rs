@@ -4,7 +4,7 @@ use crate::args::{number, Args};
 use crate::asked::{on_day, read_store, refused, Bytes};
 use crate::book::{Book, Said};
 use crate::json::object;
-use crate::dates;
+
 use crate::fail::Fail;
 use crate::files;
 use crate::held;
@@ -12,7 +12,7 @@ use crate::json::Json;
 use crate::out::Out;
 use crate::picture;
 use crate::plain::shown;
-use grants::{Error, Figures, RangeFigures, RANGE_VERSIONS};
+use grants::{dates, Error, Figures, RangeFigures, RANGE_VERSIONS};
 use std::path::Path;
 
 /// Versions of the range that read alike, with the date of their publishing where the book has it.

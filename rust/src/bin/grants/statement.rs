@@ -3,14 +3,13 @@
 use crate::args::{number, Args};
 use crate::asked::{hex, read_store, version};
 use crate::book::{self, Book, Said};
-use crate::dates;
 use crate::fail::Fail;
 use crate::files::{self, PROOF_LIMIT};
 use crate::json::object;
 use crate::missing::refused_read;
 use crate::out::{beside, both_to_output, Out};
 use crate::plain::shown;
-use grants::Root;
+use grants::{dates, Root, Statement};
 use std::path::Path;
 
 pub fn root(args: &Args, out: &mut Out) -> Result<u8, Fail> {
@@ -51,7 +50,7 @@ fn stated(args: &Args, path: &Path, version: u32, root: Root) -> Result<Statemen
     };
     Ok(Statement {
         version,
-        root: root.to_string(),
+        root,
         published,
         made: book::time(args)?,
         not_after: until.transpose()?.map(|(_, last)| last),
@@ -74,59 +73,11 @@ fn put(args: &Args, statement: Statement, to: &Path, out: &mut Out) -> Result<u8
         0,
         object(vec![
             ("version", version.into()),
-            ("root", statement.root.into()),
+            ("root", statement.root.to_string().into()),
             ("not_after", statement.not_after.map(dates::text).into()),
         ]),
         format_args!("{}: the root of version {version}, to be signed", shown(to)),
     )
-}
-
-/// A root with its version and dates, as it is signed (docs/SIGNING.md).
-struct Statement {
-    version: u32,
-    root: String,
-    published: Option<i64>,
-    made: i64,
-    not_after: Option<i64>,
-}
-
-const STATEMENT: &str = "the root of a grant store";
-
-impl Statement {
-    fn text(&self) -> String {
-        let mut text = format!(
-            "{STATEMENT}\nversion {}\nroot {}\n",
-            self.version, self.root
-        );
-        if let Some(time) = self.published {
-            text += &format!("published {}\n", dates::text(time));
-        }
-        text += &format!("made {}\n", dates::text(self.made));
-        if let Some(time) = self.not_after {
-            text += &format!("not-after {}\n", dates::text(time));
-        }
-        text
-    }
-
-    /// The very lines that `text` writes, and no others.
-    fn read(text: &str) -> Option<Statement> {
-        let mut lines = text.lines().peekable();
-        let mut field = |name: &str| {
-            let line = lines.next_if(|line| line.split(' ').next() == Some(name));
-            line.and_then(|line| line.split_once(' '))
-                .map(|(_, rest)| rest.to_string())
-        };
-        let time = |text: String| dates::parse(&text).map(|(time, _)| time);
-        field("the").filter(|rest| STATEMENT.strip_prefix("the ") == Some(rest))?;
-        let statement = Statement {
-            version: field("version")?.parse().ok()?,
-            root: field("root")?,
-            published: field("published").and_then(time),
-            made: field("made").and_then(time)?,
-            not_after: field("not-after").and_then(time),
-        };
-        (statement.text() == text).then_some(statement)
-    }
 }
 
 /// The root to verify against: hex digits, or a file that `root --out` wrote, whose date has not passed and whose version is not too old.
@@ -142,8 +93,7 @@ pub fn known_root(args: &Args) -> Result<Vec<u8>, Fail> {
         digits => return digits,
     }
     let bytes = files::read(path, PROOF_LIMIT)?;
-    let statement = std::str::from_utf8(&bytes).ok().and_then(Statement::read);
-    let statement = statement.ok_or_else(|| {
+    let statement = Statement::read(&bytes).ok_or_else(|| {
         Fail::Usage(format!(
             "the root is wrong: {} is neither 64 hex digits nor a file that `grants root --out` wrote",
             shown(path)
@@ -166,6 +116,6 @@ pub fn known_root(args: &Args) -> Result<Vec<u8>, Fail> {
             shown(path),
             dates::text(last)
         ))),
-        _ => hex("root", &statement.root),
+        _ => Ok(statement.root.as_bytes().to_vec()),
     }
 }

@@ -1,0 +1,3 @@
+module grants
+
+go 1.19

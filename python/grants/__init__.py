@@ -1,0 +1,42 @@
+# SPDX-License-Identifier: Apache-2.0
+"""A versioned, authenticated key-value store, and the check of its proofs: the proved library, called by ctypes.
+
+>>> from grants import Store, name, verify
+>>> store = Store.format(20)
+>>> key, value = name("chords sonata"), name("read")
+>>> first = store.apply(1, {key: value})
+>>> second = store.apply(5, {key: None, name("tuner symphony"): value})
+>>> then, now = store.prove(1, key), store.prove(5, key)
+>>> verify(first.root, key, then) == value
+True
+>>> verify(second.root, key, now) is None
+True
+>>> verify(second.root, key, then)
+Traceback (most recent call last):
+    ...
+grants.Refused: refused with 11: the proof is in form, but doesn't hold
+
+The root must come from who signs it, the proof may come from anybody. What a store, a batch or a proof is worth is always the library's word."""
+
+from .library import Refused, name, sha256, verify, verify_palette
+from .refusals import REFUSALS
+from .statement import Seen, Statement, Verdict
+from .store import Applied, Change, Rescued, Store, batch, rescue
+
+__all__ = [
+    "Applied",
+    "Change",
+    "REFUSALS",
+    "Refused",
+    "Rescued",
+    "Seen",
+    "Statement",
+    "Store",
+    "Verdict",
+    "batch",
+    "name",
+    "rescue",
+    "sha256",
+    "verify",
+    "verify_palette",
+]

@@ -1,0 +1,173 @@
+# SPDX-License-Identifier: Apache-2.0
+"""The shared library and its calls, one for each line of include/grants.h; and the calls that need no store."""
+
+import ctypes
+import os
+import struct
+from typing import List, Optional, Sequence, Tuple, Union
+
+from .refusals import REFUSALS
+
+# What include/grants.h says of sizes; a test holds them to it. A store is a header and its slots.
+HEADER_BYTES = 24
+SLOT_BYTES = 128
+MOST_SLOTS = 16384
+# The longest proof, the most keys of a palette, and visits that are always enough for a comparison.
+PROOF_BYTES = 17080
+PALETTE_KEYS = 256
+MOST_VISITS = 32769
+RECORD_BYTES = 72
+
+Bytes = Union[bytes, bytearray, memoryview]
+
+
+class Refused(Exception):
+    """A call was refused; it changed nothing. `slot` is that of the spoilt record that a read named beside 3, else None."""
+
+    number: int
+    sentence: str
+    slot: Optional[int]
+
+    def __init__(self, number: int, slot: Optional[int] = None) -> None:
+        self.number = number
+        self.sentence = REFUSALS.get(number, "a number without a sentence here")
+        self.slot = slot
+        beside = "" if slot is None else "; the record in slot %d is spoilt" % slot
+        super().__init__("refused with %d: %s%s" % (number, self.sentence, beside))
+
+    def __reduce__(self) -> Tuple[type, Tuple[int, Optional[int]]]:
+        return (Refused, (self.number, self.slot))
+
+
+Refused.__module__ = "grants"
+
+
+def _loaded() -> ctypes.CDLL:
+    """The file that GRANTS_LIBRARY names, else the one in this package, else the one that is installed."""
+    named = os.environ.get("GRANTS_LIBRARY")
+    beside = os.path.join(os.path.dirname(os.path.abspath(__file__)), "libgrants.so")
+    return ctypes.CDLL(named or (beside if os.path.exists(beside) else "libgrants.so.0"))
+
+
+_library = _loaded()
+_u32, _u64, _size, _lent = ctypes.c_uint32, ctypes.c_uint64, ctypes.c_size_t, ctypes.c_void_p
+# What each call returns and takes: a slice is a pointer and a length, an array a pointer.
+_CALLS = {
+    "format": (_u32, [_lent, _size]),
+    "check": (_u32, [_lent, _size]),
+    "apply": (_u32, [_lent, _size, _u32, _lent, _size, _lent]),
+    "prune": (_u32, [_lent, _size, _u32, _lent]),
+    "root": (_u64, [_lent, _size, _u32, _lent]),
+    "get": (_u64, [_lent, _size, _u32, _lent, _size, _lent]),
+    "prove": (_u64, [_lent, _size, _u32, _lent, _size, _lent, _size, _lent]),
+    "palette": (_u64, [_lent, _size, _u32, _lent, _size, _lent, _size, _lent]),
+    "changes": (_u32, [_lent, _size, _u32, _u32, _u32, _lent, _size, _lent]),
+    "rescue": (_u32, [_lent, _size, _u32, _u32, _lent, _size, _lent]),
+    "verify": (_u32, [_lent, _size, _lent, _size, _lent, _size, _lent]),
+    "sha256": (_u32, [_lent, _size, _lent]),
+}
+for _name, (_result, _words) in _CALLS.items():
+    _function = getattr(_library, "grants_" + _name)
+    _function.restype, _function.argtypes = _result, _words
+
+
+class Room:
+    """Memory lent to a call: never null, also where its length is 0."""
+
+    def __init__(self, length: int, given: Bytes = b"") -> None:
+        self.length = length
+        self.memory = (ctypes.c_ubyte * max(length, 1))()
+        ctypes.memmove(self.memory, bytes(given), len(given))
+
+    def front(self, length: int) -> bytes:
+        return bytes(memoryview(self.memory)[:length])
+
+
+def room_of(given: Bytes) -> Room:
+    given = as_bytes(given)
+    return Room(len(given), given)
+
+
+def as_bytes(given: Bytes) -> bytes:
+    if not isinstance(given, (bytes, bytearray, memoryview)):
+        raise TypeError("bytes are wanted, not %s" % type(given).__name__)
+    return bytes(given)
+
+
+def number_of(given: int) -> int:
+    """A number as the calls take it; ctypes would wrap any other one round."""
+    if not isinstance(given, int) or isinstance(given, bool):
+        raise TypeError("a version is a whole number")
+    if not 0 <= given < 2**32:
+        raise ValueError("a version is a whole number from 0 to 4,294,967,295")
+    return given
+
+
+def call(name: str, *given: Union[int, Room, Tuple[Room]]) -> None:
+    """One call. A room goes as a slice, a room in a tuple as an array. A refusal is raised."""
+    words: List[object] = []
+    for it in given:
+        if isinstance(it, int):
+            words.append(it)
+        elif isinstance(it, tuple):
+            words.append(ctypes.addressof(it[0].memory))
+        else:
+            words += [ctypes.addressof(it.memory), it.length]
+    said = getattr(_library, "grants_" + name)(*words)
+    number, high = said & 0xFFFFFFFF, said >> 32
+    if number:
+        raise Refused(number, high - 1 if high else None)
+
+
+def u32_at(data: bytes, at: int) -> int:
+    (number,) = struct.unpack_from("<I", data, at)
+    return int(number)
+
+
+def found_in(answer: Room) -> Optional[bytes]:
+    """1 and the value, or 0."""
+    said = answer.front(33)
+    return said[1:] if said[0] == 1 else None
+
+
+def sha256(data: Bytes) -> bytes:
+    """SHA-256, by the library's own proved code."""
+    digest = Room(32)
+    call("sha256", room_of(data), (digest,))
+    return digest.front(32)
+
+
+def name(text: str) -> bytes:
+    """The key that stands for a name: the SHA-256 of its UTF-8 bytes, as in the command line tool."""
+    return sha256(text.encode("utf-8"))
+
+
+def verify(root: Bytes, key: Bytes, proof: Bytes) -> Optional[bytes]:
+    """What a proof shows of a key against a root: its value, or None for 'absent'. Refused: 12, 10, 11.
+
+    The root must come from who signs it, the proof may come from anybody. Where the signed root is 32 zero bytes nothing is granted, and no
+    proof is needed: none is accepted against it."""
+    found = Room(33)
+    call("verify", room_of(root), room_of(key), room_of(proof), (found,))
+    return found_in(found)
+
+
+def cut(proofs: Bytes) -> List[bytes]:
+    """Proofs that stand one after the other, cut apart by the lengths they begin with; bytes that no length divides are the last one."""
+    rest, parts = as_bytes(proofs), []
+    while rest:
+        said = u32_at(rest, 0) if len(rest) >= 4 else 0
+        end = said if 4 <= said <= len(rest) else len(rest)
+        parts.append(rest[:end])
+        rest = rest[end:]
+    return parts
+
+
+def verify_palette(root: Bytes, keys: Sequence[Bytes], proofs: Bytes) -> List[Optional[bytes]]:
+    """What proofs in one row show of the keys they were asked for, in that order: all of them, or the first refusal. A proof that is missing,
+    and bytes left over, are off form (10)."""
+    parts = cut(proofs)
+    shown = [verify(root, key, parts[i] if i < len(parts) else b"") for i, key in enumerate(keys)]
+    if len(parts) > len(keys):
+        raise Refused(10)
+    return shown
