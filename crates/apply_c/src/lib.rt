@@ -37,3 +37,10 @@ pub fn grants_apply(store: &mut [u8], number: u32, batch: &[u8], answer: &mut [u
         }
     }
 }
+
+// What `grants` exports. No proof file stands behind it, so that an idle one is refused by its contract alone.
+pub fn applied_out(store: &mut [u8], number: u32, batch: &[u8], answer: &mut [u8; 40]) -> u32
+    ensures { λ r. ⌜ ApplyExports number (now (batch .entry)) (now (store .entry)) (now (answer .entry)) r (now (store .exit)) (now (answer .exit)) ⌝ }
+{
+    grants_apply(store, number, batch, answer)
+}

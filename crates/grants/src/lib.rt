@@ -29,7 +29,7 @@ pub extern "C" fn grants_apply(
 ) -> u32
     ensures { λ r. ⌜ Applies number (now (batch .entry)) (now (store .entry)) (now (answer .entry)) r (now (store .exit)) (now (answer .exit)) ⌝ }
 {
-    apply_c::grants_apply(store, number, batch, answer)
+    apply_c::applied_out(store, number, batch, answer)
 }
 
 // Frees every record retired since a version or earlier; freed: how many, little-endian.
@@ -37,7 +37,7 @@ pub extern "C" fn grants_apply(
 pub extern "C" fn grants_prune(store: &mut [u8], version: u32, freed: &mut [u8; 4]) -> u32
     ensures { λ r. ⌜ Prunes version (now (store .entry)) (now (freed .entry)) r (now (store .exit)) (now (freed .exit)) ⌝ }
 {
-    prune_c::grants_prune(store, version, freed)
+    prune_c::pruned_out(store, version, freed)
 }
 
 // The root of a version.
@@ -45,7 +45,7 @@ pub extern "C" fn grants_prune(store: &mut [u8], version: u32, freed: &mut [u8; 
 pub extern "C" fn grants_root(store: &[u8], version: u32, root: &mut [u8; 32]) -> u64
     ensures { λ r. ⌜ ReadsRoot (now (store .entry)) version (now (root .entry)) r (now (root .exit)) ⌝ }
 {
-    read_c::grants_root(store, version, root)
+    read_c::root_out(store, version, root)
 }
 
 // A key in a version: 1 and its value, or 0 and 32 zero bytes where it is absent.
@@ -53,7 +53,7 @@ pub extern "C" fn grants_root(store: &[u8], version: u32, root: &mut [u8; 32]) -
 pub extern "C" fn grants_get(store: &[u8], version: u32, key: &[u8], found: &mut [u8; 33]) -> u64
     ensures { λ r. ⌜ ReadsKey (now (store .entry)) version (now (key .entry)) (now (found .entry)) r (now (found .exit)) ⌝ }
 {
-    read_c::grants_get(store, version, key, found)
+    read_c::found_out(store, version, key, found)
 }
 
 // The number of grants of a version, little-endian.
@@ -83,7 +83,7 @@ pub extern "C" fn grants_prove(
 ) -> u64
     ensures { λ r. ⌜ Proves (now (store .entry)) version (now (key .entry)) (now (room .entry)) (now (length .entry)) r (now (room .exit)) (now (length .exit)) ⌝ }
 {
-    prove_c::grants_prove(store, version, key, room, length)
+    prove_c::proved_out(store, version, key, room, length)
 }
 
 // Writes the proofs for a list of keys in a version one after the other to the front of the room; length: of all together, little-endian.
@@ -97,7 +97,7 @@ pub extern "C" fn grants_palette(
 ) -> u64
     ensures { λ r. ⌜ Palettes (now (store .entry)) version (now (keys .entry)) (now (room .entry)) (now (length .entry)) r (now (room .exit)) (now (length .exit)) ⌝ }
 {
-    palette_c::grants_palette(store, version, keys, room, length)
+    palette_c::palette_out(store, version, keys, room, length)
 }
 
 // Writes what changed from the first version to the second to the front of the room, as records of 72 bytes; records: how many, little-endian.

@@ -23,3 +23,16 @@ pub fn grants_palette(
         }
     }
 }
+
+// What `grants` exports. No proof file stands behind it, so that an idle one is refused by its contract alone.
+pub fn palette_out(
+    store: &[u8],
+    version: u32,
+    keys: &[u8],
+    room: &mut [u8],
+    length: &mut [u8; 4],
+) -> u64
+    ensures { λ r. ⌜ Palettes (now (store .entry)) version (now (keys .entry)) (now (room .entry)) (now (length .entry)) r (now (room .exit)) (now (length .exit)) ⌝ }
+{
+    grants_palette(store, version, keys, room, length)
+}

@@ -17,3 +17,10 @@ pub fn grants_prune(store: &mut [u8], version: u32, freed: &mut [u8; 4]) -> u32
         }
     }
 }
+
+// What `grants` exports. No proof file stands behind it, so that an idle one is refused by its contract alone.
+pub fn pruned_out(store: &mut [u8], version: u32, freed: &mut [u8; 4]) -> u32
+    ensures { λ r. ⌜ PruneExports version (now (store .entry)) (now (freed .entry)) r (now (store .exit)) (now (freed .exit)) ⌝ }
+{
+    grants_prune(store, version, freed)
+}

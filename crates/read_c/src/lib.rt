@@ -50,3 +50,17 @@ pub fn grants_get(store: &[u8], version: u32, key: &[u8], found: &mut [u8; 33]) 
         }
     }
 }
+
+// What `grants` exports. No proof file stands behind it, so that an idle one is refused by its contract alone.
+pub fn root_out(store: &[u8], version: u32, root: &mut [u8; 32]) -> u64
+    ensures { λ r. ⌜ ReadsRoot (now (store .entry)) version (now (root .entry)) r (now (root .exit)) ⌝ }
+{
+    grants_root(store, version, root)
+}
+
+// What `grants` exports. No proof file stands behind it, so that an idle one is refused by its contract alone.
+pub fn found_out(store: &[u8], version: u32, key: &[u8], found: &mut [u8; 33]) -> u64
+    ensures { λ r. ⌜ ReadsKey (now (store .entry)) version (now (key .entry)) (now (found .entry)) r (now (found .exit)) ⌝ }
+{
+    grants_get(store, version, key, found)
+}

@@ -3,6 +3,7 @@ use crate::calls::accepted;
 use crate::calls::asks;
 use crate::calls::word;
 use digest::digest;
+use hash::Hash;
 use hash::put_hash;
 use hash::same_hash;
 use script::say;
@@ -20,13 +21,17 @@ fn say_finding(finding: &[u8; 131]) {
     );
 }
 
+fn say_all(no: u32, before: Hash, finding: &[u8; 131]) {
+    if accepted(no, before, finding) {
+        say_finding(finding);
+    }
+}
+
 fn finding_all(store: &[u8], version: u32, key: &[u8], proof: &[u8]) {
     let mut finding = [9u8; 131];
     let before = digest(&finding);
     let no = grants::grants_finding(store, version, key, proof, &mut finding);
-    if accepted(no, before, &finding) {
-        say_finding(&finding);
-    }
+    say_all(no, before, &finding);
 }
 
 // Of the first so many bytes of the key and of the proof.

@@ -1,0 +1,81 @@
+-- `order_look::follows` meets its contract. Assumes nothing.
+use native.Mathlib.Omega.{arith}
+use mathlib.Core.Path.{_≡_, refl, ap, sym, _∙_, subst}
+use Prim.Native.Nat.{_-_}
+use Rattle.layout.specs.Stores.{storeOf}
+use Rattle.check_pass.proofs.Passes.{passed-so, pass-map}
+use Rattle.ordered.specs.Ordered.{Ahead}
+use Rattle.order_look.specs.Looks.{Formed}
+use Rattle.order_look.proofs.Passed.{order-next}
+use borrow.Author.Needs.{needs}
+use Rattle.order_look.proofs.follows.Statement.{statement}
+use Rattle.order_look.proofs.follows.Tie as tie
+
+mul-wide : tie.Need-mul-wide
+mul-wide c = search needs
+
+element-copy-out-wide : tie.Need-element-copy-out-wide
+element-copy-out-wide c = search needs
+
+wide-requires : tie.Need-wide-requires
+wide-requires c κs = search needs
+
+names-form-requires : tie.Need-names-form-requires
+names-form-requires c κs = search needs
+
+returns : tie.Need-returns
+returns c = tt
+
+returns-2 : tie.Need-returns-2
+returns-2 c =
+    let c6 = c .before .before .before .before .before .before in
+    let a = c6 .args in
+    order-next (a .store .now) (a .table .now) (a .k) (c6 .pre .2) (c .before .before .before .wide .ensures)
+    (passed-so (c .before .before .names-form .result) (c .before .if1 .left) (c .before .before .names-form .ensures)) (λ h. absurd (omega (arith, h, c .if2 .taken)))
+
+sub-wide : tie.Need-sub-wide
+sub-wide c = search needs
+
+mul-wide-2 : tie.Need-mul-wide-2
+mul-wide-2 c = search needs
+
+element-copy-out-wide-2 : tie.Need-element-copy-out-wide-2
+element-copy-out-wide-2 c = search needs
+
+wide-requires-2 : tie.Need-wide-requires-2
+wide-requires-2 c κs = search needs
+
+ahead-requires : tie.Need-ahead-requires
+ahead-requires c κs =
+    let c8 = c .before .before .before .before .before .before .before .before in
+    let a = c8 .args in (
+      subst (Formed (a .store .now)) (sym (c .wide2 .ensures)) (c8 .pre .2 .each (a .k - 1) (omega (arith, c .before .before .if2 .left))),
+      passed-so (c .before .before .before .before .names-form .result) (c .before .before .before .if1 .left) (c .before .before .before .before .names-form .ensures),
+    )
+
+returns-3 : tie.Need-returns-3
+returns-3 c =
+    let c9 = c .before .before .before .before .before .before .before .before .before in
+    let a = c9 .args in
+    pass-map (c .ahead .result)
+    (λ up. order-next (a .store .now) (a .table .now) (a .k) (c9 .pre .2) (c .before .before .before .before .before .before .wide .ensures)
+    (passed-so (c .before .before .before .before .before .names-form .result) (c .before .before .before .before .if1 .left) (c .before .before .before .before .before .names-form .ensures))
+    (λ h. subst (λ z. Ahead (storeOf (a .store .now) .slots) z (c .before .before .before .before .before .before .wide .result)) (c .before .wide2 .ensures) up))
+    (c .ahead .ensures)
+
+pub follows-spec : {M : Type 1} → statement M
+follows-spec =
+    tie.close
+    (tie.spec
+    mul-wide
+    element-copy-out-wide
+    wide-requires
+    names-form-requires
+    returns
+    returns-2
+    sub-wide
+    mul-wide-2
+    element-copy-out-wide-2
+    wide-requires-2
+    ahead-requires
+    returns-3)
