@@ -251,9 +251,9 @@ begun : {f : Form} {t : Bytes} {start : List Entry} → Begins f t start → Kee
 begun (by-format w) = formatted-keeps w .1
 begun (by-rescue {latest = latest} {source = source} {t = t} n h w) =
     let (r, x, e) = accepted-report w refl in subst (λ y. Keeping t (takenOver source latest y)) (sym e) (rescue-taken r n h x)
-begun (as-found {s} h w) = record {
+begun (as-found {f} {s} h w) = record {
   bytes = sym (store-back s (w .capacity) (w .oldest) (w .latest) h (headers.accepted s (w .capacity) (w .oldest) (w .latest) (w .headed)));
-  keeps = keeps-held leafHash innerHash (storeIn plain s) (w .sound);
+  keeps = keeps-held leafHash innerHash (storeIn f s) (w .sound);
 }
 begun (by-over {es = es} h b x) = moved-on es h x (begun b .keeps)
 begun (by-back {history = history} {es = es} h b calls x) = moved-on (ledger history es) h x (calls-keep es calls (begun b) .keeps)

@@ -71,14 +71,14 @@ WithoutGaps {s} (then-called {e = e} c calls) = NoGap (e .0) (storeOf s) × With
 
 -- How a store of a form begins, and the grants by version that it begins with. A new one: format accepted some bytes,
 -- and there is the empty version 0; or a rescue into some bytes was accepted, and its history counts from the run's
--- first version (2026-08). An old one without a history starts with what its kept versions hold. A move that was
--- accepted begins its target, which takes over the source's history: so a life may go over and back any number of times
--- (2026-10).
+-- first version (2026-08). A sound one of either form without a history starts with what its kept versions hold. A move
+-- that was accepted begins its target, which takes over the source's history: so a life may go over and back any number
+-- of times (2026-10).
 pub data Begins : Form → Bytes → List Entry → Type 0 where
   by-format : {before t : Bytes} → Formats before 0 t → Begins counted t (entry 0 [] ∷ [])
   by-rescue : {oldest latest : ℕ} {source before f t g : Bytes} → latest ≤ top32 → All Byte source → Rescues oldest latest source before f 0 t g →
       Begins counted t (takenOver source latest g)
-  as-found : {s : Bytes} → All Byte s → SoundIn plain s → Begins plain s (held (storeIn plain s))
+  as-found : {f : Form} {s : Bytes} → All Byte s → SoundIn f s → Begins f s (held (storeIn f s))
   by-over : {s before t : Bytes} {es : List Entry} → All Byte s → Begins plain s es → MovesOver s before 0 t →
       Begins counted t es
   by-back : {first s before t : Bytes} {history : List (Call × Bool)} {es : List Entry} → All Byte s →
