@@ -197,6 +197,9 @@ uint32_t grants_verify_many(const uint8_t *root, size_t root_len, const uint8_t 
 uint32_t grants_pocket_verify(const uint8_t *root, size_t root_len, const uint8_t *key, size_t key_len, const uint8_t *proof, size_t proof_len,
                               uint8_t found[33]);
 
+/* The version of the library that is linked, in the form of GRANTS_VERSION: a caller may hold the one against the other. Never refused; no number of refusal. */
+uint32_t grants_version(void);
+
 /* SHA-256 of any bytes. Never refused. */
 uint32_t grants_sha256(const uint8_t *bytes, size_t len, uint8_t digest[32]);
 

@@ -18,25 +18,33 @@ grants.Refused: refused with 11: the proof is in form, but doesn't hold
 
 The root must come from who signs it, the proof may come from anybody. What a store, a batch or a proof is worth is always the library's word."""
 
-from .library import Refused, name, sha256, verify, verify_palette
+from .library import Refused, name, sha256, verify, verify_many, verify_palette, verify_pocket, version
 from .refusals import REFUSALS
 from .statement import Seen, Statement, Verdict
-from .store import Applied, Change, Rescued, Store, batch, rescue
+from .store import Applied, Change, Figures, Finding, Report, Rescued, Store, batch, move_back, move_over, rescue
 
 __all__ = [
     "Applied",
     "Change",
+    "Figures",
+    "Finding",
     "REFUSALS",
     "Refused",
+    "Report",
     "Rescued",
     "Seen",
     "Statement",
     "Store",
     "Verdict",
     "batch",
+    "move_back",
+    "move_over",
     "name",
     "rescue",
     "sha256",
     "verify",
+    "verify_many",
     "verify_palette",
+    "verify_pocket",
+    "version",
 ]

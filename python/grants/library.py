@@ -8,15 +8,20 @@ from typing import List, Optional, Sequence, Tuple, Union
 
 from .refusals import REFUSALS
 
-# What include/grants.h says of sizes; a test holds them to it. A store is a header and its slots.
+# What include/grants.h says of sizes; a test holds them to it. A store is a header and its slots; a slot of the old form is shorter.
 HEADER_BYTES = 24
 SLOT_BYTES = 128
+OLD_SLOT_BYTES = 120
 MOST_SLOTS = 16384
 # The longest proof, the most keys of a palette, and visits that are always enough for a comparison.
 PROOF_BYTES = 17080
 PALETTE_KEYS = 256
 MOST_VISITS = 32769
 RECORD_BYTES = 72
+# The longest proof of the pocket profile, the bytes that many proofs at once are answered with for each key, and the most versions of a report.
+POCKET_BYTES = 2296
+ANSWER_BYTES = 34
+MOST_FIGURES = 1024
 
 Bytes = Union[bytes, bytearray, memoryview]
 
@@ -63,6 +68,16 @@ _CALLS = {
     "palette": (_u64, [_lent, _size, _u32, _lent, _size, _lent, _size, _lent]),
     "changes": (_u32, [_lent, _size, _u32, _u32, _u32, _lent, _size, _lent]),
     "rescue": (_u32, [_lent, _size, _u32, _u32, _lent, _size, _lent]),
+    "count": (_u64, [_lent, _size, _u32, _lent]),
+    "at": (_u64, [_lent, _size, _u32, _u64, _lent]),
+    "over": (_u32, [_lent, _size, _lent, _size]),
+    "back": (_u32, [_lent, _size, _lent, _size]),
+    "finding": (_u32, [_lent, _size, _u32, _lent, _size, _lent, _size, _lent]),
+    "figures": (_u32, [_lent, _size, _u32, _u32, _lent, _size, _lent]),
+    "pocket_prove": (_u64, [_lent, _size, _u32, _lent, _size, _lent, _size, _lent]),
+    "pocket_verify": (_u32, [_lent, _size, _lent, _size, _lent, _size, _lent]),
+    "verify_many": (_u32, [_lent, _size, _lent, _size, _lent, _size, _lent, _size]),
+    "version": (_u32, []),
     "verify": (_u32, [_lent, _size, _lent, _size, _lent, _size, _lent]),
     "sha256": (_u32, [_lent, _size, _lent]),
 }
@@ -124,6 +139,12 @@ def u32_at(data: bytes, at: int) -> int:
     return int(number)
 
 
+def version() -> Tuple[int, int, int]:
+    """The version of the library that is loaded: major, minor, patch."""
+    said = int(_library.grants_version())
+    return said >> 24, said >> 16 & 255, said >> 8 & 255
+
+
 def found_in(answer: Room) -> Optional[bytes]:
     """1 and the value, or 0."""
     said = answer.front(33)
@@ -150,6 +171,28 @@ def verify(root: Bytes, key: Bytes, proof: Bytes) -> Optional[bytes]:
     found = Room(33)
     call("verify", room_of(root), room_of(key), room_of(proof), (found,))
     return found_in(found)
+
+
+def verify_pocket(root: Bytes, key: Bytes, proof: Bytes) -> Optional[bytes]:
+    """As `verify` for proofs of at most 32 steps for each leaf shown. Refused: 12, 10, 19, 11."""
+    found = Room(33)
+    call("pocket_verify", room_of(root), room_of(key), room_of(proof), (found,))
+    return found_in(found)
+
+
+def verify_many(root: Bytes, keys: Sequence[Bytes], proofs: Union[Bytes, Sequence[Bytes]]) -> List[Union[Optional[bytes], Refused]]:
+    """What each proof of a row shows of its key against one root, up to 256 at once: as `verify`, or its refusal, 10 or 11, in its place. The row is
+    a list of proofs as `palette` gives it, or their bytes one after the other. Refused: 12, 10 (it isn't as many pieces as keys, by their own lengths)."""
+    if any(len(as_bytes(key)) != 32 for key in keys):
+        raise Refused(12)
+    row = as_bytes(proofs) if isinstance(proofs, (bytes, bytearray, memoryview)) else b"".join(as_bytes(it) for it in proofs)
+    answers = Room(ANSWER_BYTES * min(len(keys), PALETTE_KEYS))
+    call("verify_many", room_of(root), room_of(b"".join(map(bytes, keys))), room_of(row), answers)
+    shown: List[Union[Optional[bytes], Refused]] = []
+    for i in range(len(keys)):
+        said = answers.front(answers.length)[ANSWER_BYTES * i : ANSWER_BYTES * (i + 1)]
+        shown.append(Refused(said[0]) if said[0] else said[2:] if said[1] == 1 else None)
+    return shown
 
 
 def cut(proofs: Bytes) -> List[bytes]:

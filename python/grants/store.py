@@ -4,7 +4,8 @@
 import threading
 from typing import Iterable, List, Mapping, NamedTuple, Optional, Sequence, Tuple, Union
 
-from .library import HEADER_BYTES, MOST_SLOTS, MOST_VISITS, PALETTE_KEYS, PROOF_BYTES, RECORD_BYTES, SLOT_BYTES
+from .library import HEADER_BYTES, MOST_FIGURES, MOST_SLOTS, MOST_VISITS, OLD_SLOT_BYTES, PALETTE_KEYS, POCKET_BYTES, PROOF_BYTES
+from .library import RECORD_BYTES, SLOT_BYTES
 from .library import Bytes, Refused, Room, as_bytes, call, cut, found_in, number_of, room_of, u32_at
 
 # Keys with their new values, None to take a key out; or the bytes of a batch.
@@ -25,6 +26,30 @@ class Change(NamedTuple):
     key: bytes
     before: Optional[bytes]
     after: Optional[bytes]
+
+
+class Figures(NamedTuple):
+    """The figures of a version: its grants, its inner nodes, its longest path and the sum of its path lengths, in steps."""
+
+    version: int
+    leaves: int
+    inner: int
+    longest: int
+    paths: int
+
+
+class Report(NamedTuple):
+    """The figures of a range of versions: of each version; the different records of the range; the records of each version, added up."""
+
+    versions: List[Figures]
+    distinct: int
+    records: int
+
+
+class Finding(NamedTuple):
+    """What a false proof that is accepted puts into one's hands: two different messages with equal SHA-256, or one whose SHA-256 is 32 zero bytes."""
+
+    messages: List[bytes]
 
 
 def batch(changes: Changes) -> bytes:
@@ -128,6 +153,44 @@ class Store:
         self._call("prove", number_of(version), room_of(key), room, (length,))
         return room.front(u32_at(length.front(4), 0))
 
+    def count(self, version: int) -> int:
+        """How many grants a version holds. Refused: 1, 2, 8, 3."""
+        count = Room(8)
+        self._call("count", number_of(version), (count,))
+        return int.from_bytes(count.front(8), "little")
+
+    def at(self, version: int, position: int) -> Tuple[bytes, bytes]:
+        """The grant at a position of a version, 0 the least key: key and value. Refused: 1, 2, 8, 3, 20 (not below the number), 3 or 17."""
+        if not isinstance(position, int) or not 0 <= position < 2**64:
+            raise ValueError("a position is a whole number from 0 on")
+        grant = Room(64)
+        self._call("at", number_of(version), position, (grant,))
+        said = grant.front(64)
+        return said[:32], said[32:]
+
+    def prove_pocket(self, version: int, key: Bytes) -> bytes:
+        """As `prove`, for a proof of at most 32 steps for each leaf shown. Refused: 12, 1, 2, 8, 14, 3 or 17, 19."""
+        room, length = Room(POCKET_BYTES), Room(4)
+        self._call("pocket_prove", number_of(version), room_of(key), room, (length,))
+        return room.front(u32_at(length.front(4), 0))
+
+    def figures(self, first: int, last: int) -> Report:
+        """The figures of 1 to 1,024 kept versions. Refused: 1, 2, 3, 8."""
+        many = min(max(number_of(last) - number_of(first) + 1, 0), MOST_FIGURES)
+        room, totals = Room(16 * many), Room(8)
+        self._call("figures", first, last, room, (totals,))
+        said, sums = room.front(room.length), totals.front(8)
+        of = [Figures(first + i, *(u32_at(said, 16 * i + at) for at in (0, 4, 8, 12))) for i in range(many)]
+        return Report(of, u32_at(sums, 0), u32_at(sums, 4))
+
+    def finding(self, version: int, key: Bytes, proof: Bytes) -> Optional[Finding]:
+        """None where an accepted proof tells the truth about a version of this store, else what it would take that it doesn't.
+        Refused: 12, 1, 2, 3, 8, 14, 10, 11."""
+        finding = Room(131)
+        self._call("finding", number_of(version), room_of(key), room_of(proof), (finding,))
+        said = finding.front(131)
+        return Finding([said[1:66], said[66:]][: 3 - said[0]]) if said[0] else None
+
     def palette(self, version: int, keys: Sequence[Bytes], most: Optional[int] = None) -> List[bytes]:
         """The proofs for up to 256 keys, in the order asked, each as `prove` would give it, in at most so many bytes together.
         Refused: 12, 1, 2, 8, then of the first key refused 14, 3 or 17; then 9."""
@@ -180,3 +243,19 @@ def rescue(damaged: Bytes, oldest: int, latest: int) -> Rescued:
     call("rescue", source, number_of(oldest), number_of(latest), target, (answer,))
     said = answer.front(16)
     return Rescued(Store(target.front(target.length)), *(u32_at(said, at) for at in (0, 4, 8, 12)))
+
+
+def move_over(old: Bytes) -> Store:
+    """A store of the old form, with slots of 120 bytes and no counts, in the form of today; its slots and versions stay. Refused: 1, 2, 3."""
+    source = room_of(old)
+    target = Room(HEADER_BYTES + SLOT_BYTES * max(0, (source.length - HEADER_BYTES) // OLD_SLOT_BYTES))
+    call("over", source, target)
+    return Store(target.front(target.length))
+
+
+def move_back(store: Store) -> bytes:
+    """The bytes of a store in the old form. Refused: 1, 2, 3."""
+    source = room_of(store.to_bytes())
+    target = Room(HEADER_BYTES + OLD_SLOT_BYTES * max(0, (source.length - HEADER_BYTES) // SLOT_BYTES))
+    call("back", source, target)
+    return target.front(target.length)

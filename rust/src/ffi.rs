@@ -144,6 +144,7 @@ extern "C" {
         answers: *mut u8,
         answers_len: usize,
     ) -> u32;
+    fn grants_version() -> u32;
     fn grants_sha256(bytes: *const u8, len: usize, digest: *mut [u8; 32]) -> u32;
 }
 
@@ -436,6 +437,11 @@ pub fn pocket_verify(root: &[u8], key: &[u8], proof: &[u8]) -> Result<[u8; 33], 
         )
     })?;
     Ok(found)
+}
+
+pub fn version() -> [u8; 3] {
+    let [major, minor, patch, _] = unsafe { grants_version() }.to_be_bytes();
+    [major, minor, patch]
 }
 
 pub fn sha256(bytes: &[u8]) -> [u8; 32] {

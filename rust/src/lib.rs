@@ -79,6 +79,16 @@ pub use store::{Applied, Header, Store};
 pub use statement::{Seen, Statement, Verdict};
 pub use words::{Key, Root, Value};
 
+/// The version of the library that is linked: major, minor, patch.
+///
+/// ```
+/// let [major, minor, patch] = grants::version();
+/// assert_eq!(format!("{major}.{minor}.{patch}"), env!("CARGO_PKG_VERSION"));
+/// ```
+pub fn version() -> [u8; 3] {
+    ffi::version()
+}
+
 /// SHA-256 of any bytes, by the library's own proved code.
 ///
 /// ```

@@ -13,7 +13,8 @@ TOP = os.path.dirname(os.path.dirname(os.path.dirname(os.path.abspath(__file__))
 sys.path.insert(0, os.environ.get("GRANTS_PACKAGE", TOP + "/python"))
 
 import grants  # noqa: E402
-from grants import Change, Refused, Seen, Statement, Store, Verdict, batch, library, name, rescue, sha256, verify, verify_palette  # noqa: E402
+from grants import Change, Refused, Seen, Statement, Store, Verdict, batch, library, move_back, move_over, name, rescue, sha256, verify  # noqa: E402
+from grants import verify_many, verify_palette, verify_pocket, version  # noqa: E402
 
 
 def key(first, last=0):
@@ -151,9 +152,73 @@ class Refusals(unittest.TestCase):
 
 # Calls that the package doesn't have yet: whoever adds one to it takes it off this list.
 LATER = set(
-    "at back count figures finding ics23_read ics23_write index index_check over pocket_prove pocket_verify shelf_verify verify_many version".split()
+    "ics23_read ics23_write index index_check shelf_verify".split()
     + [call + "_indexed" for call in "apply at count format get palette prove prune root".split()]
 )
+
+
+class Later(unittest.TestCase):
+    def test_counts(self):
+        store = desk()
+        self.assertEqual((store.count(0), store.count(1)), (0, 4))
+        self.assertEqual([store.at(1, i) for i in range(4)], [(k, V) for k in (A, B, C, D)])
+        self.assertEqual([number(store.at, 1, i) for i in (4, 2**64 - 1)], [20, 20])
+        self.assertEqual((number(store.count, 2), number(store.at, 2, 0)), (8, 8))
+        for wrong in (-1, 2**64, "0"):
+            with self.assertRaises(ValueError):
+                store.at(1, wrong)
+
+    def test_moves(self):
+        store = desk()
+        old = move_back(store)
+        self.assertEqual(len(old), 24 + 120 * 20)
+        self.assertEqual(move_over(old).to_bytes(), store.to_bytes())
+        self.assertEqual((number(move_over, old[:-1]), number(move_over, bytes(len(old)))), (1, 2))
+        spoilt = bytearray(old)
+        spoilt[24 + 120 * 6 + 60] ^= 1
+        self.assertEqual(number(move_over, spoilt), 3)
+
+    def test_figures(self):
+        store = desk()
+        store.apply(3, {B: None, C: W})
+        report = store.figures(0, 3)
+        # Version 1: four leaves, inner nodes at the root, at 0 and at 01; paths of 2, 3, 3 and 1 steps; version 2 reads as version 1.
+        self.assertEqual([it[1:] for it in report.versions], [(0, 0, 0, 0), (4, 3, 3, 9), (4, 3, 3, 9), (3, 2, 2, 5)])
+        self.assertEqual((report.distinct, report.records), (10, 19))
+        self.assertEqual((number(store.figures, 1, 4), number(store.figures, 3, 1), number(store.figures, 0, 2000)), (8, 8, 8))
+
+    def test_pocket(self):
+        store = desk()
+        proof = store.prove_pocket(1, A)
+        self.assertEqual(proof, store.prove(1, A))
+        self.assertEqual(verify_pocket(store.root(1), A, proof), V)
+        deep = Store.format(600)
+        deep.apply(1, {key(0): V, key(0, 1): V})
+        self.assertEqual(number(deep.prove_pocket, 1, key(0)), 19)
+        self.assertEqual(number(verify_pocket, deep.root(1), key(0), deep.prove(1, key(0))), 19)
+
+    def test_many(self):
+        store = desk()
+        keys = [A, E, D, A]
+        proofs = store.palette(1, keys)
+        self.assertEqual(verify_many(store.root(1), keys, proofs), [V, None, V, V])
+        self.assertEqual(verify_many(store.root(1), keys, b"".join(proofs)), [V, None, V, V])
+        wrong = verify_many(store.root(1), keys, [proofs[1], proofs[1], proofs[2][:4] + bytes(len(proofs[2]) - 4), proofs[3]])
+        self.assertEqual([it.number if isinstance(it, Refused) else it for it in wrong], [11, None, 10, V])
+        self.assertEqual(verify_many(store.root(1), [], b""), [])
+        self.assertEqual((number(verify_many, store.root(1), keys, proofs[:3]), number(verify_many, b"", keys, proofs)), (10, 12))
+        self.assertEqual(number(verify_many, store.root(1), [A] * 257, proofs), 12)
+
+    def test_finding(self):
+        store = desk()
+        self.assertIsNone(store.finding(1, A, store.prove(1, A)))
+        self.assertEqual(number(store.finding, 1, A, store.prove(1, B)), 11)
+        self.assertEqual(number(store.finding, 0, A, store.prove(1, A)), 14)
+
+    def test_version(self):
+        with open(TOP + "/include/grants.h") as f:
+            said = int(re.search(r"#define GRANTS_VERSION (\w+)", f.read()).group(1), 16)
+        self.assertEqual(version(), (said >> 24, said >> 16 & 255, said >> 8 & 255))
 
 
 class Proofs(unittest.TestCase):

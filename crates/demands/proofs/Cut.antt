@@ -29,7 +29,7 @@ use Rattle.grants.specs.Contracts.{Prunes}
 use Rattle.demands.specs.Claims.{Pruned}
 use Rattle.demands.proofs.Stored.{stored-is, stored-sound, prune-form}
 use Rattle.demands.proofs.Refusals.{no-refusal, never-0, prune-refusals, does-numbers}
-use Rattle.demands.proofs.Showing.{same-tree-reads-as}
+use Rattle.demands.proofs.Alike.{same-tree-reads-as, same-trees-compare-as}
 use Rattle.demands.proofs.Versions.{free-most}
 
 -- an entry of a list that was mapped
@@ -105,14 +105,16 @@ accepted-prune-frees n {s} bytes w = go w refl
         let after : AfterPrune leafHash innerHash n (storeOf s) (num (le 4 a)) (storeOf (storeBytes st)) =
         subst₂ (λ k x. AfterPrune leafHash innerHash n (storeOf s) k x) (sym (num-le 4 a (omega arith))) (sym said) made in
         let here : Kept (storeOf s) n = kept-by n (storeOf s) a e in
+        let now-sound : SoundBytes (storeBytes st) = stored-sound st (prune-form n (storeOf s)) (made .sound) in
+        let before : (v : ℕ) → Kept (storeOf (storeBytes st)) v → Kept (storeOf s) v =
+        λ v k. (omega (arith, here .0, after .oldest, k .0), omega (arith, after .latest, k .1)) in
         record {
           was = w;
-          sound = stored-sound st (prune-form n (storeOf s)) (made .sound);
+          sound = now-sound;
           bytes = ap storeBytes (sym said);
           after = after;
-          reads = λ v k.
-              same-tree-reads-as (stored-sound st (prune-form n (storeOf s)) (made .sound)) w k
-              (omega (arith, here .0, after .oldest, k .0), omega (arith, after .latest, k .1)) (after .trees v k);
+          reads = λ v k. same-tree-reads-as now-sound w k (before v k) (after .trees v k);
+          compares = λ v x k l. same-trees-compare-as now-sound w k l (before v k) (before x l) (after .trees v k) (after .trees x l);
           frees = λ i r h f. slot-freed n s bytes w a e i r h f;
           keeps = λ i h f. slot-kept n s bytes w a e i h f;
         }

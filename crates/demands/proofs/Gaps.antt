@@ -2,17 +2,19 @@
 -- calls of the definitions, so their theorem speaks of it. Assumes nothing.
 use Prim.Native.Nat.{ℕ}
 use mathlib.Core.Path.{_≡_, refl, ap, sym, _∙_, subst}
-use mathlib.Core.Bool.{Bool, true}
+use mathlib.Core.Bool.{Bool, true, false}
 use mathlib.Core.List.{List, [], _∷_}
 use lib.ListN.{length}
-use Rattle.terms.specs.declared.Form.the-variants.{Counted as counted}
+use lib.Dec.{eqb}
+use borrow.Author.Tests.{eqb-false}
+use Rattle.terms.specs.declared.Form.the-variants.{Plain as plain, Counted as counted}
 use Rattle.terms.specs.Bits.{Bytes, All}
 use Rattle.terms.specs.Records.{Store}
 use Rattle.meaning.specs.Store.{formatted, rootOf}
 use Rattle.meaning.specs.Sound.{Sound, Kept}
 use Rattle.meaning.specs.Calls.{refused, accepted, Result}
-use Rattle.meaning.specs.History.{Call, applying, pruning, Entry, entry}
-use Rattle.meaning.specs.Course.{CallForm, after, run}
+use Rattle.meaning.specs.History.{Call, applying, pruning, taking, Entry, entry}
+use Rattle.meaning.specs.Course.{CallForm, after, run, held}
 use Rattle.histories.specs.Claims.{NoGap}
 use Rattle.histories.specs.Gaps.{NoGaps, rootIn01}
 use Rattle.histories.proofs.Histories.{keeps-calls}
@@ -20,23 +22,24 @@ use Rattle.histories.proofs.Theorems as laws
 use Rattle.nodehash.specs.Node.{leafHash, innerHash}
 use Rattle.layout.specs.Sizes.{roomOf}
 use Rattle.layout.specs.Headers.{sizeRight}
-use Rattle.layout.specs.Stores.{storeOf, slotsAs}
+use Rattle.layout.specs.Stores.{storeIn, storeOf, slotsAs}
 use Rattle.layout.proofs.Headers.{size-says}
 use Rattle.layout.proofs.Stores.{length-slots}
 use Rattle.batch.specs.Batch.{batchOf}
 use Rattle.format.specs.Format.{formatBytes}
 use Rattle.promises.specs.Calls.{wrong-header, not-sound, refuses, accepts, Exports, exports-refusal, exports-answer}
-use Rattle.demands.specs.Calls.{Called, formats, applies, prunes, checks, reads-root, reads-key, counts, reads-at, proves, palettes, compares, figures, pocket-proves, verifies, pocket-verifies, verifies-many, hashes, Calls, none-yet, then-called, WithoutGaps, Life, rescues-from, rescues-into, moves-back, moves-over}
+use Rattle.demands.specs.Calls.{takenOver, Called, formats, applies, prunes, checks, reads-root, reads-key, counts, reads-at, proves, palettes, compares, figures, pocket-proves, verifies, pocket-verifies, verifies-many, tells-version, hashes, Calls, none-yet, then-called, doneBy, WithoutGaps, Life, rescues-from, rescues-into, moves-back, moves-over}
 use Rattle.demands.specs.Calls.{finds}
 use Rattle.grants.specs.Contracts.{Formats}
 use Rattle.demands.proofs.Hashes.{leaf-hash-whole, inner-hash-whole}
 use Rattle.demands.proofs.Stored.{stored-is, formatted-form, prune-form, apply-form}
+use Rattle.demands.proofs.Refusals.{refused-rescue-writes-nothing, refused-over-writes-nothing}
 use Rattle.demands.proofs.Histories.{Keeping, sound-bytes, size-right, not-headed, asks-form, called-keeps, formatted-keeps}
 
 -- what was called, accepted or not
 abbrev callsOf : List (Call × Bool) → List Call
 callsOf [] = []
-callsOf (e ∷ history) = e .0 ∷ callsOf history
+callsOf (e ∷ history) = doneBy (e .0) (e .1) ∷ callsOf history
 
 slots-many : (s : Bytes) → length (storeOf s .slots) ≡ roomOf counted (length s)
 unfolding slotsAs
@@ -64,7 +67,17 @@ module _ {s : Bytes} {es : List Entry} (k : Keeping s es) where
   sound-after c f =
       keeps-calls leafHash innerHash leaf-hash-whole inner-hash-whole (c ∷ []) (storeOf s) es (f, tt) (k .keeps) .sound
 
-  called-after : {e : Call × Bool} {t : Bytes} → Called s e t → NoGap (e .0) (storeOf s) → storeOf t ≡ after leafHash innerHash (e .0) (storeOf s)
+  -- what was refused changed nothing, what was accepted is excluded
+  taken-after : (es′ : List Entry) {t : Bytes} (r : ℕ) → ((r ≡ 0 → ⊥) → t ≡ s) → NoGap (doneBy (taking es′) (eqb r 0)) (storeOf s) →
+      storeOf t ≡ after leafHash innerHash (doneBy (taking es′) (eqb r 0)) (storeOf s)
+  taken-after es′ {t} r same = go (eqb r 0) refl
+    where
+      go : (b : Bool) → eqb r 0 ≡ b → NoGap (doneBy (taking es′) b) (storeOf s) → storeOf t ≡ after leafHash innerHash (doneBy (taking es′) b) (storeOf s)
+      go true e gap = absurd gap
+      go false e gap = ap storeOf (same (eqb-false r 0 e))
+
+  called-after : {e : Call × Bool} {t : Bytes} → Called s e t → NoGap (doneBy (e .0) (e .1)) (storeOf s) →
+      storeOf t ≡ after leafHash innerHash (doneBy (e .0) (e .1)) (storeOf s)
   called-after (formats w) gap = ap storeOf (w .bytes) ∙ fresh-is s (size-right k) ∙ ap formatted (sym (slots-many s))
   called-after (applies number batch small h w) gap =
       export-after w k (λ m e. laws.refused-apply-writes-nothing leafHash innerHash number (batchOf batch) (storeOf s) m e)
@@ -83,15 +96,22 @@ module _ {s : Bytes} {es : List Entry} (k : Keeping s es) where
   called-after (pocket-proves w) gap = refl
   called-after (finds w) gap = refl
   called-after (rescues-from w) gap = refl
-  called-after (rescues-into n h w) gap = absurd gap
+  called-after (rescues-into {latest = latest} {r = r} {source = source} {g = g} n h w) gap =
+      taken-after (takenOver source latest g) r (λ z. refused-rescue-writes-nothing w z .0) gap
   called-after (moves-back w) gap = refl
-  called-after (moves-over h w) gap = absurd gap
+  called-after (moves-over {r = r} {source = source} h w) gap =
+      taken-after (held (storeIn plain source)) r (λ z. refused-over-writes-nothing w z) gap
   called-after (verifies w) gap = refl
   called-after (verifies-many w) gap = refl
   called-after (pocket-verifies w) gap = refl
+  called-after (tells-version w) gap = refl
   called-after (hashes w) gap = refl
 
-form-of : {s t : Bytes} {e : Call × Bool} → Called s e t → CallForm (e .0)
+taken-form : (es : List Entry) (b : Bool) → CallForm (doneBy (taking es) b)
+taken-form es true = tt
+taken-form es false = tt
+
+form-of : {s t : Bytes} {e : Call × Bool} → Called s e t → CallForm (doneBy (e .0) (e .1))
 form-of (formats w) = tt
 form-of (applies number batch small h w) = asks-form number batch small h
 form-of (prunes w) = tt
@@ -107,12 +127,13 @@ form-of (figures w) = tt
 form-of (pocket-proves w) = tt
 form-of (finds w) = tt
 form-of (rescues-from w) = tt
-form-of (rescues-into n h w) = tt
+form-of (rescues-into {latest = latest} {r = r} {source = source} {g = g} n h w) = taken-form (takenOver source latest g) (eqb r 0)
 form-of (moves-back w) = tt
-form-of (moves-over h w) = tt
+form-of (moves-over {r = r} {source = source} h w) = taken-form (held (storeIn plain source)) (eqb r 0)
 form-of (verifies w) = tt
 form-of (verifies-many w) = tt
 form-of (pocket-verifies w) = tt
+form-of (tells-version w) = tt
 form-of (hashes w) = tt
 
 -- a sequence of public calls is one of the definitions' calls

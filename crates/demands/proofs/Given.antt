@@ -88,7 +88,7 @@ abbrev pub kindOf : Proof → ℕ
 kindOf (presence q) = presenceKind
 kindOf (absence a) = absenceKind
 
-kind-is : (p : Proof) (rest : Bytes) → field 4 2 (proofBytes p ++ rest) ≡ kindOf p
+pub kind-is : (p : Proof) (rest : Bytes) → field 4 2 (proofBytes p ++ rest) ≡ kindOf p
 unfolding presenceBytes absenceBytes
 kind-is (presence q) rest =
     kind-after _ presenceKind (le 2 (length (q .steps)) ∷ q .key ∷ q .value ∷ stepsBytes (q .steps) ∷ []) rest (omega arith)

@@ -9,7 +9,10 @@ pub mod Forms
 pub mod Given
 pub mod Showing
 pub mod Shortest
+pub mod Numbered
+pub mod Alike
 pub mod Versions
+pub mod Placing
 pub mod Cut
 pub mod Histories
 pub mod Gaps
@@ -19,7 +22,7 @@ pub mod Palettes
 pub mod Many
 pub mod Rescued
 pub mod Moved
-pub mod Numbered
 pub mod Figured
 pub mod Pocket
 pub mod Forged
+pub mod Sentences

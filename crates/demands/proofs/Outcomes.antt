@@ -11,7 +11,7 @@ use Rattle.changes.specs.Changes.{roomAfter}
 use Rattle.changes_c.specs.Export.{countBytes}
 use Rattle.rescue_bytes.proofs.Outcomes as rescue
 use Rattle.move_rules.proofs.Outcomes as move
-use Rattle.grants.specs.Contracts.{Formats, Checks, Applies, Prunes, ReadsRoot, ReadsKey, Counts, ReadsAt, Proves, Palettes, Changes, Verifies, VerifiesMany, Hashes, Rescues, MovesOver, MovesBack}
+use Rattle.grants.specs.Contracts.{Formats, Checks, Applies, Prunes, ReadsRoot, ReadsKey, Counts, ReadsAt, Proves, Palettes, Changes, Verifies, VerifiesMany, TellsVersion, Hashes, Rescues, MovesOver, MovesBack}
 use Rattle.forgery.specs.Finding.{Finding}
 use Rattle.finding_rules.specs.Call.{findingBytes}
 use Rattle.finding.specs.Finding.{Answers, wrong-key, right-key}
@@ -87,6 +87,9 @@ module _ {a b : ℕ} where
 
   pub one-verify-many : {root list row old g h : Bytes} → VerifiesMany root list row old a g → VerifiesMany root list row old b h → (a ≡ b) × (g ≡ h)
   one-verify-many x y = (x .answer ∙ sym (y .answer), x .told ∙ sym (y .told))
+
+  pub one-version : TellsVersion a → TellsVersion b → a ≡ b
+  one-version x y = x ∙ sym y
 
   pub one-sha256 : {x g h : Bytes} → Hashes x a g → Hashes x b h → (a ≡ b) × (g ≡ h)
   one-sha256 x y = (x .answer ∙ sym (y .answer), x .digest ∙ sym (y .digest))

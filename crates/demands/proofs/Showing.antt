@@ -12,7 +12,7 @@ use borrow.Author.Tests.{eq-eqb, ltb-true, ltb-false}
 use Rattle.terms.specs.Bits.{Bytes, Whole32}
 use Rattle.terms.specs.Fields.{num, field}
 use Rattle.terms.specs.Records.{Proof, presence, absence}
-use Rattle.meaning.specs.Tree.{hash, unversioned, grantsIn}
+use Rattle.meaning.specs.Tree.{hash, unversioned}
 use Rattle.meaning.specs.Sound.{Kept}
 use Rattle.meaning.specs.Calls.{Answer, refused, accepted}
 use Rattle.meaning.specs.Reading.{Verdict, present, absent, answerOf, readKey}
@@ -35,7 +35,7 @@ use Rattle.prove_c.specs.Export.{provedInto}
 use Rattle.verify.specs.Verify.{verified}
 use Rattle.meaning.specs.Answers.{numberOf, foundBytes, foundAfter}
 use Rattle.grants.specs.Contracts.{ReadsRoot, ReadsKey, Proves, Verifies}
-use Rattle.demands.specs.Claims.{treeOfVersion, grantsOfVersion, ReadsAs, Shown, NothingToShow}
+use Rattle.demands.specs.Claims.{treeOfVersion, grantsOfVersion, Shown, NothingToShow}
 use Rattle.demands.proofs.Refusals.{refused-prove-writes-nothing}
 use Rattle.demands.proofs.Hashes.{hash-whole}
 use Rattle.demands.proofs.Forms.{proof-form}
@@ -56,20 +56,6 @@ module _ {s : Bytes} (w : SoundBytes s) {v : ℕ} (kept : Kept (storeOf s) v) wh
 
   pub key-of-grants : {k f g : Bytes} {r : ℕ} → Whole32 k → ReadsKey s v k f r g → (r ≡ 0) × (g ≡ foundBytes (answerOf k (grantsOfVersion s v)))
   key-of-grants {k} whole x = key-left x (key-read-of-sound s (w .headed) (w .sound) v kept k whole)
-
--- Versions with the same tree read alike.
-pub same-tree-reads-as : {t s : Bytes} → SoundBytes t → SoundBytes s → {v w : ℕ} → Kept (storeOf t) v → Kept (storeOf s) w →
-    treeOfVersion t v ≡ treeOfVersion s w → ReadsAs t v s w
-same-tree-reads-as a b kept kept′ e = record {
-  root = λ x y.
-      let m = root-of-tree a kept x in
-      let n = root-of-tree b kept′ y in
-      (m .0, n .0, m .1 ∙ ap (λ u. hash leafHash innerHash (unversioned u)) e ∙ sym (n .1));
-  key = λ {k} whole x y.
-      let m = key-of-grants a kept whole x in
-      let n = key-of-grants b kept′ whole y in
-      (m .0, n .0, m .1 ∙ ap (λ u. foundBytes (answerOf k (grantsIn u))) e ∙ sym (n .1));
-}
 
 -- a proof of either kind
 by-kind : (p : Proof) (k : Bytes) (a : Verdict) {n : ℕ} → n ≡ kindOf p → Agrees k (accepted a) p →

@@ -27,23 +27,24 @@ use Rattle.promises.specs.Calls.{SoundBytes, accepts, exports-refusal, exports-
 use Rattle.apply_c.specs.Export.{answerBytes, told}
 use Rattle.meaning.specs.Answers.{foundBytes}
 use Rattle.grants.specs.Contracts.{Applies, ReadsRoot, ReadsKey}
-use Rattle.demands.specs.Claims.{treeOfVersion, grantsOfVersion, latestOf, ReadsAs, NextVersion}
+use Rattle.demands.specs.Claims.{treeOfVersion, grantsOfVersion, latestOf, ReadsAs, ComparesAs, NextVersion}
 use Rattle.demands.proofs.Hashes.{leaf-hash-whole, inner-hash-whole, hash-whole}
 use Rattle.demands.proofs.Stored.{stored-is, stored-sound, apply-form}
 use Rattle.demands.proofs.Refusals.{no-refusal, never-0, apply-refusals, does-numbers}
-use Rattle.demands.proofs.Showing.{root-of-tree, key-of-grants, same-tree-reads-as}
+use Rattle.demands.proofs.Showing.{root-of-tree, key-of-grants}
+use Rattle.demands.proofs.Alike.{same-tree-reads-as, same-trees-compare-as}
 
 -- what an accepted batch makes, on the store of the bytes
-record Makes (number : ℕ) (batch s t g : Bytes) : Type 0 where
-  asks : List Ask
-  asked : batchOf batch ≡ some asks
-  was : SoundBytes s
-  answer : Applied
-  accepted-as : apply leafHash innerHash number (some asks) (storeOf s) .answer ≡ accepted answer
-  bytes : t ≡ storeBytes (apply leafHash innerHash number (some asks) (storeOf s) .store)
-  told-as : g ≡ told answer
+pub record Makes (number : ℕ) (batch s t g : Bytes) : Type 0 where
+  pub asks : List Ask
+  pub asked : batchOf batch ≡ some asks
+  pub was : SoundBytes s
+  pub answer : Applied
+  pub accepted-as : apply leafHash innerHash number (some asks) (storeOf s) .answer ≡ accepted answer
+  pub bytes : t ≡ storeBytes (apply leafHash innerHash number (some asks) (storeOf s) .store)
+  pub told-as : g ≡ told answer
 
-makes : (number : ℕ) (batch : Bytes) {s f t g : Bytes} {r : ℕ} → Applies number batch s f r t g → r ≡ 0 → Makes number batch s t g
+pub makes : (number : ℕ) (batch : Bytes) {s f t g : Bytes} {r : ℕ} → Applies number batch s f r t g → r ≡ 0 → Makes number batch s t g
 unfolding refuse
 makes number batch {s} (exports-refusal d) z =
     absurd (never-0 (1 ∷ 2 ∷ 3 ∷ 4 ∷ 5 ∷ 18 ∷ 7 ∷ []) refl (does-numbers (4 ∷ 5 ∷ 18 ∷ 7 ∷ []) (apply-refusals number (batchOf batch)) d) z)
@@ -102,7 +103,7 @@ count-is number asks st a =
     same e = cc
 
 module _ {number : ℕ} {batch s t g : Bytes} (small : number ≤ top32) (bytes : All Byte batch) (m : Makes number batch s t g) where
-  abbrev st′ : Store
+  abbrev pub st′ : Store
   st′ = apply leafHash innerHash number (some (m .asks)) (storeOf s) .store
 
   made : AfterApply leafHash innerHash number (m .asks) (storeOf s) (m .answer) st′
@@ -110,13 +111,13 @@ module _ {number : ℕ} {batch s t g : Bytes} (small : number ≤ top32) (bytes 
       apply-keeps-sound leafHash innerHash leaf-hash-whole inner-hash-whole number (m .asks) (storeOf s) (m .answer) (m .was .sound) small
       (batch-of-back batch (m .asks) bytes (m .asked) .2) (m .accepted-as)
 
-  sound : SoundBytes t
+  pub sound : SoundBytes t
   sound = subst SoundBytes (sym (m .bytes)) (stored-sound st′ (apply-form number (some (m .asks)) (storeOf s)) (made .sound))
 
-  store-is : storeOf t ≡ st′
+  pub store-is : storeOf t ≡ st′
   store-is = ap storeOf (m .bytes) ∙ stored-is st′ (apply-form number (some (m .asks)) (storeOf s)) (made .sound)
 
-  after : AfterApply leafHash innerHash number (m .asks) (storeOf s) (m .answer) (storeOf t)
+  pub after : AfterApply leafHash innerHash number (m .asks) (storeOf s) (m .answer) (storeOf t)
   after = subst (AfterApply leafHash innerHash number (m .asks) (storeOf s) (m .answer)) (sym store-is) made
 
   kept : Kept (storeOf t) (latestOf t)
@@ -154,9 +155,14 @@ module _ {number : ℕ} {batch s t g : Bytes} (small : number ≤ top32) (bytes 
       let e = key-of-grants sound kept whole (subst (λ v. ReadsKey t v k f r h) version x) in
       (e .0, e .1 ∙ ap (λ gs. foundBytes (answerOf k gs)) (after .grants))
 
+  still-kept : (v : ℕ) → Kept (storeOf s) v → Kept (storeOf t) v
+  still-kept v k = (omega (arith, after .oldest, k .0), omega (arith, after .above, k .1))
+
   older-reads : (v : ℕ) → Kept (storeOf s) v → ReadsAs t v s v
-  older-reads v k =
-      same-tree-reads-as sound (m .was) (omega (arith, after .oldest, k .0), omega (arith, after .above, k .1)) k (after .older v k)
+  older-reads v k = same-tree-reads-as sound (m .was) (still-kept v k) k (after .older v k)
+
+  older-compare : (v w : ℕ) → Kept (storeOf s) v → Kept (storeOf s) w → ComparesAs t v w s v w
+  older-compare v w k l = same-trees-compare-as sound (m .was) (still-kept v k) (still-kept w l) k l (after .older v k) (after .older w l)
 
   between-reads : (v : ℕ) → latestOf s ≤ v → v < number → ReadsAs t v s (latestOf s)
   between-reads v l h =
@@ -185,6 +191,7 @@ module _ {number : ℕ} {batch s t g : Bytes} (small : number ≤ top32) (bytes 
     reads-key = key-read;
     older = older-reads;
     between = between-reads;
+    compares = older-compare;
   }
 
 -- An accepted batch makes the version of its number.

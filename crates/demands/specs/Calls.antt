@@ -1,7 +1,7 @@
 -- Demand 3: any sequence of public calls on one store, refused ones included. Each call is its contract, and the bytes it leaves are those that
 -- the next one is lent. Assumes nothing.
 use Prim.Native.Nat.{ℕ, _-_, _≤_}
-use mathlib.Core.Bool.{Bool, false}
+use mathlib.Core.Bool.{Bool, true, false}
 use mathlib.Core.List.{List, [], _∷_}
 use lib.Dec.{eqb}
 use Rattle.terms.specs.declared.Form.{Form}
@@ -17,7 +17,7 @@ use Rattle.batch.specs.Batch.{batchOf}
 use Rattle.rescue_bytes.specs.Rescues.{slotsIn}
 use Rattle.rescue_bytes.specs.Claims.{runLedger}
 use Rattle.move_rules.specs.Claims.{SoundIn}
-use Rattle.grants.specs.Contracts.{Formats, Checks, Applies, Prunes, ReadsRoot, ReadsKey, Counts, ReadsAt, Proves, Palettes, Changes, Rescues, MovesOver, MovesBack, Finds, Figures, PocketProves, Verifies, PocketVerifies, VerifiesMany, Hashes}
+use Rattle.grants.specs.Contracts.{Formats, Checks, Applies, Prunes, ReadsRoot, ReadsKey, Counts, ReadsAt, Proves, Palettes, Changes, Rescues, MovesOver, MovesBack, Finds, Figures, PocketProves, Verifies, PocketVerifies, VerifiesMany, TellsVersion, Hashes}
 
 -- What a rescued store takes over: the grants of its versions, from the first that was reported to latest, by the source's trees.
 abbrev pub takenOver : Bytes → ℕ → Bytes → List Entry
@@ -57,6 +57,7 @@ pub data Called (s : Bytes) : Call × Bool → Bytes → Type 0 where
   verifies : {r : ℕ} {root k x f g : Bytes} → Verifies root k x f r g → Called s (looking, false) s
   verifies-many : {r : ℕ} {root list row old new : Bytes} → VerifiesMany root list row old r new → Called s (looking, false) s
   pocket-verifies : {r : ℕ} {root k x f g : Bytes} → PocketVerifies root k x f r g → Called s (looking, false) s
+  tells-version : {r : ℕ} → TellsVersion r → Called s (looking, false) s
   hashes : {r : ℕ} {x g : Bytes} → Hashes x r g → Called s (looking, false) s
 
 -- Calls one after the other, from the bytes s to the bytes t, with their history.
@@ -64,10 +65,20 @@ pub data Calls : Bytes → List (Call × Bool) → Bytes → Type 0 where
   none-yet : {s : Bytes} → Calls s [] s
   then-called : {s t u : Bytes} {e : Call × Bool} {history : List (Call × Bool)} → Called s e t → Calls t history u → Calls s (e ∷ history) u
 
--- None of them leaves a gap: each batch is given the latest version of the bytes it is lent + 1 (or less, and is refused).
+-- What a call did to the store: a rescue or a move into it that was refused only looked.
+abbrev pub doneBy : Call → Bool → Call
+doneBy formatting b = formatting
+doneBy (applying number batch) b = applying number batch
+doneBy (pruning n) b = pruning n
+doneBy (taking es) true = taking es
+doneBy (taking es) false = looking
+doneBy looking b = looking
+
+-- None of them leaves a gap: each batch is given the latest version of the bytes it is lent + 1 (or less, and is refused), and no rescue and no
+-- move into the store was accepted.
 abbrev pub WithoutGaps : {s t : Bytes} {history : List (Call × Bool)} → Calls s history t → Type 0
 WithoutGaps none-yet = Unit {0}
-WithoutGaps {s} (then-called {e = e} c calls) = NoGap (e .0) (storeOf s) × WithoutGaps calls
+WithoutGaps {s} (then-called {e = e} c calls) = NoGap (doneBy (e .0) (e .1)) (storeOf s) × WithoutGaps calls
 
 -- How a store of a form begins, and the grants by version that it begins with. A new one: format accepted some bytes,
 -- and there is the empty version 0; or a rescue into some bytes was accepted, and its history counts from the run's

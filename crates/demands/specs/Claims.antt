@@ -38,7 +38,7 @@ use Rattle.apply_c.specs.Export.{told}
 use Rattle.meaning.specs.Counting.{grantAt}
 use Rattle.meaning.specs.Answers.{foundBytes, numberOf, toldOf}
 use Rattle.read_counts_c.specs.Export.{grantBytes}
-use Rattle.grants.specs.Contracts.{ReadsRoot, ReadsKey, Proves, Verifies, Counts, ReadsAt}
+use Rattle.grants.specs.Contracts.{ReadsRoot, ReadsKey, Proves, Palettes, Changes, Verifies, Counts, ReadsAt}
 
 -- Of the store that bytes hold: the tree of a version, its grants, and the latest version.
 abbrev pub treeOfVersion : Bytes → ℕ → VTree
@@ -89,11 +89,24 @@ pub record AfterHistory (start : List Entry) (history : List (Call × Bool)) (t 
   -- no proof is longer than 17,080 bytes
   pub proofs : {v : ℕ} {k room f u g : Bytes} → Proves t v k room f 0 u g → num g ≤ 17080
 
--- Document 02, 2026-13: version v of the bytes t reads as version w of the bytes s.
+-- Version v of the bytes t reads as version w of the bytes s (2026-13, and of each version that a call leaves as it was): root, key, number and
+-- position; the proof of any key, and any palette, into the same room are the same bytes.
 pub record ReadsAs (t : Bytes) (v : ℕ) (s : Bytes) (w : ℕ) : Type 0 where
   pub root : {f h f₁ h₁ : Bytes} {r r₁ : ℕ} → ReadsRoot t v f r h → ReadsRoot s w f₁ r₁ h₁ → (r ≡ 0) × (r₁ ≡ 0) × (h ≡ h₁)
   pub key : {k f h f₁ h₁ : Bytes} {r r₁ : ℕ} → Whole32 k → ReadsKey t v k f r h → ReadsKey s w k f₁ r₁ h₁ →
       (r ≡ 0) × (r₁ ≡ 0) × (h ≡ h₁)
+  pub number : {f h h₁ : Bytes} {r r₁ : ℕ} → Counts t v f r h → Counts s w f r₁ h₁ → (r ≡ r₁) × (h ≡ h₁)
+  pub position : {i : ℕ} {f h h₁ : Bytes} {r r₁ : ℕ} → ReadsAt t v i f r h → ReadsAt s w i f r₁ h₁ → (r ≡ r₁) × (h ≡ h₁)
+  pub proof : {k room f u u₁ g g₁ : Bytes} {r r₁ : ℕ} → Proves t v k room f r u g → Proves s w k room f r₁ u₁ g₁ →
+      (r ≡ r₁) × (u ≡ u₁) × (g ≡ g₁)
+  pub palette : {list room f u u₁ g g₁ : Bytes} {r r₁ : ℕ} → Palettes t v list room f r u g → Palettes s w list room f r₁ u₁ g₁ →
+      (r ≡ r₁) × (u ≡ u₁) × (g ≡ g₁)
+
+-- What changed between two versions of the bytes t is what changed between two versions of the bytes s: within the same limit and into the same
+-- room, the same answer and the same bytes.
+pub record ComparesAs (t : Bytes) (v v′ : ℕ) (s : Bytes) (w w′ : ℕ) : Type 0 where
+  pub same : {limit : ℕ} {room f u u₁ g g₁ : Bytes} {r r₁ : ℕ} → Changes v v′ limit t room f r u g → Changes w w′ limit s room f r₁ u₁ g₁ →
+      (r ≡ r₁) × (u ≡ u₁) × (g ≡ g₁)
 
 -- Demand 2: a batch was applied to the bytes s as a number and accepted; t are the bytes left, and g what was told: version 4, root 32, count
 -- 4. By 2026-13 the next version is that of the given number.
@@ -123,6 +136,7 @@ pub record NextVersion (number : ℕ) (batch s t g : Bytes) : Type 0 where
   -- each older version reads as it did, and each one between as the latest before
   pub older : (v : ℕ) → Kept (storeOf s) v → ReadsAs t v s v
   pub between : (v : ℕ) → latestOf s ≤ v → v < number → ReadsAs t v s (latestOf s)
+  pub compares : (v w : ℕ) → Kept (storeOf s) v → Kept (storeOf s) w → ComparesAs t v w s v w
 
 -- Pruning the bytes s to n was accepted; t are the bytes left, and g what was told: the count of records freed. Versions that were not
 -- published are kept like any other.
@@ -133,6 +147,7 @@ pub record Pruned (n : ℕ) (s t g : Bytes) : Type 0 where
   -- the versions still kept have their trees, and as many slots more are free as was told
   pub after : AfterPrune leafHash innerHash n (storeOf s) (num g) (storeOf t)
   pub reads : (v : ℕ) → Kept (storeOf t) v → ReadsAs t v s v
+  pub compares : (v w : ℕ) → Kept (storeOf t) v → Kept (storeOf t) w → ComparesAs t v w s v w
   -- the slot of every record retired since n or earlier is free, 128 zero bytes; every other slot has the bytes it had
   pub frees : (i : ℕ) (r : Record) → At (storeOf s) i r → retiredBy n r ≡ true → slotIn counted i t ≡ zeroBytes (slotSize counted)
   pub keeps : (i : ℕ) → i < length (storeOf s .slots) → ((r : Record) → At (storeOf s) i r → retiredBy n r ≡ false) → slotIn counted i t ≡ slotIn counted i s

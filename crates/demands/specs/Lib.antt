@@ -4,6 +4,7 @@ pub mod Words
 pub mod Quarter
 pub mod Pocket
 pub mod Claims
+pub mod Placing
 pub mod Palettes
 pub mod Many
 pub mod Forged

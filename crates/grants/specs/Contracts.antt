@@ -1,6 +1,6 @@
 -- The contracts of the public calls: what each answers for any bytes that it is lent, and every byte that it leaves. Bytes that a call is lent
 -- to look at stay as they are. A contract that is a record of the room below is the contract of the function there too. Assumes nothing.
-use Prim.Native.Nat.{ℕ}
+use Prim.Native.Nat.{ℕ, _+_, _*_}
 use mathlib.Core.Path.{_≡_}
 use Rattle.terms.specs.declared.Form.the-variants.{Plain as plain, Counted as counted}
 use Rattle.terms.specs.Bits.{Bytes}
@@ -107,6 +107,11 @@ VerifiesMany root list row old r new = rows.VerifiesMany root list row old r new
 -- Checking the bytes x as a proof of the pocket profile answers r; the array f for what is found is left as g.
 abbrev pub PocketVerifies : Bytes → Bytes → Bytes → Bytes → ℕ → Bytes → Type 0
 PocketVerifies root k x f r g = pocket-verify.PocketVerifies root k x f r g
+
+-- Asked for its version, the library answers r: major 0, minor 1, patch 0, in a byte each from the high end. No other call answers a number
+-- that is none of refusal.
+abbrev pub TellsVersion : ℕ → Type 0
+TellsVersion r = r ≡ (0 * 256 * 256 + 1 * 256 + 0) * 256
 
 -- Hashing the bytes x answers 0; the array for the digest is left as g.
 pub record Hashes (x : Bytes) (r : ℕ) (g : Bytes) : Type 0 where

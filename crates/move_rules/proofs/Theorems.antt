@@ -38,19 +38,19 @@ use Rattle.move_rules.proofs.Outcomes.{sound-is-moved, moved-leaves, mo
 
 -- the answer of a comparison goes by the two trees and by what is kept
 module _ (first second limit room : ℕ) where
-  abbrev within : ℕ → ℕ → ℕ → Bool
+  abbrev pub within : ℕ → ℕ → ℕ → Bool
   within o l v = leb o v && leb v l
 
-  abbrev listed : VTree → VTree → List Item
+  abbrev pub listed : VTree → VTree → List Item
   listed a b = items (changed (grantsIn a) (grantsIn b))
 
-  abbrev comparedBy : ℕ → ℕ → VTree → VTree → Answer (List Item)
+  abbrev pub comparedBy : ℕ → ℕ → VTree → VTree → Answer (List Item)
   comparedBy o l a b =
       cond (within o l first && within o l second)
       (cond (ltb limit (visits a b)) (refused 13) (cond (ltb room (itemSize * length (listed a b))) (refused 9) (accepted (listed a b))))
       (refused 8)
 
-  by-trees : (st : Store) →
+  pub by-trees : (st : Store) →
       compare first second limit room st .answer ≡ comparedBy (st .oldest) (st .latest) (treeAtVersion st first) (treeAtVersion st second)
   unfolding compare changesOf visitsOf isKept refuse
   by-trees st =

@@ -11,20 +11,26 @@ use Rattle.terms.specs.declared.Form.the-variants.{Counted as counted}
 use Rattle.terms.specs.Bits.{Bytes, Byte, All, Place}
 use Rattle.terms.specs.Form.{FormedAs, top32}
 use Rattle.terms.specs.Records.{Record, Slot, free, used, spoiled, Store}
+use Rattle.terms.proofs.Fields.{length-slice, all-slice}
 use Rattle.terms.proofs.Members.{In, all-in}
 use Rattle.meaning.specs.Store.{freeSlots, marked, rootOf, treeAtVersion}
 use Rattle.meaning.specs.Sound.{At, Kept, Sound}
 use Rattle.meaning.specs.Calls.{accepted}
+use Rattle.meaning.proofs.Finding.{used-eq}
 use Rattle.histories.proofs.Whole.{Whole, sound-whole}
 use Rattle.nodehash.specs.Node.{leafHash, innerHash}
-use Rattle.layout.specs.Slots.{SlotForm}
-use Rattle.layout.specs.Stores.{storeIn, storeOf, storeBytes, StoreForm}
-use Rattle.layout.proofs.Stores.{store-said}
+use Rattle.layout.specs.Sizes.{slotSize, slotAt, roomOf}
+use Rattle.layout.specs.Headers.{sizeRight}
+use Rattle.layout.specs.Slots.{slotOf, slotBytes, SlotForm}
+use Rattle.layout.specs.Stores.{slotIn, slotsAs, storeIn, storeOf, storeBytes, StoreForm}
+use Rattle.layout.proofs.Headers.{size-says}
+use Rattle.layout.proofs.Slots.{slot-back}
+use Rattle.layout.proofs.Stores.{length-slots, slot-at, slot-in, store-said}
 use Rattle.rescue_rules.specs.Rescue.{sourceTree, inRun, fresh, taken, runStore, rescued, counts, Run, Longest}
 use Rattle.rescue_laws.proofs.Runs.{Readable}
-use Rattle.rescue_laws.proofs.Taken.{length-taken}
+use Rattle.rescue_laws.proofs.Taken.{length-taken, taken-lowest}
 use Rattle.rescue_laws.proofs.Steps.{slots-kept}
-use Rattle.rescue_laws.proofs.Counts.{counts-add-up}
+use Rattle.rescue_laws.proofs.Counts.{counts-add-up, same-is-same}
 use Rattle.rescue_laws.proofs.Coming.{slots-of}
 use Rattle.rescue_laws.proofs.Again.{bounds, rescued-sound, rescued-tree, rescued-rooted}
 use Rattle.rescue_bytes.specs.Rescues.{slotsIn, Report, Rescues, rescues}
@@ -67,6 +73,21 @@ module _ (oldest latest : ℕ) (s : List Slot) (z : Readable s latest) (f m : �
         r ∙ ap₂ (fresh s f m) (sym (ap (λ y. y .version) d)) (sym (ap (λ y. y .place) d)),
       )
 
+-- a slot of the store is one of the bytes
+inside : (s : Bytes) (i : ℕ) → i < length (slotsIn s) → i < roomOf counted (length s)
+unfolding slotsAs
+inside s i h = subst (λ n. i < n) (length-slots counted (roomOf counted (length s)) _) h
+
+-- the bytes of a slot that holds a record are that record's
+slot-then : (s : Bytes) → All Byte s → sizeRight counted (length s) ≡ true → (i : ℕ) (x : Record) → At (storeOf s) i x →
+    slotIn counted i s ≡ slotBytes counted (used x)
+unfolding At slotIn
+slot-then s h z i x b =
+    let k = inside s i (b .0) in
+    let long : length (slotIn counted i s) ≡ slotSize counted = length-slice (slotAt counted i) (slotSize counted) s (omega (arith, size-says counted (length s) z .0)) in
+    sym (slot-back counted (slotIn counted i s) long (all-slice (slotAt counted i) (slotSize counted) s h))
+    ∙ ap (slotBytes counted) (sym (slot-at counted s i k) ∙ b .1)
+
 pub worth : {oldest latest : ℕ} {s old t : Bytes} {r : Report} → All Byte s → latest ≤ top32 → Rescues oldest latest s old (accepted r) t →
     Worth oldest latest s t r
 unfolding At
@@ -76,8 +97,11 @@ worth {oldest} {latest} {s} h n (rescues {f = f} {m = m} {t = t} size o l e) =
     let b = bounds (slotsIn s) f m in
     let slots : slotsIn t ≡ taken (inRun (slotsIn s) f m) (fresh (slotsIn s) f m) (slotsIn s) = ap (λ y. y .slots) said ∙ slots-of (slotsIn s) f m in
     let numbers = counts-add-up (inRun (slotsIn s) f m) (fresh (slotsIn s) f m) (slotsIn s) in
+    let ok : Sound leafHash innerHash (storeOf t) = subst (Sound leafHash innerHash) (sym said) (rescued-sound leafHash innerHash (slotsIn s) oldest latest f m z l) in
+    let slot-now : (i : ℕ) (q : Record) → At (storeOf t) i q → slotIn counted i t ≡ slotBytes counted (used q) =
+    λ i q a. ap (slotIn counted i) (e ∙ ap storeBytes (sym said)) ∙ slot-in (storeOf t) (sound-form (storeOf t) refl ok) i (a .0) ∙ ap (slotBytes counted) (a .1) in
     record {
-      sound = subst (Sound leafHash innerHash) (sym said) (rescued-sound leafHash innerHash (slotsIn s) oldest latest f m z l);
+      sound = ok;
       bytes = e ∙ ap storeBytes (sym said);
       begins = ap (λ y. y .oldest) said ∙ b .0;
       ends = ap (λ y. y .latest) said ∙ b .1 ∙ l .ends;
@@ -89,6 +113,15 @@ worth {oldest} {latest} {s} h n (rescues {f = f} {m = m} {t = t} size o l e) =
       longest = l .longest;
       slots = λ i q a. let (x, c, d, g) = kept-slots oldest latest (slotsIn s) z f m l i q (subst (λ y. At y i q) said a) in
           (x, c, d, λ more k. g ∙ ap (λ y. fresh (slotsIn s) f y (q .version) (q .place)) (omega (arith, l .ends, k)));
+      lowest = λ i q a j x k b. taken-lowest (inRun (slotsIn s) f m) (fresh (slotsIn s) f m) (slotsIn s) i j q x (ap (λ y. getD y i free) (sym slots) ∙ a .1) k (b .1);
+      same-bytes = λ i q x a b.
+          let (y, c, d, g) = kept-slots oldest latest (slotsIn s) z f m l i q (subst (λ y. At y i q) said a) in
+          let its : q ≡ marked (q .retired) x = d ∙ ap (marked (q .retired)) (used-eq y x (sym (c .1) ∙ b .1)) in (
+            λ same. slot-then s h (size .source) i x b ∙ ap (λ r. slotBytes counted (used r)) (sym (its ∙ same-is-same x (q .retired) same))
+                ∙ sym (slot-now i q a),
+            λ same. ap (λ r. r .retired) (used-eq x q (sym (b .1) ∙ slot-at counted s i (inside s i (b .0)) ∙ ap slotOf same
+                ∙ sym (slot-at counted t i (inside t i (a .0))) ∙ a .1)),
+          );
       adds-up = rw slots (numbers .0);
       kept-adds-up = rw slots (numbers .1);
     }

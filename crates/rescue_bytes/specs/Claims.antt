@@ -1,17 +1,20 @@
 -- What an accepted rescue is worth, in the words of document 02, request 2026-08. Assumes nothing.
-use Prim.Native.Nat.{ℕ, zero, suc, _+_, _≤_}
+use Prim.Native.Nat.{ℕ, zero, suc, _+_, _≤_, _<_}
 use mathlib.Core.Path.{_≡_}
+use mathlib.Core.Logic.{_↔_}
+use mathlib.Core.Bool.{false}
 use mathlib.Core.List.{List, [], _∷_}
 use mathlib.Core.Option.{some}
 use lib.ListN.{length, getD}
+use Rattle.terms.specs.declared.Form.the-variants.{Counted as counted}
 use Rattle.terms.specs.Bits.{Bytes}
 use Rattle.terms.specs.Records.{Record, Slot, free, used, Store}
-use Rattle.meaning.specs.Store.{freeSlots, marked, rootOf, treeAtVersion}
+use Rattle.meaning.specs.Store.{isNode, freeSlots, marked, rootOf, treeAtVersion}
 use Rattle.meaning.specs.Tree.{grantsIn}
 use Rattle.meaning.specs.Sound.{At, Kept, Sound}
 use Rattle.meaning.specs.History.{Entry, entry}
 use Rattle.nodehash.specs.Node.{leafHash, innerHash}
-use Rattle.layout.specs.Stores.{storeOf, storeBytes}
+use Rattle.layout.specs.Stores.{slotIn, storeOf, storeBytes}
 use Rattle.rescue_rules.specs.Rescue.{sourceTree, fresh, Run}
 use Rattle.rescue_bytes.specs.Rescues.{slotsIn, Report}
 
@@ -36,6 +39,12 @@ pub record Worth (oldest latest : ℕ) (s t : Bytes) (r : Report) : Type 0 where
       × At (storeOf s) i x
       × (q ≡ marked (q .retired) x)
       × ((more : ℕ) → r .first + more ≡ latest → q .retired ≡ fresh (slotsIn s) (r .first) more (q .version) (q .place))
+  -- the lowest slot is used: no lower slot of the source holds that node
+  pub lowest : (i : ℕ) (q : Record) → At (storeOf t) i q → (j : ℕ) (x : Record) → j < i → At (storeOf s) j x →
+      isNode (q .version) (q .place) x ≡ false
+  -- the numbers are those of the two buffers compared: a record counts as kept as it was exactly if its slot has the same bytes in both
+  pub same-bytes : (i : ℕ) (q x : Record) → At (storeOf t) i q → At (storeOf s) i x →
+      (x .retired ≡ q .retired) ↔ (slotIn counted i s ≡ slotIn counted i t)
   -- the three numbers and the source's free slots add up to the capacity; so do the records kept and the target's free slots
   pub adds-up : r .numbers .same + r .numbers .other + r .numbers .out + freeSlots (slotsIn s) ≡ length (slotsIn s)
   pub kept-adds-up : r .numbers .same + r .numbers .other + freeSlots (slotsIn t) ≡ length (slotsIn s)

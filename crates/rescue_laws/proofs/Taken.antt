@@ -1,13 +1,13 @@
 -- What `taken` leaves in the slots: a node of the set is found with what it held, its retired-since as set; no other is found. Each goes
 -- through the slots one by one. Assumes nothing.
-use Prim.Native.Nat.{ℕ, suc}
+use Prim.Native.Nat.{ℕ, zero, suc, _<_}
 use native.Mathlib.Omega.{arith}
 use mathlib.Core.Path.{_≡_, refl, ap, ap₂, sym, _∙_}
 use mathlib.Core.Logic.{inl, inr}
-use mathlib.Core.Bool.{Bool, true, false, cond, false≢true}
+use mathlib.Core.Bool.{Bool, true, false, cond, true≢false, false≢true}
 use mathlib.Core.List.{List, [], _∷_}
 use mathlib.Core.Option.{Option, none, some}
-use lib.ListN.{length}
+use lib.ListN.{length, getD}
 use Rattle.terms.specs.Bits.{Bytes, Place}
 use Rattle.terms.specs.Records.{Record, Slot, free, used, spoiled}
 use Rattle.terms.proofs.Tests.{and-left, and-right, and-true, is-false}
@@ -156,3 +156,53 @@ unique-taken nodes set (used r ∷ s) =
     go true f g = (find-taken (without (r .version) (r .place) nodes) set (r .version) (r .place) s ∙ rw (without-itself nodes r) refl, g)
     go false f g = f
 unique-taken nodes set (spoiled x ∷ s) = unique-taken nodes set s
+
+-- what is taken from a slot is one of the nodes
+taken-node : (nodes : Nodes) (set : Setting) (s : List Slot) (i : ℕ) (r : Record) → getD (taken nodes set s) i free ≡ used r →
+    nodes (r .version) (r .place) ≡ true
+unfolding marked without
+taken-node nodes set [] i r e = free-used r e
+taken-node nodes set (free ∷ s) zero r e = free-used r e
+taken-node nodes set (free ∷ s) (suc i) r e = taken-node nodes set s i r e
+taken-node nodes set (used q ∷ s) i r e =
+    go i (nodes (q .version) (q .place)) refl (λ j. taken-node nodes set s j r) (λ j. taken-node (without (q .version) (q .place) nodes) set s j r) e
+  where
+    here : marked (set (q .version) (q .place)) q ≡ r → nodes (q .version) (q .place) ≡ true → nodes (r .version) (r .place) ≡ true
+    here m f = ap (λ (x : Record). nodes (x .version) (x .place)) (sym m) ∙ f
+
+    go : (i : ℕ) (b : Bool) → nodes (q .version) (q .place) ≡ b →
+        ((j : ℕ) → getD (taken nodes set s) j free ≡ used r → nodes (r .version) (r .place) ≡ true) →
+        ((j : ℕ) → getD (after nodes set q s) j free ≡ used r → without (q .version) (q .place) nodes (r .version) (r .place) ≡ true) →
+        getD (onFrom b nodes set q s) i free ≡ used r → nodes (r .version) (r .place) ≡ true
+    go zero true f g h k = here (used-eq _ r k) f
+    go zero false f g h k = free-used r k
+    go (suc j) true f g h k = and-left (nodes (r .version) (r .place)) _ (h j k)
+    go (suc j) false f g h k = g j k
+taken-node nodes set (spoiled x ∷ s) zero r e = free-used r e
+taken-node nodes set (spoiled x ∷ s) (suc i) r e = taken-node nodes set s i r e
+
+-- Of records that share their node, the lowest slot is used.
+pub taken-lowest : (nodes : Nodes) (set : Setting) (s : List Slot) (i j : ℕ) (r x : Record) → getD (taken nodes set s) i free ≡ used r → j < i →
+    getD s j free ≡ used x → isNode (r .version) (r .place) x ≡ false
+taken-lowest nodes set [] i j r x e l f = free-used r e
+taken-lowest nodes set (y ∷ s) zero j r x e l f = absurd (omega arith)
+taken-lowest nodes set (free ∷ s) (suc i) zero r x e l f = free-used x f
+taken-lowest nodes set (free ∷ s) (suc i) (suc j) r x e l f = taken-lowest nodes set s i j r x e (omega arith) f
+taken-lowest nodes set (used q ∷ s) (suc i) j r x e l f =
+    go (nodes (q .version) (q .place)) j refl (λ j. taken-lowest nodes set s i j r x) (λ j. taken-lowest (without (q .version) (q .place) nodes) set s i j r x) e l f
+  where
+    apart : (nodes′ : Nodes) → nodes′ (r .version) (r .place) ≡ true → nodes′ (q .version) (q .place) ≡ false → q ≡ x → isNode (r .version) (r .place) x ≡ false
+    apart nodes′ h k m = is-false _ (λ n. true≢false (sym h ∙ sym (at-node nodes′ (r .version) (r .place) q (ap (isNode (r .version) (r .place)) m ∙ n)) ∙ k))
+
+    Apart : List Slot → ℕ → Type 0
+    Apart t j = getD t i free ≡ used r → j < i → getD s j free ≡ used x → isNode (r .version) (r .place) x ≡ false
+
+    go : (b : Bool) (j : ℕ) → nodes (q .version) (q .place) ≡ b → ((j : ℕ) → Apart (taken nodes set s) j) → ((j : ℕ) → Apart (after nodes set q s) j) →
+        getD (onFrom b nodes set q s) (suc i) free ≡ used r → j < suc i → getD (used q ∷ s) j free ≡ used x → isNode (r .version) (r .place) x ≡ false
+    go true zero h g m k l f =
+        apart (without (q .version) (q .place) nodes) (taken-node (without (q .version) (q .place) nodes) set s i r k) (without-itself nodes q) (used-eq q x f)
+    go true (suc j) h g m k l f = m j k (omega arith) f
+    go false zero h g m k l f = apart nodes (taken-node nodes set s i r k) h (used-eq q x f)
+    go false (suc j) h g m k l f = g j k (omega arith) f
+taken-lowest nodes set (spoiled y ∷ s) (suc i) zero r x e l f = let z : _≡_ {A = ℕ} 0 1 = cc in absurd (omega arith)
+taken-lowest nodes set (spoiled y ∷ s) (suc i) (suc j) r x e l f = taken-lowest nodes set s i j r x e (omega arith) f

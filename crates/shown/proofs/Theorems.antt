@@ -31,7 +31,7 @@ use Rattle.shown.proofs.Lengths.{pathsOf, steps-at-most, presence-at-mo
 use Rattle.shown.proofs.Verdicts.{accepted-same, passed, Agrees, end-agrees, end-absence}
 use Rattle.shown.proofs.Neighbours.{firstOf, lastOf, grantIf, Names, absence-names, finds-nearest}
 
-kept-test : (st : Store) (v : ℕ) → Kept st v → isKept st v ≡ true
+pub kept-test : (st : Store) (v : ℕ) → Kept st v → isKept st v ≡ true
 unfolding isKept
 kept-test st v kept = rw (le-leb (st .oldest) v (kept .0), le-leb v (st .latest) (kept .1))
 
@@ -113,6 +113,10 @@ module _ (leafHash innerHash : Bytes → Bytes → Bytes) where
     unfolding readRoot
     root-read-is-hash = rw (kept-test st v kept, version-hash leafHash innerHash st ok v kept)
 
+    -- The proof of a key goes by the version's tree.
+    pub proof-is-of-tree : (k : Bytes) → proof st v k ≡ proveSeen k (viewed leafHash innerHash (unversioned (treeAtVersion st v)))
+    proof-is-of-tree k = proof-by-searches st v k ∙ rw (kept-test st v kept, version-seen leafHash innerHash st ok v kept)
+
     module _ (k : Bytes) (whole : Whole32 k) where
       -- The key read answers what the version's grants say of the key.
       pub key-read-is-answer : readKey st v k ≡ accepted (answerOf k (grantsIn (treeAtVersion st v)))
@@ -125,10 +129,6 @@ module _ (leafHash innerHash : Bytes → Bytes → Bytes) where
       abbrev gs : List Grant
       gs = grantsIn (treeAtVersion st v)
 
-      by-searches : proof st v k ≡ proveSeen k (viewed leafHash innerHash (unversioned (treeAtVersion st v)))
-      by-searches =
-          proof-by-searches st v k ∙ rw (kept-test st v kept, version-seen leafHash innerHash st ok v kept)
-
       -- Where the version holds a grant there is a proof, and the checker's answer to it against the version's root is what the version's
       -- grants say of the key.
       pub shown : HoldsGrant st v → (root : Bytes) → readRoot leafHash innerHash st v ≡ accepted root →
@@ -138,7 +138,7 @@ module _ (leafHash innerHash : Bytes → Bytes → Bytes) where
           let p = tree-shown leafHash innerHash k (unversioned (treeAtVersion st v)) whole
           (version-seated leafHash innerHash st ok v kept) (granted-occupied (unversioned (treeAtVersion st v)) some) in (
             p .0,
-            by-searches ∙ p .1,
+            proof-is-of-tree k ∙ p .1,
             subst (λ h. checked leafHash innerHash h k (p .0) ≡ accepted (answerOf k gs)) same (p .2),
           )
 
@@ -153,7 +153,7 @@ module _ (leafHash innerHash : Bytes → Bytes → Bytes) where
       empty-key-is-absent e = key-read-is-answer ∙ ap (λ hs. accepted (answerOf k hs)) e
 
       pub empty-is-fourteen : gs ≡ [] → proof st v k ≡ refused 14
-      empty-is-fourteen e = by-searches ∙ gap-refused k _ (ap (viewed leafHash innerHash) (no-grant e))
+      empty-is-fourteen e = proof-is-of-tree k ∙ gap-refused k _ (ap (viewed leafHash innerHash) (no-grant e))
 
       -- And 14 is given exactly there.
       pub fourteen-exactly-without-grant : (proof st v k ≡ refused 14) ↔ (gs ≡ [])
@@ -218,3 +218,11 @@ module _ (leafHash innerHash : Bytes → Bytes → Bytes) where
       absence-has-nearest a e =
           absence-names k _ _ _ _ a left-neighbour-is-last-smaller right-neighbour-is-first-greater
           (end-absence k (walk k 0 [] (seen (scan st) v)) a (rw (kept-test st v kept) at (sym (proof-by-searches st v k) ∙ e)))
+
+  -- Versions of two sound stores with the same tree have the same proofs.
+  pub same-tree-same-proofs : (st st′ : Store) → Sound leafHash innerHash st → Sound leafHash innerHash st′ → (v w : ℕ) → Kept st v → Kept st′ w →
+      treeAtVersion st v ≡ treeAtVersion st′ w → (k : Bytes) → proof st v k ≡ proof st′ w k
+  same-tree-same-proofs st st′ ok ok′ v w kept kept′ e k =
+      proof-is-of-tree st ok v kept k
+      ∙ ap (λ t. proveSeen k (viewed leafHash innerHash (unversioned t))) e
+      ∙ sym (proof-is-of-tree st′ ok′ w kept′ k)

@@ -1,0 +1,126 @@
+-- Versions with the same tree, of two sound stores or of one, read alike: a read, a proof, a palette and a comparison go by the tree. Assumes
+-- nothing.
+use Prim.Native.Nat.{ℕ, _*_}
+use native.Mathlib.Omega.{arith}
+use mathlib.Core.Path.{_≡_, refl, ap, ap₂, sym, _∙_, fun-ext}
+use mathlib.Core.Bool.{cond}
+use mathlib.Core.List.{List}
+use lib.ListN.{length}
+use lib.Dec.{eqb, ltb}
+use Rattle.terms.specs.declared.Form.the-variants.{Counted as counted}
+use Rattle.terms.specs.Bits.{Bytes}
+use Rattle.terms.specs.Fields.{le}
+use Rattle.terms.specs.Records.{Proof, Store}
+use Rattle.meaning.specs.Tree.{VTree, hash, unversioned, grantsIn}
+use Rattle.meaning.specs.Store.{treeAtVersion}
+use Rattle.meaning.specs.Sound.{Kept}
+use Rattle.meaning.specs.Calls.{Answer, refused, accepted, Result, isKept}
+use Rattle.meaning.specs.Reading.{answerOf}
+use Rattle.meaning.specs.Counting.{grantAt}
+use Rattle.meaning.specs.Answers.{numberOf, toldOf, foundBytes}
+use Rattle.meaning.specs.Proving.{proof, fitted, prove}
+use Rattle.shown.proofs.Theorems.{kept-test, same-tree-same-proofs}
+use Rattle.changed.specs.Changes.{Item, changed, items, itemSize}
+use Rattle.changed.specs.Visits.{visits}
+use Rattle.changed.specs.Compare.{compare}
+use Rattle.nodehash.specs.Node.{leafHash, innerHash}
+use Rattle.layout.specs.Headers.{Headed, refusal, header}
+use Rattle.layout.specs.Stores.{storeOf}
+use Rattle.promises.specs.Calls.{SoundBytes, Does, wrong-header, not-sound, refuses, accepts}
+use Rattle.palette_rules.specs.Palette.{wholeKeys, keysIn, inTurn, fittedTogether, palette}
+use Rattle.move_rules.proofs.Theorems.{comparedBy, by-trees}
+use Rattle.prove.specs.Proving.{proveAnswer, roomAfter}
+use Rattle.prove_c.specs.Export.{lengthBytes}
+use Rattle.palette.specs.Palettes.{paletteAnswer}
+use Rattle.palette.specs.Palettes as palettes
+use Rattle.palette_c.specs.Export as exported
+use Rattle.changes.specs.Changes as listed
+use Rattle.changes_c.specs.Export.{countBytes}
+use Rattle.read_counts_c.specs.Export.{grantBytes}
+use Rattle.demands.specs.Claims.{treeOfVersion, grantsOfVersion, ReadsAs, ComparesAs}
+use Rattle.demands.proofs.Showing.{root-of-tree, key-of-grants}
+use Rattle.demands.proofs.Numbered.{sound-is-numbered}
+
+-- a sound store is asked itself
+asked : {A : Type 0} {call : Store → Result A} {s t : Bytes} {a : Answer A} → SoundBytes s → Does call s a t → a ≡ call (storeOf s) .answer
+asked w (wrong-header e) = headed-not e (w .headed)
+  where
+    headed-not : {B : Type 0} {h : Headed} {m c o l : ℕ} → h ≡ refusal m → h ≡ header c o l → B
+    headed-not e f = let g = sym e ∙ f in let z : _≡_ {A = ℕ} 0 1 = cc in absurd (omega arith)
+asked w (not-sound e n) = absurd (n (w .sound))
+asked w (refuses x e) = sym e
+asked w (accepts x e) = sym e
+
+module _ {t s : Bytes} (a : SoundBytes t) (b : SoundBytes s) {v w : ℕ} (kept : Kept (storeOf t) v) (kept′ : Kept (storeOf s) w) (e : treeOfVersion t v ≡ treeOfVersion s w) where
+  same-proof : (k : Bytes) → proof (storeOf t) v k ≡ proof (storeOf s) w k
+  same-proof = same-tree-same-proofs leafHash innerHash (storeOf t) (storeOf s) (a .sound) (b .sound) v w kept kept′ e
+
+  same-proved : (k : Bytes) (room : ℕ) → proveAnswer t v k room ≡ proveAnswer s w k room
+  unfolding proveAnswer prove
+  same-proved k room = rw (a .headed, b .headed) (ap (λ p. cond (eqb (length k) 32) (fitted room p) (refused 12)) (same-proof k))
+
+  same-palette : (list : Bytes) (room : ℕ) → paletteAnswer t v list room ≡ paletteAnswer s w list room
+  unfolding paletteAnswer palette
+  same-palette list room =
+      rw (a .headed, b .headed, kept-test (storeOf t) v kept, kept-test (storeOf s) w kept′)
+      (ap (λ (single : Bytes → Answer Proof). cond (wholeKeys list) (fittedTogether room (inTurn single (keysIn list))) (refused 12)) (fun-ext same-proof))
+
+  -- Versions with the same tree read alike.
+  pub same-tree-reads-as : ReadsAs t v s w
+  same-tree-reads-as = record {
+    root = λ x y.
+        let m = root-of-tree a kept x in
+        let n = root-of-tree b kept′ y in
+        (m .0, n .0, m .1 ∙ ap (λ u. hash leafHash innerHash (unversioned u)) e ∙ sym (n .1));
+    key = λ {k} whole x y.
+        let m = key-of-grants a kept whole x in
+        let n = key-of-grants b kept′ whole y in
+        (m .0, n .0, m .1 ∙ ap (λ u. foundBytes (answerOf k (grantsIn u))) e ∙ sym (n .1));
+    number = λ x y.
+        let m = sound-is-numbered a v kept .number x in
+        let n = sound-is-numbered b w kept′ .number y in
+        (m .0 ∙ sym (n .0), m .1 ∙ ap (λ u. le 8 (length (grantsIn u))) e ∙ sym (n .1));
+    position = λ {i} {f} x y.
+        let m = sound-is-numbered a v kept .position x in
+        let n = sound-is-numbered b w kept′ .position y in
+        (m .0 ∙ ap (λ u. numberOf (grantAt (grantsIn u) i)) e ∙ sym (n .0), m .1 ∙ ap (λ u. toldOf grantBytes (grantAt (grantsIn u) i) f) e ∙ sym (n .1));
+    proof = λ {k} {room} {f} x y.
+        let is = same-proved k (length room) in (
+          x .answer ∙ ap (λ p. numberOf p) is ∙ sym (y .answer),
+          x .proof ∙ ap (λ p. roomAfter p room) is ∙ sym (y .proof),
+          x .told ∙ ap (λ p. lengthBytes p f) is ∙ sym (y .told),
+        );
+    palette = λ {list} {room} {f} x y.
+        let is = same-palette list (length room) in (
+          x .answer ∙ ap (λ p. numberOf p) is ∙ sym (y .answer),
+          x .proofs ∙ ap (λ p. palettes.roomAfter p room) is ∙ sym (y .proofs),
+          x .told ∙ ap (λ p. exported.lengthBytes p f) is ∙ sym (y .told),
+        );
+  }
+
+-- a comparison of kept versions goes by their trees
+abbrev comparison : ℕ → ℕ → VTree → VTree → Answer (List Item)
+comparison limit room x y =
+    cond (ltb limit (visits x y)) (refused 13)
+    (cond (ltb room (itemSize * length (items (changed (grantsIn x) (grantsIn y))))) (refused 9) (accepted (items (changed (grantsIn x) (grantsIn y)))))
+
+compared-kept : (st : Store) (v w limit room : ℕ) → Kept st v → Kept st w →
+    compare v w limit room st .answer ≡ comparison limit room (treeAtVersion st v) (treeAtVersion st w)
+unfolding isKept
+compared-kept st v w limit room k l = by-trees v w limit room st ∙ rw (kept-test st v k, kept-test st w l)
+
+-- Versions with the same trees compare alike.
+pub same-trees-compare-as : {t s : Bytes} → SoundBytes t → SoundBytes s → {v v′ w w′ : ℕ} →
+    Kept (storeOf t) v → Kept (storeOf t) v′ → Kept (storeOf s) w → Kept (storeOf s) w′ →
+    treeOfVersion t v ≡ treeOfVersion s w → treeOfVersion t v′ ≡ treeOfVersion s w′ → ComparesAs t v v′ s w w′
+same-trees-compare-as {t} {s} a b {v} {v′} {w} {w′} kv kv′ kw kw′ e e′ = record {
+  same = λ {limit} {room} {f} x y.
+      let is : x .answer ≡ y .answer =
+      asked a (x .does) ∙ compared-kept (storeOf t) v v′ limit (length room) kv kv′ ∙ ap₂ (comparison limit (length room)) e e′
+      ∙ sym (asked b (y .does) ∙ compared-kept (storeOf s) w w′ limit (length room) kw kw′)
+      in (
+        x .number ∙ ap (λ p. numberOf p) is ∙ sym (y .number),
+        x .list ∙ ap (λ p. listed.roomAfter p room) is ∙ sym (y .list),
+        x .told ∙ ap (λ p. countBytes p f) is ∙ sym (y .told),
+      );
+}

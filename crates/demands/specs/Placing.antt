@@ -1,0 +1,39 @@
+-- Document 01, 'Retirement' and 'Placing', slot by slot, of a batch that was accepted. Assumes nothing.
+use Prim.Native.Nat.{ℕ, zero, suc, _<_}
+use mathlib.Core.Path.{_≡_}
+use mathlib.Core.List.{List, [], _∷_}
+use lib.ListN.{length, getD, take}
+use Rattle.terms.specs.declared.Form.the-variants.{Counted as counted}
+use Rattle.terms.specs.Bits.{Bytes}
+use Rattle.terms.specs.Fields.{le}
+use Rattle.terms.specs.Records.{Record, Slot, free, used}
+use Rattle.meaning.specs.Store.{freeSlots, newRecords}
+use Rattle.meaning.specs.Sound.{At, NodeOf}
+use Rattle.fields.specs.Written.{written}
+use Rattle.nodehash.specs.Node.{leafHash, innerHash}
+use Rattle.layout.specs.Sizes.{retiredAt}
+use Rattle.layout.specs.Slots.{slotBytes}
+use Rattle.layout.specs.Stores.{slotIn, storeOf}
+use Rattle.demands.specs.Claims.{treeOfVersion, latestOf}
+
+-- Of the new records the one with n before it; a slot for which there is none stays free.
+abbrev pub slotFor : ℕ → List Record → Slot
+slotFor n [] = free
+slotFor zero (r ∷ rs) = used r
+slotFor (suc n) (r ∷ rs) = slotFor n rs
+
+-- A batch was applied to the bytes s as a number and accepted, and t are the bytes left.
+pub record Places (number : ℕ) (s t : Bytes) : Type 0 where
+  -- a node of the old tree that isn't in the new one is marked retired since the number, and no other byte of its slot changes
+  pub retires : (i : ℕ) (r : Record) → At (storeOf s) i r → NodeOf (r .version) (r .place) (treeOfVersion s (latestOf s)) [] →
+      (NodeOf (r .version) (r .place) (treeOfVersion t number) [] → ⊥) →
+      slotIn counted i t ≡ written retiredAt (le 4 number) (slotIn counted i s)
+  -- the slot of any other record has the bytes it had
+  pub keeps : (i : ℕ) (r : Record) → At (storeOf s) i r →
+      (NodeOf (r .version) (r .place) (treeOfVersion s (latestOf s)) [] → NodeOf (r .version) (r .place) (treeOfVersion t number) []) →
+      slotIn counted i t ≡ slotIn counted i s
+  -- the free slots take the new records from the lowest on, in 01's order; one that is left over stays free
+  pub fills : (i : ℕ) → i < length (storeOf s .slots) → getD (storeOf s .slots) i free ≡ free →
+      slotIn counted i t
+      ≡ slotBytes counted
+      (slotFor (freeSlots (take i (storeOf s .slots))) (newRecords leafHash innerHash number (treeOfVersion t number)))
