@@ -26,7 +26,7 @@ use Rattle.quarter.proofs.Theorems.{leaves-are-grants}
 use Rattle.quarter.proofs.Small.{figures-are-small, distinct-is-small, records-are-small}
 use Rattle.quarter.proofs.Told.{leaves-told, inners-told, longest-told, sum-told, versions-long, version-told, distinct-told, records-told, no-grant-no-node, nothing-told}
 use Rattle.figures.specs.Figures.{roomAfter}
-use Rattle.figures_c.specs.Export.{totalsAfter}
+use Rattle.figures.specs.Export.{totalsAfter}
 use Rattle.refusals.specs.Exactly.{Exactly}
 use Rattle.refusals.specs.Rows.{KeptRange}
 use Rattle.refusals.specs.Orders.{rangeRows}

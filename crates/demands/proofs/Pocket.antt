@@ -30,7 +30,7 @@ use Rattle.prove.specs.Proving.{proveAnswer, roomAfter}
 use Rattle.pocket.specs.Pocket.{Outside, small, inProfile, pocketProve}
 use Rattle.pocket.proofs.Theorems.{inside-shows-short, outside-shows-long, pocket-proofs-have-2296-bytes}
 use Rattle.pocket_prove.specs.Proving.{pocketAnswer}
-use Rattle.pocket_prove_c.specs.Export.{pocketInto}
+use Rattle.pocket_prove.specs.Export.{pocketInto}
 use Rattle.verify.specs.Verify.{verified}
 use Rattle.pocket_verify.specs.Verify.{pocketJudged, pocketVerified}
 use Rattle.pocket_verify.proofs.Theorems.{inside-as-the-full-check, off-form-as-the-full-check}

@@ -19,8 +19,9 @@ use Rattle.promises.specs.Calls.{SoundBytes}
 use Rattle.quarter.specs.Figures.{Figures, figuresOf, figuresBytes, leaves, inners, rangeRight, versionsFrom, versions, figuresOver, recordsOver}
 use Rattle.quarter.specs.Living.{livingFigures}
 use Rattle.quarter.proofs.Theorems.{RangeRight, range-right, living-counts}
-use Rattle.figures_count.specs.Count.{figuresSay, Counts}
+use Rattle.figures_count.specs.Count.{figuresSay}
 use Rattle.figures_count.specs.declared.Figures as declared
+use Rattle.figures_block.specs.Block.{Counts}
 use Rattle.figures.specs.Figures.{eachBytes}
 use Rattle.figures.specs.Parts.{Range, Writes}
 

@@ -1,3 +1,3 @@
 pub mod Slots
 pub mod Backward
-pub mod Tallies
+pub mod Records

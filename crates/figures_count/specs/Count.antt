@@ -1,5 +1,5 @@
 -- Document 02, request 2026-14, over bytes: the slots of a sound store counted. No public promise reaches this file. Assumes nothing.
-use Prim.Native.Nat.{ℕ, _+_, _<_, _≤_}
+use Prim.Native.Nat.{ℕ, _<_, _≤_}
 use mathlib.Core.Path.{_≡_}
 use mathlib.Core.Bool.{true}
 use lib.ListN.{length}
@@ -8,9 +8,8 @@ use Rattle.terms.specs.Bits.{Bytes}
 use Rattle.terms.specs.Records.{spoiled}
 use Rattle.layout.specs.Sizes.{roomOf}
 use Rattle.layout.specs.Headers.{sizeRight}
-use Rattle.layout.specs.Stores.{storeOf, slotNo, Has}
+use Rattle.layout.specs.Stores.{slotNo, Has}
 use Rattle.quarter.specs.Figures.{Figures}
-use Rattle.quarter.specs.Living.{livingFigures}
 use Rattle.figures_count.specs.declared.Figures as declared
 
 -- The four numbers.
@@ -37,8 +36,3 @@ pub record Few (f : declared.Figures) (n : ℕ) : Type 0 where
 pub record Countable (s : Bytes) (i : ℕ) (f : declared.Figures) : Type 0 where
   pub plain : Plain s i
   pub few : Few f 0
-
--- The four numbers of version v, with no more nodes than slots.
-pub record Counts (s : Bytes) (v : ℕ) (f : declared.Figures) : Type 0 where
-  pub told : figuresSay f ≡ livingFigures v (storeOf s .slots)
-  pub few : f .leaves + f .inners ≤ 16384

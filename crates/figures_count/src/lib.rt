@@ -1,9 +1,9 @@
-// The figures of a version counted over the slots of a sound store by the lifetimes of their records, document 02, request 2026-14: no tree is walked.
+// Slots of a sound store counted by the lifetimes of their records, document 02, request 2026-14: what a slot adds to the figures of a version, and the records of a range.
 ghost use Prim.Native.Nat.{max};
 ghost use mathlib.Core.Path.{_≡_};
 ghost use Rattle.layout.specs.Stores.{storeOf, slotNo};
-ghost use Rattle.quarter.specs.Living.{slotLives, slotAdds, livingFigures, livingRecords, withLeaf, withInner};
-ghost use Rattle.figures_count.specs.Count.{figuresSay, Plain, Countable, Few, Whole, Counts};
+ghost use Rattle.quarter.specs.Living.{slotLives, slotAdds, livingRecords, withLeaf, withInner};
+ghost use Rattle.figures_count.specs.Count.{figuresSay, Plain, Countable, Few, Whole};
 use layout::sizes::LEAF_KIND;
 use store::count_at;
 use store::kind_at;
@@ -21,7 +21,7 @@ pub struct Figures {
 }
 
 // Whether slot i holds a record that lives at some version from first to last.
-fn lives(store: &[u8], i: usize, first: u32, last: u32) -> bool
+pub fn lives(store: &[u8], i: usize, first: u32, last: u32) -> bool
     requires { ⌜ Plain (now store) i ⌝ }
     ensures { λ r. ⌜ r ≡ slotLives first last (slotNo Form.Counted i (now (store .entry))) ⌝ }
 {
@@ -74,7 +74,7 @@ fn with_inner(f: Figures) -> Figures
 }
 
 // The numbers of a version with slot i.
-fn add_slot(store: &[u8], i: usize, version: u32, f: Figures) -> Figures
+pub fn add_slot(store: &[u8], i: usize, version: u32, f: Figures) -> Figures
     requires { ⌜ Countable (now store) i f ⌝ }
     ensures { λ r. ⌜ figuresSay r ≡ slotAdds version (slotNo Form.Counted i (now (store .entry))) (figuresSay f) ⌝ }
 {
@@ -86,26 +86,6 @@ fn add_slot(store: &[u8], i: usize, version: u32, f: Figures) -> Figures
         return with_leaf(f, steps);
     }
     with_inner(f)
-}
-
-// The four numbers of a version.
-pub fn figures_of(store: &[u8], version: u32) -> Figures
-    requires { ⌜ Whole (now store) ⌝ }
-    ensures { λ r. ⌜ Counts (now (store .entry)) version r ⌝ }
-{
-    let n = slot_count(Form::Counted, store);
-    let mut f = Figures {
-        leaves: 0,
-        inners: 0,
-        longest: 0,
-        sum: 0,
-    };
-    let mut i = n;
-    while 0 < i {
-        i -= 1;
-        f = add_slot(store, i, version, f);
-    }
-    f
 }
 
 // How many records live at some version from first to last.

@@ -15,8 +15,8 @@ use Rattle.prove_c.specs.Export as prove
 use Rattle.palette_c.specs.Export as palette
 use Rattle.changes_c.specs.Export as compare
 use Rattle.rescue_bytes.specs.Rescues as rescue
-use Rattle.figures_c.specs.Export as figures
-use Rattle.pocket_prove_c.specs.Export as pocket-prove
+use Rattle.figures.specs.Export as figures
+use Rattle.pocket_prove.specs.Export as pocket-prove
 use Rattle.finding_c.specs.Export as finding
 use Rattle.move_rules.specs.Moves as move
 use Rattle.verify.specs.Verify as verify

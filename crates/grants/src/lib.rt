@@ -142,7 +142,7 @@ pub extern "C" fn grants_figures(
 ) -> u32
     ensures { λ r. ⌜ Figures first last (now (store .entry)) (now (room .entry)) (now (totals .entry)) r (now (room .exit)) (now (totals .exit)) ⌝ }
 {
-    figures_c::grants_figures(store, first, last, room, totals)
+    figures::grants_figures(store, first, last, room, totals)
 }
 
 // Writes the proof for a key in a version as grants_prove does, if no leaf that it shows has more than 32 steps.
@@ -156,7 +156,7 @@ pub extern "C" fn grants_pocket_prove(
 ) -> u64
     ensures { λ r. ⌜ PocketProves (now (store .entry)) version (now (key .entry)) (now (room .entry)) (now (length .entry)) r (now (room .exit)) (now (length .exit)) ⌝ }
 {
-    pocket_prove_c::grants_pocket_prove(store, version, key, room, length)
+    pocket_prove::grants_pocket_prove(store, version, key, room, length)
 }
 
 // What is found of a proof for a key in a version that is accepted against the version's root: 0 where it tells the truth; else 1 and two different

@@ -1,2 +1,3 @@
 pub mod Proving
 pub mod Parts
+pub mod Export

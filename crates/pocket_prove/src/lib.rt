@@ -4,6 +4,8 @@ ghost use lib.ListN.{length};
 ghost use Rattle.prove.specs.Parts.{Gives};
 ghost use Rattle.pocket_prove.specs.Parts.{wayShort, oneLong, planOutside};
 ghost use Rattle.pocket_prove.specs.Proving.{pocketAnswer};
+ghost use Rattle.pocket_prove.specs.Export.{PocketProves};
+use fields::put_u32;
 use pocket::POCKET_STEPS;
 use prove::Proved;
 use prove::give;
@@ -73,4 +75,25 @@ pub fn pocket_prove(store: &[u8], version: u32, key: &[u8], room: &mut [u8]) -> 
         return Proved::Refused(OUTSIDE_POCKET);
     }
     give(store, key, plan, room)
+}
+
+// The call at the boundary: 0 where it is accepted, else the number of refusal, with a spoilt slot + 1 in the high half, and then nothing is written.
+// The proof for a key in a version, of at most 32 steps for each leaf shown, fills the front of the room; its length goes out in four bytes.
+pub fn grants_pocket_prove(
+    store: &[u8],
+    version: u32,
+    key: &[u8],
+    room: &mut [u8],
+    length: &mut [u8; 4],
+) -> u64
+    ensures { λ r. ⌜ PocketProves (now (store .entry)) version (now (key .entry)) (now (room .entry)) (now (length .entry)) r (now (room .exit)) (now (length .exit)) ⌝ }
+{
+    let proved = pocket_prove(store, version, key, room);
+    match proved {
+        Proved::Refused(n) => n,
+        Proved::Length(n) => {
+            put_u32(length, 0, n);
+            0
+        }
+    }
 }

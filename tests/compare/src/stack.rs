@@ -137,6 +137,13 @@ pub fn of_changes() -> usize {
     most(move || assert_eq!(crate::ours::changes(&s, 1, 2, u32::MAX, &mut vec![0; 288]), Ok(4)))
 }
 
+/// The figures' most: two versions, what lives at one of them listed.
+#[allow(dead_code)]
+pub fn of_figures() -> usize {
+    let s = deepest_two();
+    most(move || assert!(crate::ours::figures(&s, 1, 2, &mut vec![0; 32]).is_ok()))
+}
+
 /// A finding's most of a true proof: an absence proof with two neighbours at 256 bits. With SHA-256 no proof leads to the search.
 #[allow(dead_code)]
 pub fn of_finding() -> usize {

@@ -1,6 +1,8 @@
 -- `figures::figures_sound` meets its contract: range and room are tested in this order, then the numbers are written. Assumes nothing.
+use Prim.Native.Nat.{ℕ}
 use native.Mathlib.Omega.{arith}
 use mathlib.Core.Path.{refl, sym, _∙_}
+use lib.ListN.{length-replicate}
 use borrow.Author.Tests.{not-true, not-false}
 use Rattle.terms.specs.Bits.{Byte}
 use Rattle.terms.proofs.Lists.{all-of}
@@ -57,14 +59,17 @@ part-write-each-end c = search needs
 
 write-each-requires : tie.Need-write-each-requires
 write-each-requires c κs =
-    let r = c .before .before .before in
+    let fits = c .before .before .if2 .left in
+    let r = c .before .before .before .before in
     let start = r .before .before .before in
-    let a = start .args in
-    part-ready (start .pre) (a .first) (a .last) (a .room .now) (sym (r .range-right .ensures) ∙ not-false _ (c .before .before .if1 .left)) refl (c .before .if2 .left)
-    (front-long _ (a .room .now) (c .before .if2 .left))
+    let a = start .args in (
+      part-ready (start .pre) (a .first) (a .last) (a .room .now) (sym (r .range-right .ensures) ∙ not-false _ (c .before .before .before .if1 .left)) refl fits
+          (front-long _ (a .room .now) fits),
+      length-replicate {0} {A = ℕ} 16384 0,
+    )
 
 records-in-requires : tie.Need-records-in-requires
-records-in-requires c κs = sound-slots (c .before .before .before .before .before .before .before .before .before .pre)
+records-in-requires c κs = sound-slots (c .before .before .before .before .before .before .before .before .before .before .pre)
 
 same-length : tie.Need-same-length
 same-length c = search needs
@@ -72,13 +77,14 @@ same-length c = search needs
 returns-3 : tie.Need-returns-3
 returns-3 c =
     let p = c .before .before .before in
-    let r = p .before .before .before .before in
+    let fits = p .before .before .before .if2 .left in
+    let r = p .before .before .before .before .before in
     let start = r .before .before .before in
     let a = start .args in
     let s = a .store .now in
-    told (start .pre) (a .first) (a .last) (a .room .now) (sym (r .range-right .ensures) ∙ not-false _ (p .before .before .before .if1 .left)) refl (p .before .before .if2 .left)
+    told (start .pre) (a .first) (a .last) (a .room .now) (sym (r .range-right .ensures) ∙ not-false _ (p .before .before .before .before .if1 .left)) refl fits
     (all-of Byte s 0 (λ i _. omega (arith, r .before .before .shared-slice-known .given i)))
-    (p .write-each .ensures) (p .write-each .kept .0 ∙ front-long _ (a .room .now) (p .before .before .if2 .left)) (c .records-in .ensures)
+    (p .write-each .ensures) (p .write-each .kept .0 ∙ front-long _ (a .room .now) fits) (c .records-in .ensures)
 
 pub figures-sound-spec : {M : Type 1} → statement M
 figures-sound-spec =

@@ -1,35 +1,53 @@
--- `figures::write_each` meets its contract: a version a turn, each after the one before. Assumes nothing.
+-- `figures::write_each` meets its contract: a version a turn, each after the one before, from a block that has it. Assumes nothing.
 use Prim.Native.Nat.{_-_}
 use native.Mathlib.Omega.{arith}
-use mathlib.Core.Path.{refl}
+use mathlib.Core.Path.{_≡_, refl}
+use lib.ListN.{length}
+use Rattle.figures_block.specs.Block.{Right}
 use Rattle.figures.proofs.Ranges.{sound-slots}
 use Rattle.figures.proofs.Writing.{Writing, writing-starts, writing-range, writing-same, writing-part, writing-next, writing-done}
+use borrow.Author.Needs.{needs}
 use Rattle.figures.proofs.write_each.Statement.{statement}
 use Rattle.figures.proofs.write_each.Tie as tie
 
 abbrev Inv-loop : tie.InvT-loop
-Inv-loop part₀ store first last n records₀ i₀ part records i = Writing first last store part₀ part n records i
+Inv-loop part₀ list₀ store first last n block₀ records₀ i₀ part list block records i = Writing first last store part₀ part n records i × Right store list block × (length list ≡ 16384)
 
 abbrev μ-loop : tie.MeasureT-loop
-μ-loop part₀ store first last n records₀ i₀ part records i = n - i
+μ-loop part₀ list₀ store first last n block₀ records₀ i₀ part list block records i = n - i
+
+no-block-requires : tie.Need-no-block-requires Inv-loop μ-loop
+no-block-requires c κs = tt
 
 loop-holds : tie.Need-loop-holds Inv-loop μ-loop
-loop-holds c = let start = c .before .before in writing-starts (start .args .first) (start .args .last) (start .args .store .now) (start .args .part .now) (start .pre) refl
+loop-holds c =
+    let start = c .before .before .before in
+    let a = start .args in
+    (writing-starts (a .first) (a .last) (a .store .now) (a .part .now) (start .pre .0) refl, c .no-block .ensures (a .store .now) (a .list .now), start .pre .1)
 
 cast-more : tie.Need-cast-more Inv-loop μ-loop
-cast-more c = let w = c .before .loop .inv in let r = writing-range w in omega (arith, c .loop-test .taken, w .many, r .few, r .ordered)
+cast-more c = let w = c .before .loop .inv .0 in let r = writing-range w in omega (arith, c .loop-test .taken, w .many, r .few, r .ordered)
 
 add-version : tie.Need-add-version Inv-loop μ-loop
-add-version c = let w = c .before .loop .inv in let r = writing-range w in omega (arith, c .loop-test .taken, w .many, r .ordered)
+add-version c = let w = c .before .loop .inv .0 in let r = writing-range w in omega (arith, c .loop-test .taken, w .many, r .few, r .ordered)
 
-figures-of-requires : tie.Need-figures-of-requires Inv-loop μ-loop
-figures-of-requires c κs = sound-slots (c .before .loop .inv .range .sound)
+block-with-requires : tie.Need-block-with-requires Inv-loop μ-loop
+block-with-requires c κs =
+    let l = c .before in
+    let w = l .before .loop .inv in
+    let r = writing-range (w .0) in
+    (sound-slots (w .0 .range .sound), w .2, w .1, omega (arith, l .loop-test .taken, w .0 .many, r .few, r .ordered))
+
+figures-in-requires : tie.Need-figures-in-requires Inv-loop μ-loop
+figures-in-requires c κs =
+    let b = c .before .block-with .ensures in
+    (sound-slots (c .before .before .before .before .loop .inv .0 .range .sound), b .0, b .1, b .2)
 
 mul-at : tie.Need-mul-at Inv-loop μ-loop
-mul-at c = let w = c .before .before .loop .inv in let r = writing-range w in omega (arith, c .before .loop-test .taken, w .many, r .few, r .ordered)
+mul-at c = let l = c .before .before .before .before in let w = l .before .loop .inv .0 in let r = writing-range w in omega (arith, l .loop-test .taken, w .many, r .few, r .ordered)
 
 add-end : tie.Need-add-end Inv-loop μ-loop
-add-end c = let w = c .before .before .loop .inv in let r = writing-range w in omega (arith, c .before .loop-test .taken, w .many, r .few, r .ordered)
+add-end c = let l = c .before .before .before .before in let w = l .before .loop .inv .0 in let r = writing-range w in omega (arith, l .loop-test .taken, w .many, r .few, r .ordered)
 
 sub-put-figures : tie.Need-sub-put-figures Inv-loop μ-loop
 sub-put-figures c = omega arith
@@ -38,42 +56,48 @@ part-put-figures-start : tie.Need-part-put-figures-start Inv-loop μ-loop
 part-put-figures-start c = omega arith
 
 part-put-figures-end : tie.Need-part-put-figures-end Inv-loop μ-loop
-part-put-figures-end c = let w = c .before .before .loop .inv in omega (arith, c .before .loop-test .taken, w .many, writing-same w, w .range .long)
+part-put-figures-end c =
+    let l = c .before .before .before .before in
+    let w = l .before .loop .inv .0 in
+    omega (arith, l .loop-test .taken, w .many, writing-same w, w .range .long)
 
 put-figures-requires : tie.Need-put-figures-requires Inv-loop μ-loop
-put-figures-requires c κs = writing-part (c .before .before .before .loop .inv) (c .before .before .loop-test .taken)
+put-figures-requires c κs = let l = c .before .before .before .before .before in writing-part (l .before .loop .inv .0) (l .loop-test .taken)
 
 add-nodes : tie.Need-add-nodes Inv-loop μ-loop
-add-nodes c = let f = c .before .before .before .before .before in omega (arith, f .figures-of .ensures .few)
+add-nodes c = let f = c .before .before .before .before .before in omega (arith, f .figures-in .ensures .few)
 
 add-records : tie.Need-add-records Inv-loop μ-loop
 add-records c =
     let f = c .before .before .before .before .before in
-    let w = f .before .before .loop .inv in
+    let l = f .before .before .before .before in
+    let w = l .before .loop .inv .0 in
     let r = writing-range w in
-    omega (arith, f .figures-of .ensures .few, w .few, f .before .loop-test .taken, w .many, r .few, r .ordered)
+    omega (arith, f .figures-in .ensures .few, w .few, l .loop-test .taken, w .many, r .few, r .ordered)
 
 add-i : tie.Need-add-i Inv-loop μ-loop
 add-i c =
-    let f = c .before .before .before .before .before in
-    let w = f .before .before .loop .inv in
+    let l = c .before .before .before .before .before .before .before .before .before in
+    let w = l .before .loop .inv .0 in
     let r = writing-range w in
-    omega (arith, f .before .loop-test .taken, w .many, r .few, r .ordered)
+    omega (arith, l .loop-test .taken, w .many, r .few, r .ordered)
 
 loop-less : tie.Need-loop-less Inv-loop μ-loop
-loop-less c = omega (arith, c .before .before .before .before .before .before .loop-test .taken)
+loop-less c = omega (arith, c .before .before .before .before .before .before .before .before .before .loop-test .taken)
 
 loop-again : tie.Need-loop-again Inv-loop μ-loop
 loop-again c =
     let f = c .before .before .before .before .before in
     let p = c .before .before .before in
-    writing-next (f .before .before .loop .inv) (f .before .loop-test .taken) (f .figures-of .result) (p .put-figures .last .0) (f .figures-of .ensures) (p .put-figures .ensures)
+    let l = f .before .before .before .before in
+    let b = f .before .before .block-with .ensures in
+    (writing-next (l .before .loop .inv .0) (l .loop-test .taken) (f .figures-in .result) (p .put-figures .last .0) (f .figures-in .ensures) (p .put-figures .ensures), b .0, b .3)
 
 same-length : tie.Need-same-length Inv-loop μ-loop
-same-length c = writing-same (c .before .loop .inv)
+same-length c = writing-same (c .before .loop .inv .0)
 
 returns : tie.Need-returns Inv-loop μ-loop
-returns c = writing-done (c .before .loop .inv) (c .loop-test .left)
+returns c = writing-done (c .before .loop .inv .0) (c .loop-test .left)
 
 pub write-each-spec : {M : Type 1} → statement M
 write-each-spec =
@@ -81,10 +105,12 @@ write-each-spec =
     (tie.spec
     Inv-loop
     μ-loop
+    no-block-requires
     loop-holds
     cast-more
     add-version
-    figures-of-requires
+    block-with-requires
+    figures-in-requires
     mul-at
     add-end
     sub-put-figures

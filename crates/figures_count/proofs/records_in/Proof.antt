@@ -1,7 +1,7 @@
 -- `figures_count::records_in` meets its contract: the slots from i on are counted. Assumes nothing.
 use native.Mathlib.Omega.{arith}
 use Rattle.figures_count.proofs.Backward.{Backward, backward-slot}
-use Rattle.figures_count.proofs.Tallies.{Living, living-start, living-few, living-more, living-same, living-end}
+use Rattle.figures_count.proofs.Records.{Living, living-start, living-few, living-more, living-same, living-end}
 use Rattle.figures_count.proofs.records_in.Statement.{statement}
 use Rattle.figures_count.proofs.records_in.Tie as tie
 

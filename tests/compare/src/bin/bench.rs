@@ -357,8 +357,10 @@ fn positions(random: &mut Random) {
     }
 }
 
-/// The figures of a range: of as many publishings as a store of one grant a batch keeps, up to 1,024, and of versions between two publishings.
+/// The figures of a range: of as many publishings as a store of one grant a batch keeps, up to 1,024, and of versions between two publishings. Beside check on
+/// the same store; fails above 3 times check.
 fn quarters(random: &mut Random) {
+    let mut slow = false;
     let (many, _) = filled(random, 16_384, 1, 16_384, 0);
     let (mut between, _) = filled(random, 16_384, 256, 15_000, 0);
     let latest = second::bytes::store(&between).unwrap().latest;
@@ -369,9 +371,14 @@ fn quarters(random: &mut Random) {
         let (mut room, mut other) = (vec![0; 16 * n as usize], vec![0; 16 * n as usize]);
         let mut asked = || assert!(black_box(ours::figures(s, first, last, &mut room)).is_ok());
         compare(&format!("figures-of-{n}-{name}"), 1, &mut asked, || assert!(black_box(second::figures(s, first, last, &mut other)).is_ok()));
-        let best = |call: &mut dyn FnMut()| (0..3).map(|_| milliseconds(call)).fold(f64::MAX, f64::min);
+        let best = |call: &mut dyn FnMut()| (0..9).map(|_| processor(call)).fold(f64::MAX, f64::min);
         let (figures, check) = (best(&mut asked), best(&mut || assert_eq!(ours::check(s), Ok(()))));
-        println!("where figures-of-{n}-{name} {figures:.3}ms, {:.2} times check, which takes {check:.3}ms", figures / check);
+        println!("bar figures-of-{n}-{name} {figures:.3}ms, {:.2} of check's {check:.3}ms, bar 3", figures / check);
+        slow |= figures > 3.0 * check;
+    }
+    if slow {
+        println!("bench: the figures of a range take more than 3 times check");
+        std::process::exit(1);
     }
 }
 
@@ -547,6 +554,7 @@ fn stacks() {
     print("palette", stack::of_palette());
     print("verify_many", stack::of_verify_many());
     print("changes", stack::of_changes());
+    print("figures", stack::of_figures());
     print("finding", stack::of_finding());
     print("rescue", stack::of_rescue());
     for (name, used) in stack::of_moves() {
