@@ -23,3 +23,4 @@ pub mod Numbered
 pub mod Figured
 pub mod Pocket
 pub mod Forged
+pub mod Shelf
