@@ -14,7 +14,6 @@ use Rattle.terms.specs.Records.{Grant, grant, Ask, insert, delete, askKey}
 use Rattle.terms.specs.Form.{GrantForm, AskForm}
 use Rattle.terms.proofs.Tests.{is-true, is-false, same-bytes, bytes-same, same-place, place-same}
 use Rattle.terms.proofs.Lists.{all-append, all-filter}
-use Rattle.terms.proofs.Members.{In}
 use Rattle.terms.proofs.Places.{length-bits, length-pack, pack-bytes, place-packed}
 use Rattle.terms.proofs.Order.{before-irrefl, before-asym, before-total}
 use Rattle.meaning.specs.Tree.{smaller, greater, withAsk, withBatch, grantsAt, treeOf}
@@ -24,7 +23,7 @@ use Rattle.meaning.proofs.Runs.{Ascending, ascending-batch, batch-form}
 use Rattle.changed.proofs.Parts.{answer-filter}
 use Rattle.changed.proofs.Lists.{same-answers, answer-append}
 use Rattle.histories.proofs.Forms.{hash32}
-use Rattle.shelf_grants.specs.Contents.{Parts, gathered, allGrants, InPlace, rootOf, listed, listGrants, askFor, newRoots, shelfRoot}
+use Rattle.shelf_grants.specs.Contents.{Parts, gathered, allGrants, Among, InPlace, rootOf, listed, listGrants, askFor, newRoots, shelfRoot}
 use Rattle.shelf_grants.proofs.Gathered.{front-prefix, answer-none, or-none, none-or, answer-of-part, gathered-form, gathered-ordered, part-of-all, gathered-same}
 
 -- what grants say of a key after an ask
@@ -88,16 +87,16 @@ placed-batch p [] gs e h = h
 placed-batch p (a ∷ batch) gs e h = placed-batch p batch (withAsk a gs) (e .1) (placed-ask p a gs (e .0) h)
 
 -- a place is among some or not
-among : (q : Place) (ps : List Place) → In q ps ⊎ (In q ps → ⊥)
+among : (q : Place) (ps : List Place) → Among q ps ⊎ (Among q ps → ⊥)
 among q [] = inr (λ z. z)
 among q (p ∷ ps) = go (samePlace p q) refl (among q ps)
   where
-    go : (b : Bool) → samePlace p q ≡ b → In q ps ⊎ (In q ps → ⊥) → In q (p ∷ ps) ⊎ (In q (p ∷ ps) → ⊥)
+    go : (b : Bool) → samePlace p q ≡ b → Among q ps ⊎ (Among q ps → ⊥) → Among q (p ∷ ps) ⊎ (Among q (p ∷ ps) → ⊥)
     go true e r = inl (inl (same-place p q e))
     go false e (inl i) = inl (inr i)
     go false e (inr n) = inr not-there
       where
-        not-there : In q (p ∷ ps) → ⊥
+        not-there : Among q (p ∷ ps) → ⊥
         not-there (inl z) = true≢false (sym (place-same q) ∙ ap (λ r. samePlace r q) (sym z) ∙ e)
         not-there (inr i) = n i
 
@@ -185,14 +184,14 @@ module _ (leafHash innerHash : Bytes → Bytes → Bytes) where
 
       -- The new roots of the parts that change make it the list of the new parts.
       module _ (old new : Parts) (touched : List Place) (here : All (λ p. length p ≡ b) touched)
-          (stays : (p : Place) → length p ≡ b → (In p touched → ⊥) → new p ≡ old p) where
+          (stays : (p : Place) → length p ≡ b → (Among p touched → ⊥) → new p ≡ old p) where
         module _ (k : Bytes) (q : Place) (is : take b (bits k) ≡ q) where
           packed-back : (p : Place) → length p ≡ b → k ≡ pack 32 p → p ≡ q
           packed-back p h e =
               sym (place-packed 32 p (omega arith)) ∙ ap (λ n. take n (bits (pack 32 p))) h ∙ ap (λ z. take b (bits z)) (sym e) ∙ is
 
           fold : (ps : List Place) → All (λ p. length p ≡ b) ps → (ls : List Grant) →
-              (answerOf k ls ≡ answerOf k (listed leafHash innerHash q (new q))) ⊎ ((k ≡ pack 32 q) × In q ps) →
+              (answerOf k ls ≡ answerOf k (listed leafHash innerHash q (new q))) ⊎ ((k ≡ pack 32 q) × Among q ps) →
               answerOf k (withBatch (newRoots leafHash innerHash new ps) ls) ≡ answerOf k (listed leafHash innerHash q (new q))
           fold [] h ls (inl e) = e
           fold [] h ls (inr e) = absurd (e .1)
@@ -200,8 +199,8 @@ module _ (leafHash innerHash : Bytes → Bytes → Bytes) where
               fold ps (h .1) (withAsk (askFor leafHash innerHash p (new p)) ls) (go (sameBytes k (pack 32 p)) refl c)
             where
               go : (s : Bool) → sameBytes k (pack 32 p) ≡ s →
-                  (answerOf k ls ≡ answerOf k (listed leafHash innerHash q (new q))) ⊎ ((k ≡ pack 32 q) × In q (p ∷ ps)) →
-                  (answerOf k (withAsk (askFor leafHash innerHash p (new p)) ls) ≡ answerOf k (listed leafHash innerHash q (new q))) ⊎ ((k ≡ pack 32 q) × In q ps)
+                  (answerOf k ls ≡ answerOf k (listed leafHash innerHash q (new q))) ⊎ ((k ≡ pack 32 q) × Among q (p ∷ ps)) →
+                  (answerOf k (withAsk (askFor leafHash innerHash p (new p)) ls) ≡ answerOf k (listed leafHash innerHash q (new q))) ⊎ ((k ≡ pack 32 q) × Among q ps)
               go true s c =
                   let e = same-bytes k (pack 32 p) s in
                   inl (after-ask k p (new p) ls ∙ rw s (sym (own-answer p (new p)) ∙ ap (λ z. answerOf z (listed leafHash innerHash p (new p))) (sym e)
@@ -211,11 +210,11 @@ module _ (leafHash innerHash : Bytes → Bytes → Bytes) where
                   absurd (true≢false (sym (bytes-same k) ∙ ap (sameBytes k) (e ∙ ap (pack 32) (sym z)) ∙ s))
               go false s (inr (e, inr i)) = inr (e, i)
 
-          begin : length q ≡ b → (answerOf k (listed leafHash innerHash q (old q)) ≡ answerOf k (listed leafHash innerHash q (new q))) ⊎ ((k ≡ pack 32 q) × In q touched)
+          begin : length q ≡ b → (answerOf k (listed leafHash innerHash q (old q)) ≡ answerOf k (listed leafHash innerHash q (new q))) ⊎ ((k ≡ pack 32 q) × Among q touched)
           begin l = go (sameBytes k (pack 32 q)) refl (among q touched)
             where
-              go : (s : Bool) → sameBytes k (pack 32 q) ≡ s → In q touched ⊎ (In q touched → ⊥) →
-                  (answerOf k (listed leafHash innerHash q (old q)) ≡ answerOf k (listed leafHash innerHash q (new q))) ⊎ ((k ≡ pack 32 q) × In q touched)
+              go : (s : Bool) → sameBytes k (pack 32 q) ≡ s → Among q touched ⊎ (Among q touched → ⊥) →
+                  (answerOf k (listed leafHash innerHash q (old q)) ≡ answerOf k (listed leafHash innerHash q (new q))) ⊎ ((k ≡ pack 32 q) × Among q touched)
               go false s i = inl (other-answer k q (old q) s ∙ sym (other-answer k q (new q) s))
               go true s (inl i) = inr (same-bytes k (pack 32 q) s, i)
               go true s (inr n) = inl (ap (λ gs. answerOf k (listed leafHash innerHash q gs)) (sym (stays q l n)))
@@ -240,9 +239,9 @@ module _ (leafHash innerHash : Bytes → Bytes → Bytes) where
                 fold k q refl touched here (listGrants leafHash innerHash b old) (started k q (begin k q refl size) was) ∙ sym is
               where
                 started : (k : Bytes) (q : Place) →
-                    (answerOf k (listed leafHash innerHash q (old q)) ≡ answerOf k (listed leafHash innerHash q (new q))) ⊎ ((k ≡ pack 32 q) × In q touched) →
+                    (answerOf k (listed leafHash innerHash q (old q)) ≡ answerOf k (listed leafHash innerHash q (new q))) ⊎ ((k ≡ pack 32 q) × Among q touched) →
                     answerOf k (listGrants leafHash innerHash b old) ≡ answerOf k (listed leafHash innerHash q (old q)) →
-                    (answerOf k (listGrants leafHash innerHash b old) ≡ answerOf k (listed leafHash innerHash q (new q))) ⊎ ((k ≡ pack 32 q) × In q touched)
+                    (answerOf k (listGrants leafHash innerHash b old) ≡ answerOf k (listed leafHash innerHash q (new q))) ⊎ ((k ≡ pack 32 q) × Among q touched)
                 started k q (inl e) w = inl (w ∙ e)
                 started k q (inr i) w = inr i
 

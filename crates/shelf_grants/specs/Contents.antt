@@ -2,6 +2,7 @@
 -- each string of b bits: the grants whose keys begin with it. Assumes nothing.
 use Prim.Native.Nat.{ℕ, zero, suc}
 use mathlib.Core.Path.{_≡_}
+use mathlib.Core.Logic.{_⊎_}
 use mathlib.Core.Bool.{true}
 use mathlib.Core.List.{List, [], _∷_, _++_, map}
 use lib.ListN.{length}
@@ -21,6 +22,11 @@ gathered (suc n) p parts = gathered n (longer left p) parts ++ gathered n (longe
 -- The grants of all parts of a shelf of b bits.
 abbrev pub allGrants : ℕ → Parts → List Grant
 allGrants b parts = gathered b [] parts
+
+-- A part is among some.
+abbrev pub Among : Place → List Place → Type 0
+Among p [] = ⊥
+Among p (q ∷ qs) = (q ≡ p) ⊎ Among p qs
 
 -- Each grant's key begins with the bits of its part.
 abbrev pub InPlace : ℕ → Parts → Type 0
