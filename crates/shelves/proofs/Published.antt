@@ -324,7 +324,7 @@ fresh-store : {s t : Bytes} → Formats s 0 t → Fresh t
 unfolding formatAnswer formatBytes formatted
 fresh-store {s} {t} w = go (sizeRight counted (length s)) refl (w .answer) (w .bytes)
   where
-    go : (c : Bool) → sizeRight counted (length s) ≡ c → 0 ≡ cond c 0 1 → t ≡ cond c (storeBytes (formatted (roomOf counted (length s)))) s → Fresh t
+    go : (c : Bool) → sizeRight counted (length s) ≡ c → _≡_ {A = ℕ} 0 (cond c 0 1) → t ≡ cond c (storeBytes (formatted (roomOf counted (length s)))) s → Fresh t
     go false e h i = absurd (omega arith)
     go true e h i =
         let z = size-says counted (length s) e in
