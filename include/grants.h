@@ -20,7 +20,7 @@
  *   7  fewer free slots than new records
  *   8  the version isn't in oldest to latest; figures: not a range of 1 to 1,024 such versions
  *   9  the proof, the proofs together, the list or the figures are longer than the room
- *  10  the proof isn't one whole record in form, no byte over
+ *  10  the proof isn't one whole record in form (of a shelf one or two), no byte over
  *  11  the proof is in form, but doesn't hold
  *  12  a key or root handed in isn't 32 bytes, or a list of keys isn't 0 to 256 whole keys
  *  13  a comparison has more visits than the limit
@@ -29,6 +29,7 @@
  *  18  the number isn't above latest
  *  19  a leaf is shown with more than 32 steps, outside the pocket profile
  *  20  the position isn't below the number of grants
+ *  21  a shelf has at most 12 bits
  *
  * 'Refused' below names a call's numbers in the order in which it tests for them: where several are deserved, the first is given.
  */
@@ -199,6 +200,15 @@ uint32_t grants_pocket_verify(const uint8_t *root, size_t root_len, const uint8_
 
 /* The version of the library that is linked, in the form of GRANTS_VERSION: a caller may hold the one against the other. Never refused; no number of refusal. */
 uint32_t grants_version(void);
+
+/* What a proof shows of a key of a shelf against its list's root. A shelf of 0 to 12 bits is more grants than one store holds, under one signed root: the
+   grants whose keys begin with the same bits are in one store, its part, and the list is a store whose keys are those bits followed by zeros, 32 bytes, each with
+   the root of its part; a part without grants isn't in the list. The proof is the list's record (grants_prove) for the part's key, followed, if
+   that shows a presence, by the part's record for the key, each as long as its first 4 bytes say: at most 17,080 bytes each. found: as in grants_verify. Where the list shows
+   that the part is absent, so is the key. Where the list's root is 32 zero bytes the shelf has no grants, and there is no proof.
+   Refused: 12, 21, 10 (not one or two whole records in form, a second exactly if the first shows a presence, or a byte is over), 11. */
+uint32_t grants_shelf_verify(const uint8_t *root, size_t root_len, uint32_t bits, const uint8_t *key, size_t key_len, const uint8_t *proof,
+                             size_t proof_len, uint8_t found[33]);
 
 /* SHA-256 of any bytes. Never refused. */
 uint32_t grants_sha256(const uint8_t *bytes, size_t len, uint8_t digest[32]);

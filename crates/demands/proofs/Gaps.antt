@@ -28,7 +28,7 @@ use Rattle.layout.proofs.Stores.{length-slots}
 use Rattle.batch.specs.Batch.{batchOf}
 use Rattle.format.specs.Format.{formatBytes}
 use Rattle.promises.specs.Calls.{wrong-header, not-sound, refuses, accepts, Exports, exports-refusal, exports-answer}
-use Rattle.demands.specs.Calls.{takenOver, Called, formats, applies, prunes, checks, reads-root, reads-key, counts, reads-at, proves, palettes, compares, figures, pocket-proves, verifies, pocket-verifies, verifies-many, tells-version, hashes, Calls, none-yet, then-called, doneBy, WithoutGaps, Life, rescues-from, rescues-into, moves-back, moves-over}
+use Rattle.demands.specs.Calls.{takenOver, Called, formats, applies, prunes, checks, reads-root, reads-key, counts, reads-at, proves, palettes, compares, figures, pocket-proves, verifies, pocket-verifies, shelf-verifies, verifies-many, tells-version, hashes, Calls, none-yet, then-called, doneBy, WithoutGaps, Life, rescues-from, rescues-into, moves-back, moves-over}
 use Rattle.demands.specs.Calls.{finds}
 use Rattle.grants.specs.Contracts.{Formats}
 use Rattle.demands.proofs.Hashes.{leaf-hash-whole, inner-hash-whole}
@@ -105,6 +105,7 @@ module _ {s : Bytes} {es : List Entry} (k : Keeping s es) where
   called-after (verifies-many w) gap = refl
   called-after (pocket-verifies w) gap = refl
   called-after (tells-version w) gap = refl
+  called-after (shelf-verifies w) gap = refl
   called-after (hashes w) gap = refl
 
 taken-form : (es : List Entry) (b : Bool) → CallForm (doneBy (taking es) b)
@@ -134,6 +135,7 @@ form-of (verifies w) = tt
 form-of (verifies-many w) = tt
 form-of (pocket-verifies w) = tt
 form-of (tells-version w) = tt
+form-of (shelf-verifies w) = tt
 form-of (hashes w) = tt
 
 -- a sequence of public calls is one of the definitions' calls

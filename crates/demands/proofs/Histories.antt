@@ -52,7 +52,7 @@ use Rattle.move_rules.proofs.Ledger.{moved-keeps}
 use Rattle.grants.specs.Contracts.{Formats, ReadsRoot, ReadsKey, Proves, Rescues, MovesOver, Verifies, Counts, ReadsAt}
 use Rattle.meaning.specs.Counting.{grantAt}
 use Rattle.meaning.specs.Answers.{foundBytes, numberOf, toldOf}
-use Rattle.demands.specs.Calls.{Called, formats, applies, prunes, checks, reads-root, reads-key, counts, reads-at, proves, palettes, compares, figures, pocket-proves, verifies, pocket-verifies, verifies-many, tells-version, hashes, Calls, none-yet, then-called, Life, rescues-from, rescues-into, moves-back, moves-over, finds, Begins, by-format, by-rescue, as-found, by-over, by-back, takenOver}
+use Rattle.demands.specs.Calls.{Called, formats, applies, prunes, checks, reads-root, reads-key, counts, reads-at, proves, palettes, compares, figures, pocket-proves, verifies, pocket-verifies, shelf-verifies, verifies-many, tells-version, hashes, Calls, none-yet, then-called, Life, rescues-from, rescues-into, moves-back, moves-over, finds, Begins, by-format, by-rescue, as-found, by-over, by-back, takenOver}
 use Rattle.demands.specs.Claims.{grantsOfVersion, AfterHistory}
 use Rattle.demands.proofs.Hashes.{leaf-hash-whole, inner-hash-whole}
 use Rattle.demands.proofs.Stored.{stored-is, stored-sound, formatted-form, prune-form, apply-form}
@@ -184,6 +184,7 @@ called-keeps es (verifies w) k = k
 called-keeps es (verifies-many w) k = k
 called-keeps es (pocket-verifies w) k = k
 called-keeps es (tells-version w) k = k
+called-keeps es (shelf-verifies w) k = k
 called-keeps es (hashes w) k = k
 
 calls-keep : {s t : Bytes} {history : List (Call × Bool)} (es : List Entry) → Calls s history t → Keeping s es →

@@ -26,3 +26,4 @@ pub mod Figured
 pub mod Pocket
 pub mod Forged
 pub mod Sentences
+pub mod Shelf

@@ -17,7 +17,7 @@ use Rattle.batch.specs.Batch.{batchOf}
 use Rattle.rescue_bytes.specs.Rescues.{slotsIn}
 use Rattle.rescue_bytes.specs.Claims.{runLedger}
 use Rattle.move_rules.specs.Claims.{SoundIn}
-use Rattle.grants.specs.Contracts.{Formats, Checks, Applies, Prunes, ReadsRoot, ReadsKey, Counts, ReadsAt, Proves, Palettes, Changes, Rescues, MovesOver, MovesBack, Finds, Figures, PocketProves, Verifies, PocketVerifies, VerifiesMany, TellsVersion, Hashes}
+use Rattle.grants.specs.Contracts.{Formats, Checks, Applies, Prunes, ReadsRoot, ReadsKey, Counts, ReadsAt, Proves, Palettes, Changes, Rescues, MovesOver, MovesBack, Finds, Figures, PocketProves, Verifies, PocketVerifies, ShelfVerifies, VerifiesMany, TellsVersion, Hashes}
 
 -- What a rescued store takes over: the grants of its versions, from the first that was reported to latest, by the source's trees.
 abbrev pub takenOver : Bytes → ℕ → Bytes → List Entry
@@ -58,6 +58,7 @@ pub data Called (s : Bytes) : Call × Bool → Bytes → Type 0 where
   verifies-many : {r : ℕ} {root list row old new : Bytes} → VerifiesMany root list row old r new → Called s (looking, false) s
   pocket-verifies : {r : ℕ} {root k x f g : Bytes} → PocketVerifies root k x f r g → Called s (looking, false) s
   tells-version : {r : ℕ} → TellsVersion r → Called s (looking, false) s
+  shelf-verifies : {b r : ℕ} {root k x f g : Bytes} → ShelfVerifies root b k x f r g → Called s (looking, false) s
   hashes : {r : ℕ} {x g : Bytes} → Hashes x r g → Called s (looking, false) s
 
 -- Calls one after the other, from the bytes s to the bytes t, with their history.

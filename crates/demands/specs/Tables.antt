@@ -12,6 +12,7 @@ use Rattle.refusals.specs.Rows.{WrongLength, NotSound, Not32, NotKeys}
 use Rattle.refusals.specs.Orders.{headerRows, batchRows, versionRows, lookupRows, keyRows, placingRows, positionRows, provingRows, proofRows, askingRows, togetherRows, comparisonRows, holdingRows, rowRows, rescueRows, moveRows}
 use Rattle.refusals.specs.Orders.{rangeRows, pocketRows, pocketHoldingRows}
 use Rattle.refusals.specs.Orders.{foundRows}
+use Rattle.refusals.specs.Orders.{shelfRows}
 
 -- 1, 2; then 3 by full soundness.
 abbrev pub soundRows : Bytes → Table
@@ -110,6 +111,10 @@ verifyManyRows root list row room = rowRows root list (length (keysIn list)) row
 -- Document 02, 2026-14: the pocket check: 12; then 10, 19, 11.
 abbrev pub pocketVerifyRows : Bytes → Bytes → Bytes → Table
 pocketVerifyRows root k x = (12, Not32 (root ∷ k ∷ [])) ∷ pocketHoldingRows root k x
+
+-- The check of a shelf's proof: 12; then 21, 10, 11.
+abbrev pub shelfVerifyRows : Bytes → ℕ → Bytes → Bytes → Table
+shelfVerifyRows root b k x = (12, Not32 (root ∷ k ∷ [])) ∷ shelfRows root b k x
 
 -- A hash is never refused.
 abbrev pub sha256Rows : Table

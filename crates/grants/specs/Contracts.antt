@@ -22,6 +22,7 @@ use Rattle.move_rules.specs.Moves as move
 use Rattle.verify.specs.Verify as verify
 use Rattle.verify_rows.specs.Rows as rows
 use Rattle.pocket_verify.specs.Verify as pocket-verify
+use Rattle.shelf_rules.specs.Shelf as shelf
 
 -- Formatting the bytes s answers r and leaves the bytes t.
 pub record Formats (s : Bytes) (r : ℕ) (t : Bytes) : Type 0 where
@@ -112,6 +113,11 @@ PocketVerifies root k x f r g = pocket-verify.PocketVerifies root k x f r g
 -- that is none of refusal.
 abbrev pub TellsVersion : ℕ → Type 0
 TellsVersion r = r ≡ (0 * 256 * 256 + 1 * 256 + 0) * 256
+
+-- Checking the bytes x as a proof of the key k of a shelf of b bits against its list's root answers r; the array f for what is found is left
+-- as g.
+abbrev pub ShelfVerifies : Bytes → ℕ → Bytes → Bytes → Bytes → ℕ → Bytes → Type 0
+ShelfVerifies root b k x f r g = shelf.ShelfVerifies root b k x f r g
 
 -- Hashing the bytes x answers 0; the array for the digest is left as g.
 pub record Hashes (x : Bytes) (r : ℕ) (g : Bytes) : Type 0 where

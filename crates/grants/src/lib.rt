@@ -1,7 +1,7 @@
 // The public calls, for C, Rust and others to link. Each answers 0 where it is accepted, else document 01's number of refusal; a refused
 // call writes nothing, its answer included. A slice is passed as a pointer and a length, an array as a pointer alone.
 use terms::Form;
-ghost use Rattle.grants.specs.Contracts.{Formats, Checks, Applies, Prunes, ReadsRoot, ReadsKey, Counts, ReadsAt, Proves, Palettes, Changes, Rescues, MovesOver, MovesBack, Finds, Figures, PocketProves, Verifies, PocketVerifies, VerifiesMany, TellsVersion, Hashes};
+ghost use Rattle.grants.specs.Contracts.{Formats, Checks, Applies, Prunes, ReadsRoot, ReadsKey, Counts, ReadsAt, Proves, Palettes, Changes, Rescues, MovesOver, MovesBack, Finds, Figures, PocketProves, Verifies, PocketVerifies, ShelfVerifies, VerifiesMany, TellsVersion, Hashes};
 
 // Makes a fresh store of any bytes of the right length.
 #[no_mangle]
@@ -231,6 +231,20 @@ pub extern "C" fn grants_version() -> u32
     ensures { λ r. ⌜ TellsVersion r ⌝ }
 {
     65536
+}
+
+// What a proof shows of a key of a shelf against its list's root: the list's record for the key's part, then the part's record for the key.
+#[no_mangle]
+pub extern "C" fn grants_shelf_verify(
+    root: &[u8],
+    bits: u32,
+    key: &[u8],
+    proof: &[u8],
+    found: &mut [u8; 33],
+) -> u32
+    ensures { λ r. ⌜ ShelfVerifies (now (root .entry)) bits (now (key .entry)) (now (proof .entry)) (now (found .entry)) r (now (found .exit)) ⌝ }
+{
+    shelf_verify::grants_shelf_verify(root, bits, key, proof, found)
 }
 
 // SHA-256 of the bytes; never refused.

@@ -12,3 +12,4 @@ pub mod Figures
 pub mod Pocket
 pub mod Findings
 pub mod Moves
+pub mod Shelf

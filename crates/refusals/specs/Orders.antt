@@ -1,4 +1,4 @@
--- Document 01, 'Numbers of refusal', 14 of 2026-03, 17 of 2026-07, 18 of 2026-13, 19 of 2026-14 and 20 of 2026-09: rows in the order in which they are tested, as far as the calls
+-- Document 01, 'Numbers of refusal', 14 of 2026-03, 17 of 2026-07, 18 of 2026-13, 19 of 2026-14, 20 of 2026-09 and 21 of shelves: rows in the order in which they are tested, as far as the calls
 -- share them or the definitions of `meaning` test them. Assumes nothing.
 use Prim.Native.Nat.{ℕ}
 use mathlib.Core.List.{List, [], _∷_}
@@ -8,6 +8,7 @@ use Rattle.refusals.specs.Exactly.{Table}
 use Rattle.refusals.specs.Rows.{WrongLength, WrongHeader, StopsRoot, StopsGet, StopsProve, StopsAt, PastNumber, Lost, Unsound, BatchOffForm, NotAscending, NotAbove, TooFewFree, NotKept, TooLong, ProofOffForm, DoesNotHold, EmptyVersion, NotBothKept, TooManyVisits, ListTooLong, AskedOfEmpty, StopsPalette, TooLongTogether, NotRootAndKeys, NotPieces, AnswersTooLong, WrongSizes, OldestAbove, NoVersion, WrongRoom, WrongHeaderIn, NotSoundIn}
 use Rattle.refusals.specs.Rows.{NoKeptRange, FiguresTooLong, OutsidePocket, ProvedOutside}
 use Rattle.refusals.specs.Rows.{HoldsNoGrant, rootOfVersion}
+use Rattle.refusals.specs.Rows.{TooManyBits, ShelfOffForm, ShelfDoesNotHold}
 
 -- 1, 2.
 abbrev pub headerRows : Bytes → Table
@@ -94,3 +95,7 @@ foundRows s v k x = (8, NotKept s v) ∷ (14, HoldsNoGrant s v) ∷ holdingRows 
 -- A move (document 02, 2026-10): 1, 2, 3.
 abbrev pub moveRows : Form → Bytes → Bytes → Table
 moveRows from s old = (1, WrongRoom from s old) ∷ (2, WrongHeaderIn from s) ∷ (3, NotSoundIn from s) ∷ []
+
+-- The check of a shelf's proof, its own: 21, 10, 11.
+abbrev pub shelfRows : Bytes → ℕ → Bytes → Bytes → Table
+shelfRows root b k x = (21, TooManyBits b) ∷ (10, ShelfOffForm x) ∷ (11, ShelfDoesNotHold root b k x) ∷ []

@@ -1,4 +1,4 @@
--- Document 01, 'Numbers of refusal', 14 of 2026-03, 17 of 2026-07, 18 of 2026-13, 19 of 2026-14 and 20 of 2026-09: the rows, each a proposition in its words. Assumes nothing.
+-- Document 01, 'Numbers of refusal', 14 of 2026-03, 17 of 2026-07, 18 of 2026-13, 19 of 2026-14, 20 of 2026-09 and 21 of shelves: the rows, each a proposition in its words. Assumes nothing.
 use Prim.Native.Nat.{ℕ, _+_, _*_, _-_, _≤_, _<_}
 use mathlib.Core.Path.{_≡_}
 use mathlib.Core.Logic.{_⊎_}
@@ -33,6 +33,8 @@ use Rattle.proofrecords.specs.ProofBytes.{proofBytes, ProofForm}
 use Rattle.layout.specs.Sizes.{headerSize, headerKind, mostSlots, kindAt, capacityAt, oldestAt, latestAt, slotSize}
 use Rattle.layout.specs.Stores.{storeIn, storeOf}
 use Rattle.move_rules.specs.Moves.{other}
+use Rattle.shelf_rules.specs.Shelf.{mostBits, ShelfProof, shelfBytes, ShelfForm}
+use Rattle.shelf_rules.specs.Holding.{ShelfHolds}
 use Rattle.batch.specs.Sizes.{mostRecords}
 use Rattle.batch.specs.Batch.{asks, asksBytes}
 
@@ -242,3 +244,22 @@ WrongHeaderIn from s = RightHeaderIn from s → ⊥
 -- 3 of a move: the source isn't sound, by its own form.
 abbrev pub NotSoundIn : Form → Bytes → Type 0
 NotSoundIn from s = Sound leafHash innerHash (storeIn from s) → ⊥
+
+-- 21 (shelves): over 12 bits.
+abbrev pub TooManyBits : ℕ → Type 0
+TooManyBits b = mostBits < b
+
+-- The bytes are one whole proof of a shelf in form, no byte over: the list's record, and the part's exactly if the
+-- list's shows a presence.
+pub record ShelfIs (x : Bytes) (p : ShelfProof) : Type 0 where
+  pub bytes : x ≡ shelfBytes p
+  pub form : ShelfForm p
+
+-- 10 of a shelf's proof: they aren't.
+abbrev pub ShelfOffForm : Bytes → Type 0
+ShelfOffForm x = (p : ShelfProof) → ShelfIs x p → ⊥
+
+-- 11 of a shelf's proof: in form, but doesn't hold.
+abbrev pub ShelfDoesNotHold : Bytes → ℕ → Bytes → Bytes → Type 0
+ShelfDoesNotHold root b k x =
+    (p : ShelfProof) × ShelfIs x p × ((answer : Verdict) → ShelfHolds root b k p answer → ⊥)

@@ -1,0 +1,99 @@
+-- A shelf is a list of stores under one root: grants whose keys begin with the same bits are in one store, its part; the
+-- list is a store too, with the root of each part that has a grant. Here: the proof of a key of a shelf, and what its
+-- check answers to any bytes. Order: 12, 21, 10, 11. Assumes nothing.
+use Prim.Native.Nat.{ℕ}
+use mathlib.Core.Path.{_≡_}
+use mathlib.Core.Bool.{cond, _&&_}
+use mathlib.Core.List.{[], _∷_, _++_}
+use mathlib.Core.Option.{Option, none, some}
+use lib.ListN.{length, take, drop}
+use lib.Dec.{eqb, leb}
+use Rattle.terms.specs.Bits.{Bytes, bits, pack}
+use Rattle.terms.specs.Fields.{field}
+use Rattle.terms.specs.Records.{Presence, Absence, Proof, presence, absence}
+use Rattle.meaning.specs.Calls.{Answer, refused, accepted}
+use Rattle.meaning.specs.Reading.{Verdict, present, absent}
+use Rattle.meaning.specs.Checking.{checked}
+use Rattle.meaning.specs.Answers.{numberOf, foundAfter}
+use Rattle.nodehash.specs.Node.{leafHash, innerHash}
+use Rattle.proofrecords.specs.ProofBytes.{proofBytes, proofIn, ProofForm}
+
+-- A shelf has 0 to 12 bits.
+abbrev pub mostBits : ℕ
+mostBits = 12
+
+-- The key of a part in the list: the bits that its grants' keys begin with, then zeros.
+unfoldable pub partKey : ℕ → Bytes → Bytes
+partKey b k = pack 32 (take b (bits k))
+
+-- The proof of a key: the list shows that its part isn't there; or it shows the part, and the part's proof follows.
+pub data ShelfProof : Type 0 where
+  noPart : Absence → ShelfProof
+  inPart : Presence → Proof → ShelfProof
+
+-- Its bytes: the list's record, then the part's.
+abbrev pub shelfBytes : ShelfProof → Bytes
+shelfBytes (noPart a) = proofBytes (absence a)
+shelfBytes (inPart p q) = proofBytes (presence p) ++ proofBytes q
+
+-- Which have a form in bytes.
+abbrev pub ShelfForm : ShelfProof → Type 0
+ShelfForm (noPart a) = ProofForm (absence a)
+ShelfForm (inPart p q) = ProofForm (presence p) × ProofForm q
+
+-- The first record's own length says where it ends.
+unfoldable pub listRecord : Bytes → Bytes
+listRecord x = take (field 0 4 x) x
+
+unfoldable pub partRecord : Bytes → Bytes
+partRecord x = drop (field 0 4 x) x
+
+-- A second record follows exactly if the first shows a presence, and no byte is over.
+abbrev pub bySecond : Presence → Option Proof → Option ShelfProof
+bySecond p none = none
+bySecond p (some q) = some (inPart p q)
+
+abbrev pub byEnd : Absence → Bytes → Option ShelfProof
+byEnd a [] = some (noPart a)
+byEnd a (x ∷ rest) = none
+
+abbrev pub byFirst : Option Proof → Bytes → Option ShelfProof
+byFirst none rest = none
+byFirst (some (presence p)) rest = bySecond p (proofIn rest)
+byFirst (some (absence a)) rest = byEnd a rest
+
+-- The proof that bytes stand for; none where they aren't one or two whole records in form (10).
+unfoldable pub shelfIn : Bytes → Option ShelfProof
+shelfIn x = byFirst (proofIn (listRecord x)) (partRecord x)
+
+-- What the list says of the part, then the part of the key. Where the list shows that there is no part, the key is absent.
+abbrev pub byList : Answer Verdict → (Bytes → Answer Verdict) → Answer Verdict
+byList (refused n) part = refused n
+byList (accepted absent) part = accepted absent
+byList (accepted (present root)) part = part root
+
+-- The list's record is checked for the part's key against the root, and the part's for the key against the root that the
+-- list shows.
+abbrev pub shelfChecked : Bytes → ℕ → Bytes → ShelfProof → Answer Verdict
+shelfChecked root b k (noPart a) = checked leafHash innerHash root (partKey b k) (absence a)
+shelfChecked root b k (inPart p q) =
+    byList (checked leafHash innerHash root (partKey b k) (presence p)) (λ part. checked leafHash innerHash part k q)
+
+-- 10 if there is no proof in form; else both records hold, or 11.
+abbrev pub shelfJudged : Bytes → ℕ → Bytes → Option ShelfProof → Answer Verdict
+shelfJudged root b k none = refused 10
+shelfJudged root b k (some p) = shelfChecked root b k p
+
+-- 12 if the root or the key isn't 32 bytes; 21 if there are over 12 bits; else 10, 11, "present" with the value, or
+-- "absent".
+unfoldable pub shelfVerified : Bytes → ℕ → Bytes → Bytes → Answer Verdict
+shelfVerified root b k x =
+    cond (eqb (length root) 32 && eqb (length k) 32)
+    (cond (leb b mostBits) (shelfJudged root b k (shelfIn x)) (refused 21))
+    (refused 12)
+
+-- Checking the bytes x as a proof of the key k of a shelf of b bits against the list's root answers r; the array f for
+-- what is found is left as g.
+pub record ShelfVerifies (root : Bytes) (b : ℕ) (k x f : Bytes) (r : ℕ) (g : Bytes) : Type 0 where
+  pub answer : r ≡ numberOf (shelfVerified root b k x)
+  pub found : g ≡ foundAfter (shelfVerified root b k x) f

@@ -1,0 +1,67 @@
+-- `shelf_verify::part_of` meets its contract: at bit i the place is that of the first i bits. Assumes nothing.
+use Prim.Native.Nat.{_-_, _≤_}
+use native.Mathlib.Omega.{arith}
+use mathlib.Core.Path.{_≡_, subst}
+use lib.ListN.{take}
+use borrow.Author.Needs.{needs}
+use Rattle.terms.specs.Bits.{bits}
+use Rattle.place.specs.Place.{Stands, Grown}
+use Rattle.shelf_verify.proofs.Laws.{front-next}
+use Rattle.shelf_verify.proofs.part_of.Statement.{statement}
+use Rattle.shelf_verify.proofs.part_of.Tie as tie
+
+abbrev Inv-loop : tie.InvT-loop
+Inv-loop key count place₀ i₀ place i = (i ≤ count) × Stands (take i (bits key)) i place
+
+abbrev μ-loop : tie.MeasureT-loop
+μ-loop key count place₀ i₀ place i = count - i
+
+top-requires : tie.Need-top-requires Inv-loop μ-loop
+top-requires c κs = search needs
+
+loop-holds : tie.Need-loop-holds Inv-loop μ-loop
+loop-holds c = (omega arith, c .top .ensures)
+
+key-bit-requires : tie.Need-key-bit-requires Inv-loop μ-loop
+key-bit-requires c κs = omega (arith, c .before .before .before .before .pre .0, c .before .before .before .before .pre .1, c .before .loop .inv .0)
+
+child-place-requires : tie.Need-child-place-requires Inv-loop μ-loop
+child-place-requires c κs =
+    (c .before .before .loop .inv .1 .proper, omega (arith, c .before .before .before .before .before .pre .1, c .before .before .loop .inv .1 .count))
+
+add-i : tie.Need-add-i Inv-loop μ-loop
+add-i c = omega (arith, c .before .before .before .before .before .before .pre .1)
+
+loop-less : tie.Need-loop-less Inv-loop μ-loop
+loop-less c = omega arith
+
+loop-again : tie.Need-loop-again Inv-loop μ-loop
+loop-again c =
+    let w = c .before .before .before .loop in
+    let a = c .before .before .before .before .before .before in (
+      omega arith,
+      front-next (a .args .key .now) (w .i) (w .place) (c .child-place .result) (omega (arith, a .pre .0, a .pre .1)) (w .inv .1)
+          (subst (λ t. Grown t (w .place) (c .child-place .result)) (c .before .key-bit .ensures) (c .child-place .ensures)),
+    )
+
+returns : tie.Need-returns Inv-loop μ-loop
+returns c =
+    let w = c .before .loop in
+    let a = c .before .before .before .before in
+    let e : w .i ≡ a .args .count = omega (arith, w .inv .0) in
+    subst (λ m. Stands (take m (bits (a .args .key .now))) m (w .place)) e (w .inv .1)
+
+pub part-of-spec : {M : Type 1} → statement M
+part-of-spec =
+    tie.close
+    (tie.spec
+    Inv-loop
+    μ-loop
+    top-requires
+    loop-holds
+    key-bit-requires
+    child-place-requires
+    add-i
+    loop-less
+    loop-again
+    returns)

@@ -1,0 +1,4 @@
+pub mod Shown
+pub mod Single
+pub mod Forged
+pub mod Published
