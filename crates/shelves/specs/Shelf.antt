@@ -124,8 +124,8 @@ pub record Run (n : ℕ) (p : Place) (s t : Bytes) : Type 0 where
   pub g : Bytes
   pub applied : Applies n batch s f 0 t g
 
--- A publishing as n: the touched parts apply their runs as n, each other part stays; then the list applies the new roots
--- of the touched parts as n.
+-- A publishing as n: the touched parts apply their runs as n, each other part stays; then the list applies the new
+-- roots of the touched parts as n.
 pub record Publishes (b n : ℕ) (x y : Shelf) : Type 0 where
   pub number : n ≤ top32
   pub touched : List Place
