@@ -1,6 +1,6 @@
 -- A shelf is a list of stores under one root: grants whose keys begin with the same bits are in one store, its part;
--- the list is a store too, with the root of each part that has a grant. Here: the proof of a key of a shelf, and what its
--- check answers to any bytes. Order: 12, 21, 10, 11. Assumes nothing.
+-- the list is a store too, with the root of each part that has a grant. Here: the proof of a key of a shelf, and what
+-- its check answers to any bytes. Order: 12, 21, 10, 11. Assumes nothing.
 use Prim.Native.Nat.{ℕ}
 use mathlib.Core.Path.{_≡_}
 use mathlib.Core.Bool.{cond, _&&_}
