@@ -1,6 +1,6 @@
--- A shelf is a list of stores under one root: grants whose keys begin with the same bits are in one store, its part; the
--- list is a store too, with the root of each part that has a grant. Here: the proof of a key of a shelf, and what its
--- check answers to any bytes. Order: 12, 21, 10, 11. Assumes nothing.
+-- A shelf is a list of stores under one root: grants whose keys begin with the same bits are in one store, its part;
+-- the list is a store too, with the root of each part that has a grant. Here: the proof of a key of a shelf, and what
+-- its check answers to any bytes. Order: 12, 21, 10, 11. Assumes nothing.
 use Prim.Native.Nat.{ℕ}
 use mathlib.Core.Path.{_≡_}
 use mathlib.Core.Bool.{cond, _&&_}
@@ -66,14 +66,15 @@ byFirst (some (absence a)) rest = byEnd a rest
 unfoldable pub shelfIn : Bytes → Option ShelfProof
 shelfIn x = byFirst (proofIn (listRecord x)) (partRecord x)
 
--- What the list says of the part, then the part of the key. Where the list shows that there is no part, the key is absent.
+-- What the list says of the part, then the part of the key. Where the list shows that there is no part, the key is
+-- absent.
 abbrev pub byList : Answer Verdict → (Bytes → Answer Verdict) → Answer Verdict
 byList (refused n) part = refused n
 byList (accepted absent) part = accepted absent
 byList (accepted (present root)) part = part root
 
--- The list's record is checked for the part's key against the root, and the part's for the key against the root that the
--- list shows.
+-- The list's record is checked for the part's key against the root, and the part's for the key against the root that
+-- the list shows.
 abbrev pub shelfChecked : Bytes → ℕ → Bytes → ShelfProof → Answer Verdict
 shelfChecked root b k (noPart a) = checked leafHash innerHash root (partKey b k) (absence a)
 shelfChecked root b k (inPart p q) =

@@ -124,8 +124,8 @@ pub record Run (n : ℕ) (p : Place) (s t : Bytes) : Type 0 where
   pub g : Bytes
   pub applied : Applies n batch s f 0 t g
 
--- A publishing as n: the touched parts apply their runs as n, each other part stays; then the list applies the new roots
--- of the touched parts as n.
+-- A publishing as n: the touched parts apply their runs as n, each other part stays; then the list applies the new
+-- roots of the touched parts as n.
 pub record Publishes (b n : ℕ) (x y : Shelf) : Type 0 where
   pub number : n ≤ top32
   pub touched : List Place
@@ -145,7 +145,8 @@ pub record PrunesTo (b n : ℕ) (x y : Shelf) : Type 0 where
   pub parts : (p : Place) → length p ≡ b →
       (f : Bytes) × (g : Bytes) × Prunes (readAt (x .part p) n) (x .part p) f 0 (y .part p) g
 
--- A shelf of 0 to 12 bits that only such publishings and prunings wrote, from formatted stores on.
+-- A shelf of 0 to 12 bits that only such publishings and prunings wrote, from formatted stores on. Calls that look, and
+-- refused ones, write nothing.
 pub data ShelfLife (b : ℕ) : Shelf → Type 0 where
   formatted : {x : Shelf} {old : Bytes} → b ≤ mostBits → Formats old 0 (x .list) →
       ((p : Place) → length p ≡ b → (was : Bytes) × Formats was 0 (x .part p)) → ShelfLife b x
