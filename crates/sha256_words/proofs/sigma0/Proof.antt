@@ -1,9 +1,9 @@
 -- Two rotations and a shift, as the definition has them.
 -- Assumes nothing.
-use Rattle.sha256.specs.Sha256.{σ₀}
+use Rattle.sha256_words.specs.Words.{σ₀}
 use borrow.Author.Needs.{needs}
-use Rattle.sha256.proofs.sigma0.Statement.{statement}
-use Rattle.sha256.proofs.sigma0.Tie as tie
+use Rattle.sha256_words.proofs.sigma0.Statement.{statement}
+use Rattle.sha256_words.proofs.sigma0.Tie as tie
 
 rotr-requires : tie.Need-rotr-requires
 rotr-requires c κs = search needs

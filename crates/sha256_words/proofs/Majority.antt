@@ -4,7 +4,7 @@ use mathlib.Core.Path.{_≡_, refl, ap, ap₂, sym, _∙_}
 use native.Mathlib.Omega.{arith}
 use native.Mathlib.Nat.{pow-suc}
 use lib.Bits.{bitAnd, bitXor, and-shr, xor-shr, and-mod, xor-mod}
-use Rattle.sha256.specs.Sha256.{_&_, _⊕_, Maj}
+use Rattle.sha256_words.specs.Words.{_&_, _⊕_, Maj}
 
 abbrev byDifferences : ℕ → ℕ → ℕ → ℕ
 byDifferences x y z = y ⊕ ((x ⊕ y) & (y ⊕ z))

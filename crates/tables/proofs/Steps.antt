@@ -3,10 +3,10 @@ use mathlib.Core.Path.{refl}
 use Rattle.terms.specs.Bits.{Bytes, All}
 use Rattle.meaning.specs.Computed.{computed}
 use Rattle.meaning.specs.Desk.{table, gaps}
 use Rattle.steps.specs.Step.{grow, stepLeaf, innerBy, stepInner, stepNode, stepRoot}
 use Rattle.steps.specs.Writing.{markIn}
 use Rattle.steps.specs.Apply.{stepped, applySteps}
-use Rattle.steps.specs.Desk.{RowSteps, StepsAgree, more}
+use Rattle.tables.specs.Steps.{RowSteps, StepsAgree, more}
 
 pub desk-by-steps : (leafHash innerHash : Bytes → Bytes → Bytes) → All (RowSteps leafHash innerHash) (table leafHash innerHash)
 unfolding computed grow stepLeaf innerBy stepInner stepNode stepRoot markIn stepped applySteps
