@@ -1,5 +1,5 @@
 -- SHA-256 after FIPS 180-4 from section 4.2.2 on, in its order and its names, for a message of whole bytes. What comes before, sums, rotations and the
--- six functions, is in `sha256_words`, and handed on. Assumes nothing.
+-- six functions, is in `sha256_words`. Assumes nothing.
 use Prim.Native.Nat.{ℕ, zero, suc, _+_, _*_, _-_, _/_, _%_, _^_}
 use mathlib.Core.Bool.{cond}
 use mathlib.Core.List.{List, [], _∷_, _++_}
@@ -8,8 +8,7 @@ use lib.ListN.{length, getD, replicate}
 use Rattle.terms.specs.Bits.{Bytes}
 use Rattle.hash.specs.BigEndian.{big, wordAt}
 use Rattle.sha256.specs.declared.State.{State}
-pub use Rattle.sha256_words.specs.Words.{_⊞_, ROTR, Ch, Maj}
-unfoldable pub use Rattle.sha256_words.specs.Words.{Σ₀, Σ₁, σ₀, σ₁}
+use Rattle.sha256_words.specs.Words.{_⊞_, Ch, Maj, Σ₀, Σ₁, σ₀, σ₁}
 
 -- 4.2.2: the constants.
 unfoldable pub K : List ℕ

@@ -6,13 +6,13 @@ ghost use Rattle.sha256.specs.Sha256.{scheduled, round, added, H0, state
 ghost use Rattle.sha256.specs.Rolling.{rolls, turns, folded};
 use hash::Hash;
 use hash::join;
-pub use sha256_words::add;
-pub use sha256_words::big_sigma0;
-pub use sha256_words::big_sigma1;
-pub use sha256_words::ch;
-pub use sha256_words::maj;
-pub use sha256_words::sigma0;
-pub use sha256_words::sigma1;
+use sha256_words::add;
+use sha256_words::big_sigma0;
+use sha256_words::big_sigma1;
+use sha256_words::ch;
+use sha256_words::maj;
+use sha256_words::sigma0;
+use sha256_words::sigma1;
 
 // The eight working variables, and the eight words of a hash value.
 pub struct State {
