@@ -34,7 +34,7 @@ pub fn byte(l: &[u8], store: &mut [u8]) -> bool {
 }
 
 // The first 32 bytes made zero.
-fn clear(bytes: &mut [u8]) {
+pub fn clear(bytes: &mut [u8]) {
     if bytes.len() != 32 {
         return;
     }
@@ -42,7 +42,7 @@ fn clear(bytes: &mut [u8]) {
 }
 
 // 128 bytes made zero.
-fn empty(slot: &mut [u8]) {
+pub fn empty(slot: &mut [u8]) {
     if slot.len() != 128 {
         return;
     }
@@ -52,7 +52,7 @@ fn empty(slot: &mut [u8]) {
     clear(&mut slot[96..128]);
 }
 
-fn empty_at(store: &mut [u8], from: usize) {
+pub fn empty_at(store: &mut [u8], from: usize) {
     if 2000000 < from {
         return;
     }

@@ -4,8 +4,8 @@ use mathlib.Core.Path.{ap, _∙_}
 use Rattle.terms.specs.Fields.{le}
 use Rattle.fields.specs.Written.{written}
 use borrow.Author.Needs.{needs}
-use Rattle.store.proofs.put_retired_at.Statement.{statement}
-use Rattle.store.proofs.put_retired_at.Tie as tie
+use Rattle.store_put.proofs.put_retired_at.Statement.{statement}
+use Rattle.store_put.proofs.put_retired_at.Tie as tie
 
 slot-start-requires : tie.Need-slot-start-requires
 slot-start-requires c κs = search needs
