@@ -2,10 +2,10 @@
 use native.Mathlib.Omega.{arith}
 use mathlib.Core.Path.{ap, sym, _∙_}
 use lib.ListN.{length, length-set}
-use Rattle.finding_c.proofs.Filling.{part-one-long, after-one-room, message-put, message-65}
+use Rattle.finding_put.proofs.Filling.{part-one-long, after-one-room, message-put, message-65}
 use borrow.Author.Needs.{needs}
-use Rattle.finding_c.proofs.put_message.Statement.{statement}
-use Rattle.finding_c.proofs.put_message.Tie as tie
+use Rattle.finding_put.proofs.put_message.Statement.{statement}
+use Rattle.finding_put.proofs.put_message.Tie as tie
 
 first-byte-requires : tie.Need-first-byte-requires
 first-byte-requires c κs = search needs

@@ -1,7 +1,7 @@
 -- `finding_c::first_byte` meets its contract: byte by kind. Assumes nothing.
 use borrow.Author.Needs.{needs}
-use Rattle.finding_c.proofs.first_byte.Statement.{statement}
-use Rattle.finding_c.proofs.first_byte.Tie as tie
+use Rattle.finding_put.proofs.first_byte.Statement.{statement}
+use Rattle.finding_put.proofs.first_byte.Tie as tie
 
 returns : tie.Need-returns
 returns c = rw (c .if1 .taken)
