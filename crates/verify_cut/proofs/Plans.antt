@@ -14,15 +14,16 @@ use borrow.Author.Count.{below-more}
 use Rattle.terms.specs.Bits.{Bytes}
 use Rattle.sha256_eight.specs.Each.{Each}
 use Rattle.verify_neighbours.specs.Neighbours.{leads}
-use Rattle.verify_lanes.specs.Lanes.{Lies, LiesAt, AllLie, LeadsAt}
+use Rattle.verify_one.specs.Lane.{Lies}
+use Rattle.verify_lanes.specs.Lanes.{LiesAt, AllLie, LeadsAt}
 use Rattle.verify_given.specs.Given.{Leading}
 use Rattle.verify_rows.specs.Rows.{ownLength, begins, cutsInto, startOf, pieceAt}
 use Rattle.verify_rows.proofs.Rows.{begins-room, cut-on, cut-off, cut-end}
 use Rattle.verify_rows.proofs.Prefix.{lies-there, leads-there}
 use Rattle.verify_plan.specs.declared.Paths.{Paths}
 use Rattle.verify_plan.specs.Plan.{PathsIn}
-use Rattle.verify_many.specs.declared.Gathered.{Gathered}
-use Rattle.verify_many.specs.Many.{Planned, Plan, GatheredAs, KnownAt, Known}
+use Rattle.verify_cut.specs.declared.Gathered.{Gathered}
+use Rattle.verify_cut.specs.Row.{Planned, Plan, GatheredAs, KnownAt, Known}
 
 pub plan-none : (p : Bytes) (n : ℕ) (at index : List ℕ) → length at ≡ 512 → length index ≡ 256 → Plan p n at index 0 0 0
 plan-none p n at index e d = record {

@@ -1,12 +1,12 @@
--- `verify_many::gather` meets its contract. One record more is cut off with each turn, and its paths are planned. The measure is what is left of the records. Assumes nothing.
+-- `verify_cut::gather` meets its contract. One record more is cut off with each turn, and its paths are planned. The measure is what is left of the records. Assumes nothing.
 use Prim.Native.Nat.{_-_}
 use native.Mathlib.Omega.{arith}
 use lib.ListN.{length-take, length-drop, drop}
 use borrow.Author.Needs.{needs}
-use Rattle.verify_many.proofs.Plans.{part-is, plan-none, plan-more, gathered-off, gathered-all}
-use Rattle.verify_many.specs.Many.{Plan}
-use Rattle.verify_many.proofs.gather.Statement.{statement}
-use Rattle.verify_many.proofs.gather.Tie as tie
+use Rattle.verify_cut.proofs.Plans.{part-is, plan-none, plan-more, gathered-off, gathered-all}
+use Rattle.verify_cut.specs.Row.{Plan}
+use Rattle.verify_cut.proofs.gather.Statement.{statement}
+use Rattle.verify_cut.proofs.gather.Tie as tie
 
 abbrev Inv-loop : tie.InvT-loop
 Inv-loop p n at₀ index₀ i₀ m₀ a₀ at index i m a = Plan p n at index i m a

@@ -1,8 +1,8 @@
--- `verify_many::put_refusal` meets its contract. The number, and zero bytes. Assumes nothing.
+-- `verify_cut::put_refusal` meets its contract. The number, and zero bytes. Assumes nothing.
 use borrow.Author.Needs.{needs}
-use Rattle.verify_many.proofs.Answers.{refusal-written}
-use Rattle.verify_many.proofs.put_refusal.Statement.{statement}
-use Rattle.verify_many.proofs.put_refusal.Tie as tie
+use Rattle.verify_cut.proofs.Answers.{refusal-written}
+use Rattle.verify_cut.proofs.put_refusal.Statement.{statement}
+use Rattle.verify_cut.proofs.put_refusal.Tie as tie
 
 clear-requires : tie.Need-clear-requires
 clear-requires c κs = search needs

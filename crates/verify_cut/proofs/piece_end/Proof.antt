@@ -1,9 +1,9 @@
--- `verify_many::piece_end` meets its contract. There is a length, it counts itself, and there are that many bytes. Assumes nothing.
+-- `verify_cut::piece_end` meets its contract. There is a length, it counts itself, and there are that many bytes. Assumes nothing.
 use native.Mathlib.Omega.{arith}
 use borrow.Author.Needs.{needs}
-use Rattle.verify_many.proofs.Ends.{end-short, end-small, end-over, end-there}
-use Rattle.verify_many.proofs.piece_end.Statement.{statement}
-use Rattle.verify_many.proofs.piece_end.Tie as tie
+use Rattle.verify_cut.proofs.Ends.{end-short, end-small, end-over, end-there}
+use Rattle.verify_cut.proofs.piece_end.Statement.{statement}
+use Rattle.verify_cut.proofs.piece_end.Tie as tie
 
 sub-rest : tie.Need-sub-rest
 sub-rest c = search needs

@@ -9,7 +9,7 @@ use Rattle.sha256_eight.specs.Each.{Each}
 use Rattle.verify_lanes.specs.Lanes.{AllLie, LeadsAt}
 use Rattle.verify_given.specs.Given.{Leading}
 use Rattle.verify_rows.specs.Rows.{ownLength, begins, cutsInto, startOf, pieceAt}
-use Rattle.verify_many.specs.declared.Gathered.{Gathered}
+use Rattle.verify_cut.specs.declared.Gathered.{Gathered}
 
 -- Where the record at a ends; 0 where none begins.
 pub record PieceEnd (p : Bytes) (a r : ℕ) : Type 0 where

@@ -1,13 +1,13 @@
--- `verify_many::put_value` meets its contract. 0, 1, and the value. Assumes nothing.
+-- `verify_cut::put_value` meets its contract. 0, 1, and the value. Assumes nothing.
 use Prim.Native.Nat.{ℕ, suc}
 use native.Mathlib.Omega.{arith}
 use mathlib.Core.Path.{ap, sym, _∙_}
 use lib.ListN.{length, length-set}
 use borrow.Author.Needs.{needs}
 use Rattle.hash.specs.Hash.{hashBytes}
-use Rattle.verify_many.proofs.Answers.{value-written, hash-long}
-use Rattle.verify_many.proofs.put_value.Statement.{statement}
-use Rattle.verify_many.proofs.put_value.Tie as tie
+use Rattle.verify_cut.proofs.Answers.{value-written, hash-long}
+use Rattle.verify_cut.proofs.put_value.Statement.{statement}
+use Rattle.verify_cut.proofs.put_value.Tie as tie
 
 slice-write-out : tie.Need-slice-write-out
 slice-write-out c = search needs
