@@ -4,10 +4,10 @@
 demo:
 	@tests/demo
 
-# Every crate from nothing with the edits that must fail, then each other test over what was built. `rt` waits for a whole batch of crates or
-# edits before it starts the next: batches of four leave fewer cores idle than batches of two.
+# Every crate from nothing with the edits that must fail, then each other test over what was built. RT_JOBS says how many checks run at a time;
+# `tests/gate` chooses by the memory where it isn't set.
 test:
-	@RT_JOBS=$${RT_JOBS:-4} tests/gate 'rt ci' tests/format tests/rooms tests/belief tests/sealed tests/links tests/sha256/run tests/second/run tests/passes/run \
+	@tests/gate 'rt ci' tests/format tests/rooms tests/belief tests/sealed tests/links tests/sha256/run tests/second/run tests/passes/run \
 		tests/compare/run tests/looks/run tests/rust/run tests/tool/run tests/examples/run tests/wasm/run \
 		tests/python/run tests/stale/run tests/dist/run
 

@@ -430,7 +430,7 @@ def files():
     made['Comparisons'] = lay_out('comparisons', comparisons(rng, 1, 40))
     for n in range(1, 3):
         made[f'Positions{n}'] = lay_out(f'positions{n}', positions(rng, n, 30))
-    made['Lib'] = ''.join(f'pub mod {name}\n' for name in ['Desk', *made])
+    made['Lib'] = ''.join(f'pub mod {name}\n' for name in ['Desk', 'Steps', *made])
     return made
 
 

@@ -5,7 +5,7 @@ use apply_place::Node;
 use hash::Hash;
 use lookup::Found;
 use place::Place;
-use store::put_retired_at;
+use store_put::put_retired_at;
 use terms::Form;
 ghost use mathlib.Core.Path.{_≡_};
 ghost use mathlib.Core.List.{[], _∷_, _++_};

@@ -10,7 +10,7 @@ use place::Place;
 use refusal_numbers::FEW_SLOTS;
 use refusal_numbers::NOT_ABOVE;
 use store::latest_of;
-use store::put_latest;
+use store_put::put_latest;
 ghost use Rattle.apply_ready.specs.Ready.{Ready};
 ghost use Rattle.apply_publish.specs.Apply.{appliedSays, ApplyDoes};
 

@@ -21,3 +21,11 @@ pub fn format(store: &mut [u8]) -> u32
     put_header(Form::Counted, store, capacity, 0, 0);
     0
 }
+
+// What `grants` exports. No proof file stands behind it, so that an idle one is refused by its contract alone.
+pub fn formatted_out(store: &mut [u8]) -> u32
+    ensures answer { λ r. ⌜ r ≡ formatAnswer (now (store .entry)) ⌝ }
+    ensures bytes { λ _. ⌜ now (store .exit) ≡ formatBytes (now (store .entry)) ⌝ }
+{
+    format(store)
+}

@@ -8,7 +8,7 @@ ghost use Rattle.grants.specs.Contracts.{Formats, Checks, Applies, Prune
 pub extern "C" fn grants_format(store: &mut [u8]) -> u32
     ensures { λ r. ⌜ Formats (now (store .entry)) r (now (store .exit)) ⌝ }
 {
-    format::format(store)
+    format::formatted_out(store)
 }
 
 // Whether a store is sound.
@@ -195,7 +195,7 @@ pub extern "C" fn grants_back(source: &[u8], target: &mut [u8]) -> u32
 pub extern "C" fn grants_verify(root: &[u8], key: &[u8], proof: &[u8], found: &mut [u8; 33]) -> u32
     ensures { λ r. ⌜ Verifies (now (root .entry)) (now (key .entry)) (now (proof .entry)) (now (found .entry)) r (now (found .exit)) ⌝ }
 {
-    verify::grants_verify(root, key, proof, found)
+    verify_c::verified_out(root, key, proof, found)
 }
 
 // What each proof of a row shows of its key against one root: 34 bytes for each key, the number that the single check would answer and what it

@@ -1,9 +1,9 @@
 // What pruning does to a store, document 01, 'Pruning': whether a version is kept, and freeing every record retired since it or earlier.
-use store::clear_slot_at;
 use store::latest_of;
 use store::oldest_of;
 use store::retired_at;
 use store::slot_count;
+use store_put::clear_slot_at;
 use terms::Form;
 ghost use mathlib.Core.Path.{_≡_};
 ghost use Rattle.meaning.specs.Calls.{isKept};

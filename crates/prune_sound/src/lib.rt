@@ -2,7 +2,7 @@
 use prune_free::free_retired;
 use prune_free::is_kept;
 use refusal_numbers::NOT_KEPT;
-use store::put_oldest;
+use store_put::put_oldest;
 ghost use Rattle.promises.specs.Calls.{SoundBytes};
 ghost use Rattle.prune_sound.specs.Prune.{prunedSays, PruneDoes};
 

@@ -4,9 +4,9 @@ use lookup::Found;
 use place::Place;
 use rescue_look::kid;
 use rescue_look::lowest;
-use store::put_retired_at;
 use store::slot_of;
 use store_copy::copy_slot;
+use store_put::put_retired_at;
 use terms::Form;
 ghost use Rattle.rescue_enter.specs.Enter.{Target, Held, Puts, Entering, Enters};
 

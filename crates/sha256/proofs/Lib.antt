@@ -1,3 +1,2 @@
 pub mod Rolling
 pub mod Blocks
-pub mod Majority

@@ -5,7 +5,8 @@ use mathlib.Core.Path.{_≡_, refl}
 use mathlib.Core.List.{[], _∷_}
 use native.Mathlib.Omega.{arith}
 use Rattle.hash.specs.BigEndian.{wordAt}
-use Rattle.sha256.specs.Sha256.{Σ₀, Σ₁, σ₀, σ₁, K, padded, scheduled, round, added, compressed, sha256}
+use Rattle.sha256_words.specs.Words.{Σ₀, Σ₁, σ₀, σ₁}
+use Rattle.sha256.specs.Sha256.{K, padded, scheduled, round, added, compressed, sha256}
 
 empty :
     sha256 []

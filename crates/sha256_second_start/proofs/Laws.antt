@@ -4,7 +4,8 @@ use Prim.Native.Nat.{ℕ, _+_, _%_, _^_, _<_}
 use mathlib.Core.Path.{_≡_, refl, ap, _∙_}
 use native.Mathlib.Omega.{arith}
 use Rattle.sha256.specs.declared.State.{State}
-use Rattle.sha256.specs.Sha256.{_⊞_, Ch, Maj, Σ₀, Σ₁, σ₀, σ₁, scheduled, round}
+use Rattle.sha256_words.specs.Words.{_⊞_, Ch, Maj, Σ₀, Σ₁, σ₀, σ₁}
+use Rattle.sha256.specs.Sha256.{scheduled, round}
 
 -- A round without a word.
 abbrev pub quiet : State → ℕ → State

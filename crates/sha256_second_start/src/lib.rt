@@ -7,14 +7,14 @@ ghost use Rattle.sha256_second_start.specs.Second.{secondBlock};
 use sha256::Rolled;
 use sha256::State;
 use sha256::Words;
-use sha256::add;
-use sha256::big_sigma0;
-use sha256::big_sigma1;
-use sha256::ch;
-use sha256::maj;
-use sha256::sigma0;
-use sha256::sigma1;
 use sha256::step;
+use sha256_words::add;
+use sha256_words::big_sigma0;
+use sha256_words::big_sigma1;
+use sha256_words::ch;
+use sha256_words::maj;
+use sha256_words::sigma0;
+use sha256_words::sigma1;
 
 // A round whose word is in its constant.
 fn known(s: State, k: u32) -> State

@@ -11,4 +11,3 @@ pub mod Writing
 pub mod Root
 pub mod Idle
 pub mod Leaves
-pub mod Desk

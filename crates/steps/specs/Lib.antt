@@ -2,4 +2,3 @@ pub mod Step
 pub mod Given
 pub mod Writing
 pub mod Apply
-pub mod Desk

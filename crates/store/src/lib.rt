@@ -2,27 +2,19 @@
 // counted form the 128 from 24 + 128 i on, and the kept versions of its header. Above this room nobody knows a size or an offset; proofs/Scans has the law of a loop over the slots.
 use fields::get_u16;
 use fields::get_u32;
-use fields::put_u32;
 use layout::sizes;
 use layout::slot_size;
 use layout::slot_start;
-use place::Place;
-use slots::Child;
-use slots_put::clear_slot;
-use slots_put::put_inner;
-use slots_put::put_leaf;
 use terms::Form;
 ghost use mathlib.Core.Path.{_≡_};
 ghost use mathlib.Core.Bool.{true};
 ghost use lib.ListN.{length};
 ghost use Rattle.terms.specs.Fields.{field};
-ghost use Rattle.terms.specs.Records.{used, free, innerBody, countOn, tally, noTally};
-ghost use Rattle.place.specs.Place.{placeOf, Proper};
-ghost use Rattle.layout.specs.Sizes.{slotSize, grantSize, kindAt, roomOf};
+ghost use Rattle.terms.specs.Records.{countOn};
+ghost use Rattle.layout.specs.Sizes.{slotSize, kindAt, roomOf};
 ghost use Rattle.layout.specs.Headers.{sizeRight};
-ghost use Rattle.layout.specs.Slots.{countIn, versionIn, sinceIn, kidOn, countsIn, recordOf, SlotLong};
-ghost use Rattle.layout.specs.Stores.{slotIn, storeOf, HeaderWithin, SlotWithin, withSlot, withSince, withOldest, withLatest};
-ghost use Rattle.slots.specs.Answer.{childSays, grantBody};
+ghost use Rattle.layout.specs.Slots.{countIn, versionIn, sinceIn, kidOn, countsIn, SlotLong};
+ghost use Rattle.layout.specs.Stores.{slotIn, storeOf, HeaderWithin, SlotWithin};
 
 // How many slots a store of the right size has.
 pub fn slot_count(form: Form, store: &[u8]) -> usize
@@ -45,20 +37,6 @@ pub fn latest_of(store: &[u8]) -> u32
     ensures { λ r. ⌜ r ≡ storeOf (now (store .entry)) .latest ⌝ }
 {
     get_u32(store, sizes::LATEST_AT)
-}
-
-pub fn put_oldest(store: &mut [u8], version: u32)
-    requires { ⌜ HeaderWithin (now store) ⌝ }
-    ensures { λ _. ⌜ now (store .exit) ≡ withOldest version (now (store .entry)) ⌝ }
-{
-    put_u32(store, sizes::OLDEST_AT, version);
-}
-
-pub fn put_latest(store: &mut [u8], version: u32)
-    requires { ⌜ HeaderWithin (now store) ⌝ }
-    ensures { λ _. ⌜ now (store .exit) ≡ withLatest version (now (store .entry)) ⌝ }
-{
-    put_u32(store, sizes::LATEST_AT, version);
 }
 
 // The bytes of slot i of a store.
@@ -131,68 +109,4 @@ pub fn child_count_at(form: Form, store: &[u8], i: usize, right: bool) -> u32
             get_u32(store, at + sizes::LEFT_COUNT_AT)
         }
     }
-}
-
-// Writing slot i of a store writes its bytes and nothing else.
-pub fn put_leaf_at(
-    form: Form,
-    store: &mut [u8],
-    i: usize,
-    place: Place,
-    version: u32,
-    retired: u32,
-    grant: &[u8],
-)
-    requires { ⌜ (SlotWithin form i (now store)) × Proper place × (length (now grant) ≡ grantSize) ⌝ }
-    ensures { λ _. ⌜ now (store .exit) ≡ withSlot form i (used (recordOf (placeOf place) version retired (grantBody (now (grant .entry))) noTally)) (now (store .entry)) ⌝ }
-{
-    let start = slot_start(form, i);
-    let end = start + slot_size(form);
-    put_leaf(&mut store[start..end], place, version, retired, grant);
-}
-
-pub fn put_inner_at(
-    form: Form,
-    store: &mut [u8],
-    i: usize,
-    place: Place,
-    version: u32,
-    retired: u32,
-    left: Child,
-    right: Child,
-    lefts: u32,
-    rights: u32,
-)
-    requires { ⌜ (SlotWithin form i (now store)) × Proper place ⌝ }
-    ensures { λ _. ⌜ now (store .exit) ≡ withSlot form i (used (recordOf (placeOf place) version retired (innerBody (childSays left) (childSays right)) (tally lefts rights))) (now (store .entry)) ⌝ }
-{
-    let start = slot_start(form, i);
-    let end = start + slot_size(form);
-    put_inner(
-        &mut store[start..end],
-        place,
-        version,
-        retired,
-        left,
-        right,
-        lefts,
-        rights,
-    );
-}
-
-pub fn clear_slot_at(form: Form, store: &mut [u8], i: usize)
-    requires { ⌜ SlotWithin form i (now store) ⌝ }
-    ensures { λ _. ⌜ now (store .exit) ≡ withSlot form i free (now (store .entry)) ⌝ }
-{
-    let start = slot_start(form, i);
-    let end = start + slot_size(form);
-    clear_slot(&mut store[start..end]);
-}
-
-pub fn put_retired_at(form: Form, store: &mut [u8], i: usize, since: u32)
-    requires { ⌜ SlotWithin form i (now store) ⌝ }
-    ensures { λ _. ⌜ now (store .exit) ≡ withSince form i since (now (store .entry)) ⌝ }
-{
-    let at = slot_start(form, i) + sizes::RETIRED_AT;
-    put_u32(store, at, since);
 }

@@ -1,4 +1,5 @@
 pub mod Desk
+pub mod Steps
 pub mod Histories1
 pub mod Histories2
 pub mod Histories3

@@ -1,23 +1,10 @@
 // How many grants, and the grant at a position, document 02, request 2026-09.
-use crate::calls::refused_read;
-use fields::get_u32;
-use hash::hash_at;
 use script::say;
 use script::words::NONE;
 use script::words::number;
 use script::words::part;
-
-// A number of 64 bits, by its two halves.
-fn say_count(no: u64, count: &[u8; 8]) {
-    if no != 0 {
-        refused_read(no, b"\n");
-        return;
-    }
-    let low = get_u32(count, 0) as usize;
-    let high = get_u32(count, 4) as usize;
-    say::count(high * 4294967296 + low);
-    say::text(b"\n");
-}
+use script_says::counted::say_count;
+use script_says::counted::say_grant;
 
 // count VERSION
 pub fn count(l: &[u8], store: &[u8]) -> bool {
@@ -30,18 +17,6 @@ pub fn count(l: &[u8], store: &[u8]) -> bool {
     let no = grants::grants_count(store, version as u32, &mut count);
     say_count(no, &count);
     true
-}
-
-fn say_grant(no: u64, grant: &[u8; 64]) {
-    if no != 0 {
-        refused_read(no, b"\n");
-        return;
-    }
-    say::text(b"key ");
-    say::hex(hash_at(grant, 0));
-    say::text(b", value ");
-    say::hex(hash_at(grant, 32));
-    say::text(b"\n");
 }
 
 // at VERSION POSITION

@@ -3,25 +3,13 @@ use crate::calls::accepted;
 use crate::calls::say_root;
 use crate::calls::slots;
 use digest::digest;
-use fields::get_u32;
 use script::held;
 use script::say;
 use script::words::NONE;
 use script::words::number;
 use script::words::part;
-
-// The run's first version and the three numbers.
-fn say_report(answer: &[u8; 16]) {
-    say::text(b"first version ");
-    say::count(get_u32(answer, 0) as usize);
-    say::text(b", as they were ");
-    say::count(get_u32(answer, 4) as usize);
-    say::text(b", with another retired since ");
-    say::count(get_u32(answer, 8) as usize);
-    say::text(b", left out ");
-    say::count(get_u32(answer, 12) as usize);
-    say::text(b"\n");
-}
+use script_says::damaged::asks;
+use script_says::damaged::say_report;
 
 // What the target holds: its slots, whether it is sound, the root of its latest version.
 fn say_target(target: &[u8], latest: u32) {
@@ -52,17 +40,6 @@ fn rescue_in(store: &[u8], oldest: u32, latest: u32, room: &mut [u8], size: usiz
         return;
     }
     rescue_all(store, oldest, latest, &mut room[0..size]);
-}
-
-// Whether the words are two versions and the size of a target.
-fn asks(l: &[u8]) -> bool {
-    if NONE <= number(part(l, 1, b' ')) {
-        return false;
-    }
-    if NONE <= number(part(l, 2, b' ')) {
-        return false;
-    }
-    number(part(l, 3, b' ')) <= 17080
 }
 
 // rescue OLDEST LATEST SIZE

@@ -1,31 +1,13 @@
 // What a forged proof would cost, document 02, request 2026-12: what is found of a proof. With SHA-256 no accepted proof is false, so nothing is found.
-use crate::calls::accepted;
 use crate::calls::asks;
 use crate::calls::word;
 use digest::digest;
-use hash::Hash;
 use hash::put_hash;
-use hash::same_hash;
 use script::say;
 use script::words::NONE;
 use script::words::key;
 use script::words::number;
-
-// Where the proof tells the truth, all 131 bytes are zero.
-fn say_finding(finding: &[u8; 131]) {
-    let truth = [0u8; 131];
-    say::choice(
-        same_hash(digest(finding), digest(&truth)),
-        b"0, the proof tells the truth\n",
-        b"A FINDING\n",
-    );
-}
-
-fn say_all(no: u32, before: Hash, finding: &[u8; 131]) {
-    if accepted(no, before, finding) {
-        say_finding(finding);
-    }
-}
+use script_says::forged::say_all;
 
 fn finding_all(store: &[u8], version: u32, key: &[u8], proof: &[u8]) {
     let mut finding = [9u8; 131];

@@ -1,13 +1,12 @@
 // The program of vectors: it reads a script, whose lines are the rows of documents 01 and 02 and the calls that show them, and writes what came of each
 // through the public calls. The script is the crate's file stdin and says its own form; all that is written is held to the file stdout. For a
-// new call: a function of `calls`, a line of `call` below, and a line of the script's head that says its form.
+// new call: a function of `calls`, its words in `script_says`, a line of `call` below, and a line of the script's head that says its form.
 mod calls;
 mod compared;
 mod counted;
 mod damaged;
 mod figured;
 mod forged;
-mod harmed;
 mod moving;
 mod several;
 
@@ -17,6 +16,7 @@ use script::words::number;
 use script::words::part;
 use script::words::rest;
 use script::words::stop;
+use script_says::harmed;
 
 // Which bytes of the memory are the store: the first of them, and how many.
 struct Region {

@@ -1,27 +1,16 @@
 // Moving stores over and back, document 02, request 2026-10: the desk's store in the old form, and what comes of that. No other call takes the old form, so
 // it stands in a room of its own.
 use crate::calls::accepted;
-use crate::calls::refused;
 use crate::calls::say_root;
-use crate::harmed::put_byte;
 use digest::digest;
-use fields::get_u16;
-use hash::Hash;
-use hash::same_hash;
 use script::say;
 use script::words::NONE;
 use script::words::number;
 use script::words::part;
-
-// What the header of the old form says.
-fn say_kind(old: &[u8]) {
-    if old.len() < 24 {
-        return;
-    }
-    say::text(b"accepted, its header has kind ");
-    say::count(get_u16(old, 4) as usize);
-    say::text(b"\n");
-}
+use script_says::harmed::put_byte;
+use script_says::moving::asks;
+use script_says::moving::say_kind;
+use script_says::moving::say_made;
 
 fn back_all(store: &[u8], target: &mut [u8]) {
     let before = digest(target);
@@ -49,19 +38,6 @@ pub fn back(l: &[u8], store: &[u8]) -> bool {
     let mut room = [9u8; 2712];
     back_in(store, &mut room, size);
     true
-}
-
-// Whether a move that gave this number made the bytes of this hash.
-fn say_made(no: u32, wanted: Hash, bytes: &[u8]) {
-    if no != 0 {
-        refused(no, b"");
-        return;
-    }
-    say::choice(
-        same_hash(wanted, digest(bytes)),
-        b"the same bytes",
-        b"other bytes",
-    );
 }
 
 // Whether the old bytes come back, and a root of the new ones.
@@ -106,23 +82,6 @@ fn over_of(l: &[u8], store: &[u8], old: &[u8], size: usize) {
         number(part(l, 4, b' ')),
         (number(part(l, 5, b' ')) % NONE) as u32,
     );
-}
-
-// Whether the words are a byte's place, a byte, two sizes and a version.
-fn asks(l: &[u8]) -> bool {
-    if 2424 <= number(part(l, 1, b' ')) {
-        return false;
-    }
-    if 256 <= number(part(l, 2, b' ')) {
-        return false;
-    }
-    if 2424 < number(part(l, 3, b' ')) {
-        return false;
-    }
-    if 2712 < number(part(l, 4, b' ')) {
-        return false;
-    }
-    number(part(l, 5, b' ')) < NONE
 }
 
 // over AT BYTE FROM SIZE VERSION

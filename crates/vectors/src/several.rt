@@ -13,20 +13,7 @@ use script::words::key;
 use script::words::number;
 use script::words::part;
 use script::words::rest;
-
-// A word's key in the list, where there is a word.
-fn put_key(list: &mut [u8], at: usize, w: &[u8]) {
-    if w.len() == 0 {
-        return;
-    }
-    if list.len() < 32 {
-        return;
-    }
-    if list.len() - 32 < at {
-        return;
-    }
-    put_hash(&mut list[at..at + 32], key(w));
-}
+use script_says::several::put_key;
 
 // The proof that begins at a place, by its own length; answers where the next one begins.
 fn shown(store: &[u8], version: u32, key: &[u8; 32], proofs: &[u8], at: usize) -> usize {

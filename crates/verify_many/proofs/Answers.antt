@@ -1,17 +1,16 @@
 -- The 34 bytes of an answer as they are written. Assumes nothing.
-use Prim.Native.Nat.{ℕ, _+_, _*_, _-_, _<_, _≤_}
+use Prim.Native.Nat.{_<_}
 use native.Mathlib.Omega.{arith}
-use mathlib.Core.Path.{_≡_, refl, ap, sym, _∙_}
+use mathlib.Core.Path.{_≡_}
 use mathlib.Core.Bool.{Bool, true, false, cond, _&&_}
-use mathlib.Core.List.{List, [], _∷_, _++_, append-nil}
+use mathlib.Core.List.{_∷_}
 use mathlib.Core.Option.{Option, none, some}
-use lib.ListN.{length, take, drop, set, drop-of-length-le}
-use lib.Seq.{take-all}
+use lib.ListN.{length}
 use borrow.Author.Tests.{eq-eqb}
 use Rattle.terms.specs.Bits.{Bytes, sameBytes}
 use Rattle.terms.specs.Fields.{zeroBytes}
 use Rattle.terms.specs.Records.{Proof, presence, absence, zeros}
-use Rattle.meaning.specs.Calls.{Answer, refused, accepted}
+use Rattle.meaning.specs.Calls.{refused, accepted}
 use Rattle.meaning.specs.Reading.{Verdict, present, absent}
 use Rattle.meaning.specs.Answers.{numberOf}
 use Rattle.meaning.specs.Checking.{leadsTo, absenceHolds}
@@ -20,17 +19,7 @@ use Rattle.hash.specs.Hash.{hashBytes}
 use Rattle.nodehash.specs.Node.{leafHash, innerHash}
 use Rattle.proofrecords.specs.ProofBytes.{proofIn}
 use Rattle.verify.specs.Verify.{judged, verified}
-
-pub refusal-written : (xs ys : Bytes) (v : ℕ) → length xs ≡ 34 → ys ≡ zeroBytes (length xs) → set ys 0 v ≡ v ∷ zeroBytes 33
-unfolding zeroBytes
-refusal-written xs ys v l e = rw (e, l)
-
-pub value-written : (xs h ys : Bytes) → length xs ≡ 34 → ys ≡ h ++ drop 32 (take 32 (drop 2 (set (set xs 0 0) 1 1))) →
-    take 2 (set (set xs 0 0) 1 1) ++ (ys ++ drop 32 (drop 2 (set (set xs 0 0) 1 1))) ≡ 0 ∷ (1 ∷ h)
-value-written [] h ys l e = absurd (omega arith)
-value-written (x ∷ []) h ys l e = absurd (omega arith)
-value-written (x ∷ (y ∷ xs)) h ys l e =
-    rw (e, take-all 32 xs (omega arith), drop-of-length-le xs {i = 32} (omega arith), append-nil h, append-nil h)
+use Rattle.verify_cut.proofs.Answers.{hash-long}
 
 pub zeros-written : (xs : Bytes) → length xs ≡ 34 → zeroBytes (length xs) ≡ 0 ∷ (0 ∷ zeros)
 unfolding zeroBytes zeros
@@ -44,10 +33,6 @@ pub judged-small : (root k : Bytes) (o : Option Proof) → numberOf (judged root
 judged-small root k none = omega arith
 judged-small root k (some (presence p)) = small-cond (sameBytes k (p .key) && leadsTo leafHash innerHash root p) (present (p .value))
 judged-small root k (some (absence a)) = small-cond (sameBytes k (a .key) && absenceHolds leafHash innerHash root k (a .leftward) (a .rightward)) absent
-
-pub hash-long : (h : Hash) → length (hashBytes h) ≡ 32
-unfolding hashBytes
-hash-long h = refl
 
 pub by-judging : (root : Hash) (k x : Bytes) → length k ≡ 32 → verified (hashBytes root) k x ≡ judged (hashBytes root) k (proofIn x)
 unfolding verified

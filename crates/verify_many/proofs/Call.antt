@@ -16,7 +16,7 @@ use Rattle.palette_rules.specs.Palette.{wholeKeys, keysFrom, keysIn}
 use Rattle.sha256_eight.specs.Each.{Each}
 use Rattle.verify_lanes.specs.Lanes.{LeadsAt}
 use Rattle.verify_rows.specs.Rows.{cutsInto, pieces, answersOf, manyVerified, overFront, VerifiesMany}
-use Rattle.verify_many.specs.Many.{Plan, Planned, Known, KnownAt}
+use Rattle.verify_cut.specs.Row.{Plan, Planned, Known, KnownAt}
 
 -- a list of whole keys
 pub whole-sizes : (ks : Bytes) → wholeKeys ks ≡ true → (length ks / 32 ≤ 256) × (length ks ≡ 32 * (length ks / 32))

@@ -1,5 +1,3 @@
-pub mod Ends
-pub mod Plans
 pub mod Answers
 pub mod Writing
 pub mod Call

@@ -1,30 +1,30 @@
 // Many proofs checked in one call: each by its form, then all their paths side by side, then the answers of the single calls in a row.
 ghost use mathlib.Core.Path.{_≡_};
 ghost use mathlib.Core.Bool.{true};
-ghost use mathlib.Core.List.{_∷_, _++_};
+ghost use mathlib.Core.List.{_++_};
 ghost use Prim.Native.Nat.{_*_, _<_, _≤_};
 ghost use lib.ListN.{length, drop};
 ghost use Rattle.meaning.specs.Answers.{numberOf};
 ghost use Rattle.palette_rules.specs.Palette.{wholeKeys, keysFrom};
 ghost use Rattle.hash.specs.Hash.{hashBytes};
-ghost use Rattle.terms.specs.Fields.{zeroBytes};
 ghost use Rattle.verify.specs.Verify.{verified};
 ghost use Rattle.verify.specs.Says.{says};
 ghost use Rattle.verify_given.specs.Given.{Leading};
 ghost use Rattle.verify_rows.specs.Rows.{cutsInto, pieces, answerBytes, answersOf, VerifiesMany};
-ghost use Rattle.verify_many.specs.Many.{PieceEnd, GatheredAs, Known};
+ghost use Rattle.verify_cut.specs.Row.{Known};
 use fields::clear;
-use fields::get_u32;
 use hash::Hash;
 use hash::hash_at;
-use hash::put_hash;
 use refusal_numbers::NO_ROOM;
 use refusal_numbers::NOT_32_BYTES;
 use refusal_numbers::NOT_IN_FORM;
 use verify::Checked;
+use verify_cut::gather;
+use verify_cut::piece_end;
+use verify_cut::put_refusal;
+use verify_cut::put_value;
 use verify_given::verify_given;
 use verify_lanes::lead_many;
-use verify_plan::paths_of;
 
 const KEY_SIZE: usize = 32;
 
@@ -32,80 +32,6 @@ const MOST_KEYS: usize = 256;
 
 // The bytes of an answer: its number, and the 33 bytes of what is found.
 const ANSWER_SIZE: usize = 34;
-
-// What came of the cut: whether the bytes are as many records as keys, and how many paths these have.
-struct Gathered {
-    whole: bool,
-    many: usize,
-}
-
-// Where the record at a ends, by its own length; 0 where no record begins there.
-fn piece_end(p: &[u8], a: usize) -> usize
-    requires { ⌜ a ≤ length (now p) ⌝ }
-    ensures { λ r. ⌜ PieceEnd (now (p .entry)) a r ⌝ }
-{
-    let rest = p.len() - a;
-    if rest < 4 {
-        return 0;
-    }
-    let l = get_u32(p, a) as usize;
-    if l < 4 {
-        return 0;
-    }
-    if rest < l {
-        return 0;
-    }
-    a + l
-}
-
-// Cuts the bytes into n records, and gathers where the paths of each begin; the index of its first path stands in `index`.
-fn gather(p: &[u8], n: usize, at: &mut [usize; 512], index: &mut [usize; 256]) -> Gathered
-    requires { ⌜ (n ≤ 256) × (length (now at) ≡ 512) × (length (now index) ≡ 256) ⌝ }
-    ensures { λ r. ⌜ GatheredAs (now (p .entry)) n (now (at .exit)) (now (index .exit)) r ⌝ }
-{
-    let mut i = 0;
-    let mut m = 0;
-    let mut a = 0;
-    while i < n {
-        let e = piece_end(p, a);
-        if e == 0 {
-            return Gathered {
-                whole: false,
-                many: 0,
-            };
-        }
-        let w = paths_of(&p[a..e]);
-        at[m] = a + w.first;
-        at[m + 1] = a + w.second;
-        index[i] = m;
-        m += w.many;
-        a = e;
-        i += 1;
-    }
-    Gathered {
-        whole: a == p.len(),
-        many: m,
-    }
-}
-
-// Writes a number of refusal, and 33 zero bytes.
-fn put_refusal(out: &mut [u8], number: u32)
-    requires { ⌜ (length (now out) ≡ 34) × (number < 256) ⌝ }
-    ensures { λ _. ⌜ now (out .exit) ≡ number ∷ zeroBytes 33 ⌝ }
-{
-    clear(out);
-    out[0] = number as u8;
-}
-
-// Writes 0, then 1 and the value.
-fn put_value(out: &mut [u8], hash: Hash)
-    requires { ⌜ length (now out) ≡ 34 ⌝ }
-    ensures { λ _. ⌜ now (out .exit) ≡ 0 ∷ (1 ∷ hashBytes hash) ⌝ }
-{
-    out[0] = 0;
-    out[1] = 1;
-    put_hash(&mut out[2..34], hash);
-}
 
 // Writes an answer in 34 bytes.
 fn put_answer(out: &mut [u8], answer: Checked)

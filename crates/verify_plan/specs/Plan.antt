@@ -5,7 +5,7 @@ use mathlib.Core.Bool.{Bool}
 use lib.ListN.{length, drop}
 use Rattle.terms.specs.Bits.{Bytes}
 use Rattle.verify_neighbours.specs.Neighbours.{leads}
-use Rattle.verify_lanes.specs.Lanes.{Lies}
+use Rattle.verify_one.specs.Lane.{Lies}
 use Rattle.verify_given.specs.Given.{Leading}
 use Rattle.verify_plan.specs.declared.Paths.{Paths}
 

@@ -14,7 +14,7 @@ use Rattle.terms.specs.Records.{Step, Presence}
 use Rattle.proofrecords.specs.ProofBytes.{stepCount, stepsIn, presenceIn}
 use Rattle.proofrecords.specs.Steps.{Room}
 use Rattle.verify_neighbours.specs.Neighbours.{leads}
-use Rattle.verify_lanes.specs.Lanes.{Lies}
+use Rattle.verify_one.specs.Lane.{Lies}
 
 front-slice : (o n k : ℕ) (z : Bytes) → o + n ≤ k → slice o n (take k z) ≡ slice o n z
 unfolding slice

@@ -2,7 +2,7 @@
 -- Assumes nothing.
 use Prim.Native.Nat.{ℕ}
 use mathlib.Core.Path.{ap, _∙_}
-use Rattle.sha256.specs.Sha256.{_⊞_}
+use Rattle.sha256_words.specs.Words.{_⊞_}
 use Rattle.sha256_second_start.proofs.Laws.{two-and-seven}
 use borrow.Author.Needs.{needs}
 use Rattle.sha256_second_start.proofs.after_two.Statement.{statement}

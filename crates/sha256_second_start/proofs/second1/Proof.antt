@@ -3,7 +3,8 @@
 use Prim.Native.Nat.{ℕ}
 use mathlib.Core.Path.{refl, ap, ap₂, _∙_}
 use native.Mathlib.Omega.{arith}
-use Rattle.sha256.specs.Sha256.{_⊞_, K, σ₀, σ₁, scheduled}
+use Rattle.sha256_words.specs.Words.{_⊞_, σ₀, σ₁}
+use Rattle.sha256.specs.Sha256.{K, scheduled}
 use Rattle.sha256.proofs.Rolling.{sixteen-words, sixteen-rounds}
 use Rattle.sha256_second_start.specs.Second.{secondBlock}
 use Rattle.sha256_second_start.proofs.Laws.{word-in-constant, two-and-seven, with-fifteen, with-all, only-sixteen}

@@ -8,9 +8,9 @@ use Rattle.verify_rows.specs.Rows.{answerBytes}
 use Rattle.verify.specs.Verify.{verified}
 use Rattle.hash.specs.Hash.{hashBytes}
 use Rattle.terms.specs.Bits.{Bytes}
-use Rattle.verify_many.proofs.Ends.{end-is}
+use Rattle.verify_cut.proofs.Ends.{end-is}
 use Rattle.verify_many.proofs.Writing.{Written, part-long, written-none, written-begins, key-part, written-more, written-all}
-use Rattle.verify_many.proofs.Plans.{part-is}
+use Rattle.verify_cut.proofs.Plans.{part-is}
 use Rattle.verify_many.proofs.put_answers.Statement.{statement}
 use Rattle.verify_many.proofs.put_answers.Tie as tie
 
