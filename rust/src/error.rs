@@ -52,10 +52,12 @@ pub enum Error {
     OutsidePocket,
     /// 20: the position isn't below the number of grants.
     NoSuchPosition,
+    /// 21: the bits of a shelf are above 12.
+    TooManyBits,
 }
 
 /// The table of the rules, number 1 first, in the words of include/grants.h.
-const TABLE: [(u32, Error, &str); 17] = [
+const TABLE: [(u32, Error, &str); 18] = [
     (
         1,
         Error::Size,
@@ -129,6 +131,7 @@ const TABLE: [(u32, Error, &str); 17] = [
         Error::NoSuchPosition,
         "the position isn't below the number of grants",
     ),
+    (21, Error::TooManyBits, "the bits of a shelf are above 12"),
 ];
 
 impl Error {
@@ -183,7 +186,7 @@ mod tests {
         let numbers: Vec<u32> = TABLE.iter().map(|(_, error, _)| error.number()).collect();
         assert_eq!(
             numbers,
-            [1, 2, 3, 4, 5, 7, 8, 9, 10, 11, 12, 13, 14, 17, 18, 19, 20]
+            [1, 2, 3, 4, 5, 7, 8, 9, 10, 11, 12, 13, 14, 17, 18, 19, 20, 21]
         );
         for number in 0..=25 {
             let listed = numbers.contains(&number).then_some(number);
