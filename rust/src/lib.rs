@@ -77,7 +77,8 @@ pub use proof::{verify, verify_pocket, verify_many, Proof, POCKET_BYTES, PROOF_B
 pub use records::{Body, Child, Place, Record};
 pub use rescue::{Rescued, Slot};
 pub use shelf::{
-    shelf_pieces, shelf_verify, Bits, Effect, Made, PartAt, PartFile, Pruned, Rounds, Shelf, ShelfError,
+    shelf_pieces, shelf_verify, Bits, Effect, Made, PartAt, PartFile, Pruned, RescuedShelf, Rounds, Shelf,
+    ShelfError,
     LIST_FILE, ROUND_PARTS, SHELF_BITS, SHELF_FILE, SHELF_PROOF_BYTES,
 };
 pub use store::{Applied, Header, Store};

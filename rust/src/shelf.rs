@@ -9,6 +9,7 @@ mod files;
 mod proof;
 mod publish;
 mod reading;
+mod rescue;
 mod work;
 
 pub use bits::{Bits, SHELF_BITS};
@@ -18,6 +19,7 @@ pub use files::{PartFile, LIST_FILE, SHELF_FILE};
 pub use proof::{shelf_pieces, shelf_verify, SHELF_PROOF_BYTES};
 pub use publish::{Made, Rounds, ROUND_PARTS};
 pub use reading::PartAt;
+pub use rescue::RescuedShelf;
 
 use crate::{Header, Store};
 use std::collections::BTreeMap;

@@ -84,7 +84,7 @@ impl Shelf {
 
     fn part_pruned(&self, file: &PartFile, version: u32) -> Result<u32, ShelfError> {
         let (part, latest) = (file.part, self.header.latest);
-        let Some(mut at) = self.newest(part)? else {
+        let Some(mut at) = self.newest_to_change(part)? else {
             return Err(ShelfError::LostPart { part, version: latest });
         };
         let freed = at.store.prune(version.min(at.version)).map_err(ShelfError::of(part))?;

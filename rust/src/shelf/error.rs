@@ -1,4 +1,4 @@
-use crate::{Error, Key};
+use crate::{Error, Key, Root};
 use std::fmt;
 use std::io;
 use std::path::PathBuf;
@@ -23,6 +23,8 @@ pub enum ShelfError {
     OtherBits { key: Key },
     /// The name of the part's file says something else than its header and its counts.
     OtherName { part: u16 },
+    /// A rescue would give back a list with this root, which isn't the one that was signed.
+    OtherRoot { root: Root },
     /// One publishing takes so many rounds: more than 1,024 records go to a part, or more than 1,024 parts change.
     Rounds { rounds: usize },
 }
@@ -44,7 +46,7 @@ impl ShelfError {
     pub fn refusal(&self) -> Option<Error> {
         match self {
             ShelfError::Refused { error, .. } => Some(*error),
-            ShelfError::File { .. } | ShelfError::NoShelf { .. } => None,
+            ShelfError::File { .. } | ShelfError::NoShelf { .. } | ShelfError::OtherRoot { .. } => None,
             ShelfError::Rounds { .. } => Some(Error::BatchForm),
             _ => Some(Error::Unsound),
         }
@@ -75,6 +77,7 @@ impl fmt::Display for ShelfError {
             ShelfError::OtherName { part } => {
                 write!(f, "the file of part {part:03x} is not what its name says")
             }
+            ShelfError::OtherRoot { root } => write!(f, "its root is {root}"),
             ShelfError::Rounds { rounds } => write!(
                 f,
                 "it takes {rounds} publishings: one takes at most 1,024 records for a part, and 1,024 parts"

@@ -59,7 +59,7 @@ pub(super) fn file(path: &Path) -> impl FnOnce(io::Error) -> ShelfError + '_ {
 }
 
 /// A store's bytes; of a longer file one more than a store may have.
-fn read(path: &Path) -> io::Result<Bytes> {
+pub(super) fn read(path: &Path) -> io::Result<Bytes> {
     let mut bytes = vec![];
     let most = store_bytes(MOST_SLOTS) as u64 + 1;
     File::open(path)?.take(most).read_to_end(&mut bytes)?;
@@ -78,7 +78,7 @@ fn put(path: &Path, bytes: &[u8]) -> Result<File, ShelfError> {
 }
 
 /// Bits and slots, by the lines that `create` writes.
-fn settings(folder: &Path) -> Result<(Bits, u32), ShelfError> {
+pub(super) fn settings(folder: &Path) -> Result<(Bits, u32), ShelfError> {
     let no_shelf = |why| ShelfError::NoShelf { folder: folder.to_path_buf(), why };
     let path = folder.join(SHELF_FILE);
     let text = match fs::read(&path) {
@@ -99,7 +99,7 @@ fn settings(folder: &Path) -> Result<(Bits, u32), ShelfError> {
 }
 
 /// Every part's file of a folder.
-fn names(folder: &Path) -> Result<Vec<PartFile>, ShelfError> {
+pub(super) fn names(folder: &Path) -> Result<Vec<PartFile>, ShelfError> {
     let mut names = vec![];
     for entry in fs::read_dir(folder).map_err(file(folder))? {
         let name = entry.map_err(file(folder))?.file_name();
@@ -121,25 +121,42 @@ impl Shelf {
         slots: u32,
         list_slots: u32,
     ) -> Result<Shelf, ShelfError> {
+        let mut shelf = Shelf::begin(folder, bits, slots, list_slots)?;
+        match shelf.rename(folder) {
+            Ok(()) => Ok(shelf),
+            Err(error) => {
+                shelf.give_up();
+                Err(error)
+            }
+        }
+    }
+
+    /// The same under a name of its own, to be filled before it gets the one that is given ([`Shelf::rename`]). Refused: 21, 1.
+    pub fn begin(
+        folder: &Path,
+        bits: u32,
+        slots: u32,
+        list_slots: u32,
+    ) -> Result<Shelf, ShelfError> {
         let bits = Bits::new(bits)?;
         Store::with_capacity(slots)?;
         let list = Store::with_capacity(list_slots)?;
         let new = beside(folder);
-        // One that a writer left that is no more.
-        let _ = fs::remove_dir_all(&new);
         fs::create_dir(&new).map_err(file(&new))?;
         let made = put(&new.join(SHELF_FILE), settings_text(bits, slots).as_bytes())
-            .and_then(|_| put(&new.join(LIST_FILE), list.as_bytes()))
-            .and_then(|_| named(&new, folder));
-        if made.is_err() {
-            let _ = fs::remove_dir_all(&new);
+            .and_then(|_| put(&new.join(LIST_FILE), list.as_bytes()));
+        match made.and_then(|_| Shelf::open(&new)) {
+            Ok(shelf) => Ok(shelf),
+            Err(error) => {
+                let _ = fs::remove_dir_all(&new);
+                Err(error)
+            }
         }
-        made.and_then(|()| Shelf::open(folder))
     }
 
-    /// Where a shelf that is to come under this name may be made, so that it comes whole or not at all ([`Shelf::rename`]).
-    pub fn beside(folder: &Path) -> PathBuf {
-        beside(folder)
+    /// Removes the folder, of a shelf that was begun and is not to be.
+    pub fn give_up(&self) {
+        let _ = fs::remove_dir_all(&self.folder);
     }
 
     /// Gives the shelf's folder another name, if nothing but an empty folder has it.
@@ -250,10 +267,24 @@ impl Shelf {
     }
 }
 
-/// The name of a folder while it is filled that is to get another's name.
-pub(super) fn beside(folder: &Path) -> PathBuf {
+/// The name of this process's folder that is to get another's name. Those that other processes left, which are no more, go.
+fn beside(folder: &Path) -> PathBuf {
     let name = folder.file_name().unwrap_or_default().to_string_lossy();
-    folder.with_file_name(format!(".{name}.grants-new"))
+    let begins = format!(".{name}.grants-new.");
+    let above = folder.parent().filter(|p| !p.as_os_str().is_empty());
+    let there = fs::read_dir(above.unwrap_or(Path::new(".")));
+    for entry in there.into_iter().flatten().flatten() {
+        let process = entry.file_name().to_str().and_then(|name| name.strip_prefix(&begins)?.parse::<u32>().ok());
+        if process.is_some_and(|process| process == std::process::id() || is_no_more(process)) {
+            let _ = fs::remove_dir_all(entry.path());
+        }
+    }
+    folder.with_file_name(format!("{begins}{}", std::process::id()))
+}
+
+/// Whether a process has ended, as far as the system tells.
+fn is_no_more(process: u32) -> bool {
+    Path::new("/proc/self").exists() && !Path::new(&format!("/proc/{process}")).exists()
 }
 
 /// Gives a new folder its name, if nothing but an empty folder has it.

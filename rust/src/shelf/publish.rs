@@ -132,7 +132,7 @@ impl Shelf {
     /// A part with its runs applied. Runs that change nothing are passed over, and so is a part that has no others.
     fn part_made(&self, part: u16, runs: &Runs, numbers: &[u32], keep: bool) -> Result<PartMade, ShelfError> {
         let of = ShelfError::of(part);
-        let (mut store, mut version) = match self.newest(part)? {
+        let (mut store, mut version) = match self.newest_to_change(part)? {
             Some(at) => (at.store, at.version),
             None => (Store::with_capacity(self.slots).map_err(&of)?, 0),
         };

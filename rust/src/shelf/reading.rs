@@ -100,6 +100,16 @@ impl Shelf {
         self.part_with(part, latest, self.part_root(latest, part)?)
     }
 
+    /// The same for who changes it: a part that is newer than the list is not built upon.
+    pub(super) fn newest_to_change(&self, part: u16) -> Result<Option<PartAt>, ShelfError> {
+        let (at, version) = (self.newest(part)?, self.header.latest);
+        let latest = at.as_ref().map(|at| at.store.header()).transpose();
+        match latest.map_err(ShelfError::of(part))?.is_some_and(|header| header.latest > version) {
+            true => Err(ShelfError::OtherPart { part, version }),
+            false => Ok(at),
+        }
+    }
+
     /// What the work gives for each part that has a file, in the order of keys.
     pub fn each_file<T: Send>(
         &self,

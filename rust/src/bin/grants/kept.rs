@@ -160,14 +160,14 @@ impl Kept {
 
     /// The kept versions in which a key may have become another; the oldest is one.
     pub fn turns(&self, key: &[u8]) -> Result<BTreeSet<u32>, ShelfError> {
-        let oldest = self.header()?.oldest;
+        let Header { oldest, latest, .. } = self.header()?;
         let slots = match self {
             Kept::Store(store) => store.slots()?,
             Kept::Shelf(shelf) => part_slots(shelf, key)?,
         };
         let mut turns = BTreeSet::from([oldest]);
         for (version, keys) in held::touched(&slots) {
-            if version > oldest && keys.iter().any(|k| k.as_bytes()[..] == key[..]) {
+            if version > oldest && version <= latest && keys.iter().any(|k| k.as_bytes()[..] == key[..]) {
                 turns.insert(version);
             }
         }
@@ -260,6 +260,11 @@ pub fn shelf_refused(shelf: Option<&Shelf>, path: &Path, error: ShelfError) -> F
         ShelfError::NoShelf { why, .. } => {
             return Fail::File(format!(
                 "cannot read {name}: it is a folder and no shelf: {why}; `grants format DIR --bits B` makes one"
+            ))
+        }
+        ShelfError::OtherRoot { root } => {
+            return Fail::Book(format!(
+                "the root would be {root}: this is not what was signed, and nothing was written. Take another copy, or another --latest"
             ))
         }
         ShelfError::Refused { part, .. } => (*part, String::new()),

@@ -10,7 +10,7 @@ use crate::json::{object, Json};
 use crate::kept::{read_shelf, shelf_refused, trimmed};
 use crate::out::Out;
 use crate::plain::counted;
-use grants::{Batch, Bits, Error, PartAt, Rounds, Shelf, ShelfError, Slot, MOST_SLOTS};
+use grants::{Batch, Bits, Error, PartAt, Root, Rounds, Shelf, ShelfError, Slot, MOST_SLOTS};
 use std::collections::BTreeMap;
 use std::fs;
 use std::path::{Path, PathBuf};
@@ -45,8 +45,13 @@ impl Wanted {
         }
     }
 
-    fn made(&self, folder: &Path) -> Result<Shelf, Fail> {
-        Shelf::create(folder, self.bits, self.slots, self.list_slots).map_err(|e| match e.refusal() {
+    fn made(&self) -> Result<Shelf, Fail> {
+        let folder = &self.folder;
+        self.judged(Shelf::create(folder, self.bits, self.slots, self.list_slots))
+    }
+
+    fn judged(&self, made: Result<Shelf, ShelfError>) -> Result<Shelf, Fail> {
+        made.map_err(|e| match e.refusal() {
             Some(error @ Error::Size) => Fail::Refused(
                 error,
                 format!("{} and {} slots were asked for: a store has 1 to 16,384.", self.slots, self.list_slots),
@@ -65,7 +70,7 @@ pub fn format(args: &Args, path: &Path, out: &mut Out) -> Result<u8, Fail> {
         ));
     }
     let wanted = Wanted::of(args, path)?;
-    let shelf = wanted.made(&wanted.folder)?;
+    let shelf = wanted.made()?;
     out.changed = true;
     let Wanted { bits, slots, list_slots, .. } = wanted;
     let parts = shelf.bits().parts();
@@ -246,17 +251,15 @@ pub fn shelf(args: &Args, out: &mut Out) -> Result<u8, Fail> {
     let wanted = Wanted::of(args, args.path(1))?;
     let source = read_kept(path)?;
     let past = Past::of(&source, path)?;
-    let new = Shelf::beside(&wanted.folder);
-    let made = filled_shelf(&wanted, &new, &past);
-    let done = made.and_then(|mut shelf| {
-        booked(args, &source, &past, &shelf)?;
-        shelf.rename(&wanted.folder).map_err(|e| shelf_refused(None, &wanted.folder, e))?;
-        Ok(shelf)
-    });
-    if done.is_err() {
-        let _ = fs::remove_dir_all(&new);
+    let begun = Shelf::begin(&wanted.folder, wanted.bits, wanted.slots, wanted.list_slots);
+    let mut shelf = wanted.judged(begun)?;
+    let done = fill(&wanted, &mut shelf, &past)
+        .and_then(|()| booked(args, &source, &past, &shelf))
+        .and_then(|()| shelf.rename(&wanted.folder).map_err(|e| shelf_refused(None, &wanted.folder, e)));
+    if let Err(fail) = done {
+        shelf.give_up();
+        return Err(fail);
     }
-    let shelf = done?;
     out.changed = true;
     told(&wanted, &past, &shelf, out)
 }
@@ -288,9 +291,8 @@ fn told(wanted: &Wanted, past: &Past, shelf: &Shelf, out: &mut Out) -> Result<u8
     )
 }
 
-/// The shelf under a name of its own, its versions compared.
-fn filled_shelf(wanted: &Wanted, new: &Path, past: &Past) -> Result<Shelf, Fail> {
-    let mut shelf = wanted.made(new)?;
+/// Publishes the past in a shelf that has no name yet, and compares the grants of its versions.
+fn fill(wanted: &Wanted, shelf: &mut Shelf, past: &Past) -> Result<(), Fail> {
     shelf.tell(crate::progress::parts);
     let name = trimmed(&wanted.folder);
     let refused = |e: ShelfError| match e.refusal() {
@@ -299,7 +301,7 @@ fn filled_shelf(wanted: &Wanted, new: &Path, past: &Past) -> Result<Shelf, Fail>
             format!("Such a shelf doesn't hold it: take more bits, or more slots (--slots, --list-slots). {name} was not made."),
         ),
         Some(error) => Fail::Refused(error, format!("{e}. {name} was not made.")),
-        None => shelf_refused(None, new, e),
+        None => shelf_refused(None, &wanted.folder, e),
     };
     let (rounds, numbers) = past.publishings(shelf.bits())?;
     if !numbers.is_empty() {
@@ -311,8 +313,8 @@ fn filled_shelf(wanted: &Wanted, new: &Path, past: &Past) -> Result<Shelf, Fail>
         shelf.take(&pruned.list).map_err(refused)?;
     }
     shelf.check().map_err(refused)?;
-    match shelf_lives(&shelf).map_err(refused)? == past.lives {
-        true => Ok(shelf),
+    match shelf_lives(shelf).map_err(refused)? == past.lives {
+        true => Ok(()),
         false => Err(Fail::Book(format!("the shelf would hold other grants: this is a fault of the tool, and {name} was not made"))),
     }
 }
@@ -336,4 +338,49 @@ fn booked(args: &Args, source: &Kept, past: &Past, shelf: &Shelf) -> Result<(), 
         true => book.write(),
         false => Ok(()),
     }
+}
+
+/// The good versions of a damaged shelf, in another folder. Without --latest the list's root records are listed, as those of a store are.
+pub fn rescue(args: &Args, latest: u32, oldest: u32, signed: Option<Root>, out: &mut Out) -> Result<u8, Fail> {
+    let path = args.path(0);
+    let Some(to) = args.word(1).map(Path::new) else {
+        return Err(Fail::Usage("OUT is missing: the folder to make what is rescued in".to_string()));
+    };
+    let to: PathBuf = to.components().collect();
+    if already_there(&to) {
+        return Err(Fail::File(format!("{} is there already and was left alone", trimmed(&to))));
+    }
+    let came = Shelf::rescue(path, oldest, latest, &to, signed).map_err(|e| match e.refusal() {
+        Some(error @ Error::Header) => Fail::Refused(error, format!("--oldest {oldest} is above --latest {latest}.")),
+        Some(error) => Fail::Refused(error, format!("A run ends at --latest, and version {latest} can't be rescued: {e}. Nothing was written.")),
+        None => shelf_refused(None, path, e),
+    })?;
+    out.changed = true;
+    let compared = match signed {
+        Some(_) => "It is the root that was given.",
+        None => crate::rescue::COMPARE,
+    };
+    out.answer(
+        0,
+        object(vec![
+            ("first", came.first.into()),
+            ("latest", latest.into()),
+            ("root", came.root.to_string().into()),
+            ("root_compared", signed.is_some().into()),
+            ("parts", came.parts.into()),
+            ("same", Json::Number(came.same)),
+            ("other", Json::Number(came.other)),
+            ("out", Json::Number(came.out)),
+        ]),
+        format_args!(
+            "{}: versions {} to {latest} came back, {}\nrecords: {} as they were, {} with another retired-since; {} left out\nroot of version {latest}: {}\n{compared}",
+            trimmed(&to),
+            came.first,
+            counted(came.parts, "part"),
+            came.same,
+            came.other,
+            counted(came.out, "used slot"),
+            came.root
+        ),
+    )
 }
