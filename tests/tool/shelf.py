@@ -445,7 +445,7 @@ def a_store_becomes_a_shelf():
     refused(3, "is there already", "shelf", "s", "m2", "--bits", 2)
     refused(2, "--bits B is missing", "shelf", "s", "n")
     refused(2, "goes with --bits", "format", "n", 20, "--slots", 30)
-    refused(3, "--bits makes a shelf", "format", "m2", 20, "--force")
+    refused(3, "--bits makes one", "format", "m2", 20, "--force")
     for words in (("show", "m2"), ("move", "m2", "--to", "old")):
         refused(2, "takes a store alone", *words)
     assert not os.path.exists("n") and [f for f in os.listdir(".") if f.startswith(".")] == []

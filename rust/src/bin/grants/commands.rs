@@ -50,7 +50,7 @@ pub fn format(args: &Args, out: &mut Out) -> Result<u8, Fail> {
     }
     if is_shelf(path) {
         return Err(Fail::File(format!(
-            "{} is a folder: --bits makes a shelf, in a folder that isn't there yet; nothing was changed",
+            "{} is a shelf: --bits makes one, in a folder that isn't there yet; nothing was changed",
             shown(path)
         )));
     }

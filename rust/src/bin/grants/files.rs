@@ -82,9 +82,10 @@ pub struct Locked {
     held: Rc<File>,
 }
 
-/// Whether a path is that of a shelf: a folder.
+/// Whether a path is that of a shelf: a folder that has something of one.
 pub fn is_shelf(path: &Path) -> bool {
-    path.is_dir()
+    let has = |name: &str| already_there(&path.join(name));
+    path.is_dir() && (has(grants::SHELF_FILE) || has(grants::LIST_FILE))
 }
 
 /// The file that is replaced when something is published: the store, or the list of a shelf. Its lock keeps other writers away, and the book is beside it.

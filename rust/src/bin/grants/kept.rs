@@ -50,7 +50,7 @@ pub fn read_store(path: &Path) -> Result<Bytes, Fail> {
 pub fn no_shelves(path: &Path) -> Fail {
     let name = trimmed(path);
     Fail::Usage(format!(
-        "{name} is a folder, a shelf perhaps, and this command takes a store alone: the list ({name}/{}) or the file of one part is such a store",
+        "{name} is a shelf, and this command takes a store alone: the list ({name}/{}) or the file of one part is such a store",
         grants::LIST_FILE
     ))
 }
