@@ -18,7 +18,7 @@ grants.Refused: refused with 11: the proof is in form, but doesn't hold
 
 The root must come from who signs it, the proof may come from anybody. What a store, a batch or a proof is worth is always the library's word."""
 
-from .library import Refused, name, sha256, verify, verify_palette
+from .library import Refused, name, sha256, shelf_verify, verify, verify_palette
 from .refusals import REFUSALS
 from .statement import Seen, Statement, Verdict
 from .store import Applied, Change, Rescued, Store, batch, rescue
@@ -37,6 +37,7 @@ __all__ = [
     "name",
     "rescue",
     "sha256",
+    "shelf_verify",
     "verify",
     "verify_palette",
 ]

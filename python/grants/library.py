@@ -64,6 +64,7 @@ _CALLS = {
     "changes": (_u32, [_lent, _size, _u32, _u32, _u32, _lent, _size, _lent]),
     "rescue": (_u32, [_lent, _size, _u32, _u32, _lent, _size, _lent]),
     "verify": (_u32, [_lent, _size, _lent, _size, _lent, _size, _lent]),
+    "shelf_verify": (_u32, [_lent, _size, _u32, _lent, _size, _lent, _size, _lent]),
     "sha256": (_u32, [_lent, _size, _lent]),
 }
 for _name, (_result, _words) in _CALLS.items():
@@ -149,6 +150,14 @@ def verify(root: Bytes, key: Bytes, proof: Bytes) -> Optional[bytes]:
     proof is needed: none is accepted against it."""
     found = Room(33)
     call("verify", room_of(root), room_of(key), room_of(proof), (found,))
+    return found_in(found)
+
+
+def shelf_verify(root: Bytes, bits: int, key: Bytes, proof: Bytes) -> Optional[bytes]:
+    """The same of a key of a shelf, against its list's root: the proof is the list's record for the key's part, then the part's. The bits are signed with the root
+    (`Statement.bits`). Refused: 12, 21 (bits above 12), 10, 11."""
+    found = Room(33)
+    call("shelf_verify", room_of(root), number_of(bits), room_of(key), room_of(proof), (found,))
     return found_in(found)
 
 
