@@ -34,7 +34,7 @@ pub enum Error {
     VersionNotKept,
     /// 9: the proof, the proofs together, the list or the figures are longer than the room.
     ProofTooLong,
-    /// 10: the proof isn't one whole record in form, no byte over.
+    /// 10: the proof isn't one whole record in form (of a shelf one or two), no byte over.
     ProofForm,
     /// 11: the proof is in form, but doesn't hold.
     ProofFails,
@@ -52,7 +52,7 @@ pub enum Error {
     OutsidePocket,
     /// 20: the position isn't below the number of grants.
     NoSuchPosition,
-    /// 21: the bits of a shelf are above 12.
+    /// 21: a shelf has at most 12 bits.
     TooManyBits,
 }
 
@@ -93,7 +93,7 @@ const TABLE: [(u32, Error, &str); 18] = [
     (
         10,
         Error::ProofForm,
-        "the proof isn't one whole record in form, no byte over",
+        "the proof isn't one whole record in form (of a shelf one or two), no byte over",
     ),
     (
         11,
@@ -131,7 +131,7 @@ const TABLE: [(u32, Error, &str); 18] = [
         Error::NoSuchPosition,
         "the position isn't below the number of grants",
     ),
-    (21, Error::TooManyBits, "the bits of a shelf are above 12"),
+    (21, Error::TooManyBits, "a shelf has at most 12 bits"),
 ];
 
 impl Error {

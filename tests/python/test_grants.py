@@ -265,7 +265,7 @@ def at(*words):
 class Statements(unittest.TestCase):
     def test_read(self):
         read = Statement.read(TEXT)
-        self.assertEqual(read, (2, b"\xab" * 32, at(2026, 5, 10, 10), at(2026, 5, 10, 10, 30), at(2026, 6, 10, 23, 59, 59)))
+        self.assertEqual(read, (2, b"\xab" * 32, at(2026, 5, 10, 10), at(2026, 5, 10, 10, 30), at(2026, 6, 10, 23, 59, 59), None))
         self.assertEqual(Statement.read(TEXT.encode()), read)
 
     def test_days(self):

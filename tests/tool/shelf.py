@@ -133,7 +133,7 @@ def a_shelf_s_proofs():
     answered(0, "prove", "m", present, "--out", "p", "--force")
     assert b"\nbits 3\n" in read("root.txt") and answered(0, "verify", "root.txt", present, "p").startswith("present")
     refused(2, "a shelf of 3 bits", "verify", "root.txt", present, "p", "--bits", 4)
-    refused(31, "above 12", "verify", answered(0, "root", "m").strip(), present, "p", "--bits", 13)
+    refused(31, "at most 12 bits", "verify", answered(0, "root", "m").strip(), present, "p", "--bits", 13)
     refused(2, "no pocket profile", "prove", "m", present, "--pocket")
     # Without them the proof is none.
     refused(20, "is no proof", "verify", answered(0, "root", "m").strip(), present, "p")
