@@ -29,6 +29,16 @@ fn us(time: Duration, times: u64) -> String {
     format!("{:.1} us", time.as_secs_f64() * 1e6 / times as f64)
 }
 
+/// The least time of seven.
+fn best(work: impl Fn()) -> Duration {
+    let times = (0..7).map(|_| {
+        let start = Instant::now();
+        work();
+        start.elapsed()
+    });
+    times.min().unwrap_or_default()
+}
+
 /// The most memory that the process has had, in megabytes.
 fn memory() -> u64 {
     let status = std::fs::read_to_string("/proc/self/status").unwrap_or_default();
@@ -85,12 +95,11 @@ fn proofs(shelf: &Shelf, grants: u64) -> Result<(), ShelfError> {
         let rows = rows?;
         let row = start.elapsed();
         let pieces: Vec<&[u8]> = rows.iter().flat_map(|row| grants::shelf_pieces(row.as_bytes())).collect();
-        let start = Instant::now();
-        for (key, piece) in keys.iter().zip(&pieces) {
-            let found = shelf_verify(root, BITS, key, piece)?;
-            assert_eq!(found.is_some(), present);
-        }
-        let checked = start.elapsed();
+        let checked = best(|| {
+            for (key, piece) in keys.iter().zip(&pieces) {
+                assert_eq!(shelf_verify(root, BITS, key, piece).map(|found| found.is_some()), Ok(present));
+            }
+        });
         let (sum, most) = (pieces.iter().map(|p| p.len()).sum::<usize>(), pieces.iter().map(|p| p.len()).max());
         println!(
             "  {what}: proofs of {} bytes in the mean, {} at most; prove {}, in rows of 256 {}; verify {}",
@@ -166,12 +175,13 @@ fn store() -> Result<(), grants::Error> {
         let proofs: Result<Vec<_>, _> = keys.iter().map(|key| store.prove(number, key)).collect();
         let proofs = proofs?;
         let proved = start.elapsed();
-        let start = Instant::now();
-        for (key, proof) in keys.iter().zip(&proofs) {
-            verify(root, key, proof)?;
-        }
+        let checked = best(|| {
+            for (key, proof) in keys.iter().zip(&proofs) {
+                verify(root, key, proof).expect("a proof");
+            }
+        });
         let sum: usize = proofs.iter().map(|proof| proof.as_bytes().len()).sum();
-        println!("  {what}: proofs of {} bytes in the mean; prove {}; verify {}", sum / proofs.len(), us(proved, PROOFS), us(start.elapsed(), PROOFS));
+        println!("  {what}: proofs of {} bytes in the mean; prove {}; verify {}", sum / proofs.len(), us(proved, PROOFS), us(checked, PROOFS));
     }
     Ok(())
 }

@@ -37,7 +37,10 @@ impl Effect {
 fn ask(record: &[u8]) -> (Key, Option<Value>) {
     let word = |at: Range<usize>| <[u8; 32]>::try_from(&record[at]).expect("32 bytes");
     let inserts = u16_at(record, at::KIND) == INSERT_KIND;
-    (word(at::RECORD_KEY).into(), inserts.then(|| word(at::RECORD_VALUE).into()))
+    (
+        word(at::RECORD_KEY).into(),
+        inserts.then(|| word(at::RECORD_VALUE).into()),
+    )
 }
 
 /// What a run does to the grants of a store's version.
@@ -77,7 +80,9 @@ impl Shelf {
         let freed = list.prune(version)?;
         let older = |file: &&PartFile| file.oldest < version.min(file.latest);
         let files: Vec<PartFile> = self.files.values().filter(older).copied().collect();
-        let each = each(&files, self.progress, |file| self.part_pruned(file, version))?;
+        let each = each(&files, self.progress, |file| {
+            self.part_pruned(file, version)
+        })?;
         let freed = u64::from(freed) + each.into_iter().map(u64::from).sum::<u64>();
         Ok(Pruned { list, freed })
     }
@@ -85,9 +90,15 @@ impl Shelf {
     fn part_pruned(&self, file: &PartFile, version: u32) -> Result<u32, ShelfError> {
         let (part, latest) = (file.part, self.header.latest);
         let Some(mut at) = self.newest_to_change(part)? else {
-            return Err(ShelfError::LostPart { part, version: latest });
+            return Err(ShelfError::LostPart {
+                part,
+                version: latest,
+            });
         };
-        let freed = at.store.prune(version.min(at.version)).map_err(ShelfError::of(part))?;
+        let freed = at
+            .store
+            .prune(version.min(at.version))
+            .map_err(ShelfError::of(part))?;
         self.put_part(part, &at.store)?;
         Ok(freed)
     }

@@ -15,7 +15,11 @@ struct Named {
 
 impl Named {
     fn of(record: &Record, root: Root) -> Named {
-        Named { root, from: record.version, until: record.retired_since }
+        Named {
+            root,
+            from: record.version,
+            until: record.retired_since,
+        }
     }
 
     fn covers(&self, version: u32) -> bool {
@@ -38,7 +42,9 @@ impl Shelf {
             parts.entry(*part).or_default();
         }
         let parts: Vec<_> = parts.into_iter().collect();
-        each(&parts, self.progress, |(part, named)| self.check_part(*part, named))?;
+        each(&parts, self.progress, |(part, named)| {
+            self.check_part(*part, named)
+        })?;
         Ok(())
     }
 
@@ -52,11 +58,17 @@ impl Shelf {
 
     fn check_part(&self, part: u16, named: &[Named]) -> Result<(), ShelfError> {
         let Some(store) = self.part(part)? else {
-            let version = named.first().map_or(0, |named| named.from.max(self.header.oldest));
+            let version = named
+                .first()
+                .map_or(0, |named| named.from.max(self.header.oldest));
             return Err(ShelfError::LostPart { part, version });
         };
         let slots = store.slots().map_err(ShelfError::of(part))?;
-        let mut keys = slots.iter().flatten().filter_map(Record::grant).map(|(key, _)| key);
+        let mut keys = slots
+            .iter()
+            .flatten()
+            .filter_map(Record::grant)
+            .map(|(key, _)| key);
         if let Some(key) = keys.find(|key| self.bits.part_of(*key) != part) {
             return Err(ShelfError::Stray { part, key });
         }
@@ -69,14 +81,27 @@ impl Shelf {
     /// The kept versions in which the part, or what the list names for it, may become another.
     fn turns(&self, slots: &[Option<Record>], named: &[Named]) -> BTreeSet<u32> {
         let (oldest, latest) = (self.header.oldest, self.header.latest);
-        let roots = slots.iter().flatten().filter(|record| record.place == Place::EMPTY);
+        let roots = slots
+            .iter()
+            .flatten()
+            .filter(|record| record.place == Place::EMPTY);
         let own = roots.flat_map(|root| [Some(root.version), root.retired_since]);
-        let listed = named.iter().flat_map(|named| [Some(named.from), named.until]);
+        let listed = named
+            .iter()
+            .flat_map(|named| [Some(named.from), named.until]);
         let turns = own.chain(listed).flatten().chain([oldest, latest]);
-        turns.filter(|version| (oldest..=latest).contains(version)).collect()
+        turns
+            .filter(|version| (oldest..=latest).contains(version))
+            .collect()
     }
 
-    fn same_root(&self, part: u16, store: &Bytes, named: &[Named], version: u32) -> Result<(), ShelfError> {
+    fn same_root(
+        &self,
+        part: u16,
+        store: &Bytes,
+        named: &[Named],
+        version: u32,
+    ) -> Result<(), ShelfError> {
         let header = store.header().map_err(ShelfError::of(part))?;
         let at = version.min(header.latest);
         let wanted = named.iter().find(|named| named.covers(version));
@@ -97,7 +122,12 @@ impl Shelf {
         let header = store.header().map_err(&of)?;
         let grants = store.count(header.latest).map_err(&of)?;
         match self.files.get(&part) {
-            Some(file) if (file.latest, file.oldest, file.grants) == (header.latest, header.oldest, grants) => Ok(()),
+            Some(file)
+                if (file.latest, file.oldest, file.grants)
+                    == (header.latest, header.oldest, grants) =>
+            {
+                Ok(())
+            }
             _ => Err(ShelfError::OtherName { part }),
         }
     }

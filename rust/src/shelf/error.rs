@@ -46,7 +46,9 @@ impl ShelfError {
     pub fn refusal(&self) -> Option<Error> {
         match self {
             ShelfError::Refused { error, .. } => Some(*error),
-            ShelfError::File { .. } | ShelfError::NoShelf { .. } | ShelfError::OtherRoot { .. } => None,
+            ShelfError::File { .. } | ShelfError::NoShelf { .. } | ShelfError::OtherRoot { .. } => {
+                None
+            }
             ShelfError::Rounds { .. } => Some(Error::BatchForm),
             _ => Some(Error::Unsound),
         }

@@ -30,7 +30,12 @@ pub struct PartFile {
 
 impl fmt::Display for PartFile {
     fn fmt(&self, f: &mut fmt::Formatter<'_>) -> fmt::Result {
-        let PartFile { part, latest, oldest, grants } = self;
+        let PartFile {
+            part,
+            latest,
+            oldest,
+            grants,
+        } = self;
         write!(f, "part-{part:03x}-{latest}-{oldest}-{grants}")
     }
 }
@@ -55,7 +60,10 @@ impl PartFile {
 }
 
 pub(super) fn file(path: &Path) -> impl FnOnce(io::Error) -> ShelfError + '_ {
-    move |error| ShelfError::File { path: path.to_path_buf(), error }
+    move |error| ShelfError::File {
+        path: path.to_path_buf(),
+        error,
+    }
 }
 
 /// A store's bytes; of a longer file one more than a store may have.
@@ -67,19 +75,26 @@ pub(super) fn read(path: &Path) -> io::Result<Bytes> {
 }
 
 pub(super) fn synced(folder: &Path) -> Result<(), ShelfError> {
-    File::open(folder).and_then(|f| f.sync_all()).map_err(file(folder))
+    File::open(folder)
+        .and_then(|f| f.sync_all())
+        .map_err(file(folder))
 }
 
 fn put(path: &Path, bytes: &[u8]) -> Result<File, ShelfError> {
     let new = OpenOptions::new().write(true).create_new(true).open(path);
     let mut new = new.map_err(file(path))?;
-    new.write_all(bytes).and_then(|()| new.sync_all()).map_err(file(path))?;
+    new.write_all(bytes)
+        .and_then(|()| new.sync_all())
+        .map_err(file(path))?;
     Ok(new)
 }
 
 /// Bits and slots, by the lines that `create` writes.
 pub(super) fn settings(folder: &Path) -> Result<(Bits, u32), ShelfError> {
-    let no_shelf = |why| ShelfError::NoShelf { folder: folder.to_path_buf(), why };
+    let no_shelf = |why| ShelfError::NoShelf {
+        folder: folder.to_path_buf(),
+        why,
+    };
     let path = folder.join(SHELF_FILE);
     let text = match fs::read(&path) {
         Ok(bytes) => String::from_utf8(bytes).unwrap_or_default(),
@@ -89,12 +104,16 @@ pub(super) fn settings(folder: &Path) -> Result<(Bits, u32), ShelfError> {
         Err(e) => return Err(file(&path)(e)),
     };
     let number = |name: &str| {
-        let mut lines = text.lines().filter_map(|line| line.strip_prefix(name)?.strip_prefix(' '));
+        let mut lines = text
+            .lines()
+            .filter_map(|line| line.strip_prefix(name)?.strip_prefix(' '));
         lines.next().and_then(|digits| digits.parse::<u32>().ok())
     };
     match (number("bits").map(Bits::new), number("slots")) {
         (Some(Ok(bits)), Some(slots)) => Ok((bits, slots)),
-        _ => Err(no_shelf("its file 'shelf' has no bits from 0 to 12, or no slots")),
+        _ => Err(no_shelf(
+            "its file 'shelf' has no bits from 0 to 12, or no slots",
+        )),
     }
 }
 
@@ -193,7 +212,15 @@ impl Shelf {
             files.insert(name.part, name);
         }
         let (folder, progress) = (folder.to_path_buf(), (|_, _| {}) as fn(usize, usize));
-        Ok(Shelf { folder, bits, slots, list, header, files, progress })
+        Ok(Shelf {
+            folder,
+            bits,
+            slots,
+            list,
+            header,
+            files,
+            progress,
+        })
     }
 
     /// Removes what is of no use to this list: what a writer left that is no more, and parts that newer ones replaced. Only for who may write the shelf.
@@ -223,9 +250,14 @@ impl Shelf {
             Err(e) if e.kind() == io::ErrorKind::NotFound => {}
             Err(e) => return Err(file(&path)(e)),
         }
-        let newest = names(&self.folder)?.into_iter().rfind(|name| name.part == part);
+        let newest = names(&self.folder)?
+            .into_iter()
+            .rfind(|name| name.part == part);
         let Some(newest) = newest else {
-            return Err(ShelfError::LostPart { part, version: self.header.latest });
+            return Err(ShelfError::LostPart {
+                part,
+                version: self.header.latest,
+            });
         };
         let path = self.folder.join(newest.to_string());
         read(&path).map(Some).map_err(file(&path))
@@ -237,7 +269,12 @@ impl Shelf {
         let header = store.header().map_err(&of)?;
         let (latest, oldest) = (header.latest, header.oldest);
         let grants = store.count(latest).map_err(&of)?;
-        let name = PartFile { part, latest, oldest, grants };
+        let name = PartFile {
+            part,
+            latest,
+            oldest,
+            grants,
+        };
         put(&self.folder.join(name.to_string()), store.as_bytes())?;
         Ok(name)
     }
@@ -274,7 +311,10 @@ fn beside(folder: &Path) -> PathBuf {
     let above = folder.parent().filter(|p| !p.as_os_str().is_empty());
     let there = fs::read_dir(above.unwrap_or(Path::new(".")));
     for entry in there.into_iter().flatten().flatten() {
-        let process = entry.file_name().to_str().and_then(|name| name.strip_prefix(&begins)?.parse::<u32>().ok());
+        let process = entry
+            .file_name()
+            .to_str()
+            .and_then(|name| name.strip_prefix(&begins)?.parse::<u32>().ok());
         if process.is_some_and(|process| process == std::process::id() || is_no_more(process)) {
             let _ = fs::remove_dir_all(entry.path());
         }
@@ -309,7 +349,8 @@ impl Lock {
             let held = open.map_err(file(&path))?;
             held.lock().map_err(file(&path))?;
             let (ours, there) = (held.metadata(), fs::metadata(&path));
-            let same = |(a, b): (fs::Metadata, fs::Metadata)| (a.dev(), a.ino()) == (b.dev(), b.ino());
+            let same =
+                |(a, b): (fs::Metadata, fs::Metadata)| (a.dev(), a.ino()) == (b.dev(), b.ino());
             // Whoever waited may hold the lock of a list that was replaced meanwhile.
             if ours.ok().zip(there.ok()).is_some_and(same) {
                 return Ok(Lock { held });
@@ -354,10 +395,23 @@ mod tests {
 
     #[test]
     fn a_name_is_read_as_it_is_written() {
-        let file = PartFile { part: 0xa3, latest: u32::MAX, oldest: 2, grants: 3_906 };
+        let file = PartFile {
+            part: 0xa3,
+            latest: u32::MAX,
+            oldest: 2,
+            grants: 3_906,
+        };
         assert_eq!(file.to_string(), "part-0a3-4294967295-2-3906");
         assert_eq!(PartFile::of("part-0a3-4294967295-2-3906"), Some(file));
-        for wrong in ["part-a3-7-2-1", "part-0A3-7-2-1", "part-0a3-07-2-1", "part-0a3-7-2-1-1", "part-0a3-7-2", "part-0a3-+7-2-1", "list"] {
+        for wrong in [
+            "part-a3-7-2-1",
+            "part-0A3-7-2-1",
+            "part-0a3-07-2-1",
+            "part-0a3-7-2-1-1",
+            "part-0a3-7-2",
+            "part-0a3-+7-2-1",
+            "list",
+        ] {
             assert_eq!(PartFile::of(wrong), None, "{wrong}");
         }
     }

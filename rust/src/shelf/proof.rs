@@ -44,7 +44,9 @@ pub fn shelf_pieces(proofs: &[u8]) -> Vec<&[u8]> {
 
 /// The bytes of the first record, all of them where no length divides them.
 fn record(bytes: &[u8]) -> usize {
-    let said = bytes.first_chunk().map_or(0, |four| u32::from_le_bytes(*four) as usize);
+    let said = bytes
+        .first_chunk()
+        .map_or(0, |four| u32::from_le_bytes(*four) as usize);
     match (4..=bytes.len()).contains(&said) {
         true => said,
         false => bytes.len(),

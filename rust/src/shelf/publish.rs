@@ -40,15 +40,24 @@ impl Rounds {
         let mut parts = vec![];
         let mut first = 0;
         for block in runs.chunks(ROUND_PARTS) {
-            let most = block.iter().map(|run| run.len().div_ceil(BATCH_RECORDS)).max();
+            let most = block
+                .iter()
+                .map(|run| run.len().div_ceil(BATCH_RECORDS))
+                .max();
             for run in block {
                 let rounds = (first..).zip(run.chunks(BATCH_RECORDS));
-                parts.push((part(run[0]), rounds.map(|(round, run)| (round, run.concat())).collect()));
+                parts.push((
+                    part(run[0]),
+                    rounds.map(|(round, run)| (round, run.concat())).collect(),
+                ));
             }
             first += most.unwrap_or(0);
         }
         // No records are one publishing, as an empty batch is.
-        Ok(Rounds { rounds: first.max(1), parts })
+        Ok(Rounds {
+            rounds: first.max(1),
+            parts,
+        })
     }
 
     /// These one after the other.
@@ -62,7 +71,10 @@ impl Rounds {
             }
             rounds += one.rounds;
         }
-        Rounds { rounds, parts: parts.into_iter().collect() }
+        Rounds {
+            rounds,
+            parts: parts.into_iter().collect(),
+        }
     }
 
     /// How many publishings.
@@ -100,7 +112,9 @@ struct PartMade {
 }
 
 fn free(store: &Bytes) -> usize {
-    records::chunks(store.as_bytes()).filter(|slot| records::zero(slot)).count()
+    records::chunks(store.as_bytes())
+        .filter(|slot| records::zero(slot))
+        .count()
 }
 
 impl Shelf {
@@ -112,7 +126,9 @@ impl Shelf {
             return Err(Error::NotAboveLatest.into());
         }
         self.list.check()?;
-        let parts = each(&rounds.parts, self.progress, |(part, runs)| self.part_made(*part, runs, numbers, keep))?;
+        let parts = each(&rounds.parts, self.progress, |(part, runs)| {
+            self.part_made(*part, runs, numbers, keep)
+        })?;
         let mut list = Store::over(self.list.as_bytes().to_vec());
         let mut published = vec![];
         for (round, number) in numbers.iter().enumerate() {
@@ -126,22 +142,42 @@ impl Shelf {
             least = least.min(part.free);
             effect.add(part.effect);
         }
-        Ok(Made { list, published, effect, parts: changed, bytes, free: least })
+        Ok(Made {
+            list,
+            published,
+            effect,
+            parts: changed,
+            bytes,
+            free: least,
+        })
     }
 
     /// A part with its runs applied. Runs that change nothing are passed over, and so is a part that has no others.
-    fn part_made(&self, part: u16, runs: &Runs, numbers: &[u32], keep: bool) -> Result<PartMade, ShelfError> {
+    fn part_made(
+        &self,
+        part: u16,
+        runs: &Runs,
+        numbers: &[u32],
+        keep: bool,
+    ) -> Result<PartMade, ShelfError> {
         let of = ShelfError::of(part);
         let (mut store, mut version) = match self.newest_to_change(part)? {
             Some(at) => (at.store, at.version),
             None => (Store::with_capacity(self.slots).map_err(&of)?, 0),
         };
-        let mut made = PartMade { part, rounds: BTreeMap::new(), effect: Effect::default(), bytes: 0, free: usize::MAX };
+        let mut made = PartMade {
+            part,
+            rounds: BTreeMap::new(),
+            effect: Effect::default(),
+            bytes: 0,
+            free: usize::MAX,
+        };
         for (round, run) in runs {
             let effect = effect(&store, version, run).map_err(&of)?;
             if effect.changes() > 0 {
                 let applied = store.apply_bytes(numbers[*round], run).map_err(&of)?;
-                made.rounds.insert(*round, (applied.root, applied.new_records));
+                made.rounds
+                    .insert(*round, (applied.root, applied.new_records));
                 version = applied.version;
             }
             made.effect.add(effect);
@@ -157,11 +193,19 @@ impl Shelf {
     }
 
     /// The list with the roots of one round.
-    fn list_made(&self, list: &mut Bytes, parts: &[PartMade], round: usize, number: u32) -> Result<Applied, ShelfError> {
+    fn list_made(
+        &self,
+        list: &mut Bytes,
+        parts: &[PartMade],
+        round: usize,
+        number: u32,
+    ) -> Result<Applied, ShelfError> {
         let mut batch = Batch::new();
         let mut new_records = 0;
         for made in parts {
-            let Some((root, new)) = made.rounds.get(&round) else { continue };
+            let Some((root, new)) = made.rounds.get(&round) else {
+                continue;
+            };
             let key = self.bits.list_key(made.part);
             let asked = match *root == Root::EMPTY {
                 true => batch.delete(key),
@@ -180,7 +224,9 @@ impl Shelf {
     pub fn publish(&mut self, number: u32, batch: &Batch) -> Result<Applied, ShelfError> {
         let rounds = Rounds::of(self.bits, &batch.to_bytes())?;
         if rounds.len() > 1 {
-            return Err(ShelfError::Rounds { rounds: rounds.len() });
+            return Err(ShelfError::Rounds {
+                rounds: rounds.len(),
+            });
         }
         let mut lock = self.locked()?;
         let made = match self.make(&rounds, &[number], true) {

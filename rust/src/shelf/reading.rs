@@ -18,7 +18,10 @@ pub struct PartAt {
 
 /// The grants of records, those of a version.
 pub(super) fn grants(slots: &[Option<Record>], version: u32) -> BTreeMap<Key, Value> {
-    let standing = slots.iter().flatten().filter(|record| record.stands_in(version));
+    let standing = slots
+        .iter()
+        .flatten()
+        .filter(|record| record.stands_in(version));
     standing.filter_map(Record::grant).collect()
 }
 
@@ -35,7 +38,12 @@ impl Shelf {
     }
 
     /// A part's store, if in this version it has the root that is given, or none of it where it has no file and is empty.
-    pub(super) fn part_with(&self, part: u16, version: u32, root: Option<Root>) -> Result<Option<PartAt>, ShelfError> {
+    pub(super) fn part_with(
+        &self,
+        part: u16,
+        version: u32,
+        root: Option<Root>,
+    ) -> Result<Option<PartAt>, ShelfError> {
         let Some(store) = self.part(part)? else {
             return match root {
                 None => Ok(None),
@@ -51,7 +59,11 @@ impl Shelf {
             false => store.root(at).map_err(&of)?,
         };
         match own == root.unwrap_or(Root::EMPTY) {
-            true => Ok(Some(PartAt { part, store, version: at })),
+            true => Ok(Some(PartAt {
+                part,
+                store,
+                version: at,
+            })),
             false => Err(ShelfError::OtherPart { part, version }),
         }
     }
@@ -86,12 +98,17 @@ impl Shelf {
         version: u32,
         work: impl Fn(&PartAt) -> Result<T, Error> + Sync,
     ) -> Result<Vec<T>, ShelfError> {
-        each(&self.parts(version)?, self.progress, |(part, root)| {
-            match self.part_with(*part, version, Some(*root))? {
+        each(
+            &self.parts(version)?,
+            self.progress,
+            |(part, root)| match self.part_with(*part, version, Some(*root))? {
                 Some(at) => work(&at).map_err(ShelfError::of(*part)),
-                None => Err(ShelfError::LostPart { part: *part, version }),
-            }
-        })
+                None => Err(ShelfError::LostPart {
+                    part: *part,
+                    version,
+                }),
+            },
+        )
     }
 
     /// A part in the latest version, whether or not it holds a grant there; none where it has no file.
@@ -104,7 +121,10 @@ impl Shelf {
     pub(super) fn newest_to_change(&self, part: u16) -> Result<Option<PartAt>, ShelfError> {
         let (at, version) = (self.newest(part)?, self.header.latest);
         let latest = at.as_ref().map(|at| at.store.header()).transpose();
-        match latest.map_err(ShelfError::of(part))?.is_some_and(|header| header.latest > version) {
+        match latest
+            .map_err(ShelfError::of(part))?
+            .is_some_and(|header| header.latest > version)
+        {
             true => Err(ShelfError::OtherPart { part, version }),
             false => Ok(at),
         }
@@ -119,7 +139,10 @@ impl Shelf {
         let version = self.header.latest;
         each(&parts, self.progress, |part| match self.newest(*part)? {
             Some(at) => work(&at).map_err(ShelfError::of(*part)),
-            None => Err(ShelfError::LostPart { part: *part, version }),
+            None => Err(ShelfError::LostPart {
+                part: *part,
+                version,
+            }),
         })
     }
 
@@ -139,8 +162,12 @@ impl Shelf {
 
     /// The proof that a key is in a version, or that it isn't, for [`shelf_verify`](super::shelf_verify). Refused: 12, 8, 14 (the shelf holds no grant), 3 or 17.
     pub fn prove(&self, version: u32, key: impl AsRef<[u8]>) -> Result<Proof, ShelfError> {
-        let key: [u8; 32] = key.as_ref().try_into().map_err(|_| Error::NotThirtyTwoBytes)?;
-        self.palette(version, &[Key::from(key)]).map(|proofs| Proof::from_bytes(proofs.into_bytes()))
+        let key: [u8; 32] = key
+            .as_ref()
+            .try_into()
+            .map_err(|_| Error::NotThirtyTwoBytes)?;
+        self.palette(version, &[Key::from(key)])
+            .map(|proofs| Proof::from_bytes(proofs.into_bytes()))
     }
 
     /// The proofs for several keys of a version, in the order asked, each as [`Shelf::prove`] gives it; a part is read once. Refused: 12 (more than
@@ -167,12 +194,21 @@ impl Shelf {
 
     /// The proofs of keys of one part: the list's record, then the part's where the part is in the list.
     fn proofs(&self, version: u32, part: u16, keys: &[Key]) -> Result<Vec<Vec<u8>>, ShelfError> {
-        let first = self.list.prove(version, self.bits.list_key(part))?.into_bytes();
+        let first = self
+            .list
+            .prove(version, self.bits.list_key(part))?
+            .into_bytes();
         let Some(at) = self.part_at(version, part)? else {
             return Ok(vec![first; keys.len()]);
         };
-        let row = at.store.palette(at.version, keys).map_err(ShelfError::of(part))?;
-        Ok(row.proofs().map(|second| [&first, second].concat()).collect())
+        let row = at
+            .store
+            .palette(at.version, keys)
+            .map_err(ShelfError::of(part))?;
+        Ok(row
+            .proofs()
+            .map(|second| [&first, second].concat())
+            .collect())
     }
 
     /// How many grants a version has: those of its parts. Refused: 3, 8.
@@ -186,7 +222,10 @@ impl Shelf {
         let mut grants = vec![];
         let mut before = 0;
         for (part, root) in self.parts(version)? {
-            let Some(at) = self.part_with(part, version, Some(root))?.filter(|_| before < to) else {
+            let Some(at) = self
+                .part_with(part, version, Some(root))?
+                .filter(|_| before < to)
+            else {
                 break;
             };
             let of = ShelfError::of(part);
@@ -209,7 +248,9 @@ impl Shelf {
     /// The grants of a version, in key order. Each part is checked. Refused: 3, 8.
     pub fn grants(&self, version: u32) -> Result<Vec<(Key, Value)>, ShelfError> {
         let each = self.each_part(version, |at| {
-            Ok(grants(&at.store.slots()?, at.version).into_iter().collect::<Vec<_>>())
+            Ok(grants(&at.store.slots()?, at.version)
+                .into_iter()
+                .collect::<Vec<_>>())
         })?;
         Ok(each.into_iter().flatten().collect())
     }
@@ -225,14 +266,26 @@ impl Shelf {
         Ok(Changes::of(each.concat()))
     }
 
-    fn part_changes(&self, part: u16, first: u32, second: u32, limit: u32) -> Result<Vec<u8>, ShelfError> {
+    fn part_changes(
+        &self,
+        part: u16,
+        first: u32,
+        second: u32,
+        limit: u32,
+    ) -> Result<Vec<u8>, ShelfError> {
         let now = self.part_with(part, second, self.part_root(second, part)?)?;
         let Some(now) = now else {
-            return Err(ShelfError::LostPart { part, version: second });
+            return Err(ShelfError::LostPart {
+                part,
+                version: second,
+            });
         };
         let was = self.part_with(part, first, self.part_root(first, part)?)?;
         let was = was.map_or(0, |was| was.version);
-        let changes = now.store.changes(was, now.version, limit).map_err(ShelfError::of(part))?;
+        let changes = now
+            .store
+            .changes(was, now.version, limit)
+            .map_err(ShelfError::of(part))?;
         Ok(changes.as_bytes().to_vec())
     }
 
@@ -243,12 +296,21 @@ impl Shelf {
         let versions = own.each.len();
         let files: Vec<u16> = self.files.keys().copied().collect();
         let depths = self.depths()?;
-        let each = each(&files, self.progress, |part| self.part_figures(*part, first, last))?;
-        let mut sum = RangeFigures { first, each: vec![Figures::default(); versions], distinct: 0, records: 0 };
+        let each = each(&files, self.progress, |part| {
+            self.part_figures(*part, first, last)
+        })?;
+        let mut sum = RangeFigures {
+            first,
+            each: vec![Figures::default(); versions],
+            distinct: 0,
+            records: 0,
+        };
         for (part, figures) in files.iter().zip(each) {
             sum.distinct = sum.distinct.saturating_add(figures.distinct);
             for (i, version) in (first..=last).enumerate() {
-                let Some(one) = figures.of(version.min(figures.last())) else { continue };
+                let Some(one) = figures.of(version.min(figures.last())) else {
+                    continue;
+                };
                 let depth = depths.get(part).map_or(0, |lives| depth_at(lives, version));
                 add(&mut sum.each[i], one, depth);
                 sum.records = sum.records.saturating_add(one.records());
@@ -261,10 +323,15 @@ impl Shelf {
     fn part_figures(&self, part: u16, first: u32, last: u32) -> Result<RangeFigures, ShelfError> {
         let root = self.part_root(last, part)?;
         let Some(at) = self.part_with(part, last, root)? else {
-            return Err(ShelfError::LostPart { part, version: last });
+            return Err(ShelfError::LostPart {
+                part,
+                version: last,
+            });
         };
         let from = first.min(at.version);
-        at.store.figures(from, at.version).map_err(ShelfError::of(part))
+        at.store
+            .figures(from, at.version)
+            .map_err(ShelfError::of(part))
     }
 
     /// How many steps each part has in the list, by the versions from which and before which.
@@ -273,7 +340,11 @@ impl Shelf {
         for record in self.list.slots()?.iter().flatten() {
             if let Some((key, _)) = record.grant() {
                 let lives = depths.entry(self.bits.part_of(key)).or_default();
-                lives.push((record.version, record.retired_since, record.place.count() as u32));
+                lives.push((
+                    record.version,
+                    record.retired_since,
+                    record.place.count() as u32,
+                ));
             }
         }
         Ok(depths)
@@ -287,7 +358,9 @@ impl RangeFigures {
 }
 
 fn depth_at(lives: &[(u32, Option<u32>, u32)], version: u32) -> u32 {
-    let mut standing = lives.iter().filter(|(from, until, _)| *from <= version && until.is_none_or(|until| version < until));
+    let mut standing = lives
+        .iter()
+        .filter(|(from, until, _)| *from <= version && until.is_none_or(|until| version < until));
     standing.next().map_or(0, |(_, _, depth)| *depth)
 }
 
@@ -297,5 +370,8 @@ fn add(sum: &mut Figures, one: Figures, depth: u32) {
     if one.leaves > 0 {
         sum.longest_path = sum.longest_path.max(one.longest_path + depth);
     }
-    sum.path_sum = sum.path_sum.saturating_add(one.path_sum).saturating_add(one.leaves.saturating_mul(depth));
+    sum.path_sum = sum
+        .path_sum
+        .saturating_add(one.path_sum)
+        .saturating_add(one.leaves.saturating_mul(depth));
 }

@@ -10,7 +10,11 @@ pub fn each<I: Sync, T: Send, E: Send>(
     work: impl Fn(&I) -> Result<T, E> + Sync,
 ) -> Result<Vec<T>, E> {
     let cores = thread::available_parallelism().map_or(1, usize::from);
-    let (next, done, stop) = (AtomicUsize::new(0), AtomicUsize::new(0), AtomicBool::new(false));
+    let (next, done, stop) = (
+        AtomicUsize::new(0),
+        AtomicUsize::new(0),
+        AtomicBool::new(false),
+    );
     let worker = || {
         let mut mine = vec![];
         while !stop.load(Ordering::Relaxed) {
@@ -24,10 +28,16 @@ pub fn each<I: Sync, T: Send, E: Send>(
         mine
     };
     let mut came = thread::scope(|scope| {
-        let others: Vec<_> = (1..cores.min(items.len())).map(|_| scope.spawn(worker)).collect();
+        let others: Vec<_> = (1..cores.min(items.len()))
+            .map(|_| scope.spawn(worker))
+            .collect();
         let mut came = worker();
         for other in others {
-            came.extend(other.join().unwrap_or_else(|panic| std::panic::resume_unwind(panic)));
+            came.extend(
+                other
+                    .join()
+                    .unwrap_or_else(|panic| std::panic::resume_unwind(panic)),
+            );
         }
         came
     });
@@ -44,8 +54,15 @@ mod tests {
         let items: Vec<usize> = (0..100).collect();
         let twice = each(&items, |_, _| {}, |n| Ok::<usize, ()>(n * 2));
         assert_eq!(twice, Ok(items.iter().map(|n| n * 2).collect()));
-        let wrong = each(&items, |_, _| {}, |n| if *n == 40 { Err(*n) } else { Ok(*n) });
+        let wrong = each(
+            &items,
+            |_, _| {},
+            |n| if *n == 40 { Err(*n) } else { Ok(*n) },
+        );
         assert_eq!(wrong, Err(40));
-        assert_eq!(each(&[], |_, _| {}, |n: &usize| Ok::<usize, ()>(*n)), Ok(vec![]));
+        assert_eq!(
+            each(&[], |_, _| {}, |n: &usize| Ok::<usize, ()>(*n)),
+            Ok(vec![])
+        );
     }
 }

@@ -167,7 +167,10 @@ impl Kept {
         };
         let mut turns = BTreeSet::from([oldest]);
         for (version, keys) in held::touched(&slots) {
-            if version > oldest && version <= latest && keys.iter().any(|k| k.as_bytes()[..] == key[..]) {
+            if version > oldest
+                && version <= latest
+                && keys.iter().any(|k| k.as_bytes()[..] == key[..])
+            {
                 turns.insert(version);
             }
         }
@@ -210,7 +213,10 @@ fn part_slots(shelf: &Shelf, key: &[u8]) -> Result<Vec<Option<Record>>, ShelfErr
     let key: [u8; 32] = key.try_into().map_err(|_| Error::NotThirtyTwoBytes)?;
     let part = shelf.bits().part_of(Key::from(key));
     match shelf.newest(part)? {
-        Some(at) => at.store.slots().map_err(|error| ShelfError::Refused { error, part: Some(part) }),
+        Some(at) => at.store.slots().map_err(|error| ShelfError::Refused {
+            error,
+            part: Some(part),
+        }),
         None => Ok(vec![]),
     }
 }
@@ -272,7 +278,9 @@ pub fn shelf_refused(shelf: Option<&Shelf>, path: &Path, error: ShelfError) -> F
     };
     let refusal = refusal.unwrap_or(Error::Unsound);
     if refusal == Error::Unsound && shelf.is_some_and(|shelf| replaced(shelf, path)) {
-        return Fail::File(format!("{name} was written while it was read: run the command again"));
+        return Fail::File(format!(
+            "{name} was written while it was read: run the command again"
+        ));
     }
     let what = match part {
         Some(part) => format!("part {part:03x} of {name}"),

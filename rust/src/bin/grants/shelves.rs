@@ -47,16 +47,27 @@ impl Wanted {
 
     fn made(&self) -> Result<Shelf, Fail> {
         let folder = &self.folder;
-        self.judged(Shelf::create(folder, self.bits, self.slots, self.list_slots))
+        self.judged(Shelf::create(
+            folder,
+            self.bits,
+            self.slots,
+            self.list_slots,
+        ))
     }
 
     fn judged(&self, made: Result<Shelf, ShelfError>) -> Result<Shelf, Fail> {
         made.map_err(|e| match e.refusal() {
             Some(error @ Error::Size) => Fail::Refused(
                 error,
-                format!("{} and {} slots were asked for: a store has 1 to 16,384.", self.slots, self.list_slots),
+                format!(
+                    "{} and {} slots were asked for: a store has 1 to 16,384.",
+                    self.slots, self.list_slots
+                ),
             ),
-            Some(error) => Fail::Refused(error, format!("{} were asked for.", counted(self.bits as usize, "bit"))),
+            Some(error) => Fail::Refused(
+                error,
+                format!("{} were asked for.", counted(self.bits as usize, "bit")),
+            ),
             None => shelf_refused(None, &self.folder, e),
         })
     }
@@ -72,7 +83,12 @@ pub fn format(args: &Args, path: &Path, out: &mut Out) -> Result<u8, Fail> {
     let wanted = Wanted::of(args, path)?;
     let shelf = wanted.made()?;
     out.changed = true;
-    let Wanted { bits, slots, list_slots, .. } = wanted;
+    let Wanted {
+        bits,
+        slots,
+        list_slots,
+        ..
+    } = wanted;
     let parts = shelf.bits().parts();
     out.answer(
         0,
@@ -101,7 +117,12 @@ pub fn pruned(path: &Path, version: u32, locked: &mut Locked) -> Result<(Bytes, 
     done
 }
 
-fn in_place(shelf: &Shelf, path: &Path, version: u32, locked: &mut Locked) -> Result<(Bytes, u64), Fail> {
+fn in_place(
+    shelf: &Shelf,
+    path: &Path,
+    version: u32,
+    locked: &mut Locked,
+) -> Result<(Bytes, u64), Fail> {
     let refused = |e: ShelfError| shelf_refused(Some(shelf), path, e);
     shelf.clean().map_err(refused)?;
     let pruned = shelf.pruned(version).map_err(refused)?;
@@ -122,7 +143,12 @@ fn filled(part: Option<u16>, store: &Bytes, latest: u32) -> Result<Filled, Error
     let slots = store.slots_found()?;
     let free = slots.iter().filter(|slot| **slot == Slot::Free).count();
     let grants = store.count(latest)?;
-    Ok(Filled { part, used: slots.len() - free, free, grants })
+    Ok(Filled {
+        part,
+        used: slots.len() - free,
+        free,
+        grants,
+    })
 }
 
 pub fn stat(path: &Path, out: &mut Out) -> Result<u8, Fail> {
@@ -131,7 +157,9 @@ pub fn stat(path: &Path, out: &mut Out) -> Result<u8, Fail> {
     let refused = |e: ShelfError| shelf_refused(Some(&shelf), path, e);
     let list = filled(None, shelf.list(), header.latest).map_err(|e| refused(e.into()))?;
     let parts = shelf
-        .each_file(|at: &PartAt| filled(Some(at.part), &at.store, at.version).map(|f| (f, at.store.as_bytes().len())))
+        .each_file(|at: &PartAt| {
+            filled(Some(at.part), &at.store, at.version).map(|f| (f, at.store.as_bytes().len()))
+        })
         .map_err(refused)?;
     let bytes = shelf.list().as_bytes().len() + parts.iter().map(|(_, bytes)| bytes).sum::<usize>();
     let parts: Vec<Filled> = parts.into_iter().map(|(filled, _)| filled).collect();
@@ -148,7 +176,10 @@ pub fn stat(path: &Path, out: &mut Out) -> Result<u8, Fail> {
             ("slots", shelf.slots().into()),
             ("parts", parts.len().into()),
             ("used", used.into()),
-            ("fullest", fullest.and_then(|part| part.part).map(u32::from).into()),
+            (
+                "fullest",
+                fullest.and_then(|part| part.part).map(u32::from).into(),
+            ),
             ("free", fullest.map(|part| part.free).into()),
             ("list_used", list.used.into()),
             ("list_free", list.free.into()),
@@ -162,7 +193,11 @@ pub fn stat(path: &Path, out: &mut Out) -> Result<u8, Fail> {
         return out.answer(0, object(fields), "");
     }
     let fullest = fullest.map_or("-".to_string(), |part| {
-        format!("{} in the fullest part, {:03x}", part.free, part.part.unwrap_or(0))
+        format!(
+            "{} in the fullest part, {:03x}",
+            part.free,
+            part.part.unwrap_or(0)
+        )
     });
     let gaps = publishings.filter(|publishings| *publishings as u64 != kept);
     let among = gaps.map_or(String::new(), |n| format!(", {}", counted(n, "publishing")));
@@ -204,7 +239,12 @@ impl Past {
             Kept::Shelf(shelf) => shelf_lives(shelf).map_err(&refused)?,
         };
         let spans = held::spans(header, &slots, []);
-        Ok(Past { oldest: header.oldest, latest: header.latest, spans, lives })
+        Ok(Past {
+            oldest: header.oldest,
+            latest: header.latest,
+            spans,
+            lives,
+        })
     }
 
     /// What each number publishes: the oldest version in as many numbers before it as it takes, then what changed.
@@ -220,11 +260,15 @@ impl Past {
             }
         }
         for life in self.lives.iter().filter(|life| life.since > 0) {
-            batches.entry(life.since).or_default().put(life.key, life.value);
+            batches
+                .entry(life.since)
+                .or_default()
+                .put(life.key, life.value);
         }
         let (mut all, mut numbers) = (vec![], vec![]);
         for (version, batch) in batches {
-            let rounds = Rounds::of(bits, &batch.to_bytes()).map_err(|e| Fail::Refused(e, String::new()))?;
+            let rounds =
+                Rounds::of(bits, &batch.to_bytes()).map_err(|e| Fail::Refused(e, String::new()))?;
             let before = rounds.len() as u32 - 1;
             if before > 0 && (version != self.oldest || before >= version) {
                 return Err(Fail::Refused(
@@ -255,7 +299,11 @@ pub fn shelf(args: &Args, out: &mut Out) -> Result<u8, Fail> {
     let mut shelf = wanted.judged(begun)?;
     let done = fill(&wanted, &mut shelf, &past)
         .and_then(|()| booked(args, &source, &past, &shelf))
-        .and_then(|()| shelf.rename(&wanted.folder).map_err(|e| shelf_refused(None, &wanted.folder, e)));
+        .and_then(|()| {
+            shelf
+                .rename(&wanted.folder)
+                .map_err(|e| shelf_refused(None, &wanted.folder, e))
+        });
     if let Err(fail) = done {
         shelf.give_up();
         return Err(fail);
@@ -265,7 +313,9 @@ pub fn shelf(args: &Args, out: &mut Out) -> Result<u8, Fail> {
 }
 
 fn told(wanted: &Wanted, past: &Past, shelf: &Shelf, out: &mut Out) -> Result<u8, Fail> {
-    let root = shelf.root(past.latest).map_err(|e| shelf_refused(Some(shelf), &wanted.folder, e))?;
+    let root = shelf
+        .root(past.latest)
+        .map_err(|e| shelf_refused(Some(shelf), &wanted.folder, e))?;
     let parts = shelf.files().count();
     let grants: u64 = shelf.files().map(|file| file.grants).sum();
     out.answer(
@@ -295,13 +345,15 @@ fn told(wanted: &Wanted, past: &Past, shelf: &Shelf, out: &mut Out) -> Result<u8
 fn fill(wanted: &Wanted, shelf: &mut Shelf, past: &Past) -> Result<(), Fail> {
     shelf.tell(crate::progress::parts);
     let name = trimmed(&wanted.folder);
-    let refused = |e: ShelfError| match e.refusal() {
+    let refused = |e: ShelfError| {
+        match e.refusal() {
         Some(error @ Error::NoRoom) => Fail::Refused(
             error,
             format!("Such a shelf doesn't hold it: take more bits, or more slots (--slots, --list-slots). {name} was not made."),
         ),
         Some(error) => Fail::Refused(error, format!("{e}. {name} was not made.")),
         None => shelf_refused(None, &wanted.folder, e),
+    }
     };
     let (rounds, numbers) = past.publishings(shelf.bits())?;
     if !numbers.is_empty() {
@@ -328,10 +380,16 @@ fn booked(args: &Args, source: &Kept, past: &Past, shelf: &Shelf) -> Result<(), 
     }
     for span in &past.spans {
         let version = span.published.unwrap_or(span.first);
-        let roots = source.root(span.first).ok().zip(shelf.root(span.first).ok());
+        let roots = source
+            .root(span.first)
+            .ok()
+            .zip(shelf.root(span.first).ok());
         let Some((was, root)) = roots else { continue };
         if let Said::This(entry) = old.said(version, was) {
-            book.add_version(Entry { root, ..entry.clone() });
+            book.add_version(Entry {
+                root,
+                ..entry.clone()
+            });
         }
     }
     match old.is_there() {
@@ -341,14 +399,25 @@ fn booked(args: &Args, source: &Kept, past: &Past, shelf: &Shelf) -> Result<(), 
 }
 
 /// The good versions of a damaged shelf, in another folder. Without --latest the list's root records are listed, as those of a store are.
-pub fn rescue(args: &Args, latest: u32, oldest: u32, signed: Option<Root>, out: &mut Out) -> Result<u8, Fail> {
+pub fn rescue(
+    args: &Args,
+    latest: u32,
+    oldest: u32,
+    signed: Option<Root>,
+    out: &mut Out,
+) -> Result<u8, Fail> {
     let path = args.path(0);
     let Some(to) = args.word(1).map(Path::new) else {
-        return Err(Fail::Usage("OUT is missing: the folder to make what is rescued in".to_string()));
+        return Err(Fail::Usage(
+            "OUT is missing: the folder to make what is rescued in".to_string(),
+        ));
     };
     let to: PathBuf = to.components().collect();
     if already_there(&to) {
-        return Err(Fail::File(format!("{} is there already and was left alone", trimmed(&to))));
+        return Err(Fail::File(format!(
+            "{} is there already and was left alone",
+            trimmed(&to)
+        )));
     }
     let came = Shelf::rescue(path, oldest, latest, &to, signed).map_err(|e| match e.refusal() {
         Some(error @ Error::Header) => Fail::Refused(error, format!("--oldest {oldest} is above --latest {latest}.")),
