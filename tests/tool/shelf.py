@@ -104,6 +104,13 @@ def a_shelf_answers_as_a_store():
     assert told("list", "m", 8)["grants"] == told("list", "s", 8)["grants"]
     answered(0, "check", "m")
     assert told("stat", "m")["grants"] == told("stat", "s")["grants"]
+    # Nothing is written among its files but by a writer.
+    refused(2, "among the files of a shelf", "prove", "m", key(3), "--out", "m/list", "--force")
+    refused(2, "among the files of a shelf", "root", "m", "--out", "m/root.txt")
+    # A lost line of the book.
+    os.remove("m/list.book")
+    answered(0, "note", "m", 13, "--date", "2026-05-06", "--message", "again")
+    assert told("log", "m")[-1]["message"] == "again"
     for line in ("name", "chords"), ("name", "lyrics", "ab" * 32):
         answered(0, line[0], "m", *line[1:])
     assert "chords" in answered(0, "name", "m") and os.path.exists("m/list.book")

@@ -68,10 +68,42 @@ pub(super) fn file(path: &Path) -> impl FnOnce(io::Error) -> ShelfError + '_ {
 
 /// A store's bytes; of a longer file one more than a store may have.
 pub(super) fn read(path: &Path) -> io::Result<Bytes> {
+    contents(&File::open(path)?)
+}
+
+fn contents(open: &File) -> io::Result<Bytes> {
     let mut bytes = vec![];
     let most = store_bytes(MOST_SLOTS) as u64 + 1;
-    File::open(path)?.take(most).read_to_end(&mut bytes)?;
+    open.take(most).read_to_end(&mut bytes)?;
     Ok(Store::over(bytes))
+}
+
+/// The list, and the names that were there while it was the list.
+fn at_one_moment(folder: &Path) -> Result<(Bytes, Vec<PartFile>), ShelfError> {
+    let path = folder.join(LIST_FILE);
+    loop {
+        let open = match File::open(&path) {
+            Ok(open) => open,
+            Err(e) if e.kind() == io::ErrorKind::NotFound => {
+                let (folder, why) = (folder.to_path_buf(), "it has no file 'list'");
+                return Err(ShelfError::NoShelf { folder, why });
+            }
+            Err(e) => return Err(file(&path)(e)),
+        };
+        let list = contents(&open).map_err(file(&path))?;
+        let names = names(folder)?;
+        if is_at(&open, &path) {
+            return Ok((list, names));
+        }
+    }
+}
+
+/// Whether an open file is still the one under a name.
+fn is_at(open: &File, path: &Path) -> bool {
+    match (open.metadata(), fs::metadata(path)) {
+        (Ok(ours), Ok(there)) => (ours.dev(), ours.ino()) == (there.dev(), there.ino()),
+        _ => false,
+    }
 }
 
 pub(super) fn synced(folder: &Path) -> Result<(), ShelfError> {
@@ -195,20 +227,12 @@ impl Shelf {
     /// The shelf of a folder, as it is now. The list and its header are read, and the names of the parts' files. Refused: 1, 2 (the list).
     pub fn open(folder: &Path) -> Result<Shelf, ShelfError> {
         let (bits, slots) = settings(folder)?;
-        let path = folder.join(LIST_FILE);
-        let list = match read(&path) {
-            Ok(list) => list,
-            Err(e) if e.kind() == io::ErrorKind::NotFound => {
-                let (folder, why) = (folder.to_path_buf(), "it has no file 'list'");
-                return Err(ShelfError::NoShelf { folder, why });
-            }
-            Err(e) => return Err(file(&path)(e)),
-        };
+        let (list, names) = at_one_moment(folder)?;
         let header = list.header()?;
         let mut files = BTreeMap::new();
         let ours = |name: &PartFile| u32::from(name.part) < bits.parts() && name.within(header);
         // The newest of each part comes last.
-        for name in names(folder)?.into_iter().filter(ours) {
+        for name in names.into_iter().filter(ours) {
             files.insert(name.part, name);
         }
         let (folder, progress) = (folder.to_path_buf(), (|_, _| {}) as fn(usize, usize));
@@ -348,11 +372,8 @@ impl Lock {
             let open = OpenOptions::new().read(true).write(true).open(&path);
             let held = open.map_err(file(&path))?;
             held.lock().map_err(file(&path))?;
-            let (ours, there) = (held.metadata(), fs::metadata(&path));
-            let same =
-                |(a, b): (fs::Metadata, fs::Metadata)| (a.dev(), a.ino()) == (b.dev(), b.ino());
             // Whoever waited may hold the lock of a list that was replaced meanwhile.
-            if ours.ok().zip(there.ok()).is_some_and(same) {
+            if is_at(&held, &path) {
                 return Ok(Lock { held });
             }
         }

@@ -501,6 +501,14 @@ pub fn write(args: &Args, path: &Path, bytes: &[u8], inputs: &[&Path]) -> Result
     if path.as_os_str().as_bytes().ends_with(b"/") {
         resolved(path)?;
     }
+    let folder = |p: &Path| fs::canonicalize(p.parent().filter(|p| !p.as_os_str().is_empty()).unwrap_or(Path::new("."))).ok();
+    let mut shelves = inputs.iter().filter(|input| is_shelf(input));
+    if shelves.any(|shelf| fs::canonicalize(shelf).ok() == folder(path)) {
+        return Err(Fail::Usage(format!(
+            "{} would be among the files of a shelf: name another file to write",
+            shown(path)
+        )));
+    }
     let place = |p: &Path| fs::metadata(p).ok().map(|m| (m.dev(), m.ino()));
     if let Some(there) = place(path) {
         let books = inputs
