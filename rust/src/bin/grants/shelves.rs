@@ -10,7 +10,9 @@ use crate::json::{object, Json};
 use crate::kept::{read_shelf, shelf_refused, trimmed};
 use crate::out::Out;
 use crate::plain::counted;
-use grants::{Batch, Bits, Error, PartAt, Root, Rounds, Shelf, ShelfError, Slot, MOST_SLOTS};
+use grants::{
+    Batch, Bits, Error, Header, PartAt, Root, Rounds, Shelf, ShelfError, Slot, MOST_SLOTS,
+};
 use std::collections::BTreeMap;
 use std::fs;
 use std::path::{Path, PathBuf};
@@ -133,91 +135,122 @@ fn in_place(
 
 /// How full a store of the shelf is.
 struct Filled {
-    part: Option<u16>,
+    part: u16,
     used: usize,
     free: usize,
     grants: u64,
+    bytes: usize,
 }
 
-fn filled(part: Option<u16>, store: &Bytes, latest: u32) -> Result<Filled, Error> {
+fn filled(part: u16, store: &Bytes, latest: u32) -> Result<Filled, Error> {
     let slots = store.slots_found()?;
     let free = slots.iter().filter(|slot| **slot == Slot::Free).count();
-    let grants = store.count(latest)?;
     Ok(Filled {
         part,
         used: slots.len() - free,
         free,
-        grants,
+        grants: store.count(latest)?,
+        bytes: store.as_bytes().len(),
     })
+}
+
+/// How full a shelf is.
+struct Fullness {
+    list: Filled,
+    parts: Vec<Filled>,
+    header: Header,
+    kept: u64,
+    publishings: Option<usize>,
+}
+
+impl Fullness {
+    fn of(shelf: &Shelf) -> Result<Fullness, ShelfError> {
+        let header = shelf.header();
+        let slots = shelf.list().slots().ok();
+        Ok(Fullness {
+            list: filled(0, shelf.list(), header.latest)?,
+            parts: shelf.each_file(|at: &PartAt| filled(at.part, &at.store, at.version))?,
+            header,
+            kept: u64::from(header.latest - header.oldest) + 1,
+            publishings: slots.map(|slots| held::spans(header, &slots, []).len()),
+        })
+    }
+
+    fn fullest(&self) -> Option<&Filled> {
+        self.parts.iter().min_by_key(|part| part.free)
+    }
+
+    fn used(&self) -> usize {
+        self.parts.iter().map(|part| part.used).sum()
+    }
+
+    fn grants(&self) -> u64 {
+        self.parts.iter().map(|part| part.grants).sum()
+    }
+
+    fn bytes(&self) -> usize {
+        self.list.bytes + self.parts.iter().map(|part| part.bytes).sum::<usize>()
+    }
+
+    fn json(&self, shelf: &Shelf) -> Json {
+        let fullest = self.fullest();
+        object(vec![
+            ("form", "shelf".into()),
+            ("bits", shelf.bits().get().into()),
+            ("slots", shelf.slots().into()),
+            ("parts", self.parts.len().into()),
+            ("used", self.used().into()),
+            ("fullest", fullest.map(|part| u32::from(part.part)).into()),
+            ("free", fullest.map(|part| part.free).into()),
+            ("list_used", self.list.used.into()),
+            ("list_free", self.list.free.into()),
+            ("oldest", self.header.oldest.into()),
+            ("latest", self.header.latest.into()),
+            ("kept", Json::Number(self.kept)),
+            ("publishings", self.publishings.into()),
+            ("grants", Json::Number(self.grants())),
+            ("bytes", self.bytes().into()),
+        ])
+    }
+
+    fn lines(&self, shelf: &Shelf) -> String {
+        let Header { oldest, latest, .. } = self.header;
+        let fullest = self.fullest().map_or("-".to_string(), |part| {
+            format!("{} in the fullest part, {:03x}", part.free, part.part)
+        });
+        let gaps = self.publishings.filter(|n| *n as u64 != self.kept);
+        let among = gaps.map_or(String::new(), |n| format!(", {}", counted(n, "publishing")));
+        [
+            format!(
+                "form      a shelf of {}",
+                counted(shelf.bits().get() as usize, "bit")
+            ),
+            format!(
+                "parts     {} of {}, a new one with {}",
+                self.parts.len(),
+                shelf.bits().parts(),
+                counted(shelf.slots() as usize, "slot")
+            ),
+            format!("used      {}, {} in the list", self.used(), self.list.used),
+            format!("free      {fullest}; {} in the list", self.list.free),
+            format!(
+                "kept      {oldest} to {latest}, {}{among}",
+                counted(self.kept, "version")
+            ),
+            format!("grants    {} in version {latest}", self.grants()),
+            format!("bytes     {}", self.bytes()),
+        ]
+        .join("\n")
+    }
 }
 
 pub fn stat(path: &Path, out: &mut Out) -> Result<u8, Fail> {
     let shelf = read_shelf(path)?;
-    let header = shelf.header();
-    let refused = |e: ShelfError| shelf_refused(Some(&shelf), path, e);
-    let list = filled(None, shelf.list(), header.latest).map_err(|e| refused(e.into()))?;
-    let parts = shelf
-        .each_file(|at: &PartAt| {
-            filled(Some(at.part), &at.store, at.version).map(|f| (f, at.store.as_bytes().len()))
-        })
-        .map_err(refused)?;
-    let bytes = shelf.list().as_bytes().len() + parts.iter().map(|(_, bytes)| bytes).sum::<usize>();
-    let parts: Vec<Filled> = parts.into_iter().map(|(filled, _)| filled).collect();
-    let grants: u64 = parts.iter().map(|part| part.grants).sum();
-    let used: usize = parts.iter().map(|part| part.used).sum();
-    let fullest = parts.iter().min_by_key(|part| part.free);
-    let kept = u64::from(header.latest - header.oldest) + 1;
-    let slots = shelf.list().slots().ok();
-    let publishings = slots.map(|slots| held::spans(header, &slots, []).len());
-    if out.json {
-        let fields = vec![
-            ("form", "shelf".into()),
-            ("bits", shelf.bits().get().into()),
-            ("slots", shelf.slots().into()),
-            ("parts", parts.len().into()),
-            ("used", used.into()),
-            (
-                "fullest",
-                fullest.and_then(|part| part.part).map(u32::from).into(),
-            ),
-            ("free", fullest.map(|part| part.free).into()),
-            ("list_used", list.used.into()),
-            ("list_free", list.free.into()),
-            ("oldest", header.oldest.into()),
-            ("latest", header.latest.into()),
-            ("kept", Json::Number(kept)),
-            ("publishings", publishings.into()),
-            ("grants", Json::Number(grants)),
-            ("bytes", bytes.into()),
-        ];
-        return out.answer(0, object(fields), "");
+    let full = Fullness::of(&shelf).map_err(|e| shelf_refused(Some(&shelf), path, e))?;
+    match out.json {
+        true => out.answer(0, full.json(&shelf), ""),
+        false => out.answer(0, Json::Null, full.lines(&shelf)),
     }
-    let fullest = fullest.map_or("-".to_string(), |part| {
-        format!(
-            "{} in the fullest part, {:03x}",
-            part.free,
-            part.part.unwrap_or(0)
-        )
-    });
-    let gaps = publishings.filter(|publishings| *publishings as u64 != kept);
-    let among = gaps.map_or(String::new(), |n| format!(", {}", counted(n, "publishing")));
-    out.answer(
-        0,
-        Json::Null,
-        format_args!(
-            "form      a shelf of {}\nparts     {} of {}, a new one with {}\nused      {used}, {} in the list\nfree      {fullest}; {} in the list\nkept      {} to {}, {}{among}\ngrants    {grants} in version {}\nbytes     {bytes}",
-            counted(shelf.bits().get() as usize, "bit"),
-            parts.len(),
-            shelf.bits().parts(),
-            counted(shelf.slots() as usize, "slot"),
-            list.used,
-            list.free,
-            header.oldest,
-            header.latest,
-            counted(kept as usize, "version"),
-            header.latest
-        ),
-    )
 }
 
 /// What a store or a shelf held in its kept versions: each publishing's number, and how long each grant stood.
