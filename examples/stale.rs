@@ -41,6 +41,7 @@ fn publish(
     let statement = Statement {
         version,
         root: store.apply(version, &batch)?.root,
+        bits: None,
         published: None,
         made: seconds(made),
         not_after: not_after.map(seconds),

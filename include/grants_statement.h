@@ -11,10 +11,15 @@
 /* Where a statement has no such date. */
 #define GRANTS_NO_DATE INT64_MIN
 
-/* A root with its version and dates, as it is signed (docs/SIGNING.md). Dates are seconds since 1970. */
+/* Where a statement is that of a store and not of a shelf. */
+#define GRANTS_NO_BITS (-1)
+
+/* A root with its version and dates, as it is signed (docs/SIGNING.md). Dates are seconds since 1970. Of a shelf, bits is how many bits of a key name its part, 0 to
+   12, for grants_shelf_verify. */
 struct grants_statement {
     uint32_t version;
     uint8_t root[32];
+    int bits;
     int64_t published, made, not_after;
 };
 
@@ -73,6 +78,13 @@ static inline int grants_statement_read(const void *bytes, size_t length, struct
         statement->root[i / 2] = (uint8_t)(i % 2 ? statement->root[i / 2] << 4 | digit : digit);
     }
     if (!grants_statement_has(&at, end, "\n")) return 0;
+    statement->bits = GRANTS_NO_BITS;
+    if (grants_statement_has(&at, end, "bits ")) {
+        if (at == end || *at < '0' || *at > '9') return 0;
+        statement->bits = *at++ - '0';
+        if (statement->bits == 1 && at != end && *at >= '0' && *at <= '2') statement->bits = 10 + (*at++ - '0');
+        if (!grants_statement_has(&at, end, "\n")) return 0;
+    }
     statement->published = statement->not_after = GRANTS_NO_DATE;
     if (grants_statement_has(&at, end, "published ") && !grants_statement_date(&at, end, &statement->published)) return 0;
     if (!grants_statement_has(&at, end, "made ") || !grants_statement_date(&at, end, &statement->made)) return 0;

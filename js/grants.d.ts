@@ -134,6 +134,9 @@ export class Grants {
   /** What each proof of a row shows of its key against one root, up to 256 at once: as `verify`, or its refusal, 10 or 11, in its place. The row is a list
    * of proofs as `palette` gives it, or their bytes one after the other. Refused: 12, 10 (it isn't as many pieces as keys, by their own lengths). */
   verifyMany(root: Bytes, keys: readonly Bytes[], row: readonly Bytes[] | Bytes): (Found | Refused)[];
+  /** What a proof shows of a key of a shelf, against its list's root: the list's record for the key's part, then the part's where the list shows it. The bits, 0 to 12,
+   * are signed with the root (`Statement.bits`). Refused: 12, 21, 10, 11. */
+  shelfVerify(root: Bytes, bits: number, key: Bytes, proof: Bytes): Found;
   /** As `verify` for proofs of at most 32 steps for each leaf shown; 19 for others. */
   verifyPocket(root: Bytes, key: Bytes, proof: Bytes): Found;
   sha256(bytes: Bytes): Uint8Array;

@@ -371,6 +371,12 @@ export class Grants {
     });
   }
 
+  // The same of a key of a shelf, against its list's root: the list's record for the key's part, then the part's where the list shows it. The bits are signed with the
+  // root (`Statement.bits`). 12, 21, 10, 11.
+  shelfVerify(root, bits, key, proof) {
+    return found(this.#machine.call('shelf_verify', bytesOf(root), versionOf(bits), bytesOf(key), bytesOf(proof), answer(33))[0]);
+  }
+
   // The same for proofs of at most 32 steps for each leaf shown; 19 for others.
   verifyPocket(root, key, proof) {
     return found(this.#machine.call('pocket_verify', bytesOf(root), bytesOf(key), bytesOf(proof), answer(33))[0]);

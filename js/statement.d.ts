@@ -2,9 +2,11 @@
 
 /** A root with its version and dates, as it is signed. Dates are seconds since 1970. */
 export class Statement {
-  constructor(given: { version: number; root: Uint8Array; published?: number | null; made: number; notAfter?: number | null });
+  constructor(given: { version: number; root: Uint8Array; bits?: number | null; published?: number | null; made: number; notAfter?: number | null });
   readonly version: number;
   readonly root: Uint8Array;
+  /** Of a shelf, how many bits of a key name its part, for `shelfVerify`; null of a store. */
+  readonly bits: number | null;
   readonly published: number | null;
   readonly made: number;
   readonly notAfter: number | null;

@@ -1,6 +1,6 @@
 // What the publisher signs, read; and what an editor keeps so that a stale list is refused (docs/EDITOR.md). Nothing here needs the WebAssembly.
 
-const FORM = /^the root of a grant store\nversion (0|[1-9]\d{0,9})\nroot ([0-9a-f]{64})\n(?:published (\S{20})\n)?made (\S{20})\n(?:not-after (\S{20})\n)?$/;
+const FORM = /^the root of a grant store\nversion (0|[1-9]\d{0,9})\nroot ([0-9a-f]{64})\n(?:bits (\d|1[0-2])\n)?(?:published (\S{20})\n)?made (\S{20})\n(?:not-after (\S{20})\n)?$/;
 const DATE = /^(\d{4})-(\d\d)-(\d\d)T(\d\d):(\d\d):(\d\d)Z$/;
 
 // Seconds since 1970 of a date such as 2026-05-10T10:00:00Z, NaN for a day or a time that there isn't; null where none is given.
@@ -18,8 +18,8 @@ function seconds(text) {
 
 // A root with its version and dates, as it is signed (docs/SIGNING.md). Dates are seconds since 1970.
 export class Statement {
-  constructor({ version, root, published = null, made, notAfter = null }) {
-    Object.assign(this, { version, root, published, made, notAfter });
+  constructor({ version, root, bits = null, published = null, made, notAfter = null }) {
+    Object.assign(this, { version, root, bits, published, made, notAfter });
     Object.freeze(this);
   }
 
@@ -27,17 +27,19 @@ export class Statement {
   static read(given) {
     let text = given;
     if (typeof given !== 'string') {
-      // A byte is a character here; none above 127 is in the form. The longest statement has 231 bytes.
+      // A byte is a character here; none above 127 is in the form. The longest statement has 239 bytes.
       if (!(given instanceof Uint8Array) || given.length > 300) return null;
       text = String.fromCharCode(...given);
     }
     const read = text.length <= 300 ? FORM.exec(text) : null;
     if (!read) return null;
     const version = Number(read[1]);
-    const [published, made, notAfter] = read.slice(3).map(seconds);
+    // Of a shelf, how many bits of a key name its part.
+    const bits = read[3] === undefined ? null : Number(read[3]);
+    const [published, made, notAfter] = read.slice(4).map(seconds);
     if (version > 0xffff_ffff || [published, made, notAfter].some(Number.isNaN)) return null;
     const root = Uint8Array.from(read[2].match(/../g), (digits) => parseInt(digits, 16));
-    return new Statement({ version, root, published, made, notAfter });
+    return new Statement({ version, root, bits, published, made, notAfter });
   }
 }
 

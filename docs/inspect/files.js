@@ -6,12 +6,12 @@ import { fromHex, toHex } from '../../js/grants.js';
 export const MOST_BYTES = 5_000_000;
 
 const DATE = '\\d{4}-\\d\\d-\\d\\dT\\d\\d:\\d\\d:\\d\\dZ';
-const STATEMENT = new RegExp(`^the root of a grant store\\nversion (\\d+)\\nroot ([0-9a-f]{64})\\n(?:published ${DATE}\\n)?made ${DATE}\\n(?:not-after (${DATE})\\n)?$`);
+const STATEMENT = new RegExp(`^the root of a grant store\\nversion (\\d+)\\nroot ([0-9a-f]{64})\\n(?:bits (\\d|1[0-2])\\n)?(?:published ${DATE}\\n)?made ${DATE}\\n(?:not-after (${DATE})\\n)?$`);
 
 // The lines that `grants root --out` writes, and no others.
 export function statementOf(text) {
   const lines = STATEMENT.exec(text);
-  return lines ? { version: Number(lines[1]), root: lines[2], until: lines[3] } : undefined;
+  return lines ? { version: Number(lines[1]), root: lines[2], bits: lines[3] ?? '', until: lines[4] } : undefined;
 }
 
 // The names that a book gives, by their hex digits; the first one counts, as in the command line tool.

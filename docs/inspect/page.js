@@ -1,5 +1,5 @@
 // The page: what is dropped, typed and clicked, the checker's verdicts, and the drawings.
-import { OLD_FORM } from '../../js/form.js';
+import { AT, OLD_FORM, u32 } from '../../js/form.js';
 import { Refused, fromHex, load, toHex } from '../../js/grants.js';
 import { MOST_BYTES, kindOf } from './files.js';
 import { faultsOf, hashesOf, leavesOf, proofOf, recordsOf, spansOf, treeOf } from './drawing.js';
@@ -51,15 +51,39 @@ function drawn(path, hashes, root, failing) {
   return element('div', {}, element('h3', {}, `${path.what}: ${path.steps.length} ${path.steps.length === 1 ? 'step' : 'steps'}`), list);
 }
 
-function draw(bytes, root, key, number) {
-  const proof = number === 10 || number === 12 ? undefined : proofOf(bytes);
-  at('drawing').hidden = !proof;
-  if (!proof) return [];
+// One record: what is drawn of it, and why it doesn't hold.
+function recordDrawn({ bytes, root, key, title = '' }, number) {
+  const proof = proofOf(bytes);
   const all = proof.paths.map((path) => hashesOf((message) => grants.sha256(message), path));
   const { said, steps } = number === 11 ? faultsOf(proof, root, key, all.map((hashes) => hashes.at(-1))) : { said: [], steps: proof.paths.map(() => []) };
   const paths = element('div', { class: 'paths' }, ...proof.paths.map((path, i) => drawn(path, all[i], root, steps[i])));
-  at('drawing').replaceChildren(element('h2', {}, proof.absence ? 'The neighbours of the key, and their paths' : 'The path'), paths);
-  return said;
+  return { said: said.map((line) => title + line), inside: [element('h2', {}, title + (proof.absence ? 'The neighbours of the key, and their paths' : 'The path')), paths] };
+}
+
+function draw(pieces, number) {
+  const off = [10, 12, 21].includes(number);
+  at('drawing').hidden = off;
+  if (off) return [];
+  const all = pieces.map((piece) => recordDrawn(piece, number));
+  at('drawing').replaceChildren(...all.flatMap(({ inside }) => inside));
+  return all.flatMap(({ said }) => said);
+}
+
+// The records of a proof, each with the root and the key that it is checked for: a store's has one; a shelf's has the list's, and the part's under the root that the list shows.
+function piecesOf(proof, root, key, bits) {
+  if (bits === null) return [{ bytes: proof, root, key }];
+  const part = key.map((byte, i) => byte & (0xff00 >> Math.min(8, Math.max(0, bits - 8 * i))));
+  const first = proof.slice(0, u32(proof, AT.length));
+  const pieces = [{ bytes: first, root, key: part, title: 'The list: ' }];
+  if (first.length < proof.length) pieces.push({ bytes: proof.slice(first.length), root: first.slice(AT.proofValue, AT.proofValue + 32), key, title: 'The part: ' });
+  return pieces;
+}
+
+// The bits of a shelf that stand in their field, null where it is empty.
+function bitsOf(text) {
+  if (text === '') return null;
+  if (!/^\d{1,9}$/.test(text)) throw new TypeError('bits are a number');
+  return Number(text);
 }
 
 // No verdict stands beside fields that it wasn't given for.
@@ -71,27 +95,28 @@ function forget() {
 
 // The verdict of what stands in the fields.
 function check() {
-  let root, key, proof;
+  let root, bits, key, proof;
   forget();
   try {
+    bits = bitsOf(at('bits').value.trim());
     root = fromHex(at('root').value.trim());
     const asked = keyOf(at('key').value.trim());
     key = asked.key;
     at('taken').textContent = asked.taken;
     proof = fromHex(at('proof').value.replace(/\s/g, ''));
   } catch {
-    say('nothing', 'this proof shows nothing', ['Root and proof are written in hex digits, two for each byte.']);
+    say('nothing', 'this proof shows nothing', ['Root and proof are written in hex digits, two for each byte; bits as a number.']);
     return;
   }
   const empty = root.length === 32 && root.every((byte) => byte === 0) ? ' This root is that of no grants: signed, it shows by itself that nothing is granted, and there is no proof.' : '';
   try {
-    const found = grants.verify(root, key, proof);
-    draw(proof, root, key, 0);
+    const found = bits === null ? grants.verify(root, key, proof) : grants.shelfVerify(root, bits, key, proof);
+    draw(piecesOf(proof, root, key, bits), 0);
     if (found.present) say('granted', 'granted', ['The grant stands, with the value ', element('span', { class: 'hex' }, toHex(found.value))]);
     else say('not-granted', 'not granted', ['There is no such grant under this root.']);
   } catch (refused) {
     if (!(refused instanceof Refused)) throw refused;
-    const why = draw(proof, root, key, refused.number);
+    const why = draw([10, 12, 21].includes(refused.number) ? [] : piecesOf(proof, root, key, bits), refused.number);
     say('nothing', 'this proof shows nothing', [`Refused with ${refused.number}: ${refused.sentence}.${empty}`, ...why.map((line) => element('span', { class: 'bad', style: 'display:block' }, line))]);
   }
 }
@@ -104,6 +129,7 @@ let shownVersion = 0;
 // The proof of a key in a version, by a click.
 function prove(version, key) {
   at('root').value = toHex(store.root(version));
+  at('bits').value = '';
   at('key').value = toHex(key);
   at('proof').value = toHex(store.prove(version, key));
   check();
@@ -203,11 +229,12 @@ async function openStore(name, bytes) {
 const notTaken = (name, why) => say('nothing', 'this file is not taken', [`${name}: ${why}`]);
 
 // What a root that was signed says beside the root. The signature itself is for the program that knows the key.
-function takeStatement({ version, root, until }) {
+function takeStatement({ version, root, bits, until }) {
   at('root').value = root;
+  at('bits').value = bits;
   const past = until && Date.now() > Date.parse(until);
   at('stated').className = past ? 'bad' : 'note';
-  at('stated').textContent = `The root of version ${version}${until ? `, ${past ? 'past its date' : 'good until'} ${until}` : ''}. Its signature is not looked at here.`;
+  at('stated').textContent = `The root of version ${version}${bits === '' ? '' : ` of a shelf of ${bits} bits`}${until ? `, ${past ? 'past its date' : 'good until'} ${until}` : ''}. Its signature is not looked at here.`;
 }
 
 // A file is taken for what it is; one of hex digits for the bytes that they stand for.

@@ -79,6 +79,7 @@ _CALLS = {
     "verify_many": (_u32, [_lent, _size, _lent, _size, _lent, _size, _lent, _size]),
     "version": (_u32, []),
     "verify": (_u32, [_lent, _size, _lent, _size, _lent, _size, _lent]),
+    "shelf_verify": (_u32, [_lent, _size, _u32, _lent, _size, _lent, _size, _lent]),
     "sha256": (_u32, [_lent, _size, _lent]),
 }
 for _name, (_result, _words) in _CALLS.items():
@@ -193,6 +194,14 @@ def verify_many(root: Bytes, keys: Sequence[Bytes], proofs: Union[Bytes, Sequenc
         said = answers.front(answers.length)[ANSWER_BYTES * i : ANSWER_BYTES * (i + 1)]
         shown.append(Refused(said[0]) if said[0] else said[2:] if said[1] == 1 else None)
     return shown
+
+
+def shelf_verify(root: Bytes, bits: int, key: Bytes, proof: Bytes) -> Optional[bytes]:
+    """The same of a key of a shelf, against its list's root: the proof is the list's record for the key's part, then the part's. The bits are signed with the root
+    (`Statement.bits`). Refused: 12, 21 (bits above 12), 10, 11."""
+    found = Room(33)
+    call("shelf_verify", room_of(root), number_of(bits), room_of(key), room_of(proof), (found,))
+    return found_in(found)
 
 
 def cut(proofs: Bytes) -> List[bytes]:

@@ -7,7 +7,7 @@ from typing import NamedTuple, Optional, Union
 
 _FIRST = "the root of a grant store"
 _FORM = re.compile(
-    _FIRST + r"\nversion ([0-9]{1,10})\nroot ([0-9a-f]{64})\n(?:published ([0-9TZ:-]{20})\n)?made ([0-9TZ:-]{20})\n(?:not-after ([0-9TZ:-]{20})\n)?",
+    _FIRST + r"\nversion ([0-9]{1,10})\nroot ([0-9a-f]{64})\n(?:bits ([0-9]|1[0-2])\n)?(?:published ([0-9TZ:-]{20})\n)?made ([0-9TZ:-]{20})\n(?:not-after ([0-9TZ:-]{20})\n)?",
     re.ASCII,
 )
 _DATE = re.compile(r"([0-9]{4})-([0-9]{2})-([0-9]{2})T([0-9]{2}):([0-9]{2}):([0-9]{2})Z", re.ASCII)
@@ -29,13 +29,15 @@ def _seconds(text: str) -> Optional[int]:
 
 
 class Statement(NamedTuple):
-    """A root with its version and dates, as it is signed (docs/SIGNING.md). Dates are seconds since 1970. Check the signature first, over the same bytes."""
+    """A root with its version and dates, as it is signed (docs/SIGNING.md). Dates are seconds since 1970. Of a shelf, `bits` says how many bits of a key name
+    its part, for `shelf_verify`; of a store it is None. Check the signature first, over the same bytes."""
 
     version: int
     root: bytes
     published: Optional[int]
     made: int
     not_after: Optional[int]
+    bits: Optional[int] = None
 
     @staticmethod
     def read(text: Union[bytes, str]) -> "Statement":
@@ -46,11 +48,11 @@ class Statement(NamedTuple):
             plain = ""
         read = _FORM.fullmatch(plain)
         if read:
-            version, root, published, made, not_after = read.groups()
+            version, root, bits, published, made, not_after = read.groups()
             dates = [None if date is None else _seconds(date) for date in (published, made, not_after)]
             whole = all(date is None or it is not None for date, it in zip((published, made, not_after), dates))
             if whole and int(version) < 2**32 and str(int(version)) == version and dates[1] is not None:
-                return Statement(int(version), bytes.fromhex(root), dates[0], dates[1], dates[2])
+                return Statement(int(version), bytes.fromhex(root), dates[0], dates[1], dates[2], None if bits is None else int(bits))
         raise ValueError("this is no statement that `grants root --out` writes")
 
 

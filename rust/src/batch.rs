@@ -45,6 +45,11 @@ impl Batch {
         self.ask(key.into(), None)
     }
 
+    /// The key gets this value, whatever the batch had for it before.
+    pub fn put(&mut self, key: impl Into<Key>, value: impl Into<Value>) {
+        self.asks.insert(key.into(), Some(value.into()));
+    }
+
     fn ask(&mut self, key: Key, value: Option<Value>) -> Result<&mut Batch, DoubledKey> {
         match self.asks.entry(key) {
             Entry::Occupied(_) => return Err(DoubledKey { key }),

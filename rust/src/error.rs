@@ -34,7 +34,7 @@ pub enum Error {
     VersionNotKept,
     /// 9: the proof, the proofs together, the list or the figures are longer than the room.
     ProofTooLong,
-    /// 10: the proof isn't one whole record in form, no byte over.
+    /// 10: the proof isn't one whole record in form (of a shelf one or two), no byte over.
     ProofForm,
     /// 11: the proof is in form, but doesn't hold.
     ProofFails,
@@ -52,10 +52,12 @@ pub enum Error {
     OutsidePocket,
     /// 20: the position isn't below the number of grants.
     NoSuchPosition,
+    /// 21: a shelf has at most 12 bits.
+    TooManyBits,
 }
 
 /// The table of the rules, number 1 first, in the words of include/grants.h.
-const TABLE: [(u32, Error, &str); 17] = [
+const TABLE: [(u32, Error, &str); 18] = [
     (
         1,
         Error::Size,
@@ -91,7 +93,7 @@ const TABLE: [(u32, Error, &str); 17] = [
     (
         10,
         Error::ProofForm,
-        "the proof isn't one whole record in form, no byte over",
+        "the proof isn't one whole record in form (of a shelf one or two), no byte over",
     ),
     (
         11,
@@ -129,6 +131,7 @@ const TABLE: [(u32, Error, &str); 17] = [
         Error::NoSuchPosition,
         "the position isn't below the number of grants",
     ),
+    (21, Error::TooManyBits, "a shelf has at most 12 bits"),
 ];
 
 impl Error {
@@ -183,7 +186,7 @@ mod tests {
         let numbers: Vec<u32> = TABLE.iter().map(|(_, error, _)| error.number()).collect();
         assert_eq!(
             numbers,
-            [1, 2, 3, 4, 5, 7, 8, 9, 10, 11, 12, 13, 14, 17, 18, 19, 20]
+            [1, 2, 3, 4, 5, 7, 8, 9, 10, 11, 12, 13, 14, 17, 18, 19, 20, 21]
         );
         for number in 0..=25 {
             let listed = numbers.contains(&number).then_some(number);

@@ -134,6 +134,16 @@ extern "C" {
         proof_len: usize,
         found: *mut [u8; 33],
     ) -> u32;
+    fn grants_shelf_verify(
+        root: *const u8,
+        root_len: usize,
+        bits: u32,
+        key: *const u8,
+        key_len: usize,
+        proof: *const u8,
+        proof_len: usize,
+        found: *mut [u8; 33],
+    ) -> u32;
     fn grants_verify_many(
         root: *const u8,
         root_len: usize,
@@ -354,6 +364,28 @@ pub fn verify(root: &[u8], key: &[u8], proof: &[u8]) -> Result<[u8; 33], Error> 
         grants_verify(
             root.as_ptr(),
             root.len(),
+            key.as_ptr(),
+            key.len(),
+            proof.as_ptr(),
+            proof.len(),
+            &mut found,
+        )
+    })?;
+    Ok(found)
+}
+
+pub fn shelf_verify(
+    root: &[u8],
+    bits: u32,
+    key: &[u8],
+    proof: &[u8],
+) -> Result<[u8; 33], Error> {
+    let mut found = [0; 33];
+    accepted(unsafe {
+        grants_shelf_verify(
+            root.as_ptr(),
+            root.len(),
+            bits,
             key.as_ptr(),
             key.len(),
             proof.as_ptr(),

@@ -55,6 +55,7 @@ mod palette;
 mod proof;
 mod records;
 mod rescue;
+mod shelf;
 mod statement;
 mod store;
 mod words;
@@ -75,6 +76,11 @@ pub use palette::{Palette, RefusedAt, PALETTE_KEYS};
 pub use proof::{verify, verify_pocket, verify_many, Proof, POCKET_BYTES, PROOF_BYTES};
 pub use records::{Body, Child, Place, Record};
 pub use rescue::{Rescued, Slot};
+pub use shelf::{
+    shelf_pieces, shelf_verify, Bits, Effect, Made, PartAt, PartFile, Pruned, RescuedShelf, Rounds, Shelf,
+    ShelfError,
+    LIST_FILE, ROUND_PARTS, SHELF_BITS, SHELF_FILE, SHELF_PROOF_BYTES,
+};
 pub use store::{Applied, Header, Store};
 pub use statement::{Seen, Statement, Verdict};
 pub use words::{Key, Root, Value};

@@ -1,6 +1,6 @@
 //! What the publisher signs, read; and what an editor keeps so that a stale list is refused (docs/EDITOR.md).
 
-use crate::{dates, Root};
+use crate::{dates, Root, SHELF_BITS};
 use std::fmt;
 
 /// A root with its version and dates, as it is signed (docs/SIGNING.md). Dates are seconds since 1970. Check the signature first, over the same
@@ -30,6 +30,8 @@ use std::fmt;
 pub struct Statement {
     pub version: u32,
     pub root: Root,
+    /// Of a shelf, how many bits of a key name its part; the root is then the list's, and [`shelf_verify`](crate::shelf_verify) checks its proofs.
+    pub bits: Option<u32>,
     pub published: Option<i64>,
     pub made: i64,
     pub not_after: Option<i64>,
@@ -41,6 +43,9 @@ impl Statement {
     /// The text that is signed.
     pub fn text(&self) -> String {
         let mut text = format!("{FIRST}\nversion {}\nroot {}\n", self.version, self.root);
+        if let Some(bits) = self.bits {
+            text += &format!("bits {bits}\n");
+        }
         if let Some(time) = self.published {
             text += &format!("published {}\n", dates::text(time));
         }
@@ -65,6 +70,10 @@ impl Statement {
         let statement = Statement {
             version: field("version")?.parse().ok()?,
             root: field("root")?.parse().ok()?,
+            bits: match field("bits") {
+                Some(digits) => Some(digits.parse().ok().filter(|bits| *bits <= SHELF_BITS)?),
+                None => None,
+            },
             published: field("published").and_then(time),
             made: field("made").and_then(time)?,
             not_after: field("not-after").and_then(time),

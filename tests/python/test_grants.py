@@ -13,8 +13,8 @@ TOP = os.path.dirname(os.path.dirname(os.path.dirname(os.path.abspath(__file__))
 sys.path.insert(0, os.environ.get("GRANTS_PACKAGE", TOP + "/python"))
 
 import grants  # noqa: E402
-from grants import Change, Refused, Seen, Statement, Store, Verdict, batch, library, move_back, move_over, name, rescue, sha256, verify  # noqa: E402
-from grants import verify_many, verify_palette, verify_pocket, version  # noqa: E402
+from grants import Change, Refused, Seen, Statement, Store, Verdict, batch, library, move_back, move_over, name, rescue, sha256, shelf_verify  # noqa: E402
+from grants import verify, verify_many, verify_palette, verify_pocket, version  # noqa: E402
 
 
 def key(first, last=0):
@@ -152,7 +152,7 @@ class Refusals(unittest.TestCase):
 
 # Calls that the package doesn't have yet: whoever adds one to it takes it off this list.
 LATER = set(
-    "ics23_read ics23_write index index_check shelf_verify".split()
+    "ics23_read ics23_write index index_check".split()
     + [call + "_indexed" for call in "apply at count format get palette prove prune root".split()]
 )
 
@@ -234,6 +234,27 @@ class Proofs(unittest.TestCase):
             self.assertIn(number(verify_palette, root, *given), (10, 11))
         self.assertEqual([len(it) for it in library.cut(b"\5\0\0\0\1\4\0\0\0\t\t")], [5, 4, 2])
 
+    def test_of_a_shelf(self):
+        """A shelf of one bit: A and its like in one part, nothing in the other; then both."""
+        part = Store.format(20)
+        part.apply(1, {A: V})
+        upper = bytes([0x80]) + bytes(31)
+        shelf = Store.format(20)
+        root = shelf.apply(1, {bytes(32): part.root(1)}).root
+        proof = shelf.prove(1, bytes(32)) + part.prove(1, A)
+        self.assertEqual(shelf_verify(root, 1, A, proof), V)
+        self.assertIsNone(shelf_verify(root, 1, upper, shelf.prove(1, upper)))
+        cases = [
+            (12, (root[1:], 13, A, proof)),
+            (21, (root, 13, A, proof)),
+            (10, (root, 1, A, shelf.prove(1, bytes(32)))),
+            (10, (root, 1, A, proof + b"\0")),
+            (11, (root, 1, upper, proof)),
+            (11, (part.root(1), 1, A, proof)),
+        ]
+        for wanted, given in cases:
+            self.assertEqual(number(shelf_verify, *given), wanted)
+
     def test_of_any_view(self):
         store = desk()
         proof, root = store.prove(1, A), store.root(1)
@@ -309,7 +330,7 @@ def at(*words):
 class Statements(unittest.TestCase):
     def test_read(self):
         read = Statement.read(TEXT)
-        self.assertEqual(read, (2, b"\xab" * 32, at(2026, 5, 10, 10), at(2026, 5, 10, 10, 30), at(2026, 6, 10, 23, 59, 59)))
+        self.assertEqual(read, (2, b"\xab" * 32, at(2026, 5, 10, 10), at(2026, 5, 10, 10, 30), at(2026, 6, 10, 23, 59, 59), None))
         self.assertEqual(Statement.read(TEXT.encode()), read)
 
     def test_days(self):

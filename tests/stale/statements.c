@@ -36,6 +36,7 @@ int main(void) {
         } else {
             printf("%" PRIu32 " ", read.version);
             for (int i = 0; i < 32; i++) printf("%02x", read.root[i]);
+            date(read.bits == GRANTS_NO_BITS ? GRANTS_NO_DATE : read.bits);
             date(read.published);
             date(read.made);
             date(read.not_after);

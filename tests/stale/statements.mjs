@@ -13,6 +13,6 @@ const out = readFileSync(0, 'latin1').split('\n').slice(0, -1).map((line) => {
   if (read === null) return '-';
   const date = (time) => time ?? 'none';
   const verdict = seen.take(read, Number(now));
-  return `${read.version} ${Buffer.from(read.root).toString('hex')} ${date(read.published)} ${read.made} ${date(read.notAfter)}: ${verdict}, ${seen.version} ${seen.time}`;
+  return `${read.version} ${Buffer.from(read.root).toString('hex')} ${date(read.bits)} ${date(read.published)} ${read.made} ${date(read.notAfter)}: ${verdict}, ${seen.version} ${seen.time}`;
 });
 process.stdout.write(`${out.join('\n')}\n`);

@@ -9,8 +9,9 @@ ROOT = "f5d7fa76ae94b01bee4e95b0ccc514710956389b2bc39eeef16634ae3be0ea87"
 NOW = 1778500000
 
 
-def lines(version="2", root=ROOT, published="2026-05-10T10:00:00Z", made="2026-05-10T10:30:00Z", not_after="2026-06-10T23:59:59Z"):
+def lines(version="2", root=ROOT, published="2026-05-10T10:00:00Z", made="2026-05-10T10:30:00Z", not_after="2026-06-10T23:59:59Z", bits=None):
     text = "the root of a grant store\nversion %s\nroot %s\n" % (version, root)
+    text += "bits %s\n" % bits if bits is not None else ""
     text += "published %s\n" % published if published is not None else ""
     text += "made %s\n" % made if made is not None else ""
     return (text + ("not-after %s\n" % not_after if not_after is not None else "")).encode("latin-1", "surrogateescape")
@@ -28,8 +29,12 @@ GOOD = [
     lines(made="0000-01-01T00:00:00Z"),
     lines(made="0000-02-29T00:00:00Z", published="0001-03-01T00:00:00Z"),
     lines(made="9999-12-31T23:59:59Z", not_after="9999-12-31T23:59:59Z"),
+    lines(bits="0"),
+    lines(bits="8", published=None),
+    lines(bits="12", not_after=None),
 ]
 BAD = [lines(v) for v in ["", "-1", "+1", "01", "00", "1 ", " 1", "4294967296", "42949672950", "9" * 99, "1e3", "0x1", "1.0", "\xb2", "١".encode().decode("latin-1"), "1\0", "1\r", "2\nversion 3"]]
+BAD += [lines(bits=b) for b in ["", "13", "19", "20", "100", "00", "08", "012", "-1", "+1", " 8", "8 ", "8\r", "1\n2", "x", "\xb2", "8\nbits 8"]]
 BAD += [lines(root=r) for r in ["", ROOT[:-1], ROOT + "0", ROOT.upper(), ROOT[:-1] + "g", "0x" + ROOT[2:], ROOT + " ", " " + ROOT, ROOT[:32] + "\n" + ROOT[32:], "\0" * 64]]
 for _date in ["", "2026-05-10", "2026-05-10T10:00Z", "2026-05-10T10:00:00", "2026-05-10 10:00:00Z", "2026-05-10T10:00:00z", "2026-05-10t10:00:00Z", "2026-5-10T10:00:00Z",
               "2026-02-29T10:00:00Z", "1900-02-29T10:00:00Z", "2026-02-30T10:00:00Z", "2026-04-31T10:00:00Z", "2026-00-10T10:00:00Z", "2026-13-10T10:00:00Z", "2026-05-00T10:00:00Z", "2026-05-32T10:00:00Z",
@@ -68,7 +73,7 @@ def changed(chance):
 def fresh(chance):
     """A statement in form, of few versions, roots and days, so that an editor meets all that there is."""
     date = lambda: "2026-05-%02dT%02d:00:00Z" % (chance.randrange(9, 14), chance.randrange(24))  # noqa: E731
-    return lines(str(chance.randrange(4)), chance.choice(["00", "11", "22"]) * 32, chance.choice([None, date()]), date(), chance.choice([None, date(), date(), date()]))
+    return lines(str(chance.randrange(4)), chance.choice(["00", "11", "22"]) * 32, chance.choice([None, date()]), date(), chance.choice([None, date(), date(), date()]), chance.choice([None, None, "8", "12"]))
 
 
 def write(count, seed):
@@ -82,7 +87,7 @@ def write(count, seed):
             print()
 
 
-# What is read of GOOD: version, published, made, not-after, worked out by `date -u -d`.
+# What is read of GOOD: version, published, made, not-after, bits, worked out by `date -u -d`.
 READ = [
     (2, 1778407200, 1778409000, 1781135999),
     (2, "none", 1778409000, 1781135999),
@@ -95,6 +100,9 @@ READ = [
     (2, 1778407200, -62167219200, 1781135999),
     (2, -62130499200, -62162121600, 1781135999),
     (2, 1778407200, 253402300799, 253402300799),
+    (2, 1778407200, 1778409000, 1781135999, 0),
+    (2, "none", 1778409000, 1781135999, 8),
+    (2, 1778407200, 1778409000, "none", 12),
 ]
 
 
@@ -102,9 +110,9 @@ def held(path):
     with open(path) as f:
         came = f.read().split("\n")
     assert len(GOOD) == len(READ)
-    for i, (version, published, made, not_after) in enumerate(READ):
+    for i, (version, published, made, not_after, *bits) in enumerate(READ):
         root = "00" * 32 if version == 0 else ROOT
-        wanted = "%d %s %s %d %s: " % (version, root, published, made, not_after)
+        wanted = "%d %s %s %s %d %s: " % (version, root, bits[0] if bits else "none", published, made, not_after)
         assert came[2 * i].startswith(wanted) and came[2 * i + 1] == "", (came[2 * i], wanted)
     by_hand = came[2 * len(GOOD) :][: len(BAD)]
     assert by_hand == ["-"] * len(BAD), [BAD[i] for i, it in enumerate(by_hand) if it != "-"]
@@ -136,8 +144,8 @@ def main():
             continue
         verdict = seen.judge(read, int(now))
         seen = seen.after(read, int(now))
-        published, not_after = ("none" if it is None else it for it in (read.published, read.not_after))
-        print("%d %s %s %d %s: %s, %d %d" % (read.version, read.root.hex(), published, read.made, not_after, verdict.value, seen.version, seen.time))
+        bits, published, not_after = ("none" if it is None else it for it in (read.bits, read.published, read.not_after))
+        print("%d %s %s %s %d %s: %s, %d %d" % (read.version, read.root.hex(), bits, published, read.made, not_after, verdict.value, seen.version, seen.time))
 
 
 main()

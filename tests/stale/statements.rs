@@ -19,9 +19,10 @@ fn main() {
         };
         let date = |time: Option<i64>| time.map_or("none".to_string(), |time| time.to_string());
         let said = format!(
-            "{} {} {} {} {}",
+            "{} {} {} {} {} {}",
             read.version,
             read.root,
+            date(read.bits.map(i64::from)),
             date(read.published),
             read.made,
             date(read.not_after)

@@ -427,7 +427,7 @@ def a_store_of_the_right_size():
         if week >= 20:
             answered(0, "prune", "s", week - 19)
     assert capacity * 0.7 < most <= capacity, (most, capacity)
-    refused(2, "12000 grants with 0 changes a week and 1 version kept want some 32950 slots, and a store has 16384 at most: keep the list in several stores", "format", "t", "--for", 12000)
+    refused(2, "12000 grants with 0 changes a week and 1 version kept want some 32950 slots, and a store has 16384 at most: make a shelf, of several stores under one root (grants format DIR --bits 8; docs/SCALE.md)", "format", "t", "--for", 12000)
     refused(2, "keep fewer versions", "format", "t", "--for", 3000, "--weekly", 100, "--keep", 52)
     refused(2, "CAPACITY is missing", "format", "t")
     refused(2, "both say how many slots", "format", "t", 20, "--for", 5)

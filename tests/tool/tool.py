@@ -22,6 +22,7 @@ import installed
 import rescues
 import publishing
 import later
+import shelf
 
 
 def toured(text):

@@ -15,6 +15,24 @@ function refused(call) {
   return 'accepted';
 }
 
+// A shelf of one bit: the list has the root of the part of keys that begin with 0, and none for those that begin with 1.
+export async function shelf(grants, tally) {
+  const [low, high, none] = [0x00, 0x80, 0x40].map((first) => Uint8Array.from({ length: 32 }, (_, i) => (i ? 0 : first)));
+  const read = grants.name('read');
+  const [list, part] = [await grants.format(20), await grants.format(20)];
+  const { root: partRoot } = part.apply(1, [{ key: none, value: read }]);
+  const { root } = list.apply(1, [{ key: low, value: partRoot }]);
+  const proof = Buffer.concat([list.prove(1, low), part.prove(1, none)]);
+  tally.equal('a key of a shelf', grants.shelfVerify(root, 1, none, proof), { present: true, value: read });
+  tally.equal('a key of a part, absent', grants.shelfVerify(root, 1, low, Buffer.concat([list.prove(1, low), part.prove(1, low)])), { present: false });
+  tally.equal('a part that is not there', grants.shelfVerify(root, 1, high, list.prove(1, high)), { present: false });
+  const wrong = [[root.slice(1), 13, none, proof], [root, 13, none, proof], [root, 1, none, list.prove(1, low)], [root, 1, none, Buffer.concat([proof, Buffer.of(0)])], [root, 1, high, proof], [partRoot, 1, none, proof]];
+  tally.equal('refused for a shelf', wrong.map((given) => refused(() => grants.shelfVerify(...given))), [12, 21, 10, 10, 11, 11]);
+  tally.equal('bits that are no number', refused(() => grants.shelfVerify(root, -1, none, proof)), 'RangeError');
+  const alone = await load(new URL('../../js/grants-verify.wasm', import.meta.url));
+  tally.equal('by the checker alone', alone.shelfVerify(root, 1, none, proof), { present: true, value: read });
+}
+
 async function loading(tally) {
   const file = new URL('../../js/grants-verify.wasm', import.meta.url);
   const empty = 'e3b0c44298fc1c149afbf4c8996fb92427ae41e4649b934ca495991b7852b855';
@@ -71,6 +89,7 @@ async function publishing(tally, grants) {
   tally.equal('a short root', refused(() => grants.verify(first.root.slice(1), lyrics, then)), 12);
   tally.equal('a pocket proof', toHex(store.provePocket(1, lyrics)), toHex(then));
   tally.equal('a pocket check', grants.verifyPocket(first.root, lyrics, then), { present: true, value: read });
+  await shelf(grants, tally);
   tally.equal('a pocket check, last month', refused(() => grants.verifyPocket(second.root, lyrics, then)), 11);
   const deep = await grants.format(64);
   const [near, far] = [new Uint8Array(32), new Uint8Array(32)];

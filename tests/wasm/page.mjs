@@ -132,6 +132,31 @@ async function stores() {
   tally.equal('and no tree where a count is wrong', await browser.ask(`document.querySelectorAll('#tree *, #versions *').length`), 0);
 }
 
+// A shelf of one bit with the market in the part of keys that begin with 0: the list's record, then the part's.
+async function shelves() {
+  const low = new Uint8Array(32);
+  const list = await grants.format(20);
+  const part = await grants.format(20);
+  const granted = 'chords sonata';
+  const held = part.apply(2, names.filter((name) => key(name)[0] < 128).map((name) => ({ key: key(name), value: key('read') })));
+  const { root } = list.apply(2, [{ key: low, value: held.root }]);
+  const proof = Buffer.concat([list.prove(2, low), part.prove(2, key(granted))]);
+  await browser.drop(file('shelf.txt', `the root of a grant store\nversion 2\nroot ${toHex(root)}\nbits 1\nmade 2026-05-11T00:00:00Z\nnot-after 2999-01-01T23:59:59Z\n`));
+  await browser.until(`document.getElementById('bits').value === '1'`);
+  tally.holds('a shelf, stated', (await text('stated')).startsWith('The root of version 2 of a shelf of 1 bits, good until'));
+  tally.equal('a key of a shelf', await asked(toHex(root), granted, proof), 'granted');
+  const drawing = await text('drawing');
+  tally.holds('both paths', drawing.includes('The list: The path') && drawing.includes('The part: The path') && !drawing.includes('do not meet'));
+  tally.equal('a part that is not in the list', await asked(toHex(root), '80' + '00'.repeat(31), list.prove(2, Uint8Array.from({ length: 32 }, (_, i) => (i ? 0 : 128)))), 'not granted');
+  tally.equal('the part alone', await asked(toHex(held.root), granted, part.prove(2, key(granted))), 'this proof shows nothing');
+  tally.equal('another part', await asked(toHex(root), 'tuner symphony', proof), 'this proof shows nothing');
+  tally.holds('why not another part', (await text('reason')).includes('The list: '));
+  await fill('bits', '13');
+  tally.equal('too many bits', await asked(toHex(root), granted, proof), 'this proof shows nothing');
+  tally.holds('21', (await text('reason')).startsWith('Refused with 21: '));
+  await fill('bits', '');
+}
+
 // Files that are no proof are taken for what they are, or not at all.
 async function otherFiles() {
   const statement = (until) => `the root of a grant store\nversion 2\nroot ${now}\nmade 2026-05-11T00:00:00Z\nnot-after ${until}T23:59:59Z\n`;
@@ -161,18 +186,18 @@ async function otherFiles() {
 async function usable() {
   await browser.ask(`document.getElementById('result').hidden = true; document.activeElement.blur(); document.getElementById('root').focus()`);
   const focus = [];
-  for (let i = 0; i < 5; i += 1) {
+  for (let i = 0; i < 6; i += 1) {
     focus.push(await browser.ask('document.activeElement.id'));
     await browser.press('Tab');
   }
-  tally.equal('the tab key', focus, ['root', 'key', 'proof', 'check', 'file']);
+  tally.equal('the tab key', focus, ['root', 'bits', 'key', 'proof', 'check', 'file']);
   await asked(now, 'lyrics sonata', proofs.now);
   await browser.ask(`document.getElementById('verdict').textContent = ''; document.getElementById('key').focus()`);
   await browser.press('Enter');
   tally.equal('the enter key', await text('verdict'), 'not granted');
   const roles = await browser.roles();
   const has = (role, name) => roles.some((it) => it.role === role && it.name.startsWith(name));
-  for (const [role, name] of [['heading', 'What does this proof show?'], ['form', 'Root, key and proof'], ['textbox', 'Root, from who signs it'], ['textbox', 'Key, or a name'], ['textbox', 'Proof, from anybody'], ['button', 'Check the proof'], ['button', 'Open a proof or a store'], ['status', 'Verdict'], ['list', 'The left neighbour: from the root down to the leaf'], ['main', '']]) {
+  for (const [role, name] of [['heading', 'What does this proof show?'], ['form', 'Root, key and proof'], ['textbox', 'Root, from who signs it'], ['textbox', 'Bits, where it is the root of a shelf'], ['textbox', 'Key, or a name'], ['textbox', 'Proof, from anybody'], ['button', 'Check the proof'], ['button', 'Open a proof or a store'], ['status', 'Verdict'], ['list', 'The left neighbour: from the root down to the leaf'], ['main', '']]) {
     if (has(role, name)) tally.pass();
     else tally.fail(`no ${role} called '${name}': ${JSON.stringify(roles.filter((it) => it.role === role))}`);
   }
@@ -215,6 +240,7 @@ try {
   await verdicts();
   await stores();
   await otherFiles();
+  await shelves();
   await usable();
   const requests = browser.events.filter((it) => it.method === 'Network.requestWillBeSent').map((it) => it.params.request.url.split(':')[0]);
   tally.equal('nothing is fetched but the page', requests.filter((scheme) => scheme !== 'about'), ['file']);

@@ -6,7 +6,8 @@ export async function shown(root: string, key: Uint8Array, proof: ArrayBuffer): 
   const grants = await load(new URL('file:///grants-verify.wasm'));
   try {
     const found: Found = grants.verify(root, key, proof);
-    return found.present ? String(found.value.length) : 'absent';
+    const shelved: Found = grants.shelfVerify(root, 8, key, proof);
+    return found.present ? String(found.value.length) : shelved.present ? 'on the shelf' : 'absent';
   } catch (refused) {
     return refused instanceof Refused ? `${refused.number} ${refused.sentence} ${refused.slot ?? 'no slot'}` : 'another error';
   }

@@ -18,6 +18,7 @@ mod ours;
 mod quarter;
 mod rescuing;
 mod rows;
+mod shelf;
 mod stack;
 mod tally;
 
@@ -389,6 +390,7 @@ fn all(rounds: u64, first: u64, tally: &mut Tally) {
     forging::named(tally);
     rescuing::named(tally);
     rows::named(first, tally);
+    shelf::named(first, tally);
     quarter::named(tally);
     moving::named(tally);
     for n in 0..rounds {
@@ -396,6 +398,7 @@ fn all(rounds: u64, first: u64, tally: &mut Tally) {
         round(seed, tally);
         rescuing::round(seed, tally);
         rows::round(seed, tally);
+        shelf::round(seed, tally);
         quarter::round(seed, tally);
         if n % 10 == 0 {
             applying::history(seed, tally);

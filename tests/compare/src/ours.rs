@@ -107,6 +107,16 @@ extern "C" {
         proof_len: usize,
         found: *mut [u8; 33],
     ) -> u32;
+    fn grants_shelf_verify(
+        root: *const u8,
+        root_len: usize,
+        bits: u32,
+        key: *const u8,
+        key_len: usize,
+        proof: *const u8,
+        proof_len: usize,
+        found: *mut [u8; 33],
+    ) -> u32;
     fn grants_verify_many(
         root: *const u8,
         root_len: usize,
@@ -343,6 +353,15 @@ pub fn verify(root: &[u8], key: &[u8], proof: &[u8]) -> Result<Option<Bytes32>, 
     answered(|found| {
         recorded("verify", &[read(root), read(key), read(proof), array(found)], || unsafe {
             grants_verify(root.as_ptr(), root.len(), key.as_ptr(), key.len(), proof.as_ptr(), proof.len(), found)
+        })
+    })
+    .map(verdict)
+}
+
+pub fn shelf_verify(root: &[u8], bits: u32, key: &[u8], proof: &[u8]) -> Result<Option<Bytes32>, Refusal> {
+    answered(|found| {
+        recorded("shelf_verify", &[read(root), number(bits), read(key), read(proof), array(found)], || unsafe {
+            grants_shelf_verify(root.as_ptr(), root.len(), bits, key.as_ptr(), key.len(), proof.as_ptr(), proof.len(), found)
         })
     })
     .map(verdict)

@@ -17,6 +17,7 @@ pub mod proof;
 pub mod rescue;
 #[path = "../../common/plain_sha256.rs"]
 pub mod sha256;
+pub mod shelf;
 pub mod sound;
 pub mod tree;
 
@@ -32,6 +33,7 @@ pub use pocket::{pocket_prove, pocket_verify};
 pub use positions::{at, count};
 pub use proof::prove;
 pub use rescue::rescue;
+pub use shelf::shelf_verify;
 pub use sound::check;
 
 pub type Bytes32 = [u8; 32];

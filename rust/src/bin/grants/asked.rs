@@ -3,66 +3,14 @@
 use crate::args::{number, Args};
 use crate::book::{self, Book, Said};
 use crate::fail::Fail;
-use crate::files::{self, STORE_LIMIT};
 use crate::held;
-pub use crate::held::Bytes;
+pub use crate::kept::{read_kept, read_store, refused, Bytes, Kept, LENGTH_ADVICE};
 use crate::out::beside;
 use crate::plain::{counted, quoted, shown, words, Word};
-use grants::{from_hex, to_hex, Error, HexError, Key, Store, OLD_SLOT_BYTES};
+use grants::{from_hex, to_hex, Error, HexError, Key};
 use std::cell::OnceCell;
 use std::collections::BTreeMap;
 use std::path::Path;
-
-/// What an editor does without a proof.
-const EMPTY_ADVICE: &str =
-    "The version's root is 32 zero bytes: signed, it is itself the proof that nothing is granted.";
-
-pub const LENGTH_ADVICE: &str = "Write it as 64 hex digits.";
-
-pub fn read_store(path: &Path) -> Result<Bytes, Fail> {
-    files::read(path, STORE_LIMIT).map(Store::over)
-}
-
-/// What to do about a refusal of a call over this store.
-pub fn refused(store: &Bytes, path: &Path) -> impl Fn(Error) -> Fail {
-    let name = shown(path);
-    let length = store.as_bytes().len();
-    let header = store.header().ok();
-    let old = store.is_old_form();
-    move |error| {
-        let advice = match error {
-            Error::Size | Error::Header if old => old_form(&name),
-            Error::Size => format!("{name} has {}: is it the right file, and whole?", bytes(length)),
-            Error::Header => format!("{name} is no grant store, or its first 24 bytes are damaged: take another copy, or see what can be rescued (grants rescue)."),
-            Error::Unsound | Error::Spoilt { .. } | Error::Lost => format!("{name} is damaged: take another copy, or see what can be rescued (grants rescue); `grants check` lists what is missing. Nothing was changed."),
-            Error::NotAboveLatest => match header {
-                Some(h) if h.latest < u32::MAX => format!("{name} is at version {}: give a higher number, or none for the next one. {name} is as it was.", h.latest),
-                _ => format!("{name} is at version {}, and no number is above that: format a new store and publish its grants there (grants export, grants import). {name} is as it was.", u32::MAX),
-            },
-            Error::NoRoom => format!("Prune versions that no one asks for any more (grants prune), or give the store more slots (grants grow). {name} is as it was."),
-            Error::VersionNotKept => match header {
-                Some(h) => format!("{name} keeps versions {} to {}.", h.oldest, h.latest),
-                None => String::new(),
-            },
-            Error::NotThirtyTwoBytes => LENGTH_ADVICE.to_string(),
-            Error::EmptyVersion => EMPTY_ADVICE.to_string(),
-            _ => String::new(),
-        };
-        Fail::Refused(error, advice)
-    }
-}
-
-/// What a store of the form before the counts is, and what brings it over.
-fn old_form(name: &str) -> String {
-    format!("{name} is a store of the old form (slots of {OLD_SLOT_BYTES} bytes); `grants move` brings it over.")
-}
-
-fn bytes(length: usize) -> String {
-    match length as u64 {
-        STORE_LIMIT => format!("more than {} bytes", STORE_LIMIT - 1),
-        length => format!("{length} bytes"),
-    }
-}
 
 /// The bytes of a key or root, however many they are: the library judges that.
 pub fn hex(what: &str, text: &str) -> Result<Vec<u8>, Fail> {
@@ -152,7 +100,7 @@ pub fn note(book: &Book, what: &str) {
 }
 
 /// The version that is asked for, else the latest; 0 where the header is wrong, which the call that follows will say.
-pub fn version(args: &Args, i: usize, store: &Bytes, path: &Path) -> Result<u32, Fail> {
+pub fn version(args: &Args, i: usize, store: &Kept, path: &Path) -> Result<u32, Fail> {
     match (args.word(i), args.said("--at")?) {
         (Some(_), Some(_)) => Err(Fail::Usage(
             "VERSION and --at both say which version: name one of them".to_string(),
@@ -164,10 +112,10 @@ pub fn version(args: &Args, i: usize, store: &Bytes, path: &Path) -> Result<u32,
 }
 
 /// The version that was the latest at the end of a day, by the book's dates of versions whose roots the library confirms.
-pub fn on_day(args: &Args, store: &Bytes, path: &Path, what: &str, day: &str) -> Result<u32, Fail> {
+pub fn on_day(args: &Args, store: &Kept, path: &Path, what: &str, day: &str) -> Result<u32, Fail> {
     let (_, end) = book::date(what, day)?;
     let book = Book::of(args, Some(path))?;
-    let refused = refused(store, path);
+    let refused = store.refused(path);
     let header = store.header().map_err(&refused)?;
     let slots = store.slots().map_err(&refused)?;
     let spans = held::spans(header, &slots, []);

@@ -57,6 +57,7 @@ impl Book {
                 book.place = Some(book.given.clone());
             }
             (None, Some(store)) if store.as_os_str() != "-" => {
+                let store = &files::main_file(store);
                 book.given =
                     PathBuf::from([store.as_os_str(), OsStr::new(ENDING)].join(OsStr::new("")));
                 book.place = files::beside_store(store, ENDING);
@@ -90,6 +91,14 @@ impl Book {
             book.read();
         }
         Ok(book)
+    }
+
+    /// An empty book for a store, or a shelf, that has none yet.
+    pub fn beside(store: &Path) -> Book {
+        let store = files::main_file(store);
+        let given = PathBuf::from([store.as_os_str(), OsStr::new(ENDING)].join(OsStr::new("")));
+        let place = Some(given.clone());
+        Book { given, place, ..Book::default() }
     }
 
     /// The same book beside another store, where there is one to copy.

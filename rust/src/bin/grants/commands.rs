@@ -1,10 +1,10 @@
 //! The commands that make one call of the library and say what came.
 
 use crate::args::{number, Args};
-use crate::asked::{key, read_store, refused, version};
+use crate::asked::{key, read_kept, read_store, refused, version, Kept};
 use crate::book::{self, Book};
 use crate::fail::Fail;
-use crate::files::{self, Locked, PROOF_LIMIT};
+use crate::files::{self, is_shelf, Locked, PROOF_LIMIT};
 use crate::finding::{self, Accepted};
 use crate::held;
 use crate::json::{object, Json};
@@ -14,8 +14,9 @@ use crate::out::{both_to_output, Out, ABSENT};
 use crate::palette;
 use crate::plain::{counted, shown};
 use crate::proof::{proof_advice, proof_bytes};
+use crate::shelves;
 use crate::sizing::Plan;
-use crate::statement::known_root;
+use crate::statement::{bits, known_root};
 use grants::{dates, to_hex, Error, Slot, Store};
 use std::path::Path;
 
@@ -41,6 +42,18 @@ pub fn write_book(book: &Book) -> Result<(), Fail> {
 
 pub fn format(args: &Args, out: &mut Out) -> Result<u8, Fail> {
     let path = writable(args)?;
+    if args.has("--bits") {
+        return shelves::format(args, path, out);
+    }
+    if let Some(name) = ["--slots", "--list-slots"].into_iter().find(|name| args.has(name)) {
+        return Err(Fail::Usage(format!("{name} goes with --bits, for a shelf")));
+    }
+    if is_shelf(path) {
+        return Err(Fail::File(format!(
+            "{} is a shelf: --bits makes one, in a folder that isn't there yet; nothing was changed",
+            shown(path)
+        )));
+    }
     let plan = Plan::of(args)?;
     let capacity = match (&plan, args.word(1)) {
         (Some(_), Some(_)) => {
@@ -99,11 +112,11 @@ pub fn format(args: &Args, out: &mut Out) -> Result<u8, Fail> {
 
 pub fn check(args: &Args, out: &mut Out) -> Result<u8, Fail> {
     let path = args.path(0);
-    let store = read_store(path)?;
-    let refused = refused(&store, path);
-    store.check().map_err(|error| match error {
-        Error::Unsound => missing::unsound(&store, path),
-        error => refused(error),
+    let store = read_kept(path)?;
+    let refused = store.refused(path);
+    store.check().map_err(|e| match (&store, e.refusal()) {
+        (Kept::Store(store), Some(Error::Unsound)) => missing::unsound(store, path),
+        _ => refused(e),
     })?;
     let header = store.header().map_err(&refused)?;
     out.answer(
@@ -126,22 +139,27 @@ pub fn prune(args: &Args, out: &mut Out) -> Result<u8, Fail> {
     let path = writable(args)?;
     let version = number("VERSION", args.word(1).unwrap_or_default())?;
     let mut locked = Locked::take(args, path)?;
-    let mut store = Store::over(locked.read()?);
-    let refused = refused(&store, path);
-    let freed = store.prune(version).map_err(&refused)?;
-    locked.replace(store.as_bytes())?;
+    let (store, freed) = match is_shelf(path) {
+        true => shelves::pruned(path, version, &mut locked)?,
+        false => {
+            let mut store = Store::over(locked.read()?);
+            let freed = store.prune(version).map_err(refused(&store, path))?;
+            locked.replace(store.as_bytes())?;
+            (store, u64::from(freed))
+        }
+    };
     out.changed = true;
-    let header = store.header().map_err(&refused)?;
+    let header = store.header().map_err(refused(&store, path))?;
     out.answer(
         0,
         object(vec![
-            ("freed", freed.into()),
+            ("freed", Json::Number(freed)),
             ("oldest", header.oldest.into()),
             ("latest", header.latest.into()),
         ]),
         format_args!(
             "{} freed, versions {} to {} kept",
-            counted(freed as usize, "record"),
+            counted(freed, "record"),
             header.oldest,
             header.latest
         ),
@@ -151,7 +169,7 @@ pub fn prune(args: &Args, out: &mut Out) -> Result<u8, Fail> {
 pub fn get(args: &Args, out: &mut Out) -> Result<u8, Fail> {
     let path = args.path(0);
     let key = key(args, 1, Some(path))?;
-    let store = read_store(path)?;
+    let store = read_kept(path)?;
     let version = version(args, 2, &store, path)?;
     let value =
         store
@@ -177,6 +195,11 @@ fn one_proof(args: &Args) -> Result<(), Fail> {
     }
 }
 
+/// A shelf's proof has two records, and the pocket's calls take one.
+fn no_pocket() -> Fail {
+    Fail::Usage("--pocket is for the proof of a store: a shelf has no pocket profile".to_string())
+}
+
 pub fn prove(args: &Args, out: &mut Out) -> Result<u8, Fail> {
     if args.has("--version") || args.has("--keys") {
         one_proof(args)?;
@@ -193,12 +216,13 @@ pub fn prove(args: &Args, out: &mut Out) -> Result<u8, Fail> {
     }
     let path = args.path(0);
     let key = key(args, 1, Some(path))?;
-    let store = read_store(path)?;
+    let store = read_kept(path)?;
     let version = version(args, 2, &store, path)?;
     let refused = refused_read(&store, path, version, Some(&key));
-    let proof = match args.has("--pocket") {
-        true => store.prove_pocket(version, &key),
-        false => store.prove(version, &key),
+    let proof = match (args.has("--pocket"), &store) {
+        (true, Kept::Store(store)) => store.prove_pocket(version, &key).map_err(Into::into),
+        (true, Kept::Shelf(_)) => return Err(no_pocket()),
+        (false, store) => store.prove(version, &key),
     }
     .map_err(&refused)?;
     let bytes = proof.as_bytes();
@@ -253,16 +277,25 @@ pub fn verify(args: &Args, out: &mut Out) -> Result<u8, Fail> {
     if args.word(2).is_none() {
         return Err(args.missing("PROOF"));
     }
-    let root = known_root(args)?;
+    let (root, signed) = known_root(args)?;
+    let bits = bits(args, signed)?;
     let key = key(args, 1, None)?;
     let path = args.path(2);
     let proof = proof_bytes(files::read(path, PROOF_LIMIT)?)?;
-    let value = match args.has("--pocket") {
-        true => grants::verify_pocket(&root, &key, &proof),
-        false => grants::verify(&root, &key, &proof),
+    let value = match (args.has("--pocket"), bits) {
+        (true, Some(_)) => return Err(no_pocket()),
+        (true, None) => grants::verify_pocket(&root, &key, &proof),
+        (false, Some(bits)) => grants::shelf_verify(&root, bits, &key, &proof),
+        (false, None) => grants::verify(&root, &key, &proof),
     }
     .map_err(|e| Fail::Refused(e, proof_advice(e, path)))?;
     if let Some(store) = args.value("--against").map(Path::new) {
+        if bits.is_some() {
+            return Err(Fail::Usage(
+                "--against is for the proof of a store: hold each record of a shelf's proof against its own store"
+                    .to_string(),
+            ));
+        }
         let of = Accepted { root: root.as_ref(), key: key.as_ref(), proof: &proof, value };
         return finding::against(args, store, &of, out);
     }
@@ -290,6 +323,9 @@ pub fn verify(args: &Args, out: &mut Out) -> Result<u8, Fail> {
 
 pub fn stat(args: &Args, out: &mut Out) -> Result<u8, Fail> {
     let path = args.path(0);
+    if is_shelf(path) {
+        return shelves::stat(path, out);
+    }
     let mut store = read_store(path)?;
     let length = store.as_bytes().len();
     // A store of the old form is told of as what it is brought over.

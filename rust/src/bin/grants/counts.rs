@@ -1,7 +1,7 @@
 //! How many grants a version has, and the grant at a position: no other grant is looked at.
 
 use crate::args::Args;
-use crate::asked::{read_store, version};
+use crate::asked::{read_kept, version};
 use crate::book::Book;
 use crate::fail::Fail;
 use crate::json::Json;
@@ -12,7 +12,7 @@ use crate::page::long;
 
 pub fn count(args: &Args, out: &mut Out) -> Result<u8, Fail> {
     let path = args.path(0);
-    let store = read_store(path)?;
+    let store = read_kept(path)?;
     let version = version(args, 1, &store, path)?;
     let count = store
         .count(version)
@@ -30,7 +30,7 @@ pub fn count(args: &Args, out: &mut Out) -> Result<u8, Fail> {
 pub fn at(args: &Args, out: &mut Out) -> Result<u8, Fail> {
     let path = args.path(0);
     let position = long("POSITION", args.word(1).unwrap_or_default())?;
-    let store = read_store(path)?;
+    let store = read_kept(path)?;
     let version = version(args, 2, &store, path)?;
     let (key, value) = store
         .at(version, position)

@@ -1,7 +1,7 @@
 //! What changed between two versions, as lines, as JSON, as a batch, and as the library's own records.
 
 use crate::args::{number, Args};
-use crate::asked::{read_store, refused, version, Bytes};
+use crate::asked::{read_kept, version, Kept};
 use crate::book::{Book, Said};
 use crate::fail::Fail;
 use crate::files;
@@ -112,7 +112,7 @@ impl Shown<'_> {
 }
 
 /// The two versions that are compared: those that are named, one of a day and the latest, or what the last publishing changed.
-fn versions(args: &Args, store: &Bytes, path: &Path) -> Result<(u32, u32), Fail> {
+fn versions(args: &Args, store: &Kept, path: &Path) -> Result<(u32, u32), Fail> {
     let latest = store.header().map_or(0, |header| header.latest);
     let second = match args.word(2) {
         Some(word) => number("SECOND", word)?,
@@ -124,7 +124,7 @@ fn versions(args: &Args, store: &Bytes, path: &Path) -> Result<(u32, u32), Fail>
     if args.has("--at") {
         return Ok((version(args, 1, store, path)?, second));
     }
-    let refused = refused(store, path);
+    let refused = store.refused(path);
     let slots = store.slots().map_err(&refused)?;
     let header = store.header().map_err(&refused)?;
     let last = held::spans(header, &slots, []);
@@ -133,7 +133,7 @@ fn versions(args: &Args, store: &Bytes, path: &Path) -> Result<(u32, u32), Fail>
 }
 
 /// '2 (2026-05-10 10:00, tove: Lyrics withdrawn)', with what the book says of it.
-fn dated(store: &Bytes, book: &Book, version: u32) -> String {
+fn dated(store: &Kept, book: &Book, version: u32) -> String {
     let slots = store.slots().unwrap_or_default();
     let number = held::published(&slots, version);
     let Ok(root) = store.root(version) else {
@@ -175,18 +175,18 @@ fn batch(changes: &Changes) -> Result<String, Fail> {
 
 pub fn diff(args: &Args, out: &mut Out) -> Result<u8, Fail> {
     let path = args.path(0);
-    let store = read_store(path)?;
+    let store = read_kept(path)?;
     let (first, second) = versions(args, &store, path)?;
     let limit = match args.value("--limit") {
         Some(word) => number("--limit", word)?,
         None => MOST_VISITS,
     };
-    let changes = store.changes(first, second, limit).map_err(|e| match e {
-        Error::TooManyVisits => Fail::Refused(
-            e,
+    let changes = store.changes(first, second, limit).map_err(|e| match e.refusal() {
+        Some(error @ Error::TooManyVisits) => Fail::Refused(
+            error,
             format!("The limit was {limit}; {MOST_VISITS} is always enough."),
         ),
-        e => refused(&store, path)(e),
+        _ => store.refused(path)(e),
     })?;
     if let Some(to) = args.value("--records").map(Path::new) {
         files::write(args, to, changes.as_bytes(), &[path])?;
@@ -219,7 +219,7 @@ pub fn diff(args: &Args, out: &mut Out) -> Result<u8, Fail> {
 
 /// Two versions compared, to be shown in one of the forms.
 struct Compared {
-    store: Bytes,
+    store: Kept,
     versions: (u32, u32),
     changes: Changes,
     book: Book,

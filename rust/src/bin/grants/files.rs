@@ -17,6 +17,8 @@ use std::time::{Duration, Instant};
 /// One byte more than the largest store, so that a longer file is seen to be too long and is not read to its end.
 pub const STORE_LIMIT: u64 = grants::store_bytes(grants::MOST_SLOTS) as u64 + 1;
 pub const BATCH_LIMIT: u64 = 64 << 20;
+/// Of a shelf: some 27 million grants, as text.
+pub const SHELF_BATCH_LIMIT: u64 = 4 << 30;
 pub const PROOF_LIMIT: u64 = 1 << 20;
 
 /// Linux's flags: a link at the end of the path is not followed, and opening a fifo doesn't wait.
@@ -80,9 +82,24 @@ pub struct Locked {
     held: Rc<File>,
 }
 
+/// Whether a path is that of a shelf: a folder that has something of one.
+pub fn is_shelf(path: &Path) -> bool {
+    let has = |name: &str| already_there(&path.join(name));
+    path.is_dir() && (has(grants::SHELF_FILE) || has(grants::LIST_FILE))
+}
+
+/// The file that is replaced when something is published: the store, or the list of a shelf. Its lock keeps other writers away, and the book is beside it.
+pub fn main_file(path: &Path) -> PathBuf {
+    match is_shelf(path) {
+        true => path.join(grants::LIST_FILE),
+        false => path.to_path_buf(),
+    }
+}
+
 impl Locked {
-    /// Waits until no other process writes this store.
+    /// Waits until no other process writes this store, or this shelf.
     pub fn take(args: &Args, given: &Path) -> Result<Locked, Fail> {
+        let given = &main_file(given);
         let store = resolved(given)?;
         let since = Instant::now();
         let most = wait(args)?;
@@ -130,6 +147,11 @@ impl Locked {
         let read = (&*self.held).take(STORE_LIMIT).read_to_end(&mut bytes);
         read.map_err(|e| file("read", &self.given, &e))?;
         Ok(bytes)
+    }
+
+    /// What was written in the store's folder is on the disk.
+    pub fn sync(&self) -> Result<(), Fail> {
+        synced(&self.given, &self.store)
     }
 
     /// Whether the file under the store's name has these bytes.
@@ -479,11 +501,19 @@ pub fn write(args: &Args, path: &Path, bytes: &[u8], inputs: &[&Path]) -> Result
     if path.as_os_str().as_bytes().ends_with(b"/") {
         resolved(path)?;
     }
+    let folder = |p: &Path| fs::canonicalize(p.parent().filter(|p| !p.as_os_str().is_empty()).unwrap_or(Path::new("."))).ok();
+    let mut shelves = inputs.iter().filter(|input| is_shelf(input));
+    if shelves.any(|shelf| fs::canonicalize(shelf).ok() == folder(path)) {
+        return Err(Fail::Usage(format!(
+            "{} would be among the files of a shelf: name another file to write",
+            shown(path)
+        )));
+    }
     let place = |p: &Path| fs::metadata(p).ok().map(|m| (m.dev(), m.ino()));
     if let Some(there) = place(path) {
         let books = inputs
             .iter()
-            .filter_map(|store| beside_store(store, ".book"));
+            .filter_map(|store| beside_store(&main_file(store), ".book"));
         let books = books.chain(args.value("--book").map(PathBuf::from));
         let mut read = inputs.iter().map(|input| input.to_path_buf()).chain(books);
         if read.any(|input| place(&input) == Some(there)) {

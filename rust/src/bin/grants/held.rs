@@ -169,3 +169,118 @@ pub fn changes(
     }
     Ok(changes)
 }
+
+/// How many keys came, went and changed with each version, and how many records; how many grants some versions have.
+#[derive(Default)]
+pub struct Ledger {
+    /// Keys added, removed and given another value.
+    pub tallies: BTreeMap<u32, [usize; 3]>,
+    /// Records that come, less those that go; what is before the first version counts there.
+    pub records: BTreeMap<u32, i64>,
+    /// The records that a publishing made, and that are still kept.
+    pub made: BTreeMap<u32, i64>,
+    pub grants: BTreeMap<u32, u64>,
+}
+
+impl Ledger {
+    /// What a sound store has for these versions, ascending; before its oldest nothing is known, and after its latest nothing comes or goes.
+    pub fn of(store: &Bytes, versions: &[u32], oldest: u32) -> Result<Ledger, Error> {
+        let slots = store.slots()?;
+        let latest = store.header()?.latest;
+        let mut ledger = Ledger::default();
+        let first = versions.first().copied().unwrap_or(0);
+        ledger.records = records(&slots, first);
+        for record in slots.iter().flatten() {
+            *ledger.made.entry(record.version).or_default() += 1;
+        }
+        let touched = touched(&slots);
+        for version in versions {
+            let count = store.count((*version).min(latest))?;
+            ledger.grants.insert(*version, count);
+            if *version > oldest && *version <= latest {
+                ledger.tallies.insert(*version, tally(store, &touched, *version)?);
+            }
+        }
+        Ok(ledger)
+    }
+
+    /// Of a list the records count, its keys don't.
+    pub fn keep_records(&mut self) {
+        self.tallies.clear();
+        self.grants.clear();
+    }
+
+    pub fn add(&mut self, other: Ledger) {
+        for (version, tally) in other.tallies {
+            let sum = self.tallies.entry(version).or_default();
+            sum.iter_mut().zip(tally).for_each(|(sum, n)| *sum += n);
+        }
+        for (sums, others) in [(&mut self.records, other.records), (&mut self.made, other.made)] {
+            for (version, n) in others {
+                *sums.entry(version).or_default() += n;
+            }
+        }
+        for (version, n) in other.grants {
+            *self.grants.entry(version).or_default() += n;
+        }
+    }
+}
+
+/// How many keys a version added, removed and gave another value.
+fn tally(
+    store: &Bytes,
+    touched: &BTreeMap<u32, BTreeSet<Key>>,
+    version: u32,
+) -> Result<[usize; 3], Error> {
+    let mut tally = [0; 3];
+    for change in changes(store, touched, version)? {
+        match change {
+            (_, None, Some(_)) => tally[0] += 1,
+            (_, Some(_), None) => tally[1] += 1,
+            _ => tally[2] += 1,
+        }
+    }
+    Ok(tally)
+}
+
+/// How many records come and go with each version from the first one asked for: a version may be one of thousands of millions, a record is one of
+/// some thousand.
+fn records(slots: &[Option<Record>], first: u32) -> BTreeMap<u32, i64> {
+    let mut records: BTreeMap<u32, i64> = BTreeMap::new();
+    for record in slots.iter().flatten() {
+        *records.entry(record.version.max(first)).or_default() += 1;
+        if let Some(since) = record.retired_since {
+            *records.entry(since.max(first)).or_default() -= 1;
+        }
+    }
+    records
+}
+
+/// How long a grant stood: from a version on, and before another.
+#[derive(Clone, Copy, Debug, PartialEq, Eq, PartialOrd, Ord)]
+pub struct Life {
+    pub key: Key,
+    pub since: u32,
+    pub until: Option<u32>,
+    pub value: Value,
+}
+
+/// The lives of a sound store's grants from the oldest kept version on, by key and version. A leaf that was moved lives on.
+pub fn lives(slots: &[Option<Record>], oldest: u32) -> Vec<Life> {
+    let mut lives = vec![];
+    for record in slots.iter().flatten() {
+        if let Some((key, value)) = record.grant() {
+            let (since, until) = (record.version.max(oldest), record.retired_since);
+            lives.push(Life { key, since, until, value });
+        }
+    }
+    lives.sort();
+    lives.dedup_by(|next, life| {
+        let on = next.key == life.key && next.value == life.value && life.until == Some(next.since);
+        if on {
+            life.until = next.until;
+        }
+        on
+    });
+    lives
+}

@@ -1,7 +1,7 @@
 //! What the versions hold and when it came: log, list, export, history. The store is checked first.
 
 use crate::args::{number, Args};
-use crate::asked::{key, note, read_store, refused, version, Bytes};
+use crate::asked::{key, note, read_kept, version, Bytes, Kept};
 use crate::book::{Book, Said};
 use crate::fail::Fail;
 use crate::held::{self, Span};
@@ -10,8 +10,7 @@ use crate::missing::refused_read;
 use crate::out::{Out, ABSENT};
 use crate::page::{Page, Placed};
 use crate::plain::{counted, escaped, quoted, shown};
-use grants::{dates, to_hex, Error, Header, Key, Record, Root, Slot, Value};
-use std::collections::{BTreeMap, BTreeSet};
+use grants::{dates, to_hex, Error, Header, Key, Record, Root, ShelfError, Slot, Value};
 use std::fmt::Write as _;
 
 /// How many grants stand in a version by the library, how many records, and how many of them it made.
@@ -87,36 +86,6 @@ fn oddities(book: &Book, latest: u32) -> Vec<String> {
         ));
     }
     odd
-}
-
-/// How many keys a version added, removed and gave another value.
-fn tally(
-    store: &Bytes,
-    touched: &BTreeMap<u32, BTreeSet<Key>>,
-    version: u32,
-) -> Result<[usize; 3], Error> {
-    let mut tally = [0; 3];
-    for change in held::changes(store, touched, version)? {
-        match change {
-            (_, None, Some(_)) => tally[0] += 1,
-            (_, Some(_), None) => tally[1] += 1,
-            _ => tally[2] += 1,
-        }
-    }
-    Ok(tally)
-}
-
-/// How many records come and go with each version from the first one asked for: a version may be one of thousands of millions, a record is one of
-/// some thousand.
-fn records(slots: &[Option<Record>], first: u32) -> BTreeMap<u32, i64> {
-    let mut records: BTreeMap<u32, i64> = BTreeMap::new();
-    for record in slots.iter().flatten() {
-        *records.entry(record.version.max(first)).or_default() += 1;
-        if let Some(since) = record.retired_since {
-            *records.entry(since.max(first)).or_default() -= 1;
-        }
-    }
-    records
 }
 
 /// One line of the log. What the oldest kept version changed isn't known any more.
@@ -207,13 +176,13 @@ fn last(args: &Args) -> Result<usize, Fail> {
     }
 }
 
-/// The publishings of a store, those that left no record where the book has them.
+/// The publishings, those that left no record where the book has them.
 fn publishings(
-    store: &Bytes,
+    store: &Kept,
     slots: &[Option<Record>],
     header: Header,
     book: &Book,
-) -> Result<Vec<Span>, Error> {
+) -> Result<Vec<Span>, ShelfError> {
     let mut known = vec![];
     for version in book.versions() {
         if header.oldest <= version && version <= header.latest {
@@ -227,19 +196,16 @@ fn publishings(
 
 pub fn log(args: &Args, out: &mut Out) -> Result<u8, Fail> {
     let path = args.path(0);
-    let store = read_store(path)?;
-    let refused = refused(&store, path);
+    let store = read_kept(path)?;
+    let refused = store.refused(path);
     let slots = store.slots().map_err(&refused)?;
     let header = store.header().map_err(&refused)?;
     let book = Book::of(args, Some(path))?;
     let last = last(args)?;
     let mut spans = publishings(&store, &slots, header, &book).map_err(&refused)?;
     spans.drain(..spans.len().saturating_sub(last));
-    let (records, touched) = (records(&slots, spans[0].first), held::touched(&slots));
-    let mut made: BTreeMap<u32, i64> = BTreeMap::new();
-    for record in slots.iter().flatten() {
-        *made.entry(record.version).or_default() += 1;
-    }
+    let firsts: Vec<u32> = spans.iter().map(|span| span.first).collect();
+    let ledger = store.ledger(&firsts).map_err(&refused)?;
     let widest = spans
         .iter()
         .map(|span| range(span).len())
@@ -264,14 +230,15 @@ pub fn log(args: &Args, out: &mut Out) -> Result<u8, Fail> {
     for span in spans {
         let version = span.first;
         // A record begins or ends with a root, so at the first version of a span.
-        now.records += records.get(&version).copied().unwrap_or(0);
-        now.grants = store.count(version).map_err(&refused)?;
+        now.records += ledger.records.get(&version).copied().unwrap_or(0);
+        now.grants = ledger.grants.get(&version).copied().unwrap_or(0);
         let published = span.published.unwrap_or(version);
-        now.new = made.get(&published).copied().unwrap_or(0);
+        now.new = ledger.made.get(&published).copied().unwrap_or(0);
         let root = store.root(version).map_err(&refused)?;
         let changed = match version {
-            0 => Some([0; 3]),
-            v if v > header.oldest => Some(tally(&store, &touched, v).map_err(&refused)?),
+            v if v == 0 || v > header.oldest => {
+                Some(ledger.tallies.get(&v).copied().unwrap_or_default())
+            }
             _ => None,
         };
         let row = Row {
@@ -343,13 +310,13 @@ fn matching(grants: &mut Vec<Placed>, book: &Book, part: &str) -> Matched {
 
 fn listed(args: &Args) -> Result<Listed, Fail> {
     let path = args.path(0);
-    let store = read_store(path)?;
-    let refused = refused(&store, path);
+    let store = read_kept(path)?;
+    let refused = store.refused(path);
     let page = Page::of(args)?;
     // A page is read without a check; which number it was published under is then for the book's line alone, whose root must be the one read.
     let slots = match page {
         None => store.slots().map_err(&refused)?,
-        Some(_) => records_found(&store).map_err(&refused)?,
+        Some(_) => records_found(store.first()).map_err(|e| refused(e.into()))?,
     };
     let version = version(args, 1, &store, path)?;
     let root = store
@@ -358,7 +325,7 @@ fn listed(args: &Args) -> Result<Listed, Fail> {
     let count = store.count(version).map_err(&refused)?;
     let mut grants = match page {
         None => (0..)
-            .zip(held::grants(&store, &slots, version).map_err(&refused)?)
+            .zip(store.grants(version).map_err(&refused)?)
             .map(|(position, (key, value))| (position, key, value))
             .collect(),
         Some(page) => page.read(&store, path, version, count)?,
@@ -549,20 +516,13 @@ pub fn export(args: &Args, out: &mut Out) -> Result<u8, Fail> {
 pub fn history(args: &Args, out: &mut Out) -> Result<u8, Fail> {
     let path = args.path(0);
     let key = key(args, 1, Some(path))?;
-    let store = read_store(path)?;
-    let refused = refused(&store, path);
+    let store = read_kept(path)?;
+    let refused = store.refused(path);
     let slots = store.slots().map_err(&refused)?;
-    let header = store.header().map_err(&refused)?;
     let book = Book::of(args, Some(path))?;
-    let mut versions = BTreeSet::from([header.oldest]);
-    for (version, keys) in held::touched(&slots) {
-        if version > header.oldest && keys.iter().any(|k| k.as_bytes()[..] == key[..]) {
-            versions.insert(version);
-        }
-    }
     let mut rows = vec![];
     let mut before = None;
-    for version in versions {
+    for version in store.turns(&key).map_err(&refused)? {
         let value = store.get(version, &key).map_err(&refused)?;
         if before != Some(value) {
             let root = store.root(version).map_err(&refused)?;

@@ -1,11 +1,11 @@
 //! Which records a damaged store misses, in words for support and in JSON. The refusal is the library's; the places are read from the slots, for display.
 
-use crate::asked::{refused, Bytes};
+use crate::asked::{refused, Bytes, Kept};
 use crate::fail::{Fail, Wrong};
 use crate::faults;
 use crate::json::Json;
 use crate::plain::{at, counted, shown};
-use grants::{Error, Key, Met, Missing};
+use grants::{Error, Key, Met, Missing, ShelfError};
 use std::path::Path;
 
 /// What is done about a damaged store.
@@ -47,6 +47,20 @@ pub fn object(missing: &Missing) -> Json {
 
 /// What to do about a refused read of a version, and of a key where one was asked for.
 pub fn refused_read<'a>(
+    store: &'a Kept,
+    path: &'a Path,
+    version: u32,
+    key: Option<&'a [u8]>,
+) -> impl Fn(ShelfError) -> Fail + 'a {
+    move |error| match (store, error) {
+        (Kept::Store(store), ShelfError::Refused { error, .. }) => {
+            store_read(store, path, version, key)(error)
+        }
+        (_, error) => store.refused(path)(error),
+    }
+}
+
+fn store_read<'a>(
     store: &'a Bytes,
     path: &'a Path,
     version: u32,
@@ -75,6 +89,37 @@ fn wants(error: Error, path: &Path, version: u32, missing: Missing) -> Fail {
 
 /// What to do about a position of a version that was refused.
 pub fn refused_at<'a>(
+    store: &'a Kept,
+    path: &'a Path,
+    version: u32,
+    position: u64,
+) -> impl Fn(ShelfError) -> Fail + 'a {
+    move |error| match (store, error) {
+        (_, ShelfError::Refused { error: Error::NoSuchPosition, .. }) => {
+            no_position(store, path, version)
+        }
+        (Kept::Store(store), ShelfError::Refused { error, .. }) => {
+            store_at(store, path, version, position)(error)
+        }
+        (_, error) => store.refused(path)(error),
+    }
+}
+
+fn no_position(store: &Kept, path: &Path, version: u32) -> Fail {
+    let name = shown(path);
+    let advice = match store.count(version) {
+        Ok(0) => format!("Version {version} of {name} holds no grant."),
+        Ok(n) => format!(
+            "Version {version} of {name} has {}: their positions are 0 to {}.",
+            counted(n, "grant"),
+            n - 1
+        ),
+        Err(_) => String::new(),
+    };
+    Fail::Refused(Error::NoSuchPosition, advice)
+}
+
+fn store_at<'a>(
     store: &'a Bytes,
     path: &'a Path,
     version: u32,
@@ -82,18 +127,6 @@ pub fn refused_at<'a>(
 ) -> impl Fn(Error) -> Fail + 'a {
     move |error| {
         let name = shown(path);
-        if error == Error::NoSuchPosition {
-            let advice = match store.count(version) {
-                Ok(0) => format!("Version {version} of {name} holds no grant."),
-                Ok(n) => format!(
-                    "Version {version} of {name} has {}: their positions are 0 to {}.",
-                    counted(n, "grant"),
-                    n - 1
-                ),
-                Err(_) => String::new(),
-            };
-            return Fail::Refused(error, advice);
-        }
         let damaged = matches!(error, Error::Lost | Error::Spoilt { .. } | Error::Unsound);
         let why = match damaged.then(|| store.met_at(version, position)).flatten() {
             Some(Met::Missing(missing)) if missing.slot == error.slot() => {

@@ -5,6 +5,7 @@ use crate::args::Args;
 use crate::asked::{refused, Bytes};
 use crate::book::Book;
 use crate::commands::writable;
+use crate::kept::no_shelves;
 use crate::json::object;
 use crate::fail::Fail;
 use crate::files::{self, Locked, STORE_LIMIT};
@@ -67,6 +68,9 @@ fn old_root(bytes: &[u8], version: u32) -> Root {
 
 pub fn moved(args: &Args, out: &mut Out) -> Result<u8, Fail> {
     let path = args.path(0);
+    if files::is_shelf(path) {
+        return Err(no_shelves(path));
+    }
     let into = args.word(1).map(Path::new);
     let over = match args.value("--to").map(|word| word.to_string_lossy()) {
         Some(word) if word == NEW => true,

@@ -1,7 +1,7 @@
 //! A line of the book for a version that has none: its writer was stopped between the store and the book, or ran without it.
 
 use crate::args::{number, Args};
-use crate::asked::{refused, Bytes};
+use crate::asked::Kept;
 use crate::book::{self, Book, Entry, Said};
 use crate::commands::writable;
 
@@ -26,7 +26,8 @@ pub fn note(args: &Args, out: &mut Out) -> Result<u8, Fail> {
     let (time, author) = (book::time(args)?, book::author(args)?);
     let message = args.said("--message")?.unwrap_or_default();
     let locked = Locked::take(args, path)?;
-    let root = published_root(&Store::over(locked.read()?), path, version)?;
+    let list = Store::over(locked.read()?);
+    let root = published_root(&Kept::Store(list), path, version)?;
     book::is_none_of(args, &[path])?;
     let mut book = Book::of(args, Some(path))?;
     if let (Said::This(entry), false) = (book.said(version, root), args.has("--again")) {
@@ -63,8 +64,8 @@ pub fn note(args: &Args, out: &mut Out) -> Result<u8, Fail> {
 }
 
 /// The root of what was published under a number, as long as a kept version reads as it.
-fn published_root(store: &Bytes, path: &Path, version: u32) -> Result<Root, Fail> {
-    let refused = refused(store, path);
+fn published_root(store: &Kept, path: &Path, version: u32) -> Result<Root, Fail> {
+    let refused = store.refused(path);
     let slots = store.slots().map_err(&refused)?;
     let header = store.header().map_err(&refused)?;
     let spans = held::spans(header, &slots, []);
@@ -72,7 +73,7 @@ fn published_root(store: &Bytes, path: &Path, version: u32) -> Result<Root, Fail
         return store.root(span.first).map_err(&refused);
     }
     if version < header.oldest || version > header.latest {
-        return Err(refused(Error::VersionNotKept));
+        return Err(refused(Error::VersionNotKept.into()));
     }
     let reads_as = spans.iter().rev().find(|span| span.first <= version);
     let reads_as = match reads_as.and_then(|span| span.published) {

@@ -1,7 +1,7 @@
 //! A page of a long list, read by position, so that the rest of the list isn't looked at.
 
 use crate::args::Args;
-use crate::asked::Bytes;
+use crate::asked::Kept;
 use crate::fail::Fail;
 use crate::missing::refused_at;
 use crate::plain::counted;
@@ -56,12 +56,17 @@ impl Page {
     /// Its grants, each read by its position.
     pub fn read(
         self,
-        store: &Bytes,
+        store: &Kept,
         path: &Path,
         version: u32,
         count: u64,
     ) -> Result<Vec<Placed>, Fail> {
         let end = count.min(self.from.saturating_add(self.most));
+        if let Some(shelf) = store.shelf() {
+            let page = shelf.range(version, self.from, end).map_err(store.refused(path))?;
+            let placed = (self.from..).zip(page);
+            return Ok(placed.map(|(i, (key, value))| (i, key, value)).collect());
+        }
         let mut grants = vec![];
         for position in self.from..end {
             let (key, value) = store

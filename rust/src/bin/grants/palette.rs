@@ -1,14 +1,14 @@
 //! The proofs of several keys, made and checked at once.
 
 use crate::args::{number, Args};
-use crate::asked::{self, read_store, refused, Bytes, Keys, LENGTH_ADVICE};
+use crate::asked::{self, read_kept, Kept, Keys, LENGTH_ADVICE};
 use crate::fail::Fail;
 use crate::files;
 use crate::json::{object, Json};
 use crate::out::{both_to_output, Out, ABSENT};
 use crate::plain::{counted, quoted, shown, words, Word};
 use crate::proof::{proof_advice, proof_bytes};
-use crate::statement::known_root;
+use crate::statement::{bits, known_root};
 use grants::{to_hex, Error, Key, Palette, Value, PALETTE_KEYS, PROOF_BYTES};
 use std::path::Path;
 
@@ -57,7 +57,7 @@ fn count(args: &Args) -> usize {
 }
 
 /// The version that several keys are asked for in: with `--keys` as for one key, else by `--version`.
-fn version(args: &Args, store: &Bytes, path: &Path) -> Result<u32, Fail> {
+fn version(args: &Args, store: &Kept, path: &Path) -> Result<u32, Fail> {
     let twice = "--version and --at both say which version: name one of them";
     match (args.value("--version"), args.has("--keys")) {
         (Some(_), _) if args.has("--at") => Err(Fail::Usage(twice.to_string())),
@@ -77,18 +77,18 @@ pub fn prove(args: &Args, out: &mut Out) -> Result<u8, Fail> {
         ));
     }
     let keys = keys(args, 1, count(args), Some(path))?;
-    let store = read_store(path)?;
+    let store = read_kept(path)?;
     let version = version(args, &store, path)?;
-    let refused = refused(&store, path);
-    let palette = store.palette(version, &keys).map_err(|error| match error {
-        Error::NotThirtyTwoBytes => Fail::Refused(
+    let refused = store.refused(path);
+    let palette = store.palette(version, &keys).map_err(|e| match e.refusal() {
+        Some(error @ Error::NotThirtyTwoBytes) => Fail::Refused(
             error,
             format!(
                 "{} were asked for: a call takes 256 at most.",
                 counted(keys.len(), "key")
             ),
         ),
-        error => refused(error),
+        _ => refused(e),
     })?;
     let bytes = palette.as_bytes();
     let root = store.root(version).map_err(&refused)?;
@@ -114,7 +114,7 @@ pub fn prove(args: &Args, out: &mut Out) -> Result<u8, Fail> {
         ),
         None => to_hex(bytes),
     };
-    let each = keys.iter().zip(palette.proofs()).map(|(key, proof)| {
+    let each = keys.iter().zip(store.pieces(&palette)).map(|(key, proof)| {
         let fields = vec![
             ("key", key.to_string().into()),
             ("length", proof.len().into()),
@@ -132,7 +132,7 @@ pub fn prove(args: &Args, out: &mut Out) -> Result<u8, Fail> {
 }
 
 pub fn verify(args: &Args, out: &mut Out) -> Result<u8, Fail> {
-    let root = known_root(args)?;
+    let (root, statement_bits) = known_root(args)?;
     let last = count(args) - 1;
     if args.has("--keys") && last > 1 {
         return Err(Fail::Usage(
@@ -142,7 +142,11 @@ pub fn verify(args: &Args, out: &mut Out) -> Result<u8, Fail> {
     let keys = keys(args, 1, last, None)?;
     let path = args.path(last);
     let palette = Palette::from_bytes(proof_bytes(files::read(path, PALETTE_LIMIT)?)?);
-    let shows = palette.verify(&root, &keys).map_err(|refused| {
+    let shows = match bits(args, statement_bits)? {
+        Some(bits) => palette.verify_shelf(&root, bits, &keys),
+        None => palette.verify(&root, &keys),
+    };
+    let shows = shows.map_err(|refused| {
         let advice = proof_advice(refused.error, path);
         match keys.get(refused.position) {
             Some(key) => Fail::Refused(

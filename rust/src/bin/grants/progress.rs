@@ -2,6 +2,7 @@
 //! else is written.
 
 use std::io::{self, IsTerminal, Write};
+use std::sync::atomic::{AtomicUsize, Ordering};
 use std::sync::{Condvar, Mutex, MutexGuard, PoisonError};
 use std::thread;
 use std::time::{Duration, Instant};
@@ -18,6 +19,28 @@ enum State {
 
 static STATE: Mutex<State> = Mutex::new(State::Hidden);
 static ENDED: Condvar = Condvar::new();
+
+/// How many parts of a shelf are done, of how many; 0 of 0 where no parts are worked on.
+static DONE: AtomicUsize = AtomicUsize::new(0);
+static OF: AtomicUsize = AtomicUsize::new(0);
+
+/// So many parts of so many are done.
+pub fn parts(done: usize, of: usize) {
+    DONE.store(done, Ordering::Relaxed);
+    OF.store(of, Ordering::Relaxed);
+}
+
+const BAR: usize = 30;
+
+/// ': [######    ] 12 of 256 parts', where parts are worked on.
+fn bar() -> String {
+    let (done, of) = (DONE.load(Ordering::Relaxed), OF.load(Ordering::Relaxed));
+    if of < 2 {
+        return String::new();
+    }
+    let full = (BAR * done.min(of) / of).min(BAR);
+    format!(" [{}{}] {done} of {of} parts,", "#".repeat(full), " ".repeat(BAR - full))
+}
 
 fn state() -> MutexGuard<'static, State> {
     STATE.lock().unwrap_or_else(PoisonError::into_inner)
@@ -36,7 +59,7 @@ pub fn begin(command: &'static str, reads_input: bool) {
             now = waited.unwrap_or_else(PoisonError::into_inner).0;
             if *now != State::Over && begun.elapsed() >= FIRST {
                 let seconds = begun.elapsed().as_secs();
-                write(&format!("\r{command}: {seconds} s\x1b[K"));
+                write(&format!("\r{command}:{} {seconds} s\x1b[K", bar()));
                 *now = State::Shown;
             }
         }

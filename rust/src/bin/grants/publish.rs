@@ -1,21 +1,24 @@
 //! Publishing: a batch, or whatever makes the store hold the grants of a file.
 
 use crate::args::{number, Args};
-use crate::asked::{note, read_store, refused, Bytes};
+use crate::asked::{note, read_kept, refused, Bytes, Kept};
 use crate::book::{self, Book, Entry, Said};
 use crate::commands::{writable, write_book};
 
 use crate::effect::{self, Ask, Effect};
 use crate::fail::Fail;
-use crate::files::{self, Locked, BATCH_LIMIT};
+use crate::files::{self, is_shelf, Locked, BATCH_LIMIT, SHELF_BATCH_LIMIT};
 use crate::guards::{self, Removals};
 use crate::held;
 use crate::json::{object, Json};
+use crate::kept::{read_shelf, shelf_refused, trimmed};
 use crate::lines::{self, Named};
 use crate::out::{beside, Out};
 use crate::plain::{counted, quoted, shown};
 use crate::room;
-use grants::{dates, to_hex, Applied, Batch, Error, Key, Root, Store, BATCH_RECORDS};
+use grants::{
+    dates, to_hex, Applied, Batch, Error, Key, Root, Rounds, Shelf, ShelfError, Store, BATCH_RECORDS,
+};
 use std::path::Path;
 
 const DAY: i64 = 86_400;
@@ -25,19 +28,37 @@ const INSERT: u8 = 1;
 /// How many records that change nothing are named on standard error, the others counted; --json has all of them.
 const MOST_NAMED: usize = 20;
 
-/// What is to be published: records of 72 bytes, one batch for each version, and the names that were used.
+/// What is to be published: records of 72 bytes, and the names that were used.
 struct Asked {
-    batches: Vec<Vec<u8>>,
-    records: usize,
+    bytes: Vec<u8>,
+    /// Whether more records than one publishing takes may be published under several numbers.
+    split: bool,
     names: Vec<Named>,
     removals: Removals,
 }
 
 impl Asked {
+    fn records(&self) -> usize {
+        self.bytes.len().div_ceil(RECORD)
+    }
+
+    /// Whether the list is there already, so that no version is published.
+    fn is_there(&self) -> bool {
+        self.removals == Removals::LeftOut && self.bytes.is_empty()
+    }
+
+    /// The batches of a store, one for each version.
+    fn batches(&self) -> Vec<&[u8]> {
+        match self.split && !self.bytes.is_empty() {
+            _ if self.is_there() => vec![],
+            true => self.bytes.chunks(BATCH_RECORDS * RECORD).collect(),
+            false => vec![&self.bytes],
+        }
+    }
+
     /// The records, as the library takes them once it has found them in form.
     fn asks(&self) -> impl Iterator<Item = Ask> + '_ {
-        let records = self.batches.iter().flat_map(|b| b.chunks_exact(RECORD));
-        records.map(|record| {
+        self.bytes.chunks_exact(RECORD).map(|record| {
             let word =
                 |from: usize| <[u8; 32]>::try_from(&record[from..from + 32]).unwrap_or([0; 32]);
             let value = (record[4] == INSERT).then(|| word(40).into());
@@ -59,11 +80,15 @@ impl Asked {
     }
 }
 
-fn read_batch(path: &Path) -> Result<Vec<u8>, Fail> {
-    let bytes = files::read(path, BATCH_LIMIT + 1)?;
-    if bytes.len() as u64 > BATCH_LIMIT {
+fn read_batch(path: &Path, to: &Path) -> Result<Vec<u8>, Fail> {
+    let (limit, what) = match is_shelf(to) {
+        true => (SHELF_BATCH_LIMIT, "shelf"),
+        false => (BATCH_LIMIT, "store"),
+    };
+    let bytes = files::read(path, limit + 1)?;
+    if bytes.len() as u64 > limit {
         return Err(Fail::File(format!(
-            "cannot read {}: it has more than {BATCH_LIMIT} bytes, far more than a store takes",
+            "cannot read {}: it has more than {limit} bytes, far more than a {what} takes",
             shown(path)
         )));
     }
@@ -96,16 +121,9 @@ fn asked(args: &Args, bytes: &[u8], book: &Book) -> Result<Asked, Fail> {
                 "--end goes with a batch as text: binary records have no end line".to_string(),
             ));
         }
-        let batches = match split && !bytes.is_empty() {
-            true => bytes
-                .chunks(BATCH_RECORDS * RECORD)
-                .map(<[u8]>::to_vec)
-                .collect(),
-            false => vec![bytes.to_vec()],
-        };
         return Ok(Asked {
-            batches,
-            records: bytes.len().div_ceil(RECORD),
+            bytes: bytes.to_vec(),
+            split,
             names: vec![],
             removals: Removals::Named,
         });
@@ -116,14 +134,9 @@ fn asked(args: &Args, bytes: &[u8], book: &Book) -> Result<Asked, Fail> {
             "the batch has no end line, so it may have been cut off.".to_string(),
         ));
     }
-    let records = lines.batch.len();
-    let batches = match split {
-        true => lines.batch.split(),
-        false => vec![lines.batch],
-    };
     Ok(Asked {
-        batches: batches.iter().map(Batch::to_bytes).collect(),
-        records,
+        bytes: lines.batch.to_bytes(),
+        split,
         names: lines.names,
         removals: Removals::Named,
     })
@@ -131,8 +144,7 @@ fn asked(args: &Args, bytes: &[u8], book: &Book) -> Result<Asked, Fail> {
 
 /// The numbers that so many batches get: the last of them what was asked for, else one after the other from latest. Where there is none it is 0,
 /// which the library refuses as it does every number up to latest.
-fn numbers(args: &Args, store: &Bytes, batches: usize) -> Result<Vec<u32>, Fail> {
-    let latest = store.header().map_or(0, |header| header.latest);
+fn numbers(args: &Args, latest: u32, batches: usize) -> Result<Vec<u32>, Fail> {
     let last = match args.value("--number") {
         Some(word) => Some(number("N", word)?),
         None => latest.checked_add(batches as u32),
@@ -152,40 +164,83 @@ fn publish(
 ) -> Result<Vec<Applied>, Fail> {
     let before = Store::over(store.as_bytes().to_vec());
     let refused = refused(store, path);
-    let numbers = numbers(args, store, asked.batches.len())?;
+    let batches = asked.batches();
+    let latest = store.header().map_or(0, |header| header.latest);
+    let numbers = numbers(args, latest, batches.len())?;
     let name = shown(path);
-    let order = || {
-        format!(
-        "Sort binary records by key and name each key once; a batch as text is sorted for you. {name} is as it was."
-    )
-    };
     let mut published: Vec<Applied> = vec![];
-    for (i, batch) in asked.batches.iter().enumerate() {
-        if i > 0 && !in_order(&asked.batches[i - 1], batch) {
-            return Err(Fail::Refused(Error::BatchOrder, order()));
+    for (i, batch) in batches.iter().enumerate() {
+        if i > 0 && !in_order(batches[i - 1], batch) {
+            return Err(Fail::Refused(Error::BatchOrder, order(&name)));
         }
         let made = store.apply_bytes(numbers[i], batch).map_err(|e| match e {
-            Error::BatchForm if asked.records > BATCH_RECORDS && asked.batches.len() == 1 => Fail::Refused(e, format!(
+            Error::BatchForm if asked.records() > BATCH_RECORDS && batches.len() == 1 => Fail::Refused(e, format!(
                 "This one has {}: hand it in parts, or say --split to publish it as {} versions. {name} is as it was.",
-                asked.records, asked.records.div_ceil(BATCH_RECORDS)
+                asked.records(), asked.records().div_ceil(BATCH_RECORDS)
             )),
-            Error::BatchForm => Fail::Refused(e, format!(
-                "A binary batch is records of 72 bytes, as docs/FORMAT.md has them. {name} is as it was."
-            )),
-            Error::BatchOrder => Fail::Refused(e, order()),
-            Error::NoRoom => match room::advice(&before, &name, &numbers, &asked.batches) {
+            Error::BatchForm => Fail::Refused(e, form(&name)),
+            Error::BatchOrder => Fail::Refused(e, order(&name)),
+            Error::NoRoom => match room::advice(&before, &name, &numbers, &batches) {
                 Ok(advice) => Fail::Refused(e, advice),
                 Err(_) => refused(e),
             },
-            Error::NotAboveLatest if numbers.len() > 1 && args.has("--number") => Fail::Refused(e, format!(
-                "{} versions take as many numbers up to the one given, each above the latest version of {name}, which is as it was.",
-                numbers.len()
-            )),
+            Error::NotAboveLatest if numbers.len() > 1 && args.has("--number") => Fail::Refused(e, too_few(&name, &numbers)),
             e => refused(e),
         })?;
         published.push(made);
     }
     Ok(published)
+}
+
+fn form(name: &str) -> String {
+    format!("A binary batch is records of 72 bytes, as docs/FORMAT.md has them. {name} is as it was.")
+}
+
+fn order(name: &str) -> String {
+    format!("Sort binary records by key and name each key once; a batch as text is sorted for you. {name} is as it was.")
+}
+
+fn too_few(name: &str, numbers: &[u32]) -> String {
+    format!(
+        "{} versions take as many numbers up to the one given, each above the latest version of {name}, which is as it was.",
+        numbers.len()
+    )
+}
+
+/// What the library says of records for a shelf, which hands each part its own alone: whether they are in form, and their keys ascending.
+fn judged(bytes: &[u8], name: &str) -> Result<(), Fail> {
+    let mut before: &[u8] = &[];
+    for batch in bytes.chunks(BATCH_RECORDS * RECORD) {
+        let scratch = Store::with_capacity(1).map(|mut store| store.apply_bytes(1, batch));
+        match scratch {
+            Ok(Err(e @ Error::BatchForm)) => return Err(Fail::Refused(e, form(name))),
+            Ok(Err(e @ Error::BatchOrder)) => return Err(Fail::Refused(e, order(name))),
+            _ if !before.is_empty() && !in_order(before, batch) => {
+                return Err(Fail::Refused(Error::BatchOrder, order(name)))
+            }
+            _ => before = batch,
+        }
+    }
+    Ok(())
+}
+
+/// Publishes in files that no reader uses before the list is replaced; without `keep` in memory alone.
+fn shelve(args: &Args, shelf: &Shelf, asked: &Asked, keep: bool) -> Result<grants::Made, Fail> {
+    let path = args.path(0);
+    let name = trimmed(path);
+    let refused = |e: ShelfError| shelf_refused(Some(shelf), path, e);
+    judged(&asked.bytes, &name)?;
+    let rounds = Rounds::of(shelf.bits(), &asked.bytes).map_err(|e| refused(e.into()))?;
+    if rounds.len() > 1 && !asked.split {
+        return Err(refused(ShelfError::Rounds { rounds: rounds.len() }));
+    }
+    let numbers = numbers(args, shelf.header().latest, rounds.len())?;
+    shelf.make(&rounds, &numbers, keep).map_err(|e| match e.refusal() {
+        Some(error @ Error::NotAboveLatest) if numbers.len() > 1 && args.has("--number") => {
+            Fail::Refused(error, too_few(&name, &numbers))
+        }
+        _ => refused(e),
+    })
 }
 
 /// Whether the library takes the records on both sides of a seam for ascending.
@@ -196,12 +251,17 @@ fn in_order(left: &[u8], right: &[u8]) -> bool {
     !matches!(scratch, Ok(Err(Error::BatchOrder)))
 }
 
-/// What was made in memory: the versions, and what they do to the list of grants.
+/// What was made: the store, or the list of a shelf, that is to come in the old one's place; its versions, and what they do to the grants.
 struct Made {
+    new: Bytes,
     published: Vec<Applied>,
     effect: Effect,
     /// The version that was the latest before, with its root.
     was: (u32, Root),
+    /// Free slots: the store's, or those of the fullest store of the shelf that changes.
+    free: usize,
+    /// Of a shelf, the parts that change and the bytes of their files.
+    parts: Option<(usize, u64)>,
 }
 
 /// What the book is told of a publishing beside its root.
@@ -242,8 +302,9 @@ fn split(made: &Made, asked: &Asked) -> Option<String> {
     let versions = made.published.len();
     (asked.removals == Removals::LeftOut && versions > 1).then(|| {
         format!(
-            "{} changes make {versions} versions: a version takes {BATCH_RECORDS} at most",
-            asked.records
+            "{} changes make {versions} versions: a version takes {BATCH_RECORDS} at most{}",
+            asked.records(),
+            if made.parts.is_some() { " for a part" } else { "" }
         )
     })
 }
@@ -267,27 +328,82 @@ fn lost_line(made: &Made, book: &Book, store: &Path) -> Option<String> {
     })
 }
 
-/// Publishes in memory, unless something holds it back. Where nothing is asked for, the root is the one that is there.
-fn make(args: &Args, store: &mut Bytes, asked: &Asked, book: &Book) -> Result<Made, Fail> {
+/// Publishes, unless something holds it back, so that only the new file has to be put in its place. Where nothing is asked for, the root is the one that is there.
+fn make(args: &Args, kept: Kept, asked: &Asked, book: &Book, keep: bool) -> Result<Made, Fail> {
+    let made = match kept {
+        Kept::Store(store) => made_store(args, store, asked)?,
+        Kept::Shelf(shelf) => made_shelf(args, &shelf, asked, keep)?,
+    };
+    let root = made.published.last().map_or(made.was.1, |made| made.root);
+    guards::hold(args, &made.effect, asked.removals, root, &|key| {
+        asked.shown(key, book)
+    })?;
+    Ok(made)
+}
+
+fn made_store(args: &Args, mut store: Bytes, asked: &Asked) -> Result<Made, Fail> {
     let path = args.path(0);
     // Where this is refused, so is the publishing, and for the same cause.
-    let now = effect::latest(store);
+    let now = effect::latest(&store);
     let was = store
         .header()
         .and_then(|header| Ok((header.latest, store.root(header.latest)?)));
-    let published = publish(args, store, asked, path)?;
-    let refused = refused(store, path);
+    let published = publish(args, &mut store, asked, path)?;
+    let refused = refused(&store, path);
     let effect = Effect::of(&now.map_err(&refused)?, asked.asks());
-    let was = was.map_err(&refused)?;
-    let root = published.last().map_or(was.1, |made| made.root);
-    guards::hold(args, &effect, asked.removals, root, &|key| {
-        asked.shown(key, book)
-    })?;
+    let slots = store.slots().map_err(&refused)?;
     Ok(Made {
         published,
         effect,
-        was,
+        was: was.map_err(&refused)?,
+        free: slots.iter().filter(|slot| slot.is_none()).count(),
+        parts: None,
+        new: store,
     })
+}
+
+fn made_shelf(args: &Args, shelf: &Shelf, asked: &Asked, keep: bool) -> Result<Made, Fail> {
+    let latest = shelf.header().latest;
+    let was = shelf.root(latest).map_err(|e| shelf_refused(Some(shelf), args.path(0), e))?;
+    let before = shelf.files().map(|file| file.grants as usize).sum();
+    let (was, list) = ((latest, was), shelf.list().as_bytes().to_vec());
+    if asked.is_there() {
+        let effect = Effect { before, ..Effect::default() };
+        let (published, new) = (vec![], Store::over(list));
+        return Ok(Made { new, published, effect, was, free: 0, parts: Some((0, 0)) });
+    }
+    let made = shelve(args, shelf, asked, keep)?;
+    let grants::Effect { added, removed, changed, idle } = made.effect;
+    Ok(Made {
+        new: made.list,
+        published: made.published,
+        effect: Effect { before, added, removed, changed, idle },
+        was,
+        free: made.free,
+        parts: Some((made.parts, made.bytes)),
+    })
+}
+
+/// Removes at its end what is of no use to the shelf as it then is. The lock must outlive it.
+struct Cleaned<'a>(&'a Path);
+
+impl Drop for Cleaned<'_> {
+    fn drop(&mut self) {
+        if is_shelf(self.0) {
+            // What can't be removed now, the next writer removes.
+            let _ = Shelf::open(self.0).and_then(|shelf| shelf.clean());
+        }
+    }
+}
+
+/// What a writer is at work on, under the lock and rid of what another one left.
+fn taken(path: &Path, locked: &Locked) -> Result<Kept, Fail> {
+    if !is_shelf(path) {
+        return Ok(Kept::Store(Store::over(locked.read()?)));
+    }
+    let shelf = read_shelf(path)?;
+    shelf.clean().map_err(|e| shelf_refused(Some(&shelf), path, e))?;
+    Ok(Kept::Shelf(shelf))
 }
 
 /// Says beside the answer which names are the book's word alone, and which records change nothing.
@@ -312,8 +428,7 @@ fn said_beside(made: &Made, asked: &Asked, book: &Book) {
 fn keep(
     args: &Args,
     remark: &Remark,
-    mut locked: Locked,
-    store: &Bytes,
+    locked: &mut Locked,
     mut book: Book,
     asked: &Asked,
     made: &Made,
@@ -337,7 +452,10 @@ fn keep(
         });
     }
     book.may_be_written()?;
-    locked.replace(store.as_bytes())?;
+    if made.parts.is_some() {
+        locked.sync()?;
+    }
+    locked.replace(made.new.as_bytes())?;
     out.changed = true;
     write_book(&book)?;
     // Where something failed before, its sentence stands alone.
@@ -345,7 +463,7 @@ fn keep(
     for one in said.into_iter().flatten() {
         beside(format_args!("note: {one}"));
     }
-    told(made, asked, None, out)
+    told(made, asked, false, out)
 }
 
 impl Made {
@@ -356,13 +474,13 @@ impl Made {
     }
 }
 
-/// What was published, or would be where it says how many slots would be left.
-fn told(made: &Made, asked: &Asked, left: Option<usize>, out: &mut Out) -> Result<u8, Fail> {
+/// What was published, or would be; then it says how many slots would be left.
+fn told(made: &Made, asked: &Asked, dry: bool, out: &mut Out) -> Result<u8, Fail> {
     if out.json {
-        return out.answer(0, told_in_json(made, asked, left), "");
+        return out.answer(0, told_in_json(made, asked, dry), "");
     }
     let mut answer = out.decided(0);
-    let would = if left.is_some() { "would be " } else { "" };
+    let would = if dry { "would be " } else { "" };
     for made in &made.published {
         answer.line(format_args!(
             "{would}version {}, {}, root {}",
@@ -372,19 +490,27 @@ fn told(made: &Made, asked: &Asked, left: Option<usize>, out: &mut Out) -> Resul
         ))?;
     }
     if made.published.is_empty() {
-        answer.line("the store holds these grants already; no version was published")?;
+        let what = if made.parts.is_some() { "shelf" } else { "store" };
+        answer.line(format_args!(
+            "the {what} holds these grants already; no version was published"
+        ))?;
     }
     answer.line(made.effect.line())?;
-    if let Some(left) = left {
+    if let Some((parts, bytes)) = made.parts {
+        let verb = if dry { "would change" } else { "changed" };
+        answer.line(format_args!("{} {verb}, {bytes} bytes", counted(parts, "part")))?;
+    }
+    if dry {
+        let of = if made.parts.is_some() { " in the fullest store that changes" } else { "" };
         answer.line(format_args!(
-            "{} would be left; nothing was changed",
-            counted(left, "free slot")
+            "{} would be left{of}; nothing was changed",
+            counted(made.free, "free slot")
         ))?;
     }
     answer.end()
 }
 
-fn told_in_json(made: &Made, asked: &Asked, left: Option<usize>) -> Json {
+fn told_in_json(made: &Made, asked: &Asked, dry: bool) -> Json {
     let list = made.published.iter().map(|made| {
         object(vec![
             ("version", made.version.into()),
@@ -402,53 +528,48 @@ fn told_in_json(made: &Made, asked: &Asked, left: Option<usize>) -> Json {
     let mut fields = vec![("published", Json::List(list.collect()))];
     fields.extend(made.effect.fields());
     fields.push(("by_book", Json::List(by_book.collect())));
-    if let Some(left) = left {
+    if let Some((parts, bytes)) = made.parts {
+        fields.push(("parts_changed", parts.into()));
+        fields.push(("part_bytes", Json::Number(bytes)));
+    }
+    if dry {
         fields.push(("dry_run", true.into()));
-        fields.push(("free", left.into()));
+        fields.push(("free", made.free.into()));
     }
     object(fields)
 }
 
 /// The same in memory alone, of a store that need not be one that may be written.
-fn tried(
-    args: &Args,
-    mut store: Bytes,
-    asked: &Asked,
-    book: &Book,
-    out: &mut Out,
-) -> Result<u8, Fail> {
-    let made = make(args, &mut store, asked, book)?;
+fn tried(args: &Args, kept: Kept, asked: &Asked, book: &Book, out: &mut Out) -> Result<u8, Fail> {
+    let made = make(args, kept, asked, book, false)?;
     said_beside(&made, asked, book);
-    let left = store.slots().map_err(refused(&store, args.path(0)))?;
-    let left = left.iter().filter(|slot| slot.is_none()).count();
-    told(&made, asked, Some(left), out)
+    told(&made, asked, true, out)
 }
 
 pub fn apply(args: &Args, out: &mut Out) -> Result<u8, Fail> {
     let path = writable(args)?;
     let remark = Remark::of(args)?;
-    let bytes = read_batch(args.path(1))?;
+    let bytes = read_batch(args.path(1), path)?;
     book::is_none_of(args, &[path, args.path(1)])?;
     let known = Book::of(args, Some(path))?;
     let first = asked(args, &bytes, &known)?;
     if args.has("--dry-run") {
-        return tried(args, read_store(path)?, &first, &known, out);
+        return tried(args, read_kept(path)?, &first, &known, out);
     }
-    let locked = Locked::take(args, path)?;
+    let mut locked = Locked::take(args, path)?;
+    let _cleaned = Cleaned(path);
     // Another writer may have given names while this one waited.
     let book = Book::of(args, Some(path))?;
     let asked = asked(args, &bytes, &book)?;
-    let mut store = Store::over(locked.read()?);
-    let made = make(args, &mut store, &asked, &book)?;
-    keep(args, &remark, locked, &store, book, &asked, &made, out)
+    let made = make(args, taken(path, &locked)?, &asked, &book, true)?;
+    keep(args, &remark, &mut locked, book, &asked, &made, out)
 }
 
 /// What makes the latest version hold exactly these grants.
-fn difference(store: &Bytes, path: &Path, lines: lines::Lines) -> Result<Asked, Fail> {
-    let refused = refused(store, path);
-    let slots = store.slots().map_err(&refused)?;
+fn difference(store: &Kept, path: &Path, lines: lines::Lines) -> Result<Asked, Fail> {
+    let refused = store.refused(path);
     let latest = store.header().map_err(&refused)?.latest;
-    let now = held::grants(store, &slots, latest).map_err(&refused)?;
+    let now = store.grants(latest).map_err(&refused)?;
     let mut batch = Batch::new();
     let mut wanted = held::Grants::new();
     for (key, value) in lines.batch.iter() {
@@ -466,11 +587,9 @@ fn difference(store: &Bytes, path: &Path, lines: lines::Lines) -> Result<Asked, 
     for key in now.keys().filter(|key| !wanted.contains_key(key)) {
         let _ = batch.delete(*key);
     }
-    let records = batch.len();
-    let batches = if records == 0 { vec![] } else { batch.split() };
     Ok(Asked {
-        batches: batches.iter().map(Batch::to_bytes).collect(),
-        records,
+        bytes: batch.to_bytes(),
+        split: true,
         names: lines.names,
         removals: Removals::LeftOut,
     })
@@ -479,25 +598,26 @@ fn difference(store: &Bytes, path: &Path, lines: lines::Lines) -> Result<Asked, 
 pub fn import(args: &Args, out: &mut Out) -> Result<u8, Fail> {
     let path = writable(args)?;
     let remark = Remark::of(args)?;
-    let bytes = read_batch(args.path(1))?;
+    let bytes = read_batch(args.path(1), path)?;
     let text = as_text(&bytes, args.path(1))?;
     book::is_none_of(args, &[path, args.path(1)])?;
     let known = Book::of(args, Some(path))?;
     let first = text_lines(args, text, &known)?;
     guards::whole(args, first.batch.len(), first.ended)?;
     if args.has("--dry-run") {
-        let store = read_store(path)?;
+        let store = read_kept(path)?;
         let asked = difference(&store, path, first)?;
         return tried(args, store, &asked, &known, out);
     }
-    let locked = Locked::take(args, path)?;
+    let mut locked = Locked::take(args, path)?;
+    let _cleaned = Cleaned(path);
     let book = Book::of(args, Some(path))?;
-    let mut store = Store::over(locked.read()?);
+    let store = taken(path, &locked)?;
     let asked = difference(&store, path, text_lines(args, text, &book)?)?;
-    let made = make(args, &mut store, &asked, &book)?;
+    let made = make(args, store, &asked, &book, true)?;
     if made.published.is_empty() {
         said_beside(&made, &asked, &book);
-        return told(&made, &asked, None, out);
+        return told(&made, &asked, false, out);
     }
-    keep(args, &remark, locked, &store, book, &asked, &made, out)
+    keep(args, &remark, &mut locked, book, &asked, &made, out)
 }

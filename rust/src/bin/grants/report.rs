@@ -1,7 +1,7 @@
 //! The figures of a range of versions: a table, CSV, JSON, and a picture.
 
 use crate::args::{number, Args};
-use crate::asked::{on_day, read_store, refused, Bytes};
+use crate::asked::{on_day, read_kept, Kept};
 use crate::book::{Book, Said};
 use crate::json::object;
 
@@ -24,7 +24,7 @@ struct Row {
 }
 
 /// An end of the range: a version by its number, or by a day at whose end it was the latest.
-fn end(args: &Args, name: &str, store: &Bytes, path: &Path, else_: u32) -> Result<u32, Fail> {
+fn end(args: &Args, name: &str, store: &Kept, path: &Path, else_: u32) -> Result<u32, Fail> {
     match args.said(name)? {
         None => Ok(else_),
         Some(text) if text.bytes().all(|b| b.is_ascii_digit()) => number(name, text.as_ref()),
@@ -34,12 +34,12 @@ fn end(args: &Args, name: &str, store: &Bytes, path: &Path, else_: u32) -> Resul
 
 fn rows(
     args: &Args,
-    store: &Bytes,
+    store: &Kept,
     path: &Path,
     range: &RangeFigures,
     last: u32,
 ) -> Result<Vec<Row>, Fail> {
-    let refused = refused(store, path);
+    let refused = store.refused(path);
     let header = store.header().map_err(&refused)?;
     let slots = store.slots().map_err(&refused)?;
     let book = Book::of(args, Some(path))?;
@@ -164,14 +164,14 @@ fn drawn(rows: &[Row], last: u32) -> String {
 
 pub fn report(args: &Args, out: &mut Out) -> Result<u8, Fail> {
     let path = args.path(0);
-    let store = read_store(path)?;
-    let header = store.header().map_err(refused(&store, path))?;
+    let store = read_kept(path)?;
+    let header = store.header().map_err(store.refused(path))?;
     let last = end(args, "--to", &store, path, header.latest)?;
     let most = last.saturating_sub(RANGE_VERSIONS - 1).max(header.oldest);
     let first = end(args, "--from", &store, path, most)?;
-    let range = store.figures(first, last).map_err(|e| match e {
-        Error::VersionNotKept => Fail::Refused(e, format!("The range was {first} to {last}; a range has 1 to {RANGE_VERSIONS} versions, and {} keeps versions {} to {}.", shown(path), header.oldest, header.latest)),
-        e => refused(&store, path)(e),
+    let range = store.figures(first, last).map_err(|e| match e.refusal() {
+        Some(error @ Error::VersionNotKept) => Fail::Refused(error, format!("The range was {first} to {last}; a range has 1 to {RANGE_VERSIONS} versions, and {} keeps versions {} to {}.", shown(path), header.oldest, header.latest)),
+        _ => store.refused(path)(e),
     })?;
     if let Some(to) = args.value("--svg").map(Path::new) {
         let text = drawn(&rows(args, &store, path, &range, last)?, last);

@@ -9,11 +9,12 @@ use crate::held::{self, hash};
 use crate::json::{object, Json};
 use crate::out::Out;
 use crate::plain::{at, counted, shown};
+use crate::shelves;
 use grants::{to_hex, Body, Error, Place, Record, Rescued, Root, Slot};
 use std::collections::{BTreeMap, HashMap};
 use std::path::Path;
 
-const COMPARE: &str = "Compare it with the root that was signed: nothing else shows that no grant withdrawn since seems in force.";
+pub const COMPARE: &str = "Compare it with the root that was signed: nothing else shows that no grant withdrawn since seems in force.";
 
 /// A whole tree: the greatest version in it, and how many grants.
 #[derive(Clone, Copy)]
@@ -325,9 +326,20 @@ fn wrong_size(store: &Bytes, path: &Path) -> impl Fn(Error) -> Fail {
     }
 }
 
+/// Of a shelf.
+fn of_shelf(args: &Args, latest: u32, out: &mut Out) -> Result<u8, Fail> {
+    let oldest = args.value("--oldest").map(|word| number("--oldest", word));
+    let signed = args.said("--root")?.map(|text| root_of(&text));
+    shelves::rescue(args, latest, oldest.transpose()?.unwrap_or(0), signed.transpose()?, out)
+}
+
 pub fn rescue(args: &Args, out: &mut Out) -> Result<u8, Fail> {
     let path = args.path(0);
-    let store = read_store(path)?;
+    if let Some(word) = args.value("--latest").filter(|_| files::is_shelf(path)) {
+        return of_shelf(args, number("--latest", word)?, out);
+    }
+    // The root records of a shelf are those of its list.
+    let store = read_store(&files::main_file(path))?;
     if store.is_old_form() {
         let error = store.header().err().unwrap_or(Error::Size);
         return Err(refused(&store, path)(error));

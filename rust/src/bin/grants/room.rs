@@ -14,7 +14,7 @@ fn widest(store: &Bytes) -> Bytes {
 }
 
 /// How many records these batches make, or none where no store has that many slots.
-fn needed(store: &Bytes, numbers: &[u32], batches: &[Vec<u8>]) -> Result<Option<usize>, Error> {
+fn needed(store: &Bytes, numbers: &[u32], batches: &[&[u8]]) -> Result<Option<usize>, Error> {
     let mut wide = widest(store);
     let mut sum = 0;
     for (number, batch) in numbers.iter().zip(batches) {
@@ -32,7 +32,7 @@ pub fn advice(
     store: &Bytes,
     name: &str,
     numbers: &[u32],
-    batches: &[Vec<u8>],
+    batches: &[&[u8]],
 ) -> Result<String, Error> {
     let slots = store.slots()?;
     let free = slots.iter().filter(|slot| slot.is_none()).count();
@@ -44,7 +44,7 @@ pub fn advice(
     let has = counted(free, "free slot");
     let Some(needed) = needed(store, numbers, batches)? else {
         return Ok(format!(
-            "{name} has {has}, and no store has room for this: {MOST_SLOTS} slots at most, so some 6,000 grants. Keep the list in several stores. {name} is as it was."
+            "{name} has {has}, and no store has room for this: {MOST_SLOTS} slots at most, so some 6,000 grants. Make a shelf of it (grants shelf {name} DIR --bits 8; docs/SCALE.md). {name} is as it was."
         ));
     };
     let takes = format!(

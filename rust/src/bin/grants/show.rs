@@ -2,7 +2,7 @@
 //! stands below the one whose place is a bit shorter.
 
 use crate::args::{number, Args};
-use crate::asked::{read_store, refused, version, Bytes};
+use crate::asked::{read_store, refused, version, Bytes, Kept};
 use crate::fail::Fail;
 use crate::files;
 use crate::json::Json;
@@ -57,12 +57,13 @@ fn may_be_drawn(trees: &[Tree]) -> Result<(), Fail> {
 
 pub fn show(args: &Args, out: &mut Out) -> Result<u8, Fail> {
     let path = args.path(0);
-    let store = read_store(path)?;
-    let refused = refused(&store, path);
+    let kept = Kept::Store(read_store(path)?);
+    let store = kept.first();
+    let refused = refused(store, path);
     let slots = store.slots().map_err(&refused)?;
     let mut trees = vec![];
-    for version in versions(args, &store, path)? {
-        trees.push(tree(&store, &slots, version).map_err(&refused)?);
+    for version in versions(args, &kept, path)? {
+        trees.push(tree(store, &slots, version).map_err(&refused)?);
     }
     let full = args.has("--full");
     let picture = args.value("--svg").map(Path::new);
@@ -98,7 +99,7 @@ pub fn show(args: &Args, out: &mut Out) -> Result<u8, Fail> {
 }
 
 /// The versions that are asked for, else the latest, or that of a day.
-fn versions(args: &Args, store: &Bytes, path: &Path) -> Result<Vec<u32>, Fail> {
+fn versions(args: &Args, store: &Kept, path: &Path) -> Result<Vec<u32>, Fail> {
     let mut versions = vec![];
     for word in args.rest(1) {
         let version = number("VERSION", word)?;

@@ -58,7 +58,7 @@ impl Plan {
         let alone = f64::from(self.grants) * SLOTS_A_GRANT * 1.125;
         let advice = match alone as u64 <= u64::from(MOST_SLOTS) {
             true => "keep fewer versions",
-            false => "keep the list in several stores, by the first bits of the key: 6,000 grants fit one",
+            false => "make a shelf, of several stores under one root (grants format DIR --bits 8; docs/SCALE.md): 6,000 grants fit one store",
         };
         Err(Fail::Usage(format!(
             "{} grants with {} changes a week and {} kept want some {slots} slots, and a store has {MOST_SLOTS} at most: {advice}",

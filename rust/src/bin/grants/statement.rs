@@ -1,7 +1,7 @@
 //! The root of a version, alone or as the statement that is signed (docs/SIGNING.md), and that statement read again.
 
 use crate::args::{number, Args};
-use crate::asked::{hex, read_store, version};
+use crate::asked::{hex, read_kept, version, Kept};
 use crate::book::{self, Book, Said};
 use crate::fail::Fail;
 use crate::files::{self, PROOF_LIMIT};
@@ -14,26 +14,27 @@ use std::path::Path;
 
 pub fn root(args: &Args, out: &mut Out) -> Result<u8, Fail> {
     let path = args.path(0);
-    let store = read_store(path)?;
+    let store = read_kept(path)?;
     let version = version(args, 1, &store, path)?;
     let root = store
         .root(version)
         .map_err(refused_read(&store, path, version, None))?;
     if let Some(to) = args.value("--out").map(Path::new) {
-        return put(args, stated(args, path, version, root)?, to, out);
+        return put(args, stated(args, &store, version, root)?, to, out);
     }
     if args.has("--not-after") {
         return Err(Fail::Usage("--not-after goes with --out FILE".to_string()));
     }
-    let fields = vec![
+    let mut fields = vec![
         ("version", version.into()),
         ("root", root.to_string().into()),
     ];
+    fields.extend(store.shelf().map(|shelf| ("bits", shelf.bits().get().into())));
     out.answer(0, object(fields), root)
 }
 
 /// What is to be signed of this root.
-fn stated(args: &Args, path: &Path, version: u32, root: Root) -> Result<Statement, Fail> {
+fn stated(args: &Args, store: &Kept, version: u32, root: Root) -> Result<Statement, Fail> {
     let until = args.said("--not-after")?;
     let until = until.map(|text| book::date("--not-after", &text));
     if let Some(Ok((_, last))) = &until {
@@ -44,13 +45,14 @@ fn stated(args: &Args, path: &Path, version: u32, root: Root) -> Result<Statemen
             ));
         }
     }
-    let published = match Book::of(args, Some(path))?.said(version, root) {
+    let published = match Book::of(args, Some(args.path(0)))?.said(version, root) {
         Said::This(entry) => Some(entry.time),
         _ => None,
     };
     Ok(Statement {
         version,
         root,
+        bits: store.shelf().map(|shelf| shelf.bits().get()),
         published,
         made: book::time(args)?,
         not_after: until.transpose()?.map(|(_, last)| last),
@@ -81,7 +83,8 @@ fn put(args: &Args, statement: Statement, to: &Path, out: &mut Out) -> Result<u8
 }
 
 /// The root to verify against: hex digits, or a file that `root --out` wrote, whose date has not passed and whose version is not too old.
-pub fn known_root(args: &Args) -> Result<Vec<u8>, Fail> {
+/// With it, the bits of a shelf that the file says.
+pub fn known_root(args: &Args) -> Result<(Vec<u8>, Option<u32>), Fail> {
     let path = args.path(0);
     match hex("root", &args.text(0)) {
         Err(Fail::Usage(_)) if path.is_file() => {}
@@ -90,7 +93,7 @@ pub fn known_root(args: &Args) -> Result<Vec<u8>, Fail> {
                 "--least goes with a ROOT that is a file, which has its version".to_string(),
             ));
         }
-        digits => return digits,
+        digits => return Ok((digits?, None)),
     }
     let bytes = files::read(path, PROOF_LIMIT)?;
     let statement = Statement::read(&bytes).ok_or_else(|| {
@@ -116,6 +119,18 @@ pub fn known_root(args: &Args) -> Result<Vec<u8>, Fail> {
             shown(path),
             dates::text(last)
         ))),
-        _ => Ok(statement.root.as_bytes().to_vec()),
+        _ => Ok((statement.root.as_bytes().to_vec(), statement.bits)),
+    }
+}
+
+/// The bits of the shelf that a proof is of: those that were signed with the root, else those of `--bits`; none for a store's proof.
+pub fn bits(args: &Args, signed: Option<u32>) -> Result<Option<u32>, Fail> {
+    let asked = args.value("--bits").map(|word| number("--bits", word));
+    match (asked.transpose()?, signed) {
+        (Some(asked), Some(signed)) if asked != signed => Err(Fail::Usage(format!(
+            "--bits {asked} was asked for, and the root in {} is that of a shelf of {signed} bits",
+            shown(args.path(0))
+        ))),
+        (asked, signed) => Ok(asked.or(signed)),
     }
 }

@@ -4,8 +4,8 @@ use crate::args::{Args, Choice, Form};
 use crate::fail::Fail;
 use crate::out::Out;
 use crate::{
-    commands, counts, diff, grow, listing, moving, names, note, publish, report, rescue, show,
-    statement,
+    commands, counts, diff, grow, listing, moving, names, note, publish, report, rescue, shelves,
+    show, statement,
 };
 
 pub struct Command {
@@ -109,22 +109,37 @@ const KEYS: Choice = valued(
     "the keys are the lines of FILE: 64 hex digits, or a name in double quotes",
 );
 
+const BITS: Choice = valued(
+    "--bits",
+    "B",
+    "a shelf: so many bits of a key name its part, 0 to 12",
+);
+const SLOTS: Choice = valued("--slots", "N", "of a shelf, the slots of each part; else 16384");
+const LIST_SLOTS: Choice = valued("--list-slots", "N", "of a shelf, the slots of its list; else 16384");
+
 pub const COMMANDS: &[Command] = &[
     Command {
         name: "format",
-        usage: "STORE CAPACITY | STORE --for GRANTS",
+        usage: "STORE CAPACITY | STORE --for GRANTS | DIR --bits B",
         what: "a fresh, empty store with CAPACITY slots",
         help: "\
 CAPACITY is 1 to 16,384. Each record takes a slot; a publishing makes about as many records as there are nodes above and
 at what it changes. The file has 24 + 128 CAPACITY bytes. A file that is already there is left alone, unless --force.
 With --for the capacity is estimated (docs/SIZING.md): about 2.4 slots a grant, and room for the versions that are kept.
-Some 6,000 grants fit one store.",
+Some 6,000 grants fit one store.
+
+With --bits a shelf is made in the folder DIR, for more grants than that (docs/SCALE.md): grants whose keys begin with the same
+B bits, 0 to 12, are in one store, their part, and the list of parts is a store too, whose root is the one that is signed. Every
+command but move and show takes DIR where it takes STORE.",
         words: (1, 2),
         choices: &[
             JSON,
             valued("--for", "GRANTS", "estimate the capacity for so many grants"),
             valued("--weekly", "CHANGES", "with so many changes in each week's publishing"),
             valued("--keep", "VERSIONS", "of which so many versions are kept; else 1"),
+            BITS,
+            SLOTS,
+            LIST_SLOTS,
             flag("--force", "make a fresh store of a file that is there; what it holds is lost"),
             WAIT,
             BOOK,
@@ -235,6 +250,18 @@ smaller, if all of it fits.",
         words: (2, 2),
         choices: &[JSON, WAIT],
         run: grow::grow,
+    },
+    Command {
+        name: "shelf",
+        usage: "STORE DIR --bits B",
+        what: "a shelf with the versions of a store, for more grants than one store holds",
+        help: "\
+Publishes every kept publishing of STORE again, under its own number, into a new shelf in the folder DIR; the grants of every
+version are compared before DIR is there. STORE may be a shelf itself, to be given other bits or slots. Roots are others: the
+shelf's is that of its list. STORE is only read; names, dates and messages come along in DIR/list.book.",
+        words: (2, 2),
+        choices: &[JSON, BITS, SLOTS, LIST_SLOTS, BOOK, NO_BOOK],
+        run: shelves::shelf,
     },
     Command {
         name: "move",
@@ -381,6 +408,7 @@ it are named, with exit status 4. --out writes that as a text for sha256sum. doc
                 "refuse a ROOT file of an older version than this, the highest that was seen",
             ),
             flag("--pocket", "refuse with 19 a proof that shows a leaf with more than 32 steps"),
+            valued("--bits", "B", "the proof is of a shelf with so many bits, and ROOT is its list's; a ROOT file says it itself"),
             valued("--against", "STORE", "hold the proof against a version's grants"),
             valued("--version", "VERSION", "the version, with --against"),
             valued("--out", "FILE", "write what is found to FILE (- for standard output)"),
