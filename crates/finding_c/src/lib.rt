@@ -3,8 +3,8 @@
 use fields::clear;
 use finding::Found;
 use finding::finding;
+use finding_put::put_one;
 use finding_put::put_two;
-use finding_put::put_zero;
 use forged_nodes::Named;
 ghost use mathlib.Core.Path.{_≡_};
 ghost use lib.ListN.{length};
@@ -20,7 +20,7 @@ fn put_named(answer: &mut [u8], named: Named)
     match named {
         Named::Nothing => clear(answer),
         Named::Two { node, checked } => put_two(answer, node, checked),
-        Named::Zero(m) => put_zero(answer, m),
+        Named::Zero(m) => put_one(answer, 2, m),
     }
 }
 

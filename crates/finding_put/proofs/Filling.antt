@@ -104,10 +104,9 @@ zero-65 : length (zeroBytes 65) ≡ 65
 unfolding zeroBytes
 zero-65 = refl
 
-pub zero-put : (x : Message) (f y z : Bytes) → length f ≡ 131 → y ≡ messageBytes x →
-    z ≡ zeroBytes (length (take (131 - 66) (drop 66 (afterOne 65 2 f y)))) → afterTwo 65 65 2 f y z ≡ findingBytes (oneZero (messageBytes x))
-unfolding findingBytes
-zero-put x f y z l e g =
+pub one-put : (k : ℕ) (x : Message) (f y z : Bytes) → length f ≡ 131 → y ≡ messageBytes x →
+    z ≡ zeroBytes (length (take (131 - 66) (drop 66 (afterOne 65 k f y)))) → afterTwo 65 65 k f y z ≡ k ∷ (messageBytes x ++ zeroBytes 65)
+one-put k x f y z l e g =
     let long : length y ≡ 65 = ap length e ∙ message-65 x in
-    let rest : z ≡ zeroBytes 65 = g ∙ ap zeroBytes (part-two-long 65 65 2 f l y long) in
-    filled 65 65 2 f l y z long (ap length rest ∙ zero-65) ∙ ap₂ (λ u v. 2 ∷ (u ++ v)) e rest
+    let rest : z ≡ zeroBytes 65 = g ∙ ap zeroBytes (part-two-long 65 65 k f l y long) in
+    filled 65 65 k f l y z long (ap length rest ∙ zero-65) ∙ ap₂ (λ u v. k ∷ (u ++ v)) e rest

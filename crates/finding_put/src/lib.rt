@@ -5,7 +5,9 @@ use hash::put_hash;
 ghost use mathlib.Core.Path.{_≡_};
 ghost use mathlib.Core.Bool.{cond};
 ghost use lib.ListN.{length};
-ghost use Rattle.forgery.specs.Finding.{twoEqual, oneZero};
+ghost use mathlib.Core.List.{_∷_, _++_};
+ghost use Rattle.terms.specs.Fields.{zeroBytes};
+ghost use Rattle.forgery.specs.Finding.{twoEqual};
 ghost use Rattle.forged_message.specs.Parts.{messageBytes};
 ghost use Rattle.finding_rules.specs.Call.{findingBytes};
 
@@ -39,12 +41,12 @@ pub fn put_two(answer: &mut [u8], node: Message, checked: Message)
     put_message(&mut answer[66..131], checked);
 }
 
-// Writes 2 and a message.
-pub fn put_zero(answer: &mut [u8], m: Message)
+// Writes a kind and one message.
+pub fn put_one(answer: &mut [u8], kind: u8, m: Message)
     requires { ⌜ length (now answer) ≡ 131 ⌝ }
-    ensures { λ _. ⌜ now (answer .exit) ≡ findingBytes (oneZero (messageBytes m)) ⌝ }
+    ensures { λ _. ⌜ now (answer .exit) ≡ kind ∷ (messageBytes m ++ zeroBytes 65) ⌝ }
 {
-    answer[0] = 2;
+    answer[0] = kind;
     put_message(&mut answer[1..66], m);
     clear(&mut answer[66..131]);
 }

@@ -9,15 +9,21 @@ use lib.Dec.{eqb}
 use Rattle.terms.specs.Bits.{Bytes, sameBytes}
 use Rattle.terms.proofs.Tests.{and-assoc}
 use Rattle.hash.specs.declared.Hash.{Hash}
-use Rattle.hash.specs.Hash.{hashBytes}
+use Rattle.hash.specs.Hash.{hashBytes, hashOf, Fits}
+use Rattle.hash.proofs.Laws.{hash-of-bytes}
 use Rattle.sha256.specs.Sha256.{sha256}
 use Rattle.nodehash.specs.Node.{leafHash, innerHash}
 use Rattle.forged_message.specs.declared.Message.{Message}
-use Rattle.forged_message.specs.Parts.{messageBytes}
+use Rattle.forged_message.specs.Parts.{messageBytes, firstWord}
 
 pub hash-long : (h : Hash) → length (hashBytes h) ≡ 32
 unfolding hashBytes
 hash-long h = refl
+
+-- the first number of a hash is its first word
+pub first-number : (h : Hash) → Fits h → h .a ≡ firstWord (hashBytes h)
+unfolding firstWord hashOf
+first-number h f = sym (ap (λ (g : Hash). g .a) (hash-of-bytes h f))
 
 -- two strings of two parts, the first ones equally long
 same-append : (a b c d : Bytes) → length a ≡ length c → sameBytes (a ++ b) (c ++ d) ≡ sameBytes a c && sameBytes b d

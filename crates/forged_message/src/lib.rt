@@ -11,7 +11,7 @@ ghost use Rattle.terms.specs.Bits.{sameBytes};
 ghost use Rattle.terms.specs.Records.{zeros};
 ghost use Rattle.hash.specs.Hash.{hashBytes};
 ghost use Rattle.sha256.specs.Sha256.{sha256};
-ghost use Rattle.forged_message.specs.Parts.{messageBytes};
+ghost use Rattle.forged_message.specs.Parts.{messageBytes, firstWord};
 
 // Of a leaf its key and value; of an inner node the hashes of its left and right child.
 pub struct Message {
@@ -28,6 +28,14 @@ pub fn hash_of(m: Message) -> Hash
         return grant_hash(m.first, m.second);
     }
     inner_hash(m.first, m.second)
+}
+
+// The first eight bytes of a message's hash, as a number.
+pub fn hash_word(m: Message) -> u64
+    ensures { λ r. ⌜ r ≡ firstWord (sha256 (messageBytes m)) ⌝ }
+{
+    let h = hash_of(m);
+    h.a
 }
 
 // Whether two messages have the same bytes.

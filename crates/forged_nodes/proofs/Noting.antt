@@ -2,7 +2,7 @@
 use Prim.Native.Nat.{ℕ}
 use native.Mathlib.Omega.{arith}
 use mathlib.Core.Path.{_≡_, refl, ap, ap₂, sym, _∙_}
-use mathlib.Core.Bool.{Bool, true, false, cond, _&&_, not}
+use mathlib.Core.Bool.{Bool, true, false, cond, _&&_, not, false≢true}
 use mathlib.Core.List.{List, [], _∷_, _++_}
 use lib.ListN.{length, take, drop}
 use Rattle.terms.specs.Bits.{Bytes, sameBytes}
@@ -11,6 +11,7 @@ use Rattle.terms.proofs.Tests.{and-true}
 use Rattle.meaning.specs.Store.{retiredBy}
 use Rattle.hash.specs.declared.Hash.{Hash}
 use Rattle.hash.specs.Hash.{hashBytes}
+use Rattle.hash.proofs.Same.{same-equal}
 use Rattle.sha256.specs.Sha256.{sha256}
 use Rattle.layout.specs.Sizes.{slotSize}
 use Rattle.layout.specs.Slots.{keyIn, valueIn, kidOn, isLeaf, leafIn, innerIn, recordIn, slotOf, versionIn, sinceIn}
@@ -21,8 +22,8 @@ use Rattle.read_step.proofs.Seeing.{leaf-body, inner-body}
 use Rattle.forgery.specs.Messages.{leafMessage, innerMessage, messageOf, standsIn, slotMessages}
 use Rattle.forgery.specs.Finding.{twoEqual, oneZero, partner, zeroAmong}
 use Rattle.forged_message.specs.declared.Message.{Message}
-use Rattle.forged_message.specs.Parts.{messageBytes}
-use Rattle.forged_nodes.specs.Nodes.{standsHere, messageIn, partnerHere, zeroHere}
+use Rattle.forged_message.specs.Parts.{messageBytes, firstWord}
+use Rattle.forged_nodes.specs.Nodes.{standsHere, messageIn, WordHere, partnerHere, zeroHere}
 
 -- the record that bytes are
 its-record : (x : Bytes) (r : Record) → slotOf x ≡ used r → recordIn x (bodyIn x) ≡ r
@@ -56,6 +57,33 @@ not-alive v x e = sym (ap (λ b. b && isUsed (slotOf x)) e) ∙ stands-by-bytes 
 
 pub alive : (v : ℕ) (x : Bytes) → covers (versionIn x) (sinceIn x) v ≡ true → isUsed (slotOf x) ≡ standsHere v (slotOf x)
 alive v x e = sym (ap (λ b. b && isUsed (slotOf x)) e) ∙ stands-by-bytes v x
+
+-- the first word of a node's hash
+module _ (v : ℕ) (x : Bytes) where
+  pub no-node-any-word : {w : ℕ} → standsHere v (slotOf x) ≡ false → WordHere v x w
+  no-node-any-word e = λ t. absurd (false≢true (sym e ∙ t))
+
+  pub node-word : (n : Bytes) {w : ℕ} → n ≡ messageIn x → w ≡ firstWord (sha256 n) → WordHere v x w
+  node-word n f g = λ t. g ∙ ap (λ k. firstWord (sha256 k)) f
+
+  -- with another first word the hash is another
+  pub other-word : (m : Bytes) {a b : ℕ} → WordHere v x a → b ≡ firstWord (sha256 m) → (a ≡ b → ⊥) → false ≡ partnerHere v m x
+  unfolding partnerHere
+  other-word m {a} {b} w e n = sym (go (standsHere v (slotOf x)) (sameBytes (sha256 (messageIn x)) (sha256 m)) refl refl)
+    where
+      go : (p q : Bool) → standsHere v (slotOf x) ≡ p → sameBytes (sha256 (messageIn x)) (sha256 m) ≡ q → p && (not (sameBytes (messageIn x) m) && q) ≡ false
+      go false q f g = refl
+      go true false f g = and-false (not (sameBytes (messageIn x) m))
+      go true true f g = absurd (n (w f ∙ ap firstWord (same-equal (sha256 (messageIn x)) (sha256 m) g) ∙ sym e))
+
+  pub word-not-zero : {a : ℕ} → WordHere v x a → (a ≡ 0 → ⊥) → false ≡ zeroHere v x
+  unfolding zeroHere firstWord zeros
+  word-not-zero {a} w n = sym (go (standsHere v (slotOf x)) (sameBytes (sha256 (messageIn x)) zeros) refl refl)
+    where
+      go : (p q : Bool) → standsHere v (slotOf x) ≡ p → sameBytes (sha256 (messageIn x)) zeros ≡ q → p && q ≡ false
+      go false q f g = refl
+      go true false f g = refl
+      go true true f g = absurd (n (w f ∙ ap firstWord (same-equal (sha256 (messageIn x)) zeros g)))
 
 -- no node, and a node by its message
 module _ (v : ℕ) (x : Bytes) where

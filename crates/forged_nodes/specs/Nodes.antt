@@ -1,14 +1,21 @@
 -- Request 2026-12: what the search over a store's slots names, case by case. Assumes nothing.
-use Prim.Native.Nat.{ℕ}
+use Prim.Native.Nat.{ℕ, _<_}
+use mathlib.Core.Path.{_≡_}
+use mathlib.Core.List.{List}
+use lib.ListN.{length, getD}
 use mathlib.Core.Bool.{Bool, true, false, _&&_, not}
 use Rattle.terms.specs.Bits.{Bytes, sameBytes}
 use Rattle.terms.specs.Records.{Slot, free, used, spoiled, zeros}
 use Rattle.sha256.specs.Sha256.{sha256}
+use Rattle.terms.specs.declared.Form.the-variants.{Counted as counted}
+use Rattle.layout.specs.Sizes.{roomOf}
+use Rattle.layout.specs.Headers.{sizeRight}
 use Rattle.layout.specs.Slots.{slotOf}
+use Rattle.layout.specs.Stores.{slotIn}
 use Rattle.read_step.specs.Walk.{bodyIn}
 use Rattle.forgery.specs.Messages.{messageOf, standsIn}
 use Rattle.forgery.specs.Finding.{Finding, nothing, twoEqual, oneZero}
-use Rattle.forged_message.specs.Parts.{messageBytes}
+use Rattle.forged_message.specs.Parts.{messageBytes, firstWord}
 use Rattle.forged_nodes.specs.declared.Named as declared
 use Rattle.forged_nodes.specs.declared.Named.the-variants.{Nothing, Two, Zero}
 
@@ -27,6 +34,19 @@ standsHere v (spoiled x) = false
 -- The message of a slot's bytes that are a record.
 abbrev pub messageIn : Bytes → Bytes
 messageIn x = messageOf (bodyIn x)
+
+-- A number is the first word of a node's hash; of what is no node it may be any.
+abbrev pub WordHere : ℕ → Bytes → ℕ → Type 0
+WordHere v x w = standsHere v (slotOf x) ≡ true → w ≡ firstWord (sha256 (messageIn x))
+
+-- The first words of the first n slots are noted, and of all.
+pub record NotedTo (v : ℕ) (s : Bytes) (words : List ℕ) (n : ℕ) : Type 0 where
+  pub size : sizeRight counted (length s) ≡ true
+  pub long : length words ≡ 16384
+  pub each : (i : ℕ) → i < n → WordHere v (slotIn counted i s) (getD words i 0)
+
+abbrev pub Noted : ℕ → Bytes → List ℕ → Type 0
+Noted v s words = NotedTo v s words (roomOf counted (length s))
 
 -- It is a node with another message than m and the same hash; or one with hash zero.
 unfoldable pub partnerHere : ℕ → Bytes → Bytes → Bool

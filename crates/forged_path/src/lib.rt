@@ -9,20 +9,16 @@ use hash::Hash;
 use hash::hash_at;
 use proofrecords::KEY_AT;
 use proofrecords::VALUE_AT;
-use terms::Form;
 use verify_path::is_right;
 use verify_path::sibling;
 ghost use mathlib.Core.Path.{_≡_};
-ghost use mathlib.Core.Bool.{true};
 ghost use Prim.Native.Nat.{suc};
-ghost use lib.ListN.{length};
 ghost use Rattle.hash.specs.Hash.{hashBytes};
 ghost use Rattle.sha256.specs.Sha256.{sha256};
 ghost use Rattle.proofrecords.specs.Steps.{Room, stepAt};
-ghost use Rattle.layout.specs.Headers.{sizeRight};
 ghost use Rattle.forgery.specs.Messages.{parentMessage};
 ghost use Rattle.forged_message.specs.Parts.{messageBytes};
-ghost use Rattle.forged_nodes.specs.Nodes.{namedSays};
+ghost use Rattle.forged_nodes.specs.Nodes.{namedSays, Noted};
 ghost use Rattle.forged_path.specs.Along.{nodesIn, atMessage, isNothing, alongPath};
 
 // The message of the parent that step i leads to, from a node with hash h.
@@ -46,14 +42,14 @@ fn parent_message(p: &[u8], i: usize, h: Hash) -> Message
 }
 
 // What is named at one message: its own hash is zero, or a node's message is its partner.
-fn at_message(store: &[u8], version: u32, m: Message) -> Named
-    requires { ⌜ sizeRight Form.Counted (length (now store)) ≡ true ⌝ }
+fn at_message(store: &[u8], version: u32, words: &[u64; 16384], m: Message) -> Named
+    requires { ⌜ Noted version (now store) (now words) ⌝ }
     ensures { λ r. ⌜ namedSays r ≡ atMessage (nodesIn version (now (store .entry))) (messageBytes m) ⌝ }
 {
     if hashes_to_zero(m) {
         return Named::Zero(m);
     }
-    partner(store, version, m)
+    partner(store, version, words, m)
 }
 
 // Whether nothing was named.
@@ -71,8 +67,8 @@ pub fn is_nothing(named: Named) -> bool
 }
 
 // What is named first on the way up the first n steps of a presence proof.
-pub fn along(store: &[u8], version: u32, p: &[u8], n: usize) -> Named
-    requires { ⌜ (sizeRight Form.Counted (length (now store)) ≡ true) × Room n (now p) ⌝ }
+pub fn along(store: &[u8], version: u32, words: &[u64; 16384], p: &[u8], n: usize) -> Named
+    requires { ⌜ Noted version (now store) (now words) × Room n (now p) ⌝ }
     ensures { λ r. ⌜ namedSays r ≡ alongPath (nodesIn version (now (store .entry))) n (now (p .entry)) ⌝ }
 {
     let first = hash_at(p, KEY_AT);
@@ -84,7 +80,7 @@ pub fn along(store: &[u8], version: u32, p: &[u8], n: usize) -> Named
     };
     let mut i = 0;
     loop {
-        let named = at_message(store, version, m);
+        let named = at_message(store, version, words, m);
         if !is_nothing(named) {
             return named;
         }

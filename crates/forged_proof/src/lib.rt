@@ -2,6 +2,7 @@
 use fields::get_u16;
 use fields::get_u32;
 use forged_nodes::Named;
+use forged_nodes::note_words;
 use forged_nodes::zero_node;
 use forged_path::along;
 use forged_path::is_nothing;
@@ -10,58 +11,82 @@ use proofrecords::FLAGS_AT;
 use proofrecords::STEPS_AT;
 use terms::Form;
 ghost use mathlib.Core.Path.{_≡_};
-ghost use mathlib.Core.Bool.{true};
+ghost use mathlib.Core.Bool.{true, cond};
 ghost use lib.ListN.{length};
 ghost use Rattle.layout.specs.Headers.{sizeRight};
 ghost use Rattle.proofrecords.specs.ProofBytes.{isPresence, isAbsence};
-ghost use Rattle.forged_nodes.specs.Nodes.{namedSays};
+ghost use Rattle.forged_nodes.specs.Nodes.{namedSays, Noted};
 ghost use Rattle.forged_path.specs.Along.{nodesIn};
 ghost use Rattle.forged_proof.specs.Search.{onPath, onTwo, onNeighbours, orZero, inPresence, inAbsence};
 
 // Along the path of a presence proof.
-fn on_path(store: &[u8], version: u32, p: &[u8]) -> Named
-    requires { ⌜ (sizeRight Form.Counted (length (now store)) ≡ true) × (isPresence (now p) ≡ true) ⌝ }
+fn on_path(store: &[u8], version: u32, words: &[u64; 16384], p: &[u8]) -> Named
+    requires { ⌜ Noted version (now store) (now words) × (isPresence (now p) ≡ true) ⌝ }
     ensures { λ r. ⌜ namedSays r ≡ onPath (nodesIn version (now (store .entry))) (now (p .entry)) ⌝ }
 {
     let n = get_u16(p, STEPS_AT) as usize;
-    along(store, version, p, n)
+    along(store, version, words, p, n)
 }
 
 // Along two paths.
-fn on_two(store: &[u8], version: u32, l: &[u8], r: &[u8]) -> Named
-    requires { ⌜ (sizeRight Form.Counted (length (now store)) ≡ true) × (isPresence (now l) ≡ true) × (isPresence (now r) ≡ true) ⌝ }
+fn on_two(store: &[u8], version: u32, words: &[u64; 16384], l: &[u8], r: &[u8]) -> Named
+    requires { ⌜ Noted version (now store) (now words) × (isPresence (now l) ≡ true) × (isPresence (now r) ≡ true) ⌝ }
     ensures { λ x. ⌜ namedSays x ≡ onTwo (nodesIn version (now (store .entry))) (now (l .entry)) (now (r .entry)) ⌝ }
 {
-    let named = on_path(store, version, l);
+    let named = on_path(store, version, words, l);
     if !is_nothing(named) {
         return named;
     }
-    on_path(store, version, r)
+    on_path(store, version, words, r)
 }
 
 // Along the paths of an absence proof's neighbours, each read where it lies in the proof.
-fn on_neighbours(store: &[u8], version: u32, proof: &[u8]) -> Named
-    requires { ⌜ (sizeRight Form.Counted (length (now store)) ≡ true) × (isAbsence (now proof) ≡ true) ⌝ }
+fn on_neighbours(store: &[u8], version: u32, words: &[u64; 16384], proof: &[u8]) -> Named
+    requires { ⌜ Noted version (now store) (now words) × (isAbsence (now proof) ≡ true) ⌝ }
     ensures { λ r. ⌜ namedSays r ≡ onNeighbours (nodesIn version (now (store .entry))) (now (proof .entry)) ⌝ }
 {
     let n = proof.len();
     let flags = get_u16(proof, FLAGS_AT);
     if flags <= 2 {
-        return on_path(store, version, &proof[ABSENCE_HEAD..n]);
+        return on_path(store, version, words, &proof[ABSENCE_HEAD..n]);
     }
     let e = ABSENCE_HEAD + get_u32(proof, ABSENCE_HEAD) as usize;
-    on_two(store, version, &proof[ABSENCE_HEAD..e], &proof[e..n])
+    on_two(store, version, words, &proof[ABSENCE_HEAD..e], &proof[e..n])
 }
 
 // What was named, else a node whose hash is zero.
-fn or_zero(store: &[u8], version: u32, named: Named) -> Named
-    requires { ⌜ sizeRight Form.Counted (length (now store)) ≡ true ⌝ }
+fn or_zero(store: &[u8], version: u32, words: &[u64; 16384], named: Named) -> Named
+    requires { ⌜ Noted version (now store) (now words) ⌝ }
     ensures { λ r. ⌜ namedSays r ≡ orZero (nodesIn version (now (store .entry))) (namedSays named) ⌝ }
 {
     if !is_nothing(named) {
         return named;
     }
-    zero_node(store, version)
+    zero_node(store, version, words)
+}
+
+// The finding of a proof: each node is hashed once, then the proof's messages are held against them. Both kinds call it, so the compiler keeps it a call
+// and its table is not on the stack while the store is checked.
+fn in_proof(store: &[u8], version: u32, single: bool, proof: &[u8]) -> Named
+    requires { ⌜ (sizeRight Form.Counted (length (now store)) ≡ true) × (cond single (isPresence (now proof)) (isAbsence (now proof)) ≡ true) ⌝ }
+    ensures { λ r. ⌜ namedSays r ≡ cond single (inPresence (nodesIn version (now (store .entry))) (now (proof .entry))) (inAbsence (nodesIn version (now (store .entry))) (now (proof .entry))) ⌝ }
+{
+    let mut words = [0u64; 16384];
+    note_words(store, version, &mut words);
+    if single {
+        return or_zero(
+            store,
+            version,
+            &words,
+            on_path(store, version, &words, proof),
+        );
+    }
+    or_zero(
+        store,
+        version,
+        &words,
+        on_neighbours(store, version, &words, proof),
+    )
 }
 
 // The finding of a presence proof.
@@ -69,7 +94,7 @@ pub fn in_presence(store: &[u8], version: u32, proof: &[u8]) -> Named
     requires { ⌜ (sizeRight Form.Counted (length (now store)) ≡ true) × (isPresence (now proof) ≡ true) ⌝ }
     ensures { λ r. ⌜ namedSays r ≡ inPresence (nodesIn version (now (store .entry))) (now (proof .entry)) ⌝ }
 {
-    or_zero(store, version, on_path(store, version, proof))
+    in_proof(store, version, true, proof)
 }
 
 // The finding of an absence proof.
@@ -77,5 +102,5 @@ pub fn in_absence(store: &[u8], version: u32, proof: &[u8]) -> Named
     requires { ⌜ (sizeRight Form.Counted (length (now store)) ≡ true) × (isAbsence (now proof) ≡ true) ⌝ }
     ensures { λ r. ⌜ namedSays r ≡ inAbsence (nodesIn version (now (store .entry))) (now (proof .entry)) ⌝ }
 {
-    or_zero(store, version, on_neighbours(store, version, proof))
+    in_proof(store, version, false, proof)
 }

@@ -1,5 +1,6 @@
 -- `finding_c::put_named` meets its contract: case by case. Assumes nothing.
 use Rattle.finding_c.proofs.Exported.{nothing-put, two-named, zero-named}
+use Rattle.finding_rules.specs.Call.{findingBytes}
 use borrow.Author.Needs.{needs}
 use Rattle.finding_c.proofs.put_named.Statement.{statement}
 use Rattle.finding_c.proofs.put_named.Tie as tie
@@ -19,8 +20,8 @@ put-two-requires c κs = search needs
 enum-known-named-2 : tie.Need-enum-known-named-2
 enum-known-named-2 c = search needs
 
-put-zero-requires : tie.Need-put-zero-requires
-put-zero-requires c κs = search needs
+put-one-requires : tie.Need-put-one-requires
+put-one-requires c κs = search needs
 
 same-length : tie.Need-same-length
 same-length c = search needs
@@ -44,10 +45,11 @@ same-length-3 : tie.Need-same-length-3
 same-length-3 c = search needs
 
 returns-3 : tie.Need-returns-3
+unfolding findingBytes
 returns-3 c =
     let e = c .before .before .before .before .before in
     let s = e .before .before .before in
-    zero-named (s .args .named) (e .named2 .given .1) (c .before .before .put-zero .ensures)
+    zero-named (s .args .named) (e .named2 .given .1) (c .before .before .put-one .ensures)
 
 pub put-named-spec : {M : Type 1} → statement M
 put-named-spec =
@@ -58,7 +60,7 @@ put-named-spec =
     enum-known-named
     put-two-requires
     enum-known-named-2
-    put-zero-requires
+    put-one-requires
     same-length
     returns
     same-length-2

@@ -19,11 +19,11 @@ use Rattle.forged_path.proofs.along.Statement.{statement}
 use Rattle.forged_path.proofs.along.Tie as tie
 
 abbrev Inv-loop : tie.InvT-loop
-Inv-loop store version p n m₀ i₀ m i =
+Inv-loop store version words p n m₀ i₀ m i =
     (i ≤ n) × (looked (nodesIn version store) (upwards sha256 (messageBytes m) (stepsIn (n - i) (fromStep i p))) ≡ alongPath (nodesIn version store) n p)
 
 abbrev μ-loop : tie.MeasureT-loop
-μ-loop store version p n m₀ i₀ m i = n - i
+μ-loop store version words p n m₀ i₀ m i = n - i
 
 hash-at-requires : tie.Need-hash-at-requires Inv-loop μ-loop
 hash-at-requires c κs = omega arith
