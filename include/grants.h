@@ -5,14 +5,14 @@
  * version, or that it has none; whoever has the version's root checks it with grants_verify alone. examples/editor.c shows all of it.
  *
  * Each call returns 0 where it is accepted, else a number of refusal; a refused call writes nothing, its answer included. The reads (root, get,
- * count, at, prove, palette, pocket_prove) return 64 bits: the number in the low half, and in the high half a slot + 1 where they name one; who keeps 32 bits has the number
+ * count, at, prove, palette, each also by a table, and pocket_prove) return 64 bits: the number in the low half, and in the high half a slot + 1 where they name one; who keeps 32 bits has the number
  * alone. Buffers lent to one call do not overlap. A pointer is never null, also where its length is 0. The calls keep no state, take no lock and allocate nothing; a
  * store may be used from any thread that owns it. All numbers in buffers are little-endian. Every call takes any bytes: bad input is refused.
  * The stack that each call takes is in docs/FIGURES.md; every byte of a store, a batch and a proof is in docs/FORMAT.md, and
  * what the library does, complete and in words, in docs/RULES.md. The archive to link is target/native/libgrants.a of the checkout, or what
  * `pkg-config --libs grants` names after `make install`.
  *
- *   1  the store's length isn't 24 + 128n, n in 1 to 16,384
+ *   1  the store's length isn't 24 + 128n, n in 1 to 16,384; a table: it hasn't as many entries as the store has slots
  *   2  a header field isn't right, its capacity isn't n, or oldest is above latest
  *   3  the store isn't sound (check, apply, prune, changes, figures, finding), or the walk says so (reads); rescue: no version can be rescued
  *   4  the batch isn't whole records in form, or has over 1,024
@@ -25,6 +25,7 @@
  *  12  a key or root handed in isn't 32 bytes, or a list of keys isn't 0 to 256 whole keys
  *  13  a comparison has more visits than the limit
  *  14  the version is empty, so there is no proof
+ *  16  the table beside the store isn't its right one
  *  17  a record is lost: a child that is wanted stands in no slot (reads)
  *  18  the number isn't above latest
  *  19  a leaf is shown with more than 32 steps, outside the pocket profile
@@ -209,6 +210,38 @@ uint32_t grants_version(void);
    Refused: 12, 21, 10 (not one or two whole records in form, a second exactly if the first shows a presence, or a byte is over), 11. */
 uint32_t grants_shelf_verify(const uint8_t *root, size_t root_len, uint32_t bits, const uint8_t *key, size_t key_len, const uint8_t *proof,
                              size_t proof_len, uint8_t found[33]);
+
+/* A table beside the store: a caller that reads much from one store lends one to the calls below, and they find records by halving instead of looking at
+   every slot. It has as many entries as the store has slots: the slots that hold a record, by place and then version, then the number of slots in each entry
+   left over. What a table holds can cost a read time and nothing else: a search that doesn't end on a matching slot looks at every slot, so on a sound store
+   every read answers as without a table, whatever is in it (on a store that isn't sound it may find another of two records that share version and place).
+   index_len is the number of entries; a table of another length is refused with 1.
+
+   Writes the one right table of a sound store. Refused: 1, 2, 3. */
+uint32_t grants_index(const uint8_t *store, size_t store_len, uint32_t *index, size_t index_len);
+
+/* Whether a table is the right one of a sound store: 16 if not. Refused: 1, 2, 3, 16. */
+uint32_t grants_index_check(const uint8_t *store, size_t store_len, const uint32_t *index, size_t index_len);
+
+/* grants_format, grants_apply and grants_prune on a store and its table, which is left the right one of the store that is left. The store's bytes and the
+   answer are those of the call without a table; a refused call writes neither.
+   Refused: 1 | 1, 2, 3, 16, 4, 5, 18, 7 | 1, 2, 3, 16, 8. */
+uint32_t grants_format_indexed(uint8_t *store, size_t store_len, uint32_t *index, size_t index_len);
+uint32_t grants_apply_indexed(uint8_t *store, size_t store_len, uint32_t *index, size_t index_len, uint32_t number, const uint8_t *batch,
+                              size_t batch_len, uint8_t answer[40]);
+uint32_t grants_prune_indexed(uint8_t *store, size_t store_len, uint32_t *index, size_t index_len, uint32_t version, uint8_t freed[4]);
+
+/* The reads by a table. They test the table's length, not what it holds. Refused: as without a table. */
+uint64_t grants_root_indexed(const uint8_t *store, size_t store_len, const uint32_t *index, size_t index_len, uint32_t version, uint8_t root[32]);
+uint64_t grants_get_indexed(const uint8_t *store, size_t store_len, const uint32_t *index, size_t index_len, uint32_t version,
+                            const uint8_t *key, size_t key_len, uint8_t found[33]);
+uint64_t grants_count_indexed(const uint8_t *store, size_t store_len, const uint32_t *index, size_t index_len, uint32_t version, uint8_t count[8]);
+uint64_t grants_at_indexed(const uint8_t *store, size_t store_len, const uint32_t *index, size_t index_len, uint32_t version, uint64_t position,
+                           uint8_t grant[64]);
+uint64_t grants_prove_indexed(const uint8_t *store, size_t store_len, const uint32_t *index, size_t index_len, uint32_t version,
+                              const uint8_t *key, size_t key_len, uint8_t *room, size_t room_len, uint8_t length[4]);
+uint64_t grants_palette_indexed(const uint8_t *store, size_t store_len, const uint32_t *index, size_t index_len, uint32_t version,
+                                const uint8_t *keys, size_t keys_len, uint8_t *room, size_t room_len, uint8_t length[4]);
 
 /* SHA-256 of any bytes. Never refused. */
 uint32_t grants_sha256(const uint8_t *bytes, size_t len, uint8_t digest[32]);

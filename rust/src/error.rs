@@ -44,6 +44,8 @@ pub enum Error {
     TooManyVisits,
     /// 14: the version is empty, so there is no proof; its root of 32 zero bytes itself shows that nothing is granted.
     EmptyVersion,
+    /// 16: the table isn't the right one of the store.
+    WrongIndex,
     /// 17 (reads): a record is lost: a child that is wanted stands in no slot.
     Lost,
     /// 18: the number to publish under isn't above latest.
@@ -57,7 +59,7 @@ pub enum Error {
 }
 
 /// The table of the rules, number 1 first, in the words of include/grants.h.
-const TABLE: [(u32, Error, &str); 18] = [
+const TABLE: [(u32, Error, &str); 19] = [
     (
         1,
         Error::Size,
@@ -114,6 +116,11 @@ const TABLE: [(u32, Error, &str); 18] = [
         14,
         Error::EmptyVersion,
         "the version is empty, so there is no proof",
+    ),
+    (
+        16,
+        Error::WrongIndex,
+        "the table beside the store isn't its right one",
     ),
     (
         17,
@@ -186,7 +193,7 @@ mod tests {
         let numbers: Vec<u32> = TABLE.iter().map(|(_, error, _)| error.number()).collect();
         assert_eq!(
             numbers,
-            [1, 2, 3, 4, 5, 7, 8, 9, 10, 11, 12, 13, 14, 17, 18, 19, 20, 21]
+            [1, 2, 3, 4, 5, 7, 8, 9, 10, 11, 12, 13, 14, 16, 17, 18, 19, 20, 21]
         );
         for number in 0..=25 {
             let listed = numbers.contains(&number).then_some(number);

@@ -156,6 +156,86 @@ extern "C" {
     ) -> u32;
     fn grants_version() -> u32;
     fn grants_sha256(bytes: *const u8, len: usize, digest: *mut [u8; 32]) -> u32;
+    fn grants_index(store: *const u8, len: usize, index: *mut u32, entries: usize) -> u32;
+    fn grants_index_check(store: *const u8, len: usize, index: *const u32, entries: usize) -> u32;
+    fn grants_format_indexed(store: *mut u8, len: usize, index: *mut u32, entries: usize) -> u32;
+    fn grants_apply_indexed(
+        store: *mut u8,
+        len: usize,
+        index: *mut u32,
+        entries: usize,
+        number: u32,
+        batch: *const u8,
+        batch_len: usize,
+        answer: *mut [u8; 40],
+    ) -> u32;
+    fn grants_prune_indexed(
+        store: *mut u8,
+        len: usize,
+        index: *mut u32,
+        entries: usize,
+        version: u32,
+        freed: *mut [u8; 4],
+    ) -> u32;
+    fn grants_root_indexed(
+        store: *const u8,
+        len: usize,
+        index: *const u32,
+        entries: usize,
+        version: u32,
+        root: *mut [u8; 32],
+    ) -> u64;
+    fn grants_get_indexed(
+        store: *const u8,
+        len: usize,
+        index: *const u32,
+        entries: usize,
+        version: u32,
+        key: *const u8,
+        key_len: usize,
+        found: *mut [u8; 33],
+    ) -> u64;
+    fn grants_count_indexed(
+        store: *const u8,
+        len: usize,
+        index: *const u32,
+        entries: usize,
+        version: u32,
+        count: *mut [u8; 8],
+    ) -> u64;
+    fn grants_at_indexed(
+        store: *const u8,
+        len: usize,
+        index: *const u32,
+        entries: usize,
+        version: u32,
+        position: u64,
+        grant: *mut [u8; 64],
+    ) -> u64;
+    fn grants_prove_indexed(
+        store: *const u8,
+        len: usize,
+        index: *const u32,
+        entries: usize,
+        version: u32,
+        key: *const u8,
+        key_len: usize,
+        room: *mut u8,
+        room_len: usize,
+        length: *mut [u8; 4],
+    ) -> u64;
+    fn grants_palette_indexed(
+        store: *const u8,
+        len: usize,
+        index: *const u32,
+        entries: usize,
+        version: u32,
+        keys: *const u8,
+        keys_len: usize,
+        room: *mut u8,
+        room_len: usize,
+        length: *mut [u8; 4],
+    ) -> u64;
 }
 
 /// 0 is accepted; the library gives no number that is not in the table.
@@ -481,4 +561,191 @@ pub fn sha256(bytes: &[u8]) -> [u8; 32] {
     accepted(unsafe { grants_sha256(bytes.as_ptr(), bytes.len(), &mut digest) })
         .expect("never refused");
     digest
+}
+
+pub fn index(store: &[u8], index: &mut [u32]) -> Result<(), Error> {
+    accepted(unsafe {
+        grants_index(store.as_ptr(), store.len(), index.as_mut_ptr(), index.len())
+    })
+}
+
+pub fn index_check(store: &[u8], index: &[u32]) -> Result<(), Error> {
+    accepted(unsafe {
+        grants_index_check(store.as_ptr(), store.len(), index.as_ptr(), index.len())
+    })
+}
+
+pub fn format_indexed(store: &mut [u8], index: &mut [u32]) -> Result<(), Error> {
+    accepted(unsafe {
+        grants_format_indexed(
+            store.as_mut_ptr(),
+            store.len(),
+            index.as_mut_ptr(),
+            index.len(),
+        )
+    })
+}
+
+pub fn apply_indexed(
+    store: &mut [u8],
+    index: &mut [u32],
+    number: u32,
+    batch: &[u8],
+) -> Result<[u8; 40], Error> {
+    let mut answer = [0; 40];
+    accepted(unsafe {
+        grants_apply_indexed(
+            store.as_mut_ptr(),
+            store.len(),
+            index.as_mut_ptr(),
+            index.len(),
+            number,
+            batch.as_ptr(),
+            batch.len(),
+            &mut answer,
+        )
+    })?;
+    Ok(answer)
+}
+
+pub fn prune_indexed(
+    store: &mut [u8],
+    index: &mut [u32],
+    version: u32,
+) -> Result<[u8; 4], Error> {
+    let mut freed = [0; 4];
+    accepted(unsafe {
+        grants_prune_indexed(
+            store.as_mut_ptr(),
+            store.len(),
+            index.as_mut_ptr(),
+            index.len(),
+            version,
+            &mut freed,
+        )
+    })?;
+    Ok(freed)
+}
+
+pub fn root_indexed(store: &[u8], index: &[u32], version: u32) -> Result<[u8; 32], Error> {
+    let mut root = [0; 32];
+    read(unsafe {
+        grants_root_indexed(
+            store.as_ptr(),
+            store.len(),
+            index.as_ptr(),
+            index.len(),
+            version,
+            &mut root,
+        )
+    })?;
+    Ok(root)
+}
+
+pub fn get_indexed(
+    store: &[u8],
+    index: &[u32],
+    version: u32,
+    key: &[u8],
+) -> Result<[u8; 33], Error> {
+    let mut found = [0; 33];
+    read(unsafe {
+        grants_get_indexed(
+            store.as_ptr(),
+            store.len(),
+            index.as_ptr(),
+            index.len(),
+            version,
+            key.as_ptr(),
+            key.len(),
+            &mut found,
+        )
+    })?;
+    Ok(found)
+}
+
+pub fn count_indexed(store: &[u8], index: &[u32], version: u32) -> Result<[u8; 8], Error> {
+    let mut count = [0; 8];
+    read(unsafe {
+        grants_count_indexed(
+            store.as_ptr(),
+            store.len(),
+            index.as_ptr(),
+            index.len(),
+            version,
+            &mut count,
+        )
+    })?;
+    Ok(count)
+}
+
+pub fn at_indexed(
+    store: &[u8],
+    index: &[u32],
+    version: u32,
+    position: u64,
+) -> Result<[u8; 64], Error> {
+    let mut grant = [0; 64];
+    read(unsafe {
+        grants_at_indexed(
+            store.as_ptr(),
+            store.len(),
+            index.as_ptr(),
+            index.len(),
+            version,
+            position,
+            &mut grant,
+        )
+    })?;
+    Ok(grant)
+}
+
+pub fn prove_indexed(
+    store: &[u8],
+    index: &[u32],
+    version: u32,
+    key: &[u8],
+    room: &mut [u8],
+) -> Result<[u8; 4], Error> {
+    let mut length = [0; 4];
+    read(unsafe {
+        grants_prove_indexed(
+            store.as_ptr(),
+            store.len(),
+            index.as_ptr(),
+            index.len(),
+            version,
+            key.as_ptr(),
+            key.len(),
+            room.as_mut_ptr(),
+            room.len(),
+            &mut length,
+        )
+    })?;
+    Ok(length)
+}
+
+pub fn palette_indexed(
+    store: &[u8],
+    index: &[u32],
+    version: u32,
+    keys: &[u8],
+    room: &mut [u8],
+) -> Result<[u8; 4], Error> {
+    let mut length = [0; 4];
+    read(unsafe {
+        grants_palette_indexed(
+            store.as_ptr(),
+            store.len(),
+            index.as_ptr(),
+            index.len(),
+            version,
+            keys.as_ptr(),
+            keys.len(),
+            room.as_mut_ptr(),
+            room.len(),
+            &mut length,
+        )
+    })?;
+    Ok(length)
 }

@@ -50,6 +50,7 @@ mod figures;
 mod finding;
 mod form;
 mod hex;
+mod index;
 mod moving;
 mod palette;
 mod proof;
@@ -72,6 +73,7 @@ pub use form::{
     RECORD_BYTES, SLOT_BYTES,
 };
 pub use hex::{from_hex, to_hex, HexError};
+pub use index::Index;
 pub use palette::{Palette, RefusedAt, PALETTE_KEYS};
 pub use proof::{verify, verify_pocket, verify_many, Proof, POCKET_BYTES, PROOF_BYTES};
 pub use records::{Body, Child, Place, Record};

@@ -10,7 +10,7 @@ use crate::{ffi, proof, Batch, Error, Key, Proof, Root, Value, POCKET_BYTES, PRO
 
 const MOST_OLD: usize = MOST_SLOTS as usize;
 
-fn list(keys: &[Key]) -> Vec<u8> {
+pub(crate) fn list(keys: &[Key]) -> Vec<u8> {
     keys.iter().flat_map(|key| *key.as_bytes()).collect()
 }
 
@@ -46,6 +46,18 @@ pub struct Applied {
     pub root: Root,
     /// How many records are new.
     pub new_records: u32,
+}
+
+impl Applied {
+    pub(crate) fn read(answer: [u8; 40]) -> Applied {
+        let mut root = [0; 32];
+        root.copy_from_slice(&answer[4..36]);
+        Applied {
+            version: records::u32_at(&answer, 0),
+            root: Root::from(root),
+            new_records: records::u32_at(&answer, 36),
+        }
+    }
 }
 
 /// What the header of a store says.
@@ -355,14 +367,12 @@ impl<B: AsRef<[u8]> + AsMut<[u8]>> Store<B> {
 
     /// Publishes batch records of 72 bytes (docs/FORMAT.md), from anybody. Refused: 1, 2, 3, 4, 5, 18, 7.
     pub fn apply_bytes(&mut self, number: u32, batch: &[u8]) -> Result<Applied, Error> {
-        let answer = ffi::apply(self.bytes.as_mut(), number, batch)?;
-        let mut root = [0; 32];
-        root.copy_from_slice(&answer[4..36]);
-        Ok(Applied {
-            version: records::u32_at(&answer, 0),
-            root: Root::from(root),
-            new_records: records::u32_at(&answer, 36),
-        })
+        ffi::apply(self.bytes.as_mut(), number, batch).map(Applied::read)
+    }
+
+    /// For calls that are lent more than the store.
+    pub(crate) fn as_bytes_mut(&mut self) -> &mut [u8] {
+        self.bytes.as_mut()
     }
 
     /// Frees every record retired since the version or earlier, and keeps no older version; the answer is how many it freed. Between two

@@ -1,11 +1,7 @@
 // Applying a batch to a store in lent memory, documents 01 and 02 (2026-13): the version of the given number, or a number of refusal.
 use apply_publish::Applied;
-use apply_publish::publish;
-use batch::batch_form;
-use batch::batch_order;
+use apply_sound::apply_sound;
 use check_store::check;
-use refusal_numbers::BAD_BATCH;
-use refusal_numbers::BAD_ORDER;
 use terms::Form;
 ghost use Rattle.apply_publish.specs.Apply.{appliedSays, ApplyDoes};
 
@@ -17,11 +13,5 @@ pub fn apply(store: &mut [u8], number: u32, batch: &[u8]) -> Applied
     if refusal != 0 {
         return Applied::Refused(refusal);
     }
-    if !batch_form(batch) {
-        return Applied::Refused(BAD_BATCH);
-    }
-    if !batch_order(batch) {
-        return Applied::Refused(BAD_ORDER);
-    }
-    publish(store, number, batch)
+    apply_sound(store, number, batch)
 }

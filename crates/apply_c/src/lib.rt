@@ -11,7 +11,7 @@ ghost use Rattle.hash.specs.Hash.{hashBytes};
 ghost use Rattle.apply_c.specs.Export.{answerBytes, ApplyExports};
 
 // Version, root and count fill 40 bytes.
-fn put_answer(answer: &mut [u8], version: u32, root: Hash, count: u32)
+pub fn put_answer(answer: &mut [u8], version: u32, root: Hash, count: u32)
     requires { ⌜ length (now answer) ≡ 40 ⌝ }
     ensures { λ _. ⌜ now (answer .exit) ≡ answerBytes version (hashBytes root) count ⌝ }
 {

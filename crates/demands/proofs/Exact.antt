@@ -130,7 +130,7 @@ key-stopped {early = early} {later = later} {stops = stops} k a w = go (eqb (len
     go false e = stopped-within ((12, Not32 (k ∷ [])) ∷ []) early (inl (λ h. eqb-false (length k) 32 e (h .0), refl)) (λ z. absurd (omega arith))
 
 -- No root's lookup is stopped by a lost record.
-never-lost : (s : Bytes) (v : ℕ) (t : Trouble) → t ≡ lostRecord → StopsRoot s v t → ⊥
+pub never-lost : (s : Bytes) (v : ℕ) (t : Trouble) → t ≡ lostRecord → StopsRoot s v t → ⊥
 never-lost s v t e (its-root i n m) = let z : _≡_ {A = ℕ} 0 1 = cc in omega arith
 
 -- A root read: 1, 2, 8, 3, and the slot beside 3.
@@ -206,7 +206,7 @@ module _ {s : Bytes} {v : ℕ} {k room f : Bytes} {r : ℕ} {t g : Bytes} (h : A
   prove-names-slot = stopped-names refl refl prove-answers
 
 -- A list of keys: 12; then the rest.
-list-stopped : {A : Type 0} {early later : Table} {stops : Trouble → Type 0} (list : Bytes) (a : Answer A) → Stopped early later stops (numberOf a) →
+pub list-stopped : {A : Type 0} {early later : Table} {stops : Trouble → Type 0} (list : Bytes) (a : Answer A) → Stopped early later stops (numberOf a) →
     Stopped ((12, NotKeys list) ∷ early) later stops (numberOf (cond (wholeKeys list) a (refused 12)))
 list-stopped {early = early} {later = later} {stops = stops} list a w = go (wholeKeys list) refl
   where

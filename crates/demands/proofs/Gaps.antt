@@ -1,19 +1,20 @@
 -- Document 02, 2026-13, beside 01: where each batch is given latest + 1, roots are as in 01. The store after public calls is that after the
 -- calls of the definitions, so their theorem speaks of it. Assumes nothing.
-use Prim.Native.Nat.{ℕ}
+use Prim.Native.Nat.{ℕ, _≤_}
 use mathlib.Core.Path.{_≡_, refl, ap, sym, _∙_, subst}
 use mathlib.Core.Bool.{Bool, true, false}
 use mathlib.Core.List.{List, [], _∷_}
 use lib.ListN.{length}
 use lib.Dec.{eqb}
-use borrow.Author.Tests.{eqb-false}
+use borrow.Author.Tests.{eqb-true, eqb-false}
 use Rattle.terms.specs.declared.Form.the-variants.{Plain as plain, Counted as counted}
-use Rattle.terms.specs.Bits.{Bytes, All}
+use Rattle.terms.specs.Bits.{Bytes, Byte, All}
+use Rattle.terms.specs.Form.{top32}
 use Rattle.terms.specs.Records.{Store}
 use Rattle.meaning.specs.Store.{formatted, rootOf}
 use Rattle.meaning.specs.Sound.{Sound, Kept}
 use Rattle.meaning.specs.Calls.{refused, accepted, Result}
-use Rattle.meaning.specs.History.{Call, applying, pruning, taking, Entry, entry}
+use Rattle.meaning.specs.History.{Call, formatting, applying, pruning, taking, Entry, entry}
 use Rattle.meaning.specs.Course.{CallForm, after, run, held}
 use Rattle.histories.specs.Claims.{NoGap}
 use Rattle.histories.specs.Gaps.{NoGaps, rootIn01}
@@ -28,12 +29,14 @@ use Rattle.layout.proofs.Stores.{length-slots}
 use Rattle.batch.specs.Batch.{batchOf}
 use Rattle.format.specs.Format.{formatBytes}
 use Rattle.promises.specs.Calls.{wrong-header, not-sound, refuses, accepts, Exports, exports-refusal, exports-answer}
-use Rattle.demands.specs.Calls.{takenOver, Called, formats, applies, prunes, checks, reads-root, reads-key, counts, reads-at, proves, palettes, compares, figures, pocket-proves, verifies, pocket-verifies, shelf-verifies, verifies-many, tells-version, hashes, Calls, none-yet, then-called, doneBy, WithoutGaps, Life, rescues-from, rescues-into, moves-back, moves-over}
+use Rattle.demands.specs.Calls.{takenOver, Called, formats, applies, prunes, checks, reads-root, reads-key, counts, reads-at, proves, palettes, compares, figures, pocket-proves, verifies, pocket-verifies, shelf-verifies, verifies-many, writes-message, reads-message, tells-version, hashes, Calls, none-yet, then-called, doneBy, WithoutGaps, Life, rescues-from, rescues-into, moves-back, moves-over}
+use Rattle.demands.specs.Calls.{formats-both, applies-both, prunes-both, builds, tells, reads-root-by, reads-key-by, counts-by, reads-at-by, proves-by, palettes-by}
 use Rattle.demands.specs.Calls.{finds}
-use Rattle.grants.specs.Contracts.{Formats}
+use Rattle.grants.specs.Contracts.{Formats, Applies, Prunes, AppliesIndexed, PrunesIndexed}
 use Rattle.demands.proofs.Hashes.{leaf-hash-whole, inner-hash-whole}
 use Rattle.demands.proofs.Stored.{stored-is, formatted-form, prune-form, apply-form}
-use Rattle.demands.proofs.Refusals.{refused-rescue-writes-nothing, refused-over-writes-nothing}
+use Rattle.demands.proofs.Refusals.{refused-format-writes-nothing, refused-apply-writes-nothing, refused-prune-writes-nothing, refused-rescue-writes-nothing, refused-over-writes-nothing}
+use Rattle.demands.proofs.Tabled.{refused-format-indexed-writes-nothing, refused-apply-indexed-writes-nothing, refused-prune-indexed-writes-nothing, format-as-plain, accepted-apply-keeps-the-table, accepted-prune-keeps-the-table}
 use Rattle.demands.proofs.Histories.{Keeping, sound-bytes, size-right, not-headed, asks-form, called-keeps, formatted-keeps}
 
 -- what was called, accepted or not
@@ -67,23 +70,44 @@ module _ {s : Bytes} {es : List Entry} (k : Keeping s es) where
   sound-after c f =
       keeps-calls leafHash innerHash leaf-hash-whole inner-hash-whole (c ∷ []) (storeOf s) es (f, tt) (k .keeps) .sound
 
-  -- what was refused changed nothing, what was accepted is excluded
-  taken-after : (es′ : List Entry) {t : Bytes} (r : ℕ) → ((r ≡ 0 → ⊥) → t ≡ s) → NoGap (doneBy (taking es′) (eqb r 0)) (storeOf s) →
-      storeOf t ≡ after leafHash innerHash (doneBy (taking es′) (eqb r 0)) (storeOf s)
-  taken-after es′ {t} r same = go (eqb r 0) refl
+  -- a refused call changed nothing
+  settled-after : (c : Call) {t : Bytes} (r : ℕ) → ((r ≡ 0 → ⊥) → t ≡ s) → (r ≡ 0 → NoGap c (storeOf s) → storeOf t ≡ after leafHash innerHash c (storeOf s)) →
+      NoGap (doneBy c (eqb r 0)) (storeOf s) → storeOf t ≡ after leafHash innerHash (doneBy c (eqb r 0)) (storeOf s)
+  settled-after c {t} r same then = go (eqb r 0) refl
     where
-      go : (b : Bool) → eqb r 0 ≡ b → NoGap (doneBy (taking es′) b) (storeOf s) → storeOf t ≡ after leafHash innerHash (doneBy (taking es′) b) (storeOf s)
-      go true e gap = absurd gap
+      go : (b : Bool) → eqb r 0 ≡ b → NoGap (doneBy c b) (storeOf s) → storeOf t ≡ after leafHash innerHash (doneBy c b) (storeOf s)
+      go true e gap = then (eqb-true r 0 e) gap
       go false e gap = ap storeOf (same (eqb-false r 0 e))
+
+  format-after : {t : Bytes} {r : ℕ} → Formats s r t → storeOf t ≡ after leafHash innerHash formatting (storeOf s)
+  format-after w = ap storeOf (w .bytes) ∙ fresh-is s (size-right k) ∙ ap formatted (sym (slots-many s))
+
+  apply-after : (number : ℕ) (batch : Bytes) {f t g : Bytes} {r : ℕ} → number ≤ top32 → All Byte batch → Applies number batch s f r t g →
+      storeOf t ≡ after leafHash innerHash (applying number (batchOf batch)) (storeOf s)
+  apply-after number batch small h w =
+      export-after w k (λ m e. laws.refused-apply-writes-nothing leafHash innerHash number (batchOf batch) (storeOf s) m e)
+      (apply-form number (batchOf batch) (storeOf s)) (sound-after (applying number (batchOf batch)) (asks-form number batch small h))
+
+  prune-after : (n : ℕ) {f t g : Bytes} {r : ℕ} → Prunes n s f r t g → storeOf t ≡ after leafHash innerHash (pruning n) (storeOf s)
+  prune-after n w =
+      export-after w k (λ m e. laws.refused-prune-writes-nothing leafHash innerHash n (storeOf s) m e) (prune-form n (storeOf s)) (sound-after (pruning n) tt)
 
   called-after : {e : Call × Bool} {t : Bytes} → Called s e t → NoGap (doneBy (e .0) (e .1)) (storeOf s) →
       storeOf t ≡ after leafHash innerHash (doneBy (e .0) (e .1)) (storeOf s)
-  called-after (formats w) gap = ap storeOf (w .bytes) ∙ fresh-is s (size-right k) ∙ ap formatted (sym (slots-many s))
-  called-after (applies number batch small h w) gap =
-      export-after w k (λ m e. laws.refused-apply-writes-nothing leafHash innerHash number (batchOf batch) (storeOf s) m e)
-      (apply-form number (batchOf batch) (storeOf s)) (sound-after (applying number (batchOf batch)) (asks-form number batch small h))
-  called-after (prunes {n} w) gap =
-      export-after w k (λ m e. laws.refused-prune-writes-nothing leafHash innerHash n (storeOf s) m e) (prune-form n (storeOf s)) (sound-after (pruning n) tt)
+  called-after (formats {r = r} w) gap = settled-after formatting r (λ z. refused-format-writes-nothing w z) (λ z g. format-after w) gap
+  called-after (applies number batch {r = r} small h w) gap =
+      settled-after (applying number (batchOf batch)) r (λ z. refused-apply-writes-nothing number batch w z .0) (λ z g. apply-after number batch small h w) gap
+  called-after (prunes {n} {r} w) gap = settled-after (pruning n) r (λ z. refused-prune-writes-nothing n w z .0) (λ z g. prune-after n w) gap
+  called-after (formats-both {r = r} w) gap =
+      settled-after formatting r (λ z. refused-format-indexed-writes-nothing z w .0) (λ z g. format-after (format-as-plain w z)) gap
+  called-after (applies-both number batch {table = table} {u = u} {f = f} {t = t} {g = g} {r = r} small h w) gap =
+      settled-after (applying number (batchOf batch)) r (λ z. refused-apply-indexed-writes-nothing z number batch w .0)
+      (λ z d. apply-after number batch small h (accepted-apply-keeps-the-table number batch (subst (λ n. AppliesIndexed number batch s table f n t u g) z w) .0)) gap
+  called-after (prunes-both {table} {u} {n} {r} {f} {t} {g} w) gap =
+      settled-after (pruning n) r (λ z. refused-prune-indexed-writes-nothing z n w .0)
+      (λ z d. prune-after n (accepted-prune-keeps-the-table n (subst (λ m. PrunesIndexed n s table f m t u g) z w) .0)) gap
+  called-after (builds w) gap = refl
+  called-after (tells w) gap = refl
   called-after (checks w) gap = refl
   called-after (reads-root w) gap = refl
   called-after (reads-key w) gap = refl
@@ -91,31 +115,44 @@ module _ {s : Bytes} {es : List Entry} (k : Keeping s es) where
   called-after (reads-at w) gap = refl
   called-after (proves w) gap = refl
   called-after (palettes w) gap = refl
+  called-after (reads-root-by w) gap = refl
+  called-after (reads-key-by w) gap = refl
+  called-after (counts-by w) gap = refl
+  called-after (reads-at-by w) gap = refl
+  called-after (proves-by w) gap = refl
+  called-after (palettes-by w) gap = refl
   called-after (compares w) gap = refl
   called-after (figures w) gap = refl
   called-after (pocket-proves w) gap = refl
   called-after (finds w) gap = refl
   called-after (rescues-from w) gap = refl
   called-after (rescues-into {latest = latest} {r = r} {source = source} {g = g} n h w) gap =
-      taken-after (takenOver source latest g) r (λ z. refused-rescue-writes-nothing w z .0) gap
+      settled-after (taking (takenOver source latest g)) r (λ z. refused-rescue-writes-nothing w z .0) (λ z d. absurd d) gap
   called-after (moves-back w) gap = refl
   called-after (moves-over {r = r} {source = source} h w) gap =
-      taken-after (held (storeIn plain source)) r (λ z. refused-over-writes-nothing w z) gap
+      settled-after (taking (held (storeIn plain source))) r (λ z. refused-over-writes-nothing w z) (λ z d. absurd d) gap
   called-after (verifies w) gap = refl
   called-after (verifies-many w) gap = refl
   called-after (pocket-verifies w) gap = refl
   called-after (tells-version w) gap = refl
   called-after (shelf-verifies w) gap = refl
+  called-after (writes-message w) gap = refl
+  called-after (reads-message w) gap = refl
   called-after (hashes w) gap = refl
 
-taken-form : (es : List Entry) (b : Bool) → CallForm (doneBy (taking es) b)
-taken-form es true = tt
-taken-form es false = tt
+done-form : (c : Call) (b : Bool) → CallForm c → CallForm (doneBy c b)
+done-form c true f = f
+done-form c false f = tt
 
 form-of : {s t : Bytes} {e : Call × Bool} → Called s e t → CallForm (doneBy (e .0) (e .1))
-form-of (formats w) = tt
-form-of (applies number batch small h w) = asks-form number batch small h
-form-of (prunes w) = tt
+form-of (formats {r = r} w) = done-form formatting (eqb r 0) tt
+form-of (applies number batch {r = r} small h w) = done-form (applying number (batchOf batch)) (eqb r 0) (asks-form number batch small h)
+form-of (prunes {n} {r} w) = done-form (pruning n) (eqb r 0) tt
+form-of (formats-both {r = r} w) = done-form formatting (eqb r 0) tt
+form-of (applies-both number batch {r = r} small h w) = done-form (applying number (batchOf batch)) (eqb r 0) (asks-form number batch small h)
+form-of (prunes-both {n = n} {r = r} w) = done-form (pruning n) (eqb r 0) tt
+form-of (builds w) = tt
+form-of (tells w) = tt
 form-of (checks w) = tt
 form-of (reads-root w) = tt
 form-of (reads-key w) = tt
@@ -123,19 +160,27 @@ form-of (counts w) = tt
 form-of (reads-at w) = tt
 form-of (proves w) = tt
 form-of (palettes w) = tt
+form-of (reads-root-by w) = tt
+form-of (reads-key-by w) = tt
+form-of (counts-by w) = tt
+form-of (reads-at-by w) = tt
+form-of (proves-by w) = tt
+form-of (palettes-by w) = tt
 form-of (compares w) = tt
 form-of (figures w) = tt
 form-of (pocket-proves w) = tt
 form-of (finds w) = tt
 form-of (rescues-from w) = tt
-form-of (rescues-into {latest = latest} {r = r} {source = source} {g = g} n h w) = taken-form (takenOver source latest g) (eqb r 0)
+form-of (rescues-into {latest = latest} {r = r} {source = source} {g = g} n h w) = done-form (taking (takenOver source latest g)) (eqb r 0) tt
 form-of (moves-back w) = tt
-form-of (moves-over {r = r} {source = source} h w) = taken-form (held (storeIn plain source)) (eqb r 0)
+form-of (moves-over {r = r} {source = source} h w) = done-form (taking (held (storeIn plain source))) (eqb r 0) tt
 form-of (verifies w) = tt
 form-of (verifies-many w) = tt
 form-of (pocket-verifies w) = tt
 form-of (tells-version w) = tt
 form-of (shelf-verifies w) = tt
+form-of (writes-message w) = tt
+form-of (reads-message w) = tt
 form-of (hashes w) = tt
 
 -- a sequence of public calls is one of the definitions' calls

@@ -52,7 +52,9 @@ use Rattle.move_rules.proofs.Ledger.{moved-keeps}
 use Rattle.grants.specs.Contracts.{Formats, ReadsRoot, ReadsKey, Proves, Rescues, MovesOver, Verifies, Counts, ReadsAt}
 use Rattle.meaning.specs.Counting.{grantAt}
 use Rattle.meaning.specs.Answers.{foundBytes, numberOf, toldOf}
-use Rattle.demands.specs.Calls.{Called, formats, applies, prunes, checks, reads-root, reads-key, counts, reads-at, proves, palettes, compares, figures, pocket-proves, verifies, pocket-verifies, shelf-verifies, verifies-many, tells-version, hashes, Calls, none-yet, then-called, Life, rescues-from, rescues-into, moves-back, moves-over, finds, Begins, by-format, by-rescue, as-found, by-over, by-back, takenOver}
+use Rattle.demands.specs.Calls.{Called, formats, applies, prunes, checks, reads-root, reads-key, counts, reads-at, proves, palettes, compares, figures, pocket-proves, verifies, pocket-verifies, shelf-verifies, verifies-many, writes-message, reads-message, tells-version, hashes, Calls, none-yet, then-called, Life, rescues-from, rescues-into, moves-back, moves-over, finds, Begins, by-format, by-rescue, as-found, by-over, by-back, takenOver}
+use Rattle.index_rules.specs.Tables.{FormatsBoth, wrong-size, both-fresh, not-told, refuses-both, accepts-both, ExportsBoth, both-refused, both-answered}
+use Rattle.demands.specs.Calls.{formats-both, applies-both, prunes-both, builds, tells, reads-root-by, reads-key-by, counts-by, reads-at-by, proves-by, palettes-by}
 use Rattle.demands.specs.Claims.{grantsOfVersion, AfterHistory}
 use Rattle.demands.proofs.Hashes.{leaf-hash-whole, inner-hash-whole}
 use Rattle.demands.proofs.Stored.{stored-is, stored-sound, formatted-form, prune-form, apply-form}
@@ -93,6 +95,11 @@ fresh-keeps s e =
     let z = size-says counted (length s) e in
     rw e (of-store (formatted (roomOf counted (length s))) (entry 0 [] ∷ []) (formatted-form _) (keeps-formatted leafHash innerHash (roomOf counted (length s)) (z .1, z .2)))
 
+-- what formatting leaves of bytes of the right size
+fresh-said : (s : Bytes) → sizeRight counted (length s) ≡ true → storeBytes (formatted (roomOf counted (length s))) ≡ formatBytes s
+unfolding formatBytes
+fresh-said s e = rw e
+
 -- a header is refused or accepted
 pub not-headed : {A : Type 0} {h : Headed} {m c o l : ℕ} → h ≡ refusal m → h ≡ header c o l → A
 not-headed e f = let z : _≡_ {A = ℕ} 0 1 = cc in absurd (omega arith)
@@ -107,6 +114,16 @@ export-keeps (exports-refusal (wrong-header e)) k never form then = not-headed e
 export-keeps (exports-refusal (not-sound e n)) k never form then = absurd (n (k .keeps .sound))
 export-keeps (exports-refusal {m} (refuses w e)) k never form then = rw (ne-eqb m 0 (never m e)) k
 export-keeps {now = now} (exports-answer {a} (accepts w e)) k never form then = of-store _ now form (then a e)
+
+-- the same with a table
+both-keeps : {A : Type 0} {call : Store → Result A} {told : A → Bytes} {s : Bytes} {table : List ℕ} {f : Bytes} {r : ℕ} {t : Bytes} {u : List ℕ} {g : Bytes} {es now : List Entry} →
+    ExportsBoth call told s table f r t u g → Keeping s es → ((m : ℕ) → call (storeOf s) .answer ≡ refused m → m ≡ 0 → ⊥) →
+    call (storeOf s) .store .form ≡ counted →
+    ((a : A) → call (storeOf s) .answer ≡ accepted a → Keeps leafHash innerHash (call (storeOf s) .store) now) →
+    Keeping t (cond (eqb r 0) now es)
+both-keeps (both-refused (not-told {r} n o)) k never form then = rw (ne-eqb r 0 n) k
+both-keeps {told = told} {f = f} (both-refused (refuses-both o c)) k never form then = export-keeps {told = told} {f = f} (exports-refusal c) k never form then
+both-keeps {told = told} {f = f} (both-answered (accepts-both o c q)) k never form then = export-keeps {told = told} {f = f} (exports-answer c) k never form then
 
 pub asks-form : (number : ℕ) (batch : Bytes) → number ≤ top32 → All Byte batch → CallForm (applying number (batchOf batch))
 asks-form number batch small h = go (batchOf batch) refl
@@ -165,6 +182,24 @@ called-keeps {s} es (prunes {n} w) k =
     (λ a e.
     let kept = keeps-calls leafHash innerHash leaf-hash-whole inner-hash-whole (pruning n ∷ []) (storeOf s) es (tt, tt) (k .keeps) in
     rw e at kept)
+called-keeps {s} {t} es (formats-both {r = r} w) k = both-formatted w
+  where
+    both-formatted : {n : ℕ} {x : Bytes} {table u : List ℕ} → FormatsBoth s table n x u → Keeping x (cond (eqb n 0) (noted formatting es) es)
+    both-formatted (wrong-size other) = k
+    both-formatted (both-fresh h f e q) = subst (λ x. Keeping x (entry 0 [] ∷ [])) (sym (e ∙ fresh-said s h)) (fresh-keeps s h)
+called-keeps {s} es (applies-both number batch small h w) k =
+    both-keeps w k (λ m e. never-0 (4 ∷ 5 ∷ 18 ∷ 7 ∷ []) refl (apply-refusals number (batchOf batch) (storeOf s) m e)) (apply-form number (batchOf batch) (storeOf s))
+    (λ a e.
+    let f = asks-form number batch small h in
+    let kept = keeps-calls leafHash innerHash leaf-hash-whole inner-hash-whole (applying number (batchOf batch) ∷ []) (storeOf s) es (f, tt) (k .keeps) in
+    rw e at kept)
+called-keeps {s} es (prunes-both {n = n} w) k =
+    both-keeps w k (λ m e. never-0 (8 ∷ []) refl (prune-refusals n (storeOf s) m e)) (prune-form n (storeOf s))
+    (λ a e.
+    let kept = keeps-calls leafHash innerHash leaf-hash-whole inner-hash-whole (pruning n ∷ []) (storeOf s) es (tt, tt) (k .keeps) in
+    rw e at kept)
+called-keeps es (builds w) k = k
+called-keeps es (tells w) k = k
 called-keeps es (checks w) k = k
 called-keeps es (reads-root w) k = k
 called-keeps es (reads-key w) k = k
@@ -172,6 +207,12 @@ called-keeps es (counts w) k = k
 called-keeps es (reads-at w) k = k
 called-keeps es (proves w) k = k
 called-keeps es (palettes w) k = k
+called-keeps es (reads-root-by w) k = k
+called-keeps es (reads-key-by w) k = k
+called-keeps es (counts-by w) k = k
+called-keeps es (reads-at-by w) k = k
+called-keeps es (proves-by w) k = k
+called-keeps es (palettes-by w) k = k
 called-keeps es (compares w) k = k
 called-keeps es (figures w) k = k
 called-keeps es (pocket-proves w) k = k
@@ -185,6 +226,8 @@ called-keeps es (verifies-many w) k = k
 called-keeps es (pocket-verifies w) k = k
 called-keeps es (tells-version w) k = k
 called-keeps es (shelf-verifies w) k = k
+called-keeps es (writes-message w) k = k
+called-keeps es (reads-message w) k = k
 called-keeps es (hashes w) k = k
 
 calls-keep : {s t : Bytes} {history : List (Call × Bool)} (es : List Entry) → Calls s history t → Keeping s es →

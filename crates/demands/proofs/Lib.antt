@@ -14,6 +14,7 @@ pub mod Alike
 pub mod Versions
 pub mod Placing
 pub mod Cut
+pub mod Tabled
 pub mod Histories
 pub mod Gaps
 pub mod Desk
@@ -27,3 +28,4 @@ pub mod Pocket
 pub mod Forged
 pub mod Sentences
 pub mod Shelf
+pub mod Indexed

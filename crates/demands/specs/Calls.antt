@@ -17,7 +17,10 @@ use Rattle.batch.specs.Batch.{batchOf}
 use Rattle.rescue_bytes.specs.Rescues.{slotsIn}
 use Rattle.rescue_bytes.specs.Claims.{runLedger}
 use Rattle.move_rules.specs.Claims.{SoundIn}
-use Rattle.grants.specs.Contracts.{Formats, Checks, Applies, Prunes, ReadsRoot, ReadsKey, Counts, ReadsAt, Proves, Palettes, Changes, Rescues, MovesOver, MovesBack, Finds, Figures, PocketProves, Verifies, PocketVerifies, ShelfVerifies, VerifiesMany, TellsVersion, Hashes}
+use Rattle.messages.specs.Lending.{Lent}
+use Rattle.grants.specs.Contracts.{Formats, Checks, Applies, Prunes, ReadsRoot, ReadsKey, Counts, ReadsAt, Proves, Palettes, Changes, Rescues, MovesOver, MovesBack, Finds, Figures, PocketProves, Verifies, PocketVerifies, ShelfVerifies, VerifiesMany, WritesMessage, ReadsMessage, TellsVersion, Hashes}
+use Rattle.grants.specs.Contracts.{ReadsRootBy, ReadsKeyBy, CountsBy, ReadsAtBy, ProvesBy, PalettesBy}
+use Rattle.grants.specs.Contracts.{Indexes, TellsIndex, FormatsIndexed, AppliesIndexed, PrunesIndexed}
 
 -- What a rescued store takes over: the grants of its versions, from the first that was reported to latest, by the source's trees.
 abbrev pub takenOver : Bytes → ℕ → Bytes → List Entry
@@ -29,8 +32,8 @@ pub data Called (s : Bytes) : Call × Bool → Bytes → Type 0 where
   -- formatting again, too
   formats : {r : ℕ} {t : Bytes} → Formats s r t → Called s (formatting, eqb r 0) t
   -- a batch is lent bytes, and its number has four
-  applies : (number : ℕ) (batch : Bytes) {f t g : Bytes} {r : ℕ} → number ≤ top32 → All Byte batch → Applies number batch s f r t g →
-      Called s (applying number (batchOf batch), eqb r 0) t
+  applies : (number : ℕ) (batch : Bytes) {f t g : Bytes} {r : ℕ} → number ≤ top32 → All Byte batch →
+      Applies number batch s f r t g → Called s (applying number (batchOf batch), eqb r 0) t
   prunes : {n r : ℕ} {f t g : Bytes} → Prunes n s f r t g → Called s (pruning n, eqb r 0) t
   -- these look at the store
   checks : {r : ℕ} → Checks s r → Called s (looking, false) s
@@ -43,6 +46,23 @@ pub data Called (s : Bytes) : Call × Bool → Bytes → Type 0 where
   compares : {first second limit r : ℕ} {room f t g : Bytes} → Changes first second limit s room f r t g → Called s (looking, false) s
   figures : {first last r : ℕ} {room f t g : Bytes} → Figures first last s room f r t g → Called s (looking, false) s
   pocket-proves : {v r : ℕ} {k room f t g : Bytes} → PocketProves s v k room f r t g → Called s (looking, false) s
+  -- with a table, format, apply and prune do to the store what they do without it, or are refused (2026-05)
+  formats-both : {table u : List ℕ} {r : ℕ} {t : Bytes} → FormatsIndexed s table r t u → Called s (formatting, eqb r 0) t
+  applies-both : (number : ℕ) (batch : Bytes) {table u : List ℕ} {f t g : Bytes} {r : ℕ} → number ≤ top32 → All Byte batch →
+      AppliesIndexed number batch s table f r t u g → Called s (applying number (batchOf batch), eqb r 0) t
+  prunes-both : {table u : List ℕ} {n r : ℕ} {f t g : Bytes} → PrunesIndexed n s table f r t u g → Called s (pruning n, eqb r 0) t
+  -- a table is built and told from a store that is looked at
+  builds : {table u : List ℕ} {r : ℕ} → Indexes s table r u → Called s (looking, false) s
+  tells : {table : List ℕ} {r : ℕ} → TellsIndex s table r → Called s (looking, false) s
+  -- the reads by a table (2026-05)
+  reads-root-by : {table : List ℕ} {v r : ℕ} {f g : Bytes} → ReadsRootBy s table v f r g → Called s (looking, false) s
+  reads-key-by : {table : List ℕ} {v r : ℕ} {k f g : Bytes} → ReadsKeyBy s table v k f r g → Called s (looking, false) s
+  counts-by : {table : List ℕ} {v r : ℕ} {f g : Bytes} → CountsBy s table v f r g → Called s (looking, false) s
+  reads-at-by : {table : List ℕ} {v i r : ℕ} {f g : Bytes} → ReadsAtBy s table v i f r g → Called s (looking, false) s
+  proves-by : {table : List ℕ} {v r : ℕ} {k room f t g : Bytes} → ProvesBy s table v k room f r t g →
+      Called s (looking, false) s
+  palettes-by : {table : List ℕ} {v r : ℕ} {list room f t g : Bytes} → PalettesBy s table v list room f r t g →
+      Called s (looking, false) s
   -- the source of a rescue is looked at; its target begins anew, with what the source's trees of the run hold (2026-08)
   rescues-from : {oldest latest r : ℕ} {old f t g : Bytes} → Rescues oldest latest s old f r t g → Called s (looking, false) s
   rescues-into : {oldest latest r : ℕ} {source f t g : Bytes} → latest ≤ top32 → All Byte source → Rescues oldest latest source s f r t g →
@@ -59,6 +79,8 @@ pub data Called (s : Bytes) : Call × Bool → Bytes → Type 0 where
   pocket-verifies : {r : ℕ} {root k x f g : Bytes} → PocketVerifies root k x f r g → Called s (looking, false) s
   tells-version : {r : ℕ} → TellsVersion r → Called s (looking, false) s
   shelf-verifies : {b r : ℕ} {root k x f g : Bytes} → ShelfVerifies root b k x f r g → Called s (looking, false) s
+  writes-message : {r : ℕ} {x room f t g : Bytes} {lent : Lent} → WritesMessage x lent room f r t g → Called s (looking, false) s
+  reads-message : {r : ℕ} {m room f t g : Bytes} → ReadsMessage m room f r t g → Called s (looking, false) s
   hashes : {r : ℕ} {x g : Bytes} → Hashes x r g → Called s (looking, false) s
 
 -- Calls one after the other, from the bytes s to the bytes t, with their history.
@@ -66,17 +88,13 @@ pub data Calls : Bytes → List (Call × Bool) → Bytes → Type 0 where
   none-yet : {s : Bytes} → Calls s [] s
   then-called : {s t u : Bytes} {e : Call × Bool} {history : List (Call × Bool)} → Called s e t → Calls t history u → Calls s (e ∷ history) u
 
--- What a call did to the store: a rescue or a move into it that was refused only looked.
+-- What a call did to the store: a refused one only looked.
 abbrev pub doneBy : Call → Bool → Call
-doneBy formatting b = formatting
-doneBy (applying number batch) b = applying number batch
-doneBy (pruning n) b = pruning n
-doneBy (taking es) true = taking es
-doneBy (taking es) false = looking
-doneBy looking b = looking
+doneBy c true = c
+doneBy c false = looking
 
--- None of them leaves a gap: each batch is given the latest version of the bytes it is lent + 1 (or less, and is refused), and no rescue and no
--- move into the store was accepted.
+-- None of them leaves a gap: each batch that was accepted was given the latest version of the bytes it was lent + 1, and no rescue and no move into the
+-- store was accepted.
 abbrev pub WithoutGaps : {s t : Bytes} {history : List (Call × Bool)} → Calls s history t → Type 0
 WithoutGaps none-yet = Unit {0}
 WithoutGaps {s} (then-called {e = e} c calls) = NoGap (doneBy (e .0) (e .1)) (storeOf s) × WithoutGaps calls

@@ -8,4 +8,6 @@ pub mod Placing
 pub mod Palettes
 pub mod Many
 pub mod Forged
+pub mod Indexed
+pub mod Tabled
 pub mod Desk

@@ -8,12 +8,13 @@ use mathlib.Core.List.{[], _∷_}
 use Rattle.terms.specs.Bits.{Bytes, Place}
 use Rattle.meaning.specs.Tree.{Tree, none, leaf, inner, grants, hash, unversioned}
 use Rattle.meaning.specs.Store.{treeAtVersion}
-use Rattle.meaning.specs.Sight.{rootSight, scan}
 use Rattle.meaning.specs.Calls.{Answer, refused, accepted}
 use Rattle.meaning.specs.Reading.{Seen, gap, seen, rootRead}
 use Rattle.meaning.specs.Proving.{isGap}
 use Rattle.shown.proofs.Views.{Seated, viewed, no-grant-no-node}
 use Rattle.shown.proofs.Standing.{version-seen, version-hash, version-seated}
+use Rattle.indexed.specs.Index.{rootBy, byTable}
+use Rattle.indexed.proofs.Scanned.{root-without-table, without-table}
 use Rattle.hash.specs.declared.Hash as declared-hash
 use Rattle.hash.specs.Hash.{hashBytes}
 use Rattle.nodehash.specs.Node as node
@@ -50,35 +51,38 @@ module _ {s : Bytes} {v : ℕ} (w : SoundVersion s v) where
   abbrev tree : Tree
   tree = unversioned (treeAtVersion (storeOf s) v)
 
-  by-root : isGap (seen (scan (storeOf s)) v) ≡ noGrant (grantsAt s v)
+  by-root : isGap (seen (byTable [] (storeOf s)) v) ≡ noGrant (grantsAt s v)
   by-root =
-      ap isGap (version-seen node.leafHash node.innerHash (storeOf s) (w .sound .sound) v (w .kept))
+      ap (λ look. isGap (seen look v)) (without-table (storeOf s))
+      ∙ ap isGap (version-seen node.leafHash node.innerHash (storeOf s) (w .sound .sound) v (w .kept))
       ∙ gap-none [] tree (version-seated node.leafHash node.innerHash (storeOf s) (w .sound .sound) v (w .kept))
 
   -- what is seen at the root, case by case
-  module _ (r : declared.Seen) (sees : Sees s [] (seen (scan (storeOf s)) v) r) where
+  module _ (r : declared.Seen) (sees : Sees s [] [] (seen (byTable [] (storeOf s)) v) r) where
     pub gap-holds-none : r ≡ Gap → true ≡ noGrant (grantsAt s v)
-    gap-holds-none e = sym (ap isGap (subst (Sees s [] (seen (scan (storeOf s)) v)) e sees)) ∙ by-root
+    gap-holds-none e = sym (ap isGap (subst (Sees s [] [] (seen (byTable [] (storeOf s)) v)) e sees)) ∙ by-root
 
     pub lost-holds : {t : declared-trouble.Trouble} → r ≡ Lost t → false ≡ noGrant (grantsAt s v)
-    lost-holds e = sym (ap isGap (subst (Sees s [] (seen (scan (storeOf s)) v)) e sees)) ∙ by-root
+    lost-holds e = sym (ap isGap (subst (Sees s [] [] (seen (byTable [] (storeOf s)) v)) e sees)) ∙ by-root
 
     pub leaf-holds : {i : ℕ} → r ≡ Leaf i → false ≡ noGrant (grantsAt s v)
     unfolding leafAt
-    leaf-holds e = sym (ap isGap (subst (Sees s [] (seen (scan (storeOf s)) v)) e sees .1)) ∙ by-root
+    leaf-holds e = sym (ap isGap (subst (Sees s [] [] (seen (byTable [] (storeOf s)) v)) e sees .1)) ∙ by-root
 
     pub inner-holds : {i : ℕ} → r ≡ Inner i → false ≡ noGrant (grantsAt s v)
     unfolding forkAt
-    inner-holds e = sym (ap isGap (subst (Sees s [] (seen (scan (storeOf s)) v)) e sees .2)) ∙ by-root
+    inner-holds e = sym (ap isGap (subst (Sees s [] [] (seen (byTable [] (storeOf s)) v)) e sees .2)) ∙ by-root
 
   -- the root read
   hash-of-tree : hash node.leafHash node.innerHash tree ≡ rootAt s v
   hash-of-tree = ap₂ (λ f g. hash f g tree) leaf-is inner-is
 
-  sighted : rootRead node.leafHash node.innerHash (rootSight (storeOf s) v) ≡ accepted (hash node.leafHash node.innerHash tree)
-  sighted = version-hash node.leafHash node.innerHash (storeOf s) (w .sound .sound) v (w .kept)
+  sighted : rootRead node.leafHash node.innerHash (rootBy [] (storeOf s) v) ≡ accepted (hash node.leafHash node.innerHash tree)
+  sighted =
+      ap (rootRead node.leafHash node.innerHash) (root-without-table (storeOf s) v)
+      ∙ version-hash node.leafHash node.innerHash (storeOf s) (w .sound .sound) v (w .kept)
 
-  module _ (r : declared-root.RootRead) (says : rootSays r ≡ rootRead node.leafHash node.innerHash (rootSight (storeOf s) v)) where
+  module _ (r : declared-root.RootRead) (says : rootSays r ≡ rootRead node.leafHash node.innerHash (rootBy [] (storeOf s) v)) where
     pub root-not-refused : {A : Type 0} {n : ℕ} → r ≡ root.Refused n → A
     unfolding rootSays
     root-not-refused e = not-both (sym (ap rootSays e) ∙ says ∙ sighted)

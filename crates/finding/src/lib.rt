@@ -71,7 +71,7 @@ fn holds_none(store: &[u8], version: u32) -> bool
     requires { ⌜ SoundVersion (now store) version ⌝ }
     ensures { λ r. ⌜ r ≡ noGrant (grantsAt (now (store .entry)) version) ⌝ }
 {
-    let seen = read_step::root(store, version);
+    let seen = read_step::root(store, &[], version);
     match seen {
         Seen::Gap => true,
         Seen::Lost(_) => false,
@@ -95,7 +95,7 @@ fn check_against(store: &[u8], version: u32, key: &[u8], proof: &[u8]) -> Checke
     requires { ⌜ SoundVersion (now store) version × (length (now key) ≡ 32) ⌝ }
     ensures { λ r. ⌜ says r ≡ judged (rootAt (now (store .entry)) version) (now (key .entry)) (proofIn (now (proof .entry))) ⌝ }
 {
-    let read = root_hash(store, version);
+    let read = root_hash(store, &[], version);
     match read {
         RootRead::Refused(_) => Checked::Refused(NOT_SOUND),
         RootRead::Hash(root) => check_under(root, key, proof),

@@ -3,12 +3,14 @@ use Prim.Native.Nat.{ℕ}
 use native.Mathlib.Omega.{arith}
 use mathlib.Core.Path.{_≡_, refl, ap, sym, _∙_}
 use mathlib.Core.Bool.{true, false, cond}
+use mathlib.Core.List.{[]}
 use lib.ListN.{length}
 use borrow.Author.Tests.{le-leb}
 use Rattle.terms.specs.declared.Form.the-variants.{Counted as counted}
 use Rattle.terms.specs.Bits.{Bytes, Whole32, sameBytes}
 use Rattle.meaning.specs.Calls.{Answer, refused, accepted, isKept}
-use Rattle.meaning.specs.Reading.{Verdict, present, absent, answerOf, readKey}
+use Rattle.meaning.specs.Reading.{seen, walk, Verdict, present, absent, readEnd, answerOf, readKey}
+use Rattle.indexed.proofs.Scanned.{without-table}
 use Rattle.shown.proofs.Theorems.{key-read-is-answer}
 use Rattle.nodehash.specs.Node.{leafHash, innerHash}
 use Rattle.hash.specs.declared.Hash as declared-hash
@@ -36,13 +38,14 @@ accepted-same : {a b : Verdict} → _≡_ {A = Answer Verdict} (accepted a) (acc
 accepted-same e = cc
 
 module _ {s : Bytes} {v : ℕ} (w : SoundVersion s v) (k : Bytes) (whole : Whole32 k) where
-  walked : walkRead s v k ≡ accepted (answerOf k (grantsAt s v))
+  walked : walkRead s [] v k ≡ accepted (answerOf k (grantsAt s v))
   unfolding walkRead readKey isKept
   walked =
-      rw (le-leb (storeOf s .oldest) v (w .kept .0), le-leb v (storeOf s .latest) (w .kept .1)) at
+      ap (λ look. readEnd k (walk k 0 [] (seen look v))) (without-table (storeOf s))
+      ∙ rw (le-leb (storeOf s .oldest) v (w .kept .0), le-leb v (storeOf s .latest) (w .kept .1)) at
       (key-read-is-answer leafHash innerHash (storeOf s) (w .sound .sound) v (w .kept) k whole)
 
-  module _ (r : declared.KeyRead) (says : readSays r ≡ walkRead s v k) where
+  module _ (r : declared.KeyRead) (says : readSays r ≡ walkRead s [] v k) where
     not-refused : {A : Type 0} {n : ℕ} → r ≡ Refused n → A
     unfolding readSays
     not-refused e = refused-not-accepted (sym (ap readSays e) ∙ says ∙ walked)

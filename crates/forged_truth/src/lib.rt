@@ -25,7 +25,7 @@ fn has_value(store: &[u8], version: u32, key: &[u8], value: Hash) -> bool
     requires { ⌜ SoundVersion (now store) version × (length (now key) ≡ 32) ⌝ }
     ensures { λ r. ⌜ r ≡ sameVerdict (answerOf (now (key .entry)) (grantsAt (now (store .entry)) version)) (present (hashBytes value)) ⌝ }
 {
-    let read = walk_read(store, version, key);
+    let read = walk_read(store, &[], version, key);
     match read {
         KeyRead::Refused(_) => false,
         KeyRead::Present(held) => same_hash(held, value),
@@ -38,7 +38,7 @@ fn lacks_key(store: &[u8], version: u32, key: &[u8]) -> bool
     requires { ⌜ SoundVersion (now store) version × (length (now key) ≡ 32) ⌝ }
     ensures { λ r. ⌜ r ≡ sameVerdict (answerOf (now (key .entry)) (grantsAt (now (store .entry)) version)) absent ⌝ }
 {
-    let read = walk_read(store, version, key);
+    let read = walk_read(store, &[], version, key);
     match read {
         KeyRead::Refused(_) => false,
         KeyRead::Present(_) => false,

@@ -2,6 +2,7 @@
 -- to look at stay as they are. A contract that is a record of the room below is the contract of the function there too. Assumes nothing.
 use Prim.Native.Nat.{ℕ, _+_, _*_}
 use mathlib.Core.Path.{_≡_}
+use mathlib.Core.List.{List}
 use Rattle.terms.specs.declared.Form.the-variants.{Plain as plain, Counted as counted}
 use Rattle.terms.specs.Bits.{Bytes}
 use Rattle.sha256.specs.Sha256.{sha256}
@@ -9,6 +10,8 @@ use Rattle.format.specs.Format.{formatAnswer, formatBytes}
 use Rattle.promises.specs.Check.{Checked}
 use Rattle.apply_c.specs.Export as apply
 use Rattle.prune_c.specs.Export as prune
+use Rattle.index_rules.specs.Tables as tables
+use Rattle.index_write.specs.Export as indexed
 use Rattle.read_c.specs.Export as read
 use Rattle.read_counts_c.specs.Export as counts
 use Rattle.prove_c.specs.Export as prove
@@ -42,6 +45,27 @@ Applies number batch s f r t g = apply.ApplyExports number batch s f r t g
 abbrev pub Prunes : ℕ → Bytes → Bytes → ℕ → Bytes → Bytes → Type 0
 Prunes n s f r t g = prune.PruneExports n s f r t g
 
+-- Building the table of the bytes s answers r and leaves the table u.
+abbrev pub Indexes : Bytes → List ℕ → ℕ → List ℕ → Type 0
+Indexes s table r u = tables.Builds s table r u
+
+-- Telling whether a table is the right one of the bytes s answers r.
+abbrev pub TellsIndex : Bytes → List ℕ → ℕ → Type 0
+TellsIndex s table r = tables.Tells s table r
+
+-- Formatting the bytes s and their table answers r and leaves the bytes t and the table u.
+abbrev pub FormatsIndexed : Bytes → List ℕ → ℕ → Bytes → List ℕ → Type 0
+FormatsIndexed s table r t u = tables.FormatsBoth s table r t u
+
+-- Applying the bytes of a batch to the bytes s and their table as a number answers r and leaves the bytes t and the table u; the array f for
+-- version, root and count is left as g.
+abbrev pub AppliesIndexed : ℕ → Bytes → Bytes → List ℕ → Bytes → ℕ → Bytes → List ℕ → Bytes → Type 0
+AppliesIndexed number batch s table f r t u g = indexed.AppliesBoth number batch s table f r t u g
+
+-- Pruning the bytes s and their table to version n answers r and leaves the bytes t and the table u; the array f for the count is left as g.
+abbrev pub PrunesIndexed : ℕ → Bytes → List ℕ → Bytes → ℕ → Bytes → List ℕ → Bytes → Type 0
+PrunesIndexed n s table f r t u g = indexed.PrunesBoth n s table f r t u g
+
 -- Reading the root of version v of the bytes s answers r; the array f for the root is left as g.
 abbrev pub ReadsRoot : Bytes → ℕ → Bytes → ℕ → Bytes → Type 0
 ReadsRoot s v f r g = read.ReadsRoot s v f r g
@@ -65,6 +89,26 @@ Proves s v k room f r t g = prove.Proves s v k room f r t g
 -- Proving each key of a list in version v of the bytes s answers r; the room is left as t, the array f for the length of all together as g.
 abbrev pub Palettes : Bytes → ℕ → Bytes → Bytes → Bytes → ℕ → Bytes → Bytes → Type 0
 Palettes s v list room f r t g = palette.Palettes s v list room f r t g
+
+-- Document 02, 2026-05: the six reads by a table of slot numbers lent with the store; 1 is also for its length. They
+-- read the root, a key, the number of grants and the grant at a position, and prove a key and each key of a list.
+abbrev pub ReadsRootBy : Bytes → List ℕ → ℕ → Bytes → ℕ → Bytes → Type 0
+ReadsRootBy s table v f r g = read.ReadsRootBy s table v f r g
+
+abbrev pub ReadsKeyBy : Bytes → List ℕ → ℕ → Bytes → Bytes → ℕ → Bytes → Type 0
+ReadsKeyBy s table v k f r g = read.ReadsKeyBy s table v k f r g
+
+abbrev pub CountsBy : Bytes → List ℕ → ℕ → Bytes → ℕ → Bytes → Type 0
+CountsBy s table v f r g = counts.CountsBy s table v f r g
+
+abbrev pub ReadsAtBy : Bytes → List ℕ → ℕ → ℕ → Bytes → ℕ → Bytes → Type 0
+ReadsAtBy s table v i f r g = counts.ReadsAtBy s table v i f r g
+
+abbrev pub ProvesBy : Bytes → List ℕ → ℕ → Bytes → Bytes → Bytes → ℕ → Bytes → Bytes → Type 0
+ProvesBy s table v k room f r t g = prove.ProvesBy s table v k room f r t g
+
+abbrev pub PalettesBy : Bytes → List ℕ → ℕ → Bytes → Bytes → Bytes → ℕ → Bytes → Bytes → Type 0
+PalettesBy s table v list room f r t g = palette.PalettesBy s table v list room f r t g
 
 -- Comparing version first of the bytes s with version second, within a limit of visits, answers r; the room is left as t, the array f for the
 -- number of records as g.

@@ -1,7 +1,7 @@
 // The public calls, for C, Rust and others to link. Each answers 0 where it is accepted, else document 01's number of refusal; a refused
 // call writes nothing, its answer included. A slice is passed as a pointer and a length, an array as a pointer alone.
 use terms::Form;
-ghost use Rattle.grants.specs.Contracts.{Formats, Checks, Applies, Prunes, ReadsRoot, ReadsKey, Counts, ReadsAt, Proves, Palettes, Changes, Rescues, MovesOver, MovesBack, Finds, Figures, PocketProves, Verifies, PocketVerifies, ShelfVerifies, VerifiesMany, TellsVersion, Hashes};
+ghost use Rattle.grants.specs.Contracts.{Formats, Checks, Indexes, TellsIndex, FormatsIndexed, AppliesIndexed, PrunesIndexed, Applies, Prunes, ReadsRoot, ReadsKey, Counts, ReadsAt, Proves, Palettes, ReadsRootBy, ReadsKeyBy, CountsBy, ReadsAtBy, ProvesBy, PalettesBy, Changes, Rescues, MovesOver, MovesBack, Finds, Figures, PocketProves, Verifies, PocketVerifies, ShelfVerifies, VerifiesMany, TellsVersion, Hashes};
 
 // Makes a fresh store of any bytes of the right length.
 #[no_mangle]
@@ -38,6 +38,57 @@ pub extern "C" fn grants_prune(store: &mut [u8], version: u32, freed: &mut [u8; 
     ensures { λ r. ⌜ Prunes version (now (store .entry)) (now (freed .entry)) r (now (store .exit)) (now (freed .exit)) ⌝ }
 {
     prune_c::pruned_out(store, version, freed)
+}
+
+// Writes the right table of slot numbers of a sound store, whatever the table holds: used slots in order of place and then version, then the capacity.
+#[no_mangle]
+pub extern "C" fn grants_index(store: &[u8], index: &mut [u32]) -> u32
+    ensures { λ r. ⌜ Indexes (now (store .entry)) (now (index .entry)) r (now (index .exit)) ⌝ }
+{
+    index_open::built(store, index)
+}
+
+// Whether a table of slot numbers is the right one of a sound store.
+#[no_mangle]
+pub extern "C" fn grants_index_check(store: &[u8], index: &[u32]) -> u32
+    ensures { λ r. ⌜ TellsIndex (now (store .entry)) (now (index .entry)) r ⌝ }
+{
+    index_open::told(store, index)
+}
+
+// Makes a fresh store of any bytes of the right length, and its table.
+#[no_mangle]
+pub extern "C" fn grants_format_indexed(store: &mut [u8], index: &mut [u32]) -> u32
+    ensures { λ r. ⌜ FormatsIndexed (now (store .entry)) (now (index .entry)) r (now (store .exit)) (now (index .exit)) ⌝ }
+{
+    index_open::formatted(store, index)
+}
+
+// As grants_apply, with the store's table kept right.
+#[no_mangle]
+pub extern "C" fn grants_apply_indexed(
+    store: &mut [u8],
+    index: &mut [u32],
+    number: u32,
+    batch: &[u8],
+    answer: &mut [u8; 40],
+) -> u32
+    ensures { λ r. ⌜ AppliesIndexed number (now (batch .entry)) (now (store .entry)) (now (index .entry)) (now (answer .entry)) r (now (store .exit)) (now (index .exit)) (now (answer .exit)) ⌝ }
+{
+    index_write::apply_both(store, index, number, batch, answer)
+}
+
+// As grants_prune, with the store's table kept right.
+#[no_mangle]
+pub extern "C" fn grants_prune_indexed(
+    store: &mut [u8],
+    index: &mut [u32],
+    version: u32,
+    freed: &mut [u8; 4],
+) -> u32
+    ensures { λ r. ⌜ PrunesIndexed version (now (store .entry)) (now (index .entry)) (now (freed .entry)) r (now (store .exit)) (now (index .exit)) (now (freed .exit)) ⌝ }
+{
+    index_write::prune_both(store, index, version, freed)
 }
 
 // The root of a version.
@@ -98,6 +149,90 @@ pub extern "C" fn grants_palette(
     ensures { λ r. ⌜ Palettes (now (store .entry)) version (now (keys .entry)) (now (room .entry)) (now (length .entry)) r (now (room .exit)) (now (length .exit)) ⌝ }
 {
     palette_c::palette_out(store, version, keys, room, length)
+}
+
+// The root of a version, by a table lent with the store, of as many slot numbers as its capacity.
+#[no_mangle]
+pub extern "C" fn grants_root_indexed(
+    store: &[u8],
+    index: &[u32],
+    version: u32,
+    root: &mut [u8; 32],
+) -> u64
+    ensures { λ r. ⌜ ReadsRootBy (now (store .entry)) (now (index .entry)) version (now (root .entry)) r (now (root .exit)) ⌝ }
+{
+    read_c::root_indexed(store, index, version, root)
+}
+
+// A key in a version, by a table.
+#[no_mangle]
+pub extern "C" fn grants_get_indexed(
+    store: &[u8],
+    index: &[u32],
+    version: u32,
+    key: &[u8],
+    found: &mut [u8; 33],
+) -> u64
+    ensures { λ r. ⌜ ReadsKeyBy (now (store .entry)) (now (index .entry)) version (now (key .entry)) (now (found .entry)) r (now (found .exit)) ⌝ }
+{
+    read_c::get_indexed(store, index, version, key, found)
+}
+
+// The number of grants of a version, by a table.
+#[no_mangle]
+pub extern "C" fn grants_count_indexed(
+    store: &[u8],
+    index: &[u32],
+    version: u32,
+    count: &mut [u8; 8],
+) -> u64
+    ensures { λ r. ⌜ CountsBy (now (store .entry)) (now (index .entry)) version (now (count .entry)) r (now (count .exit)) ⌝ }
+{
+    read_counts_c::count_indexed(store, index, version, count)
+}
+
+// The grant at a position of a version, by a table.
+#[no_mangle]
+pub extern "C" fn grants_at_indexed(
+    store: &[u8],
+    index: &[u32],
+    version: u32,
+    position: u64,
+    grant: &mut [u8; 64],
+) -> u64
+    ensures { λ r. ⌜ ReadsAtBy (now (store .entry)) (now (index .entry)) version position (now (grant .entry)) r (now (grant .exit)) ⌝ }
+{
+    read_counts_c::at_indexed(store, index, version, position, grant)
+}
+
+// Writes the proof for a key in a version, by a table.
+#[no_mangle]
+pub extern "C" fn grants_prove_indexed(
+    store: &[u8],
+    index: &[u32],
+    version: u32,
+    key: &[u8],
+    room: &mut [u8],
+    length: &mut [u8; 4],
+) -> u64
+    ensures { λ r. ⌜ ProvesBy (now (store .entry)) (now (index .entry)) version (now (key .entry)) (now (room .entry)) (now (length .entry)) r (now (room .exit)) (now (length .exit)) ⌝ }
+{
+    prove_c::prove_indexed(store, index, version, key, room, length)
+}
+
+// Writes the proofs for a list of keys in a version, by a table.
+#[no_mangle]
+pub extern "C" fn grants_palette_indexed(
+    store: &[u8],
+    index: &[u32],
+    version: u32,
+    keys: &[u8],
+    room: &mut [u8],
+    length: &mut [u8; 4],
+) -> u64
+    ensures { λ r. ⌜ PalettesBy (now (store .entry)) (now (index .entry)) version (now (keys .entry)) (now (room .entry)) (now (length .entry)) r (now (room .exit)) (now (length .exit)) ⌝ }
+{
+    palette_c::palette_indexed(store, index, version, keys, room, length)
 }
 
 // Writes what changed from the first version to the second to the front of the room, as records of 72 bytes; records: how many, little-endian.

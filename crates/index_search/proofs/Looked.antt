@@ -170,10 +170,9 @@ any-default (x ∷ xs) zero d e l = refl
 any-default (x ∷ xs) (suc k) d e l = any-default xs k d e (omega arith)
 
 -- the entry looked at is the one in the middle
-pub in-middle : (look : Record → Look) (table : List ℕ) (s : List Slot) {lo hi : ℕ} (e : ℕ) → Between look table s lo hi → lo < hi → length table ≡ length s →
-    e ≡ getD table ((lo + hi) / 2) 0 → lookAt look (named s e) ≡ inMiddle look table s lo hi
-in-middle look table s {lo} {hi} e here l n h =
-    ap (λ k. lookAt look (named s k)) (h ∙ any-default table ((lo + hi) / 2) 0 (length s) (omega (arith, here .within, middle look table s here l)))
+pub in-middle : (look : Record → Look) (table : List ℕ) (s : List Slot) (lo hi : ℕ) {n e : ℕ} → n ≡ length s → e ≡ getD table ((lo + hi) / 2) n →
+    lookAt look (named s e) ≡ inMiddle look table s lo hi
+in-middle look table s lo hi m h = ap (λ k. lookAt look (named s k)) (h ∙ ap (getD table ((lo + hi) / 2)) m)
 
 -- what is met is the record looked at
 pub own-met : (root : Bool) (v : ℕ) (p : Place) (q r : Record) → lookFor root v p q ≡ meets r → q ≡ r

@@ -13,7 +13,7 @@ use store::version_at;
 use terms::Form;
 ghost use mathlib.Core.Path.{_≡_};
 ghost use mathlib.Core.Bool.{true};
-ghost use lib.ListN.{length};
+ghost use lib.ListN.{length, getD};
 ghost use Rattle.indexed.specs.Index.{inForm, named, lookAt, nodeLook, rootLook, search};
 ghost use Rattle.place.specs.Place.{placeOf, Proper};
 ghost use Rattle.layout.specs.Sizes.{roomOf};
@@ -29,10 +29,14 @@ pub enum Look {
     Meets,
 }
 
-fn wide(x: u32) -> usize
-    ensures { λ r. ⌜ r ≡ x ⌝ }
+// The entry at a position of a table; beyond its end the number of slots, which names none.
+fn entry_at(table: &[u32], k: usize, n: usize) -> usize
+    ensures { λ r. ⌜ r ≡ getD (now (table .entry)) k n ⌝ }
 {
-    x as usize
+    if table.len() <= k {
+        return n;
+    }
+    table[k] as usize
 }
 
 // How slot i stands to a version and place: the bits first, then the bit count, then the version.
@@ -104,17 +108,20 @@ fn look_entry(store: &[u8], n: usize, entry: usize, version: u32, place: Place, 
     look_node(store, entry, version, place)
 }
 
-// The slot on which the search for a root or for a node ends.
+// The slot on which the search for a root or for a node ends. A table may have any length; in one without entries nothing is looked at.
 fn search(store: &[u8], table: &[u32], version: u32, place: Place, root: bool) -> Found
-    requires { ⌜ (sizeRight Form.Counted (length (now store)) ≡ true) × (length (now table) ≡ roomOf Form.Counted (length (now store))) × Proper place ⌝ }
+    requires { ⌜ (sizeRight Form.Counted (length (now store)) ≡ true) × Proper place ⌝ }
     ensures { λ r. ⌜ Located (storeOf (now (store .entry)) .slots) (search (lookFor root version (placeOf place)) (now (table .entry)) (storeOf (now (store .entry)) .slots)) r ⌝ }
 {
+    if table.len() == 0 {
+        return Found::Nothing;
+    }
     let n = slot_count(Form::Counted, store);
     let mut lo = 0;
     let mut hi = n;
     while lo < hi {
         let middle = (lo + hi) / 2;
-        let entry = wide(table[middle]);
+        let entry = entry_at(table, middle, n);
         let look = look_entry(store, n, entry, version, place, root);
         match look {
             Look::Small => lo = middle + 1,
@@ -127,7 +134,7 @@ fn search(store: &[u8], table: &[u32], version: u32, place: Place, root: bool) -
 
 // The slot on which the search for a version and place ends.
 pub fn search_node(store: &[u8], table: &[u32], version: u32, place: Place) -> Found
-    requires { ⌜ (sizeRight Form.Counted (length (now store)) ≡ true) × (length (now table) ≡ roomOf Form.Counted (length (now store))) × Proper place ⌝ }
+    requires { ⌜ (sizeRight Form.Counted (length (now store)) ≡ true) × Proper place ⌝ }
     ensures { λ r. ⌜ Located (storeOf (now (store .entry)) .slots) (search (nodeLook version (placeOf place)) (now (table .entry)) (storeOf (now (store .entry)) .slots)) r ⌝ }
 {
     search(store, table, version, place, false)
@@ -135,7 +142,7 @@ pub fn search_node(store: &[u8], table: &[u32], version: u32, place: Place) -> F
 
 // The slot on which the search for the root of a version ends.
 pub fn search_root(store: &[u8], table: &[u32], version: u32) -> Found
-    requires { ⌜ (sizeRight Form.Counted (length (now store)) ≡ true) × (length (now table) ≡ roomOf Form.Counted (length (now store))) ⌝ }
+    requires { ⌜ sizeRight Form.Counted (length (now store)) ≡ true ⌝ }
     ensures { λ r. ⌜ Located (storeOf (now (store .entry)) .slots) (search (rootLook version) (now (table .entry)) (storeOf (now (store .entry)) .slots)) r ⌝ }
 {
     let top = Place::top();

@@ -12,14 +12,13 @@ ghost use mathlib.Core.Bool.{true};
 ghost use lib.ListN.{length};
 ghost use Rattle.indexed.specs.Index.{rootBy, nodeBy};
 ghost use Rattle.place.specs.Place.{placeOf, Proper};
-ghost use Rattle.layout.specs.Sizes.{roomOf};
 ghost use Rattle.layout.specs.Headers.{sizeRight};
 ghost use Rattle.layout.specs.Stores.{storeOf};
 ghost use Rattle.sights.specs.Sights.{Sighted};
 
 // What is found of a version and place.
 pub fn look_by(store: &[u8], table: &[u32], version: u32, place: Place) -> Sight
-    requires { ⌜ (sizeRight Form.Counted (length (now store)) ≡ true) × (length (now table) ≡ roomOf Form.Counted (length (now store))) × Proper place ⌝ }
+    requires { ⌜ (sizeRight Form.Counted (length (now store)) ≡ true) × Proper place ⌝ }
     ensures { λ r. ⌜ Sighted (storeOf (now (store .entry)) .slots) (nodeBy (now (table .entry)) (storeOf (now (store .entry))) version (placeOf place)) r ⌝ }
 {
     let found = search_node(store, table, version, place);
@@ -31,7 +30,7 @@ pub fn look_by(store: &[u8], table: &[u32], version: u32, place: Place) -> Sight
 
 // What is found of the root of a version.
 pub fn look_root_by(store: &[u8], table: &[u32], version: u32) -> Sight
-    requires { ⌜ (sizeRight Form.Counted (length (now store)) ≡ true) × (length (now table) ≡ roomOf Form.Counted (length (now store))) ⌝ }
+    requires { ⌜ sizeRight Form.Counted (length (now store)) ≡ true ⌝ }
     ensures { λ r. ⌜ Sighted (storeOf (now (store .entry)) .slots) (rootBy (now (table .entry)) (storeOf (now (store .entry))) version) r ⌝ }
 {
     let found = search_root(store, table, version);

@@ -17,9 +17,9 @@ use Rattle.meaning.specs.Reading.{Seen, gap, lost, lostRecord, refusalOf, seenC
 use Rattle.meaning.specs.Sound.{At, Kept, Sound}
 use Rattle.meaning.specs.Calls.{Answer, refused}
 use Rattle.meaning.specs.Counting.{weight, numberAt, atBody, atSight, descend, positionAt}
-use Rattle.meaning.proofs.Finding.{Lowest, miss, hit, lowest-is, same-slot, isNode-eq}
-use Rattle.meaning.proofs.Roots.{is-root, top-root}
-use Rattle.meaning.proofs.Sights.{root-sighted, node-sighted}
+use Rattle.meaning.proofs.Finding.{Lowest, miss, hit, lowest-is, same-slot, isNode-eq, found-in}
+use Rattle.meaning.proofs.Roots.{is-root, top-root, root-at}
+use Rattle.meaning.proofs.Sights.{root-sighted, node-sighted, sighted-root, sighted-node}
 use Rattle.indexed.specs.Index.{Look, tooGreat, inForm, named, lookAt, nodeLook, rootLook, onwards, searchFrom, search, orScan, rootBy, nodeBy, byTable}
 use Rattle.indexed.proofs.Searching.{search-ends, node-met, root-met}
 
@@ -73,6 +73,12 @@ nowhere look s (suc n) lo hi = go (ltb lo hi) _ _ (nowhere look s n lo ((lo + hi
     go true up down e = ap (λ x. onwards x up down) (nothing-named look s) ∙ e
     go false up down e = refl
 
+-- so no search ends on a slot
+pub search-nowhere : (look : Record → Look) (table : List ℕ) (s : List Slot) → length table ≡ 0 → search look table s ≡ none
+unfolding search
+search-nowhere look [] s e = nowhere look s (length s) 0 (length s)
+search-nowhere look (x ∷ table) s e = absurd (omega arith)
+
 module _ (st : Store) (v : ℕ) where
   pub node-without-table : (p : Place) → nodeBy [] st v p ≡ nodeSight st v p
   unfolding nodeBy search
@@ -82,8 +88,16 @@ module _ (st : Store) (v : ℕ) where
   unfolding rootBy search
   root-without-table = ap (λ o. orScan o (rootSight st v)) (nowhere (rootLook v) (st .slots) (length (st .slots)) 0 (length (st .slots)))
 
+-- The empty table is the scan.
+pub without-table : (st : Store) → byTable [] st ≡ scan st
+without-table st =
+    ap₂ looking (fun-ext (λ v. root-without-table st v)) (fun-ext (λ v. fun-ext (λ p. node-without-table st v p)))
+  where
+    looking : (ℕ → Sight) → (ℕ → Place → Sight) → Looking
+    looking f g = record { root = f; node = g }
+
 -- a descent by counts goes by what is found at nodes alone
-descend-alike : (n : ℕ) (look look′ : Looking) → look .node ≡ look′ .node → (p : Place) (c : Child) (i : ℕ) → descend n look p c i ≡ descend n look′ p c i
+pub descend-alike : (n : ℕ) (look look′ : Looking) → look .node ≡ look′ .node → (p : Place) (c : Child) (i : ℕ) → descend n look p c i ≡ descend n look′ p c i
 descend-alike zero look look′ e p c i =
     ap (λ (f : ℕ → Place → Sight). cond (eqb (c .version) 0) (refused 3) (atSight p (f (c .version) p) i (λ b d j. refused (refusalOf lostRecord)))) e
 descend-alike (suc n) look look′ e p c i =
@@ -91,15 +105,39 @@ descend-alike (suc n) look look′ e p c i =
     (fun-ext (λ b. fun-ext (λ d. fun-ext (λ j. descend-alike n look look′ e (longer b p) d j))))
 
 -- what is seen below a root depends on how nodes are found alone
-seen-at-alike : (n : ℕ) (a b : Looking) → a .node ≡ b .node → (p : Place) (c : Child) → seenAt n a p c ≡ seenAt n b p c
+pub seen-at-alike : (n : ℕ) (a b : Looking) → a .node ≡ b .node → (p : Place) (c : Child) → seenAt n a p c ≡ seenAt n b p c
 seen-at-alike zero a b e p c =
     ap (λ (f : ℕ → Place → Sight). cond (eqb (c .version) 0) gap (seenChild p (f (c .version) p) (λ b d. lost lostRecord))) e
 seen-at-alike (suc n) a b e p c =
     ap₂ (λ (f : ℕ → Place → Sight) (kid : Side → Child → Seen). cond (eqb (c .version) 0) gap (seenChild p (f (c .version) p) kid)) e
     (fun-ext (λ s. fun-ext (λ d. seen-at-alike n a b e (longer s p) d)))
 
+-- What is found by a table stands in a slot in form and is the node, or the root, that is sought.
+module _ (st : Store) (table : List ℕ) (v : ℕ) where
+  pub node-found-at : (p : Place) (r : Record) → nodeBy table st v p ≡ matches r → r .place ≡ p
+  unfolding nodeBy search
+  node-found-at p r e = go _ refl e
+    where
+      go : (o : Option Record) → search (nodeLook v p) table (st .slots) ≡ o → orScan o (nodeSight st v p) ≡ matches r → r .place ≡ p
+      go none f h = found-in (st .slots) v p r (sighted-node st v p r h) .3
+      go (some q) f h =
+          let w = search-ends (nodeLook v p) (λ q x m. node-met v p q x m .0) (st .slots) (length (st .slots)) table 0 (length (st .slots)) q f in
+          let same : q ≡ r = cc in
+          sym (ap (λ (x : Record). x .place) same) ∙ isNode-eq v p q (node-met v p q q (w .met) .1) .1
+
+  pub root-found-at : (r : Record) → rootBy table st v ≡ matches r → r .place ≡ []
+  unfolding rootBy search
+  root-found-at r e = go _ refl e
+    where
+      go : (o : Option Record) → search (rootLook v) table (st .slots) ≡ o → orScan o (rootSight st v) ≡ matches r → r .place ≡ []
+      go none f h = root-at st v r (sighted-root st v r h) .2
+      go (some q) f h =
+          let w = search-ends (rootLook v) (λ q x m. root-met v q x m .0) (st .slots) (length (st .slots)) table 0 (length (st .slots)) q f in
+          let same : q ≡ r = cc in
+          sym (ap (λ (x : Record). x .place) same) ∙ is-root v q (root-met v q q (w .met) .1) .0
+
 module _ (leafHash innerHash : Bytes → Bytes → Bytes) (st : Store) (sound : Sound leafHash innerHash st) where
-  one-node : (v : ℕ) (p : Place) → OneMatch st (isNode v p)
+  pub one-node : (v : ℕ) (p : Place) → OneMatch st (isNode v p)
   one-node v p i j q r a b e f =
       let x = isNode-eq v p q e in
       let y = isNode-eq v p r f in

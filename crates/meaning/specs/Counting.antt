@@ -25,8 +25,11 @@ numberAt nothing = accepted 0
 numberAt (spoilt i) = refused (refusalOf (spoiltRecord i))
 
 -- 8, then 3.
+abbrev pub readNumberBy : Looking → Store → ℕ → Answer ℕ
+readNumberBy look st v = cond (isKept st v) (numberAt (look .root v)) (refused 8)
+
 unfoldable pub readNumber : Store → ℕ → Answer ℕ
-readNumber st v = cond (isKept st v) (numberAt (scan st .root v)) (refused 8)
+readNumber st v = readNumberBy (scan st) st v
 
 -- At a record: a leaf is the grant at position 0, with a position left over it is 3; an inner record sends the positions below its left count to
 -- the left, and the others, less that count, to the right.
@@ -55,8 +58,11 @@ positionAt look nothing i = refused 20
 positionAt look (spoilt s) i = refused (refusalOf (spoiltRecord s))
 
 -- The grant at a position, 0 the least key: 8, then these.
+abbrev pub readPositionBy : Looking → Store → ℕ → ℕ → Answer Grant
+readPositionBy look st v i = cond (isKept st v) (positionAt look (look .root v) i) (refused 8)
+
 unfoldable pub readPosition : Store → ℕ → ℕ → Answer Grant
-readPosition st v i = cond (isKept st v) (positionAt (scan st) (scan st .root v) i) (refused 8)
+readPosition st v i = readPositionBy (scan st) st v i
 
 -- What a set of grants says of a position: the grant there, 20 if it isn't below their number.
 abbrev pub grantAt : List Grant → ℕ → Answer Grant

@@ -11,7 +11,7 @@ use Rattle.terms.specs.Bits.{Bytes, Side, left, right, before, sameBytes}
 use Rattle.terms.specs.Records.{Store, Step, Presence, Proof, presence, absence}
 use Rattle.meaning.specs.Tree.{grantsIn}
 use Rattle.meaning.specs.Store.{treeAtVersion}
-use Rattle.meaning.specs.Sight.{Sight, matches, nothing, spoilt, scan}
+use Rattle.meaning.specs.Sight.{Sight, matches, nothing, spoilt, Looking, scan}
 use Rattle.meaning.specs.Calls.{Answer, refused, accepted, isKept}
 use Rattle.meaning.specs.Reading.{Trouble, lostRecord, refusalOf, Seen, lost, gap, leafSeen, fork, seen, Pass, End, broken, atLeaf, atGap, walk}
 
@@ -125,8 +125,11 @@ emptyVersion nothing = true
 emptyVersion (spoilt i) = false
 
 -- The proof for a key in a version: 8, then 14 in an empty version, then the first of 3 and 17 that is met.
+abbrev pub proofBy : Looking → Store → ℕ → Bytes → Answer Proof
+proofBy look st v k = cond (isKept st v) (cond (emptyVersion (look .root v)) (refused 14) (proveSeen k (seen look v))) (refused 8)
+
 unfoldable pub proof : Store → ℕ → Bytes → Answer Proof
-proof st v k = cond (isKept st v) (cond (emptyVersion (scan st .root v)) (refused 14) (proveSeen k (seen (scan st) v))) (refused 8)
+proof st v k = proofBy (scan st) st v k
 
 -- A presence proof of s steps has 72 + 33 s bytes.
 unfoldable pub presenceLength : Presence → ℕ
@@ -147,5 +150,8 @@ fitted room (refused n) = refused n
 fitted room (accepted p) = cond (ltb room (proofLength p)) (refused 9) (accepted p)
 
 -- Proving into a buffer of `room` bytes: 8, 14, 3 or 17, 9.
+abbrev pub proveBy : Looking → Store → ℕ → Bytes → ℕ → Answer Proof
+proveBy look st v k room = fitted room (proofBy look st v k)
+
 unfoldable pub prove : Store → ℕ → Bytes → ℕ → Answer Proof
 prove st v k room = fitted room (proof st v k)

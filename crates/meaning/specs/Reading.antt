@@ -87,9 +87,12 @@ readEnd k (broken t) = refused (refusalOf t)
 readEnd k (atLeaf l x trail) = accepted (cond (sameBytes k l) (present x) absent)
 readEnd k (atGap trail) = accepted absent
 
--- A key read answers the value or "absent": 8, then the first of 3 and 17 that is met.
+-- A key read answers the value or "absent": 8, then the first of 3 and 17 that is met; by how it finds, and by looking at every slot.
+abbrev pub readKeyBy : Looking → Store → ℕ → Bytes → Answer Verdict
+readKeyBy look st v k = cond (isKept st v) (readEnd k (walk k 0 [] (seen look v))) (refused 8)
+
 unfoldable pub readKey : Store → ℕ → Bytes → Answer Verdict
-readKey st v k = cond (isKept st v) (readEnd k (walk k 0 [] (seen (scan st) v))) (refused 8)
+readKey st v k = readKeyBy (scan st) st v k
 
 -- What a set of grants says of a key.
 abbrev pub answerOf : Bytes → List Grant → Verdict
@@ -109,5 +112,8 @@ module _ (leafHash innerHash : Bytes → Bytes → Bytes) where
   rootRead (spoilt i) = refused (refusalOf (spoiltRecord i))
 
   -- 8, then 3.
+  abbrev pub readRootBy : Looking → Store → ℕ → Answer Bytes
+  readRootBy look st v = cond (isKept st v) (rootRead (look .root v)) (refused 8)
+
   unfoldable pub readRoot : Store → ℕ → Answer Bytes
-  readRoot st v = cond (isKept st v) (rootRead (scan st .root v)) (refused 8)
+  readRoot st v = readRootBy (scan st) st v

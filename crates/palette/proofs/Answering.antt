@@ -2,34 +2,37 @@
 use Prim.Native.Nat.{ℕ, _-_, _<_, _≤_}
 use native.Mathlib.Omega.{arith}
 use native.Mathlib.Nat.{zero-add}
-use mathlib.Core.Path.{_≡_, refl, ap, sym, _∙_}
+use mathlib.Core.Path.{_≡_, refl, ap, sym, _∙_, fun-ext}
 use mathlib.Core.Bool.{Bool, true, false, cond}
-use mathlib.Core.List.{List, _++_}
+use mathlib.Core.List.{List, [], _++_}
 use lib.ListN.{length, take, drop}
 use borrow.Author.Tests.{lt-ltb, le-ltb}
 use Rattle.terms.specs.declared.Form.the-variants.{Counted as counted}
 use Rattle.terms.specs.Bits.{Bytes}
 use Rattle.terms.specs.Records.{Proof}
 use Rattle.meaning.specs.Calls.{Answer, refused, accepted, isKept}
-use Rattle.meaning.specs.Proving.{proof}
-use Rattle.meaning.proofs.Empty.{proof-by-searches}
+use Rattle.meaning.specs.Sight.{scan}
+use Rattle.meaning.specs.Proving.{proofBy, proof}
+use Rattle.indexed.specs.Index.{byTable}
+use Rattle.indexed.proofs.Scanned.{without-table}
 use Rattle.fields.specs.Written.{written}
 use Rattle.fields.proofs.Written.{part-written}
 use Rattle.layout.specs.Headers.{sizeRight, headerOf}
 use Rattle.layout.specs.Stores.{storeOf}
 use Rattle.read_open.specs.Opening.{opened, openedSays}
-use Rattle.read_open.specs.Headed.{byHeader}
+use Rattle.read_open.specs.Headed.{byHeader, asMany}
 use Rattle.read_open.specs.declared.Opened as declared-opened
 use Rattle.read_open.specs.declared.Opened.the-variants as first
 use Rattle.read_open.proofs.Opening as opening
 use Rattle.prove_paths.proofs.Records.{part-room}
-use Rattle.palette_rules.specs.Palette.{wholeKeys, keysIn, inTurn, lengthTogether, fittedTogether, palette}
+use Rattle.prove_plan.proofs.Ending.{by-searches}
+use Rattle.palette_rules.specs.Palette.{wholeKeys, keysIn, inTurn, lengthTogether, fittedTogether, paletteOf, palette}
 use Rattle.palette_rules.proofs.Turns.{in-turn-same}
 use Rattle.prove.specs.Parts.{provedSays}
 use Rattle.prove.specs.declared.Proved as declared
 use Rattle.prove.specs.declared.Proved.the-variants.{Refused, Length}
-use Rattle.palette.specs.Palettes.{paletteAnswer, proofsBytes, roomAfter}
-use Rattle.palette.specs.Parts.{plannedFor, plannedIn, togetherLength, togetherBytes, Gives}
+use Rattle.palette.specs.Palettes.{paletteAnswer, paletteIndexed, proofsBytes, roomAfter}
+use Rattle.palette.specs.Parts.{paletteAnswerBy, plannedFor, plannedIn, togetherLength, togetherBytes, Gives}
 
 pub gives-refusal : {a : Answer (List Proof)} (n : ℕ) (room : Bytes) → a ≡ refused n → Gives a room room (Refused n)
 unfolding provedSays
@@ -81,47 +84,47 @@ module _ (a : Answer (List Proof)) (len : ℕ) (room : Bytes) (e : togetherLengt
       }
 
 -- 12
-pub torn-list : {b : Bool} (s : Bytes) (v : ℕ) (ks room : Bytes) → b ≡ wholeKeys ks → b ≡ false → Gives (paletteAnswer s v ks (length room)) room room (Refused 12)
-unfolding paletteAnswer
-torn-list s v ks room e f =
-    gives-refusal 12 room (ap (λ b. cond b (byHeader (headerOf counted s) (palette (storeOf s) v (keysIn ks) (length room))) (refused 12)) (sym e ∙ f))
+pub torn-list : {b : Bool} (s : Bytes) (table : List ℕ) (v : ℕ) (ks room : Bytes) → b ≡ wholeKeys ks → b ≡ false → Gives (paletteAnswerBy s table v ks (length room)) room room (Refused 12)
+unfolding paletteAnswerBy
+torn-list s table v ks room e f =
+    gives-refusal 12 room (ap (λ b. cond b (byHeader (headerOf counted s) (paletteOf (proofBy (byTable table (storeOf s)) (storeOf s) v) (storeOf s) v (keysIn ks) (length room))) (refused 12)) (sym e ∙ f))
 
 -- in a kept version the single calls give what is planned
-kept-planned : (s : Bytes) (v : ℕ) (ks : Bytes) (room : ℕ) (b : Bool) → isKept (storeOf s) v ≡ b →
-    cond b (fittedTogether room (inTurn (proof (storeOf s) v) (keysIn ks))) (refused 8) ≡ cond b (fittedTogether room (plannedIn s v ks)) (refused 8)
+kept-planned : (s : Bytes) (table : List ℕ) (v : ℕ) (ks : Bytes) (room : ℕ) (b : Bool) → isKept (storeOf s) v ≡ b →
+    cond b (fittedTogether room (inTurn (proofBy (byTable table (storeOf s)) (storeOf s) v) (keysIn ks))) (refused 8) ≡ cond b (fittedTogether room (plannedIn s table v ks)) (refused 8)
 unfolding plannedIn
-kept-planned s v ks room true e =
+kept-planned s table v ks room true e =
     ap (fittedTogether room)
-    (in-turn-same (proof (storeOf s) v) (plannedFor s v) (λ k. proof-by-searches (storeOf s) v k ∙ ap (λ b. cond b (plannedFor s v k) (refused 8)) e) (keysIn ks))
-kept-planned s v ks room false e = refl
+    (in-turn-same (proofBy (byTable table (storeOf s)) (storeOf s) v) (plannedFor s table v) (λ k. by-searches (byTable table (storeOf s)) (storeOf s) v k ∙ ap (λ b. cond b (plannedFor s table v k) (refused 8)) e) (keysIn ks))
+kept-planned s table v ks room false e = refl
 
-module _ {b : Bool} (s : Bytes) (v : ℕ) (ks room : Bytes) (e : b ≡ wholeKeys ks) (t : b ≡ true) where
-  opened-first : paletteAnswer s v ks (length room)
-      ≡ byHeader (headerOf counted s) (cond (isKept (storeOf s) v) (fittedTogether (length room) (plannedIn s v ks)) (refused 8))
-  unfolding paletteAnswer palette
+module _ {b : Bool} (s : Bytes) (table : List ℕ) (v : ℕ) (ks room : Bytes) (e : b ≡ wholeKeys ks) (t : b ≡ true) where
+  opened-first : paletteAnswerBy s table v ks (length room)
+      ≡ byHeader (headerOf counted s) (cond (isKept (storeOf s) v) (fittedTogether (length room) (plannedIn s table v ks)) (refused 8))
+  unfolding paletteAnswerBy
   opened-first =
-      ap (λ c. cond c (byHeader (headerOf counted s) (palette (storeOf s) v (keysIn ks) (length room))) (refused 12)) (sym e ∙ t)
-      ∙ ap (byHeader (headerOf counted s)) (kept-planned s v ks (length room) (isKept (storeOf s) v) refl)
+      ap (λ c. cond c (byHeader (headerOf counted s) (paletteOf (proofBy (byTable table (storeOf s)) (storeOf s) v) (storeOf s) v (keysIn ks) (length room))) (refused 12)) (sym e ∙ t)
+      ∙ ap (byHeader (headerOf counted s)) (kept-planned s table v ks (length room) (isKept (storeOf s) v) refl)
 
   -- 1, 2, 8
-  pub first-refused : {o : declared-opened.Opened} (n : ℕ) → openedSays o ≡ opened s v → o ≡ first.Refused n → Gives (paletteAnswer s v ks (length room)) room room (Refused n)
+  pub first-refused : {o : declared-opened.Opened} (n : ℕ) → openedSays o ≡ opened s v → o ≡ first.Refused n → Gives (paletteAnswerBy s table v ks (length room)) room room (Refused n)
   first-refused n says f =
       gives-refusal n room
-      (opened-first ∙ sym (opening.refused-first (fittedTogether (length room) (plannedIn s v ks)) s v (sym (ap openedSays f) ∙ says)))
+      (opened-first ∙ sym (opening.refused-first (fittedTogether (length room) (plannedIn s table v ks)) s v (sym (ap openedSays f) ∙ says)))
 
   module _ {o : declared-opened.Opened} (says : openedSays o ≡ opened s v) (f : o ≡ first.Kept) where
-    in-kept : paletteAnswer s v ks (length room) ≡ fittedTogether (length room) (plannedIn s v ks)
-    in-kept = opened-first ∙ opening.rest-decides (fittedTogether (length room) (plannedIn s v ks)) s v (sym (ap openedSays f) ∙ says)
+    in-kept : paletteAnswerBy s table v ks (length room) ≡ fittedTogether (length room) (plannedIn s table v ks)
+    in-kept = opened-first ∙ opening.rest-decides (fittedTogether (length room) (plannedIn s table v ks)) s v (sym (ap openedSays f) ∙ says)
 
-    pub single-refused : {m : declared.Proved} (n : ℕ) → provedSays m ≡ togetherLength (plannedIn s v ks) → m ≡ Refused n →
-        Gives (paletteAnswer s v ks (length room)) room room (Refused n)
+    pub single-refused : {m : declared.Proved} (n : ℕ) → provedSays m ≡ togetherLength (plannedIn s table v ks) → m ≡ Refused n →
+        Gives (paletteAnswerBy s table v ks (length room)) room room (Refused n)
     unfolding provedSays
     single-refused n g h =
         gives-refusal n room
-        (in-kept ∙ ap (fittedTogether (length room)) (measured-refusal (plannedIn s v ks) n (sym (ap provedSays h) ∙ g)))
+        (in-kept ∙ ap (fittedTogether (length room)) (measured-refusal (plannedIn s table v ks) n (sym (ap provedSays h) ∙ g)))
 
-    pub all-given : {after : Bytes} {r : declared.Proved} → Gives (fittedTogether (length room) (plannedIn s v ks)) room after r →
-        Gives (paletteAnswer s v ks (length room)) room after r
+    pub all-given : {after : Bytes} {r : declared.Proved} → Gives (fittedTogether (length room) (plannedIn s table v ks)) room after r →
+        Gives (paletteAnswerBy s table v ks (length room)) room after r
     all-given g = gives-as (sym in-kept) g
 
 pub measured-length : {a : Answer ℕ} {m : declared.Proved} (n : ℕ) → provedSays m ≡ a → m ≡ Length n → a ≡ accepted n
@@ -130,3 +133,32 @@ measured-length n g h = sym g ∙ ap provedSays h
 
 pub kept-size : {o : declared-opened.Opened} (s : Bytes) (v : ℕ) → openedSays o ≡ opened s v → o ≡ first.Kept → sizeRight counted (length s) ≡ true
 kept-size s v says e = opening.kept-size s v (sym (ap openedSays e) ∙ says)
+
+-- by a table without entries it is that of the scan
+pub palette-plain : (s : Bytes) (v : ℕ) (ks : Bytes) (room : ℕ) → paletteAnswerBy s [] v ks room ≡ paletteAnswer s v ks room
+unfolding paletteAnswerBy paletteAnswer palette proof
+palette-plain s v ks room =
+    ap (λ look. cond (wholeKeys ks) (byHeader (headerOf counted s) (paletteOf (proofBy look (storeOf s) v) (storeOf s) v (keysIn ks) room)) (refused 12))
+    (without-table (storeOf s))
+    ∙ ap (λ single. cond (wholeKeys ks) (byHeader (headerOf counted s) (paletteOf single (storeOf s) v (keysIn ks) room)) (refused 12))
+    (fun-ext (λ k. single-plain k))
+  where
+    single-plain : (k : Bytes) → proofBy (scan (storeOf s)) (storeOf s) v k ≡ proof (storeOf s) v k
+    single-plain k = refl
+
+-- a table of another length is refused with 1, after 12; else its palette is one by a table of any length
+module _ (s : Bytes) (table : List ℕ) (v : ℕ) (ks : Bytes) (room : ℕ) where
+  abbrev byIt : Answer (List Proof)
+  byIt = paletteOf (proofBy (byTable table (storeOf s)) (storeOf s) v) (storeOf s) v (keysIn ks) room
+
+  pub palette-as-many : wholeKeys ks ≡ true → asMany s table ≡ true → paletteAnswerBy s table v ks room ≡ paletteIndexed s table v ks room
+  unfolding paletteAnswerBy paletteIndexed
+  palette-as-many whole e = ap (λ a. cond (wholeKeys ks) a (refused 12)) (opening.as-many byIt s table e)
+
+  pub palette-not-as-many : wholeKeys ks ≡ true → asMany s table ≡ false → refused 1 ≡ paletteIndexed s table v ks room
+  unfolding paletteIndexed
+  palette-not-as-many whole e = rw whole (opening.not-as-many byIt s table e)
+
+  pub palette-torn : wholeKeys ks ≡ false → refused 12 ≡ paletteIndexed s table v ks room
+  unfolding paletteIndexed
+  palette-torn f = rw f

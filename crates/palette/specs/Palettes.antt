@@ -8,16 +8,25 @@ use Rattle.terms.specs.declared.Form.the-variants.{Counted as counted}
 use Rattle.terms.specs.Bits.{Bytes}
 use Rattle.terms.specs.Records.{Proof}
 use Rattle.meaning.specs.Calls.{Answer, refused, accepted}
-use Rattle.palette_rules.specs.Palette.{wholeKeys, keysIn, palette}
+use Rattle.meaning.specs.Proving.{proofBy}
+use Rattle.indexed.specs.Index.{byTable}
+use Rattle.palette_rules.specs.Palette.{wholeKeys, keysIn, paletteOf, palette}
 use Rattle.proofrecords.specs.ProofBytes.{proofBytes}
 use Rattle.layout.specs.Headers.{headerOf}
 use Rattle.layout.specs.Stores.{storeOf}
-use Rattle.read_open.specs.Headed.{byHeader}
+use Rattle.read_open.specs.Headed.{byHeader, headerWith}
 
 -- The proofs for a list of keys in version v of the store s, into this much room: 12 where the list isn't 0 to 256 whole keys, then 1, 2, 8, what the
 -- single calls are refused with, 9.
 unfoldable pub paletteAnswer : Bytes → ℕ → Bytes → ℕ → Answer (List Proof)
 paletteAnswer s v list room = cond (wholeKeys list) (byHeader (headerOf counted s) (palette (storeOf s) v (keysIn list) room)) (refused 12)
+
+-- Document 02, 2026-05: the same by a table lent with the store, where 1 is also for its length.
+unfoldable pub paletteIndexed : Bytes → List ℕ → ℕ → Bytes → ℕ → Answer (List Proof)
+paletteIndexed s table v list room =
+    cond (wholeKeys list)
+    (byHeader (headerWith s table) (paletteOf (proofBy (byTable table (storeOf s)) (storeOf s) v) (storeOf s) v (keysIn list) room))
+    (refused 12)
 
 -- The proofs one after the other.
 abbrev pub proofsBytes : List Proof → Bytes

@@ -1,26 +1,37 @@
 -- What the helpers of a palette promise each other. No public promise reaches this file. Assumes nothing.
 use Prim.Native.Nat.{ℕ}
 use mathlib.Core.Path.{_≡_}
+use mathlib.Core.Bool.{cond}
 use mathlib.Core.List.{List, []}
+use Rattle.terms.specs.declared.Form.the-variants.{Counted as counted}
 use Rattle.terms.specs.Bits.{Bytes}
 use Rattle.terms.specs.Records.{Proof}
 use Rattle.meaning.specs.Calls.{Answer, refused, accepted}
 use Rattle.meaning.specs.Sized.{sized}
-use Rattle.meaning.specs.Sight.{scan}
 use Rattle.meaning.specs.Reading.{seen}
-use Rattle.meaning.specs.Proving.{proveSeen}
+use Rattle.meaning.specs.Proving.{proveSeen, proofBy}
+use Rattle.indexed.specs.Index.{byTable}
+use Rattle.layout.specs.Headers.{headerOf}
 use Rattle.layout.specs.Stores.{storeOf}
-use Rattle.palette_rules.specs.Palette.{keysIn, inTurn, lengthTogether}
+use Rattle.read_open.specs.Headed.{byHeader}
+use Rattle.palette_rules.specs.Palette.{wholeKeys, keysIn, inTurn, lengthTogether, paletteOf}
 use Rattle.prove.specs.Parts.{provedSays}
 use Rattle.prove.specs.declared.Proved as declared
 use Rattle.palette.specs.Palettes.{proofsBytes, roomAfter}
 
--- What is planned for a key in a kept version, and for each key of a list.
-abbrev pub plannedFor : Bytes → ℕ → Bytes → Answer Proof
-plannedFor s v k = proveSeen k (seen (scan (storeOf s)) v)
+-- What the call answers by a table of any length; one without entries is the scan.
+unfoldable pub paletteAnswerBy : Bytes → List ℕ → ℕ → Bytes → ℕ → Answer (List Proof)
+paletteAnswerBy s table v list room =
+    cond (wholeKeys list)
+    (byHeader (headerOf counted s) (paletteOf (proofBy (byTable table (storeOf s)) (storeOf s) v) (storeOf s) v (keysIn list) room))
+    (refused 12)
 
-unfoldable pub plannedIn : Bytes → ℕ → Bytes → Answer (List Proof)
-plannedIn s v list = inTurn (plannedFor s v) (keysIn list)
+-- What is planned for a key in a kept version, and for each key of a list.
+abbrev pub plannedFor : Bytes → List ℕ → ℕ → Bytes → Answer Proof
+plannedFor s table v k = proveSeen k (seen (byTable table (storeOf s)) v)
+
+unfoldable pub plannedIn : Bytes → List ℕ → ℕ → Bytes → Answer (List Proof)
+plannedIn s table v list = inTurn (plannedFor s table v) (keysIn list)
 
 -- The length of all together.
 abbrev pub togetherLength : Answer (List Proof) → Answer ℕ

@@ -15,8 +15,7 @@ ghost use Rattle.layout.specs.Headers.{sizeRight};
 ghost use Rattle.meaning.specs.Calls.{accepted};
 ghost use Rattle.palette_rules.specs.Palette.{wholeKeys, fittedTogether};
 ghost use Rattle.prove.specs.Parts.{provedSays};
-ghost use Rattle.palette.specs.Palettes.{paletteAnswer};
-ghost use Rattle.palette.specs.Parts.{plannedIn, togetherLength, togetherBytes, Gives};
+ghost use Rattle.palette.specs.Parts.{paletteAnswerBy, plannedIn, togetherLength, togetherBytes, Gives};
 
 // A key is 32 bytes; a list has at most 256.
 const KEY_SIZE: usize = 32;
@@ -24,7 +23,7 @@ const KEY_SIZE: usize = 32;
 const MOST_KEYS: usize = 256;
 
 // Whether a list is 0 to 256 whole keys.
-fn whole_keys(keys: &[u8]) -> bool
+pub fn whole_keys(keys: &[u8]) -> bool
     ensures { λ r. ⌜ r ≡ wholeKeys (now (keys .entry)) ⌝ }
 {
     if keys.len() % KEY_SIZE != 0 {
@@ -34,15 +33,15 @@ fn whole_keys(keys: &[u8]) -> bool
 }
 
 // How long all proofs are together, or the first refusal in the order asked.
-fn measure(store: &[u8], version: u32, keys: &[u8]) -> Proved
+fn measure(store: &[u8], index: &[u32], version: u32, keys: &[u8]) -> Proved
     requires { ⌜ (sizeRight Form.Counted (length (now store)) ≡ true) × (wholeKeys (now keys) ≡ true) ⌝ }
-    ensures { λ r. ⌜ provedSays r ≡ togetherLength (plannedIn (now (store .entry)) version (now (keys .entry))) ⌝ }
+    ensures { λ r. ⌜ provedSays r ≡ togetherLength (plannedIn (now (store .entry)) (now (index .entry)) version (now (keys .entry))) ⌝ }
 {
     let mut total = 0;
     let mut at = 0;
     while at < keys.len() {
         let end = at + KEY_SIZE;
-        let plan = plan_of(store, version, &keys[at..end]);
+        let plan = plan_of(store, index, version, &keys[at..end]);
         let shape = plan.shape;
         if let Shape::Refused(n) = shape {
             return Proved::Refused(n);
@@ -54,16 +53,16 @@ fn measure(store: &[u8], version: u32, keys: &[u8]) -> Proved
 }
 
 // Writes the proofs one after the other into a part that is as long as all together.
-fn fill(part: &mut [u8], store: &[u8], version: u32, keys: &[u8])
-    requires { ⌜ (sizeRight Form.Counted (length (now store)) ≡ true) × (wholeKeys (now keys) ≡ true) × (togetherLength (plannedIn (now store) version (now keys)) ≡ accepted (length (now part))) ⌝ }
-    ensures { λ _. ⌜ now (part .exit) ≡ togetherBytes (plannedIn (now (store .entry)) version (now (keys .entry))) ⌝ }
+fn fill(part: &mut [u8], store: &[u8], index: &[u32], version: u32, keys: &[u8])
+    requires { ⌜ (sizeRight Form.Counted (length (now store)) ≡ true) × (wholeKeys (now keys) ≡ true) × (togetherLength (plannedIn (now store) (now index) version (now keys)) ≡ accepted (length (now part))) ⌝ }
+    ensures { λ _. ⌜ now (part .exit) ≡ togetherBytes (plannedIn (now (store .entry)) (now (index .entry)) version (now (keys .entry))) ⌝ }
 {
     let mut start = 0;
     let mut at = 0;
     while at < keys.len() {
         let end = at + KEY_SIZE;
         let key = &keys[at..end];
-        let plan = plan_of(store, version, key);
+        let plan = plan_of(store, index, version, key);
         let next = start + plan.length;
         write(&mut part[start..next], store, key, plan);
         start = next;
@@ -72,21 +71,22 @@ fn fill(part: &mut [u8], store: &[u8], version: u32, keys: &[u8])
 }
 
 // Gives the proofs, len bytes together, if there is room.
-fn give(store: &[u8], version: u32, keys: &[u8], len: u32, room: &mut [u8]) -> Proved
-    requires { ⌜ (sizeRight Form.Counted (length (now store)) ≡ true) × (wholeKeys (now keys) ≡ true) × (togetherLength (plannedIn (now store) version (now keys)) ≡ accepted len) ⌝ }
-    ensures { λ r. ⌜ Gives (fittedTogether (length (now (room .entry))) (plannedIn (now (store .entry)) version (now (keys .entry)))) (now (room .entry)) (now (room .exit)) r ⌝ }
+fn give(store: &[u8], index: &[u32], version: u32, keys: &[u8], len: u32, room: &mut [u8]) -> Proved
+    requires { ⌜ (sizeRight Form.Counted (length (now store)) ≡ true) × (wholeKeys (now keys) ≡ true) × (togetherLength (plannedIn (now store) (now index) version (now keys)) ≡ accepted len) ⌝ }
+    ensures { λ r. ⌜ Gives (fittedTogether (length (now (room .entry))) (plannedIn (now (store .entry)) (now (index .entry)) version (now (keys .entry)))) (now (room .entry)) (now (room .exit)) r ⌝ }
 {
     let end = len as usize;
     if room.len() < end {
         return Proved::Refused(NO_ROOM);
     }
-    fill(&mut room[0..end], store, version, keys);
+    fill(&mut room[0..end], store, index, version, keys);
     Proved::Length(len)
 }
 
-// Proves each key of a list present or absent in a version: the proofs fill the front of the room and the rest stays; refused, nothing is written.
-pub fn palette(store: &[u8], version: u32, keys: &[u8], room: &mut [u8]) -> Proved
-    ensures { λ r. ⌜ Gives (paletteAnswer (now (store .entry)) version (now (keys .entry)) (length (now (room .entry)))) (now (room .entry)) (now (room .exit)) r ⌝ }
+// Proves each key of a list present or absent in a version, by a table of any length; one without entries is the scan. The proofs fill the front
+// of the room and the rest stays; refused, nothing is written.
+pub fn palette(store: &[u8], index: &[u32], version: u32, keys: &[u8], room: &mut [u8]) -> Proved
+    ensures { λ r. ⌜ Gives (paletteAnswerBy (now (store .entry)) (now (index .entry)) version (now (keys .entry)) (length (now (room .entry)))) (now (room .entry)) (now (room .exit)) r ⌝ }
 {
     if !whole_keys(keys) {
         return Proved::Refused(NOT_32_BYTES as u64);
@@ -95,9 +95,9 @@ pub fn palette(store: &[u8], version: u32, keys: &[u8], room: &mut [u8]) -> Prov
     if let Opened::Refused(n) = opened {
         return Proved::Refused(n as u64);
     }
-    let measured = measure(store, version, keys);
+    let measured = measure(store, index, version, keys);
     match measured {
         Proved::Refused(n) => Proved::Refused(n),
-        Proved::Length(len) => give(store, version, keys, len, room),
+        Proved::Length(len) => give(store, index, version, keys, len, room),
     }
 }

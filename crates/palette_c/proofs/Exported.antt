@@ -1,28 +1,53 @@
 -- The number, the room and the four bytes, by the case of the answer. Assumes nothing.
 use Prim.Native.Nat.{ℕ}
 use mathlib.Core.Path.{_≡_, ap, sym, _∙_}
+use mathlib.Core.List.{List}
 use lib.ListN.{length}
 use Rattle.terms.specs.Bits.{Bytes}
 use Rattle.terms.specs.Fields.{le}
 use Rattle.fields.specs.Written.{written}
 use Rattle.fields.proofs.Written.{number-fills}
+use Rattle.terms.specs.Records.{Proof}
+use Rattle.meaning.specs.Calls.{Answer, refused}
+use Rattle.meaning.specs.Answers.{numberOf}
 use Rattle.meaning.proofs.Told.{told-refused, told-given}
 use Rattle.palette_rules.specs.Palette.{lengthTogether}
 use Rattle.prove.specs.Parts.{provedSays}
 use Rattle.prove.specs.declared.Proved as declared
 use Rattle.prove.specs.declared.Proved.the-variants.{Refused, Length}
+use Rattle.palette.specs.Palettes.{paletteIndexed, roomAfter}
 use Rattle.palette.specs.Parts.{Gives}
-use Rattle.palette_c.specs.Export.{palettedInto, Palettes}
+use Rattle.palette_c.specs.Export.{palettedInto, lengthBytes, PaletteTold, Palettes, PalettesBy}
 
-module _ {s list room after : Bytes} {v : ℕ} {r : declared.Proved} (gives : Gives (palettedInto s v list room) room after r) (old : Bytes) where
-  pub palette-refused : {n : ℕ} → r ≡ Refused n → Palettes s v list room old n after old
+module _ {a : Answer (List Proof)} {room after : Bytes} {r : declared.Proved} (gives : Gives a room after r) (old : Bytes) where
+  pub palette-refused : {n : ℕ} → r ≡ Refused n → PaletteTold a room old n after old
   unfolding provedSays
   palette-refused {n} e =
-      let t = told-refused lengthTogether (palettedInto s v list room) n old (sym (ap provedSays e) ∙ gives .answer) in
+      let t = told-refused lengthTogether a n old (sym (ap provedSays e) ∙ gives .answer) in
       record { answer = t .number; proofs = gives .bytes; told = t .told }
 
-  pub palette-given : {n : ℕ} {new : Bytes} → r ≡ Length n → length old ≡ 4 → new ≡ written 0 (le 4 n) old → Palettes s v list room old 0 after new
+  pub palette-given : {n : ℕ} {new : Bytes} → r ≡ Length n → length old ≡ 4 → new ≡ written 0 (le 4 n) old → PaletteTold a room old 0 after new
   unfolding provedSays
   palette-given {n} {new} e l w =
-      let t = told-given lengthTogether (palettedInto s v list room) n old new (sym (ap provedSays e) ∙ gives .answer) (w ∙ number-fills n old l) in
+      let t = told-given lengthTogether a n old new (sym (ap provedSays e) ∙ gives .answer) (w ∙ number-fills n old l) in
       record { answer = t .number; proofs = gives .bytes; told = t .told }
+
+-- what is told of an answer is told of its equal; and a refusal, which writes nothing
+pub palette-as : {a b : Answer (List Proof)} {room f t g : Bytes} {r : ℕ} → a ≡ b → PaletteTold a room f r t g → PaletteTold b room f r t g
+palette-as {room = room} {f = f} e w = record {
+  answer = w .answer ∙ ap numberOf e;
+  proofs = w .proofs ∙ ap (λ x. roomAfter x room) e;
+  told = w .told ∙ ap (λ x. lengthBytes x f) e;
+}
+
+pub palette-refusal : {b : Answer (List Proof)} (n : ℕ) (room f : Bytes) → refused n ≡ b → PaletteTold b room f n room f
+palette-refusal n room f e = record { answer = ap numberOf e; proofs = ap (λ x. roomAfter x room) e; told = ap (λ x. lengthBytes x f) e }
+
+-- an answer that is told is what the contract says
+module _ {s : Bytes} {v : ℕ} {list room f : Bytes} {r : ℕ} {t g : Bytes} where
+  pub palette-told : PaletteTold (palettedInto s v list room) room f r t g → Palettes s v list room f r t g
+  palette-told w = record { answer = w .answer; proofs = w .proofs; told = w .told }
+
+  pub palette-told-by : {table : List ℕ} → PaletteTold (paletteIndexed s table v list (length room)) room f r t g →
+      PalettesBy s table v list room f r t g
+  palette-told-by w = record { answer = w .answer; proofs = w .proofs; told = w .told }

@@ -51,5 +51,8 @@ fittedTogether room (refused n) = refused n
 fittedTogether room (accepted ps) = cond (ltb room (lengthTogether ps)) (refused 9) (accepted ps)
 
 -- The proofs for the keys in a version into a buffer of `room` bytes: 8, also where there are no keys; then as the single calls; then 9.
+abbrev pub paletteOf : (Bytes → Answer Proof) → Store → ℕ → List Bytes → ℕ → Answer (List Proof)
+paletteOf single st v keys room = cond (isKept st v) (fittedTogether room (inTurn single keys)) (refused 8)
+
 unfoldable pub palette : Store → ℕ → List Bytes → ℕ → Answer (List Proof)
-palette st v keys room = cond (isKept st v) (fittedTogether room (inTurn (proof st v) keys)) (refused 8)
+palette st v keys room = paletteOf (proof st v) st v keys room

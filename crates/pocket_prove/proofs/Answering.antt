@@ -2,6 +2,7 @@
 use Prim.Native.Nat.{ℕ}
 use mathlib.Core.Path.{_≡_, refl, ap, sym, _∙_, subst}
 use mathlib.Core.Bool.{Bool, true, false, cond}
+use mathlib.Core.List.{[]}
 use lib.ListN.{length}
 use borrow.Author.Tests.{eq-eqb, ne-eqb}
 use Rattle.terms.specs.declared.Form.the-variants.{Counted as counted}
@@ -12,6 +13,8 @@ use Rattle.meaning.specs.Sight.{scan}
 use Rattle.meaning.specs.Reading.{seen}
 use Rattle.meaning.specs.Proving.{proveSeen, fitted}
 use Rattle.meaning.proofs.Empty.{proof-by-searches}
+use Rattle.indexed.specs.Index.{byTable}
+use Rattle.indexed.proofs.Scanned.{without-table}
 use Rattle.layout.specs.Headers.{sizeRight, headerOf}
 use Rattle.layout.specs.Stores.{storeOf}
 use Rattle.read_open.specs.Opening.{opened, openedSays}
@@ -57,10 +60,12 @@ module _ (s : Bytes) (v : ℕ) (k room : Bytes) (whole : length k ≡ 32) where
       gives-refusal n room
       (opened-first ∙ sym (opening.refused-first (fitted (length room) (inProfile planned)) s v (sym (ap openedSays e) ∙ says)))
 
-  module _ {o : declared-opened.Opened} {x : declared-plan.Plan} (says : openedSays o ≡ opened s v) (e : o ≡ first.Kept) (plan : Plans s k planned x) where
+  module _ {o : declared-opened.Opened} {x : declared-plan.Plan} (says : openedSays o ≡ opened s v) (e : o ≡ first.Kept)
+      (plan : Plans s k (proveSeen k (seen (byTable [] (storeOf s)) v)) x) where
     by-plan : pocketAnswer s v k (length room) ≡ fitted (length room) (inProfile (planSays s k x))
     by-plan =
         opened-first ∙ opening.rest-decides (fitted (length room) (inProfile planned)) s v (sym (ap openedSays e) ∙ says)
+        ∙ ap (λ look. fitted (length room) (inProfile (proveSeen k (seen look v)))) (sym (without-table (storeOf s)))
         ∙ ap (λ a. fitted (length room) (inProfile a)) (sym (plan .says))
 
     -- 19

@@ -2,15 +2,28 @@
 -- Assumes nothing.
 use Prim.Native.Nat.{ℕ}
 use mathlib.Core.Path.{_≡_}
+use mathlib.Core.Bool.{cond}
+use mathlib.Core.List.{List}
 use lib.ListN.{length}
+use lib.Dec.{eqb}
+use Rattle.terms.specs.declared.Form.the-variants.{Counted as counted}
 use Rattle.terms.specs.Bits.{Bytes}
 use Rattle.terms.specs.Records.{Proof}
 use Rattle.meaning.specs.Calls.{Answer, refused, accepted}
 use Rattle.meaning.specs.Sized.{sized}
-use Rattle.meaning.specs.Proving.{proofLength, fitted}
+use Rattle.meaning.specs.Proving.{proofLength, fitted, proveBy}
+use Rattle.indexed.specs.Index.{byTable}
+use Rattle.layout.specs.Headers.{headerOf}
+use Rattle.layout.specs.Stores.{storeOf}
+use Rattle.read_open.specs.Headed.{byHeader}
 use Rattle.prove.specs.declared.Proved as declared
 use Rattle.prove.specs.declared.Proved.the-variants.{Refused, Length}
 use Rattle.prove.specs.Proving.{roomAfter}
+
+-- What is proved by a table of any length; one without entries is the scan.
+unfoldable pub proveAnswerBy : Bytes → List ℕ → ℕ → Bytes → ℕ → Answer Proof
+proveAnswerBy s table v k room =
+    cond (eqb (length k) 32) (byHeader (headerOf counted s) (proveBy (byTable table (storeOf s)) (storeOf s) v k room)) (refused 12)
 
 -- Proving answers the proof's length.
 abbrev pub lengthAnswer : Answer Proof → Answer ℕ

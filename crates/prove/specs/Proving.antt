@@ -2,22 +2,28 @@
 -- damaged. Order: 12; then 1, 2; then 8, 14, 3 or 17, 9. Assumes nothing.
 use Prim.Native.Nat.{ℕ}
 use mathlib.Core.Bool.{cond}
-use mathlib.Core.List.{_++_}
+use mathlib.Core.List.{List, _++_}
 use lib.ListN.{length, drop}
 use lib.Dec.{eqb}
 use Rattle.terms.specs.declared.Form.the-variants.{Counted as counted}
 use Rattle.terms.specs.Bits.{Bytes}
 use Rattle.terms.specs.Records.{Proof}
 use Rattle.meaning.specs.Calls.{Answer, refused, accepted}
-use Rattle.meaning.specs.Proving.{prove}
+use Rattle.meaning.specs.Proving.{proveBy, prove}
+use Rattle.indexed.specs.Index.{byTable}
 use Rattle.proofrecords.specs.ProofBytes.{proofBytes}
 use Rattle.layout.specs.Headers.{headerOf}
 use Rattle.layout.specs.Stores.{storeOf}
-use Rattle.read_open.specs.Headed.{byHeader}
+use Rattle.read_open.specs.Headed.{byHeader, headerWith}
 
 -- The proof for key k in version v of the store s, into this much room: 12 where the key isn't 32 bytes, then 1, 2, 8, 14, 3 or 17, 9.
 unfoldable pub proveAnswer : Bytes → ℕ → Bytes → ℕ → Answer Proof
 proveAnswer s v k room = cond (eqb (length k) 32) (byHeader (headerOf counted s) (prove (storeOf s) v k room)) (refused 12)
+
+-- Document 02, 2026-05: the same by a table lent with the store, where 1 is also for its length.
+unfoldable pub proveIndexed : Bytes → List ℕ → ℕ → Bytes → ℕ → Answer Proof
+proveIndexed s table v k room =
+    cond (eqb (length k) 32) (byHeader (headerWith s table) (proveBy (byTable table (storeOf s)) (storeOf s) v k room)) (refused 12)
 
 -- An accepted proof fills the front of the buffer, the rest stays; a refusal writes nothing.
 abbrev pub roomAfter : Answer Proof → Bytes → Bytes

@@ -10,8 +10,8 @@ use refusal_numbers::wide::NO_ROOM;
 ghost use mathlib.Core.Path.{_≡_};
 ghost use lib.ListN.{length};
 ghost use Rattle.prove_plan.specs.Plans.{planSays, PlanIn};
-ghost use Rattle.prove.specs.Proving.{proveAnswer, roomAfter};
-ghost use Rattle.prove.specs.Parts.{Offers, provedSays, lengthAnswer};
+ghost use Rattle.prove.specs.Proving.{roomAfter};
+ghost use Rattle.prove.specs.Parts.{proveAnswerBy, Offers, provedSays, lengthAnswer};
 
 // What proving answers.
 pub enum Proved {
@@ -38,10 +38,11 @@ pub fn give(store: &[u8], key: &[u8], plan: Plan, room: &mut [u8]) -> Proved
     Proved::Length(len as u32)
 }
 
-// Proves a key present or absent in a version: the proof fills the front of the room and the rest stays; refused, nothing is written.
-pub fn prove(store: &[u8], version: u32, key: &[u8], room: &mut [u8]) -> Proved
-    ensures answer { λ r. ⌜ provedSays r ≡ lengthAnswer (proveAnswer (now (store .entry)) version (now (key .entry)) (length (now (room .entry)))) ⌝ }
-    ensures bytes { λ _. ⌜ now (room .exit) ≡ roomAfter (proveAnswer (now (store .entry)) version (now (key .entry)) (length (now (room .entry)))) (now (room .entry)) ⌝ }
+// Proves a key present or absent in a version, by a table of any length; one without entries is the scan. The proof fills the front of the room
+// and the rest stays; refused, nothing is written.
+pub fn prove(store: &[u8], index: &[u32], version: u32, key: &[u8], room: &mut [u8]) -> Proved
+    ensures answer { λ r. ⌜ provedSays r ≡ lengthAnswer (proveAnswerBy (now (store .entry)) (now (index .entry)) version (now (key .entry)) (length (now (room .entry)))) ⌝ }
+    ensures bytes { λ _. ⌜ now (room .exit) ≡ roomAfter (proveAnswerBy (now (store .entry)) (now (index .entry)) version (now (key .entry)) (length (now (room .entry)))) (now (room .entry)) ⌝ }
 {
     if key.len() != 32 {
         return Proved::Refused(NOT_32_BYTES as u64);
@@ -50,5 +51,5 @@ pub fn prove(store: &[u8], version: u32, key: &[u8], room: &mut [u8]) -> Proved
     if let Opened::Refused(n) = opened {
         return Proved::Refused(n as u64);
     }
-    give(store, key, plan_of(store, version, key), room)
+    give(store, key, plan_of(store, index, version, key), room)
 }

@@ -2,9 +2,33 @@
 use fields::put_u32;
 use prove::Proved;
 use prove::prove;
-ghost use Rattle.prove_c.specs.Export.{Proves};
+use read_open::as_many;
+use refusal_numbers::NOT_32_BYTES;
+use refusal_numbers::WRONG_SIZE;
+ghost use Rattle.prove_c.specs.Export.{provedBy, ProofTold, Proves, ProvesBy};
 
-// The proof for a key in a version fills the front of the room; its length goes out in four bytes.
+// The proof for a key in a version, by a table of any length, fills the front of the room; its length goes out in four bytes.
+fn prove_by(
+    store: &[u8],
+    index: &[u32],
+    version: u32,
+    key: &[u8],
+    room: &mut [u8],
+    length: &mut [u8; 4],
+) -> u64
+    ensures { λ r. ⌜ ProofTold (provedBy (now (store .entry)) (now (index .entry)) version (now (key .entry)) (now (room .entry))) (now (room .entry)) (now (length .entry)) r (now (room .exit)) (now (length .exit)) ⌝ }
+{
+    let proved = prove(store, index, version, key, room);
+    match proved {
+        Proved::Refused(n) => n,
+        Proved::Length(n) => {
+            put_u32(length, 0, n);
+            0
+        }
+    }
+}
+
+// The proof for a key in a version, by scans.
 pub fn grants_prove(
     store: &[u8],
     version: u32,
@@ -14,14 +38,27 @@ pub fn grants_prove(
 ) -> u64
     ensures { λ r. ⌜ Proves (now (store .entry)) version (now (key .entry)) (now (room .entry)) (now (length .entry)) r (now (room .exit)) (now (length .exit)) ⌝ }
 {
-    let proved = prove(store, version, key, room);
-    match proved {
-        Proved::Refused(n) => n,
-        Proved::Length(n) => {
-            put_u32(length, 0, n);
-            0
-        }
+    prove_by(store, &[], version, key, room, length)
+}
+
+// The proof for a key in a version, by a table lent with the store (2026-05).
+pub fn prove_indexed(
+    store: &[u8],
+    index: &[u32],
+    version: u32,
+    key: &[u8],
+    room: &mut [u8],
+    length: &mut [u8; 4],
+) -> u64
+    ensures { λ r. ⌜ ProvesBy (now (store .entry)) (now (index .entry)) version (now (key .entry)) (now (room .entry)) (now (length .entry)) r (now (room .exit)) (now (length .exit)) ⌝ }
+{
+    if key.len() != 32 {
+        return NOT_32_BYTES as u64;
     }
+    if !as_many(store, index) {
+        return WRONG_SIZE as u64;
+    }
+    prove_by(store, index, version, key, room, length)
 }
 
 // What `grants` exports. No proof file stands behind it, so that an idle one is refused by its contract alone.

@@ -1,6 +1,7 @@
 -- What the helpers of planning promise each other. No public promise reaches this file. Assumes nothing.
 use Prim.Native.Nat.{ℕ}
 use mathlib.Core.Bool.{cond}
+use mathlib.Core.List.{List}
 use Rattle.terms.specs.declared.Form.the-variants.{Counted as counted}
 use Rattle.terms.specs.Bits.{Bytes, left, right, sameBytes}
 use Rattle.terms.specs.Records.{Proof, presence}
@@ -44,8 +45,8 @@ ended w shape i len = record {
 abbrev pub presentAt : Bytes → declared-walked.Walked → ℕ → Answer Proof
 presentAt s w i = accepted (presence (presenceAt s (pathOf (w .trail) i)))
 
-abbrev pub absentFrom : Bytes → Bytes → declared-walked.Walked → Answer Proof
-absentFrom s k w = absenceFrom k (neighbourSays s k w left) (neighbourSays s k w right)
+abbrev pub absentFrom : Bytes → List ℕ → Bytes → declared-walked.Walked → Answer Proof
+absentFrom s table k w = absenceFrom k (neighbourSays s table k w left) (neighbourSays s table k w right)
 
-abbrev pub provedAt : Bytes → Bytes → declared-walked.Walked → ℕ → Answer Proof
-provedAt s k w i = cond (sameBytes k (keyIn (slotIn counted i s))) (presentAt s w i) (absentFrom s k w)
+abbrev pub provedAt : Bytes → List ℕ → Bytes → declared-walked.Walked → ℕ → Answer Proof
+provedAt s table k w i = cond (sameBytes k (keyIn (slotIn counted i s))) (presentAt s w i) (absentFrom s table k w)

@@ -13,10 +13,10 @@ use lib.Dec.{eqb}
 use Rattle.terms.specs.declared.Form.the-variants.{Counted as counted}
 use Rattle.terms.specs.Bits.{Bytes, Side, longer}
 use Rattle.terms.specs.Records.{Step}
-use Rattle.meaning.specs.Sight.{scan}
 use Rattle.meaning.specs.Reading as reading
 use Rattle.meaning.specs.Proving.{step, isGap, stuck, raisedBy, descend, Sought, lostWay, nobody, somebody, sought, beyond}
 use Rattle.shown.proofs.Loops.{descendBelow, descend-below}
+use Rattle.indexed.specs.Index.{byTable}
 use Rattle.place.specs.Place.{placeOf}
 use Rattle.layout.specs.Slots.{keyIn}
 use Rattle.layout.specs.Stores.{slotIn, storeOf, SlotWithin}
@@ -54,56 +54,56 @@ turned false true hashes kids steps = refl
 turned false false hashes kids steps = refl
 
 -- a descent from trail t₀ to side b has come to the end of t
-pub record Descent (s : Bytes) (b : Side) (t₀ t : declared.Trail) : Type 0 where
+pub record Descent (s : Bytes) (table : List ℕ) (b : Side) (t₀ t : declared.Trail) : Type 0 where
   pub trail : TrailIn s t
-  pub same : descentSays s t₀ b ≡ descentSays s t b
+  pub same : descentSays s table t₀ b ≡ descentSays s table t b
 
-pub descent-start : (s : Bytes) (b : Side) (t : declared.Trail) → TrailIn s t → Descent s b t t
-descent-start s b t w = record { trail = w; same = refl }
+pub descent-start : (s : Bytes) (table : List ℕ) (b : Side) (t : declared.Trail) → TrailIn s t → Descent s table b t t
+descent-start s table b t w = record { trail = w; same = refl }
 
-module _ {s : Bytes} {b : Side} {t₀ t : declared.Trail} (w : Descent s b t₀ t) where
-  pub descent-next : {side : Side} (i : ℕ) (r : declared.Trail) → t .seen ≡ Inner i → side ≡ cond (eqb (kidIn i s b .version) 0) (not b) b → Further s t i side r →
-      Descent s b t₀ r
+module _ {s : Bytes} {table : List ℕ} {b : Side} {t₀ t : declared.Trail} (w : Descent s table b t₀ t) where
+  pub descent-next : {side : Side} (i : ℕ) (r : declared.Trail) → t .seen ≡ Inner i → side ≡ cond (eqb (kidIn i s b .version) 0) (not b) b → Further s table t i side r →
+      Descent s table b t₀ r
   unfolding descentSays shownBy forkAt stepAt
   descent-next {side} i r e q f = record { trail = f .trail; same = w .same ∙ ap sought turn }
     where
       a : AtInner s t i
       a = at-inner (w .trail) e
 
-      gaps : isGap (kidsAt s t i b) ≡ eqb (kidIn i s b .version) 0
-      gaps = gap-test (255 - length (placeOf (t .place))) (scan (storeOf s)) (longer b (placeOf (t .place))) (kidIn i s b)
+      gaps : isGap (kidsAt s table t i b) ≡ eqb (kidIn i s b .version) 0
+      gaps = gap-test (255 - length (placeOf (t .place))) (byTable table (storeOf s)) (longer b (placeOf (t .place))) (kidIn i s b)
 
-      turn : raisedBy (stepsBy s t) (descend b (shownBy s t)) ≡ raisedBy (stepsBy s r) (descend b (shownBy s r))
+      turn : raisedBy (stepsBy s t) (descend b (shownBy s table t)) ≡ raisedBy (stepsBy s r) (descend b (shownBy s table r))
       turn =
-          sym (descend-below b (stepsBy s t) (shownBy s t))
-          ∙ ap (λ x. descendBelow b (stepsBy s t) (shownAt s (placeOf (t .place)) x)) e
-          ∙ turned (isGap (kidsAt s t i b)) b (λ c. kidIn i s c .hash) (kidsAt s t i) (stepsBy s t)
-          ∙ ap (λ c. descendBelow b (stepAt s i c ∷ stepsBy s t) (kidsAt s t i c)) (ap (λ g. cond g (not b) b) gaps ∙ sym q)
+          sym (descend-below b (stepsBy s t) (shownBy s table t))
+          ∙ ap (λ x. descendBelow b (stepsBy s t) (shownAt s table (placeOf (t .place)) x)) e
+          ∙ turned (isGap (kidsAt s table t i b)) b (λ c. kidIn i s c .hash) (kidsAt s table t i) (stepsBy s t)
+          ∙ ap (λ c. descendBelow b (stepAt s i c ∷ stepsBy s t) (kidsAt s table t i c)) (ap (λ g. cond g (not b) b) gaps ∙ sym q)
           ∙ ap₂ (descendBelow b) (sym (steps-further a f)) (sym (shown-further a f))
-          ∙ descend-below b (stepsBy s r) (shownBy s r)
+          ∙ descend-below b (stepsBy s r) (shownBy s table r)
 
-  pub descent-leaf : {r : declared-sought.Sought} (i : ℕ) → t .seen ≡ Leaf i → r ≡ soughtOf t way.Somebody i → Finds s (descentSays s t₀ b) r
+  pub descent-leaf : {r : declared-sought.Sought} (i : ℕ) → t .seen ≡ Leaf i → r ≡ soughtOf t way.Somebody i → Finds s (descentSays s table t₀ b) r
   unfolding descentSays shownBy leafAt presenceAt pathSteps stepsBy
-  descent-leaf {r} i e q = subst (Finds s (descentSays s t₀ b)) (sym q) (record { says = says; within = path-in s t i (w .trail) e })
+  descent-leaf {r} i e q = subst (Finds s (descentSays s table t₀ b)) (sym q) (record { says = says; within = path-in s t i (w .trail) e })
     where
-      says : somebody (presenceAt s (pathOf t i)) ≡ descentSays s t₀ b
-      says = sym (w .same ∙ ap (λ x. sought (raisedBy (stepsBy s t) (descend b (shownAt s (placeOf (t .place)) x)))) e)
+      says : somebody (presenceAt s (pathOf t i)) ≡ descentSays s table t₀ b
+      says = sym (w .same ∙ ap (λ x. sought (raisedBy (stepsBy s t) (descend b (shownAt s table (placeOf (t .place)) x)))) e)
 
   pub descent-lost : {r : declared-sought.Sought} (x : declared-seen.Seen) (u : declared-trouble.Trouble) → t .seen ≡ x →
-      descend b (shownAt s (placeOf (t .place)) x) ≡ stuck (troubleSays u) → r ≡ soughtOf t (way.Lost u) 0 → Finds s (descentSays s t₀ b) r
+      descend b (shownAt s table (placeOf (t .place)) x) ≡ stuck (troubleSays u) → r ≡ soughtOf t (way.Lost u) 0 → Finds s (descentSays s table t₀ b) r
   unfolding descentSays shownBy
-  descent-lost {r} x u e n q = subst (Finds s (descentSays s t₀ b)) (sym q) (record { says = says; within = w .trail .proper .short })
+  descent-lost {r} x u e n q = subst (Finds s (descentSays s table t₀ b)) (sym q) (record { says = says; within = w .trail .proper .short })
     where
-      says : lostWay (troubleSays u) ≡ descentSays s t₀ b
-      says = sym (w .same ∙ ap (λ y. sought (raisedBy (stepsBy s t) (descend b (shownAt s (placeOf (t .place)) y)))) e ∙ ap (λ o. sought (raisedBy (stepsBy s t) o)) n)
+      says : lostWay (troubleSays u) ≡ descentSays s table t₀ b
+      says = sym (w .same ∙ ap (λ y. sought (raisedBy (stepsBy s t) (descend b (shownAt s table (placeOf (t .place)) y)))) e ∙ ap (λ o. sought (raisedBy (stepsBy s t) o)) n)
 
 -- a search from a fork: nobody where there is none, else into its child
-pub fork-nobody : {r : declared-sought.Sought} (s : Bytes) (b : Side) (t : declared.Trail) (f : declared-fork.Fork) → TrailIn s t → f .there ≡ false →
-    r ≡ soughtOf t way.Nobody 0 → Finds s (forkSays s (t .slots) b f) r
+pub fork-nobody : {r : declared-sought.Sought} (s : Bytes) (table : List ℕ) (b : Side) (t : declared.Trail) (f : declared-fork.Fork) → TrailIn s t → f .there ≡ false →
+    r ≡ soughtOf t way.Nobody 0 → Finds s (forkSays s table (t .slots) b f) r
 unfolding forkSays
-fork-nobody s b t f w e q =
-    subst (Finds s (cond (f .there) (sideways s (t .slots) b (f .place)) nobody)) (sym q)
-    (record { says = ap (λ d. cond d (sideways s (t .slots) b (f .place)) nobody) (sym e); within = w .proper .short })
+fork-nobody s table b t f w e q =
+    subst (Finds s (cond (f .there) (sideways s table (t .slots) b (f .place)) nobody)) (sym q)
+    (record { says = ap (λ d. cond d (sideways s table (t .slots) b (f .place)) nobody) (sym e); within = w .proper .short })
 
 -- the trail back at a fork
 abbrev pub backAt : declared.Trail → declared-fork.Fork → declared.Trail
@@ -122,15 +122,15 @@ module _ {s : Bytes} {t : declared.Trail} {f : declared-fork.Fork} (w : TrailIn 
         short = omega (arith, w .proper .short);
       }
 
-  pub fork-found : {r : declared-sought.Sought} (b : Side) (n : declared.Trail) → Further s (backAt t f) (getD (t .slots) (f .place .count) 0) b n →
-      Finds s (descentSays s n (not b)) r → Finds s (forkSays s (t .slots) b f) r
+  pub fork-found : {table : List ℕ} {r : declared-sought.Sought} (b : Side) (n : declared.Trail) → Further s table (backAt t f) (getD (t .slots) (f .place .count) 0) b n →
+      Finds s (descentSays s table n (not b)) r → Finds s (forkSays s table (t .slots) b f) r
   unfolding forkSays sideways descentSays stepsBy
-  fork-found {r} b n g d = subst (λ x. Finds s x r) same d
+  fork-found {table} {r} b n g d = subst (λ x. Finds s x r) same d
     where
-      open-fork : forkSays s (t .slots) b f ≡ sideways s (t .slots) b (f .place)
-      open-fork = ap (λ c. cond c (sideways s (t .slots) b (f .place)) nobody) e
+      open-fork : forkSays s table (t .slots) b f ≡ sideways s table (t .slots) b (f .place)
+      open-fork = ap (λ c. cond c (sideways s table (t .slots) b (f .place)) nobody) e
 
-      same : descentSays s n (not b) ≡ forkSays s (t .slots) b f
+      same : descentSays s table n (not b) ≡ forkSays s table (t .slots) b f
       same = ap₂ (λ steps x. sought (raisedBy steps (descend (not b) x))) (steps-further fork-at g) (shown-further fork-at g) ∙ sym open-fork
 
 -- the neighbour where a walk has ended
@@ -144,36 +144,36 @@ not-leaf s k t b (Lost u) y o = refl
 not-leaf s k t b (Leaf i) y o = absurd (⊎-elim (λ e. omega arith) (λ m. ⊎-elim (λ e. omega arith) (λ e. omega arith) m) o)
 not-leaf s k t b (Inner i) y o = refl
 
-module _ (s k : Bytes) (w : declared-walked.Walked) (b : Side) where
+module _ (s : Bytes) (table : List ℕ) (k : Bytes) (w : declared-walked.Walked) (b : Side) where
   abbrev fromFork : Sought
-  fromFork = forkSays s (w .trail .slots) b (forkOn b (w .left) (w .right))
+  fromFork = forkSays s table (w .trail .slots) b (forkOn b (w .left) (w .right))
 
   pub end-elsewhere : {f : declared-fork.Fork} {r : declared-sought.Sought} → OneOf (0 ∷ 1 ∷ 3 ∷ []) (tagOf Seen.the-type (w .trail .seen)) → f ≡ forkOn b (w .left) (w .right) →
-      Finds s (forkSays s (w .trail .slots) b f) r → Finds s (neighbourSays s k w b) r
+      Finds s (forkSays s table (w .trail .slots) b f) r → Finds s (neighbourSays s table k w b) r
   unfolding neighbourSays
   end-elsewhere {f} {r} o e d =
-      subst (λ x. Finds s x r) (ap (forkSays s (w .trail .slots) b) e ∙ sym (not-leaf s k (w .trail) b (w .trail .seen) fromFork o)) d
+      subst (λ x. Finds s x r) (ap (forkSays s table (w .trail .slots) b) e ∙ sym (not-leaf s k (w .trail) b (w .trail .seen) fromFork o)) d
 
   module _ {x y : Bytes} {d : Bool} (i : ℕ) (here : w .trail .seen ≡ Leaf i) (ex : x ≡ slotIn counted i s) (ey : y ≡ keyIn x) (ed : d ≡ beyond b y k) where
-    leaf-says : neighbourSays s k w b ≡ cond d (somebody (presenceAt s (pathOf (w .trail) i))) fromFork
+    leaf-says : neighbourSays s table k w b ≡ cond d (somebody (presenceAt s (pathOf (w .trail) i))) fromFork
     unfolding neighbourSays
     leaf-says =
         ap (λ z. endSays s k (w .trail) b z fromFork) here
         ∙ ap (λ c. cond c (somebody (presenceAt s (pathOf (w .trail) i))) fromFork) (sym (ed ∙ ap (λ z. beyond b z k) (ey ∙ ap keyIn ex)))
 
-    pub end-beyond : {r : declared-sought.Sought} → d ≡ true → TrailIn s (w .trail) → r ≡ soughtOf (w .trail) way.Somebody i → Finds s (neighbourSays s k w b) r
+    pub end-beyond : {r : declared-sought.Sought} → d ≡ true → TrailIn s (w .trail) → r ≡ soughtOf (w .trail) way.Somebody i → Finds s (neighbourSays s table k w b) r
     end-beyond t h q =
-        subst (Finds s (neighbourSays s k w b)) (sym q)
+        subst (Finds s (neighbourSays s table k w b)) (sym q)
         (record {
           says = sym (leaf-says ∙ ap (λ c. cond c (somebody (presenceAt s (pathOf (w .trail) i))) fromFork) t);
           within = path-in s (w .trail) i h here;
         })
 
-    pub end-before : {f : declared-fork.Fork} {r : declared-sought.Sought} → d ≡ false → f ≡ forkOn b (w .left) (w .right) → Finds s (forkSays s (w .trail .slots) b f) r →
-        Finds s (neighbourSays s k w b) r
+    pub end-before : {f : declared-fork.Fork} {r : declared-sought.Sought} → d ≡ false → f ≡ forkOn b (w .left) (w .right) → Finds s (forkSays s table (w .trail .slots) b f) r →
+        Finds s (neighbourSays s table k w b) r
     end-before {f} {r} t e n =
         subst (λ z. Finds s z r)
-        (ap (forkSays s (w .trail .slots) b) e ∙ sym (leaf-says ∙ ap (λ c. cond c (somebody (presenceAt s (pathOf (w .trail) i))) fromFork) t)) n
+        (ap (forkSays s table (w .trail .slots) b) e ∙ sym (leaf-says ∙ ap (λ c. cond c (somebody (presenceAt s (pathOf (w .trail) i))) fromFork) t)) n
 
 -- the leaf's slot is one of the store's
 pub leaf-fits : (s : Bytes) (t : declared.Trail) (i : ℕ) → TrailIn s t → t .seen ≡ Leaf i → SlotWithin counted i s

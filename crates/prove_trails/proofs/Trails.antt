@@ -13,9 +13,10 @@ use Rattle.terms.specs.declared.Form.the-variants.{Counted as counted}
 use Rattle.terms.specs.Bits.{Bytes, Side, left, Place, longer, begins}
 use Rattle.terms.specs.Records.{Child, Body, leafBody, innerBody}
 use Rattle.terms.proofs.Places.{length-longer}
-use Rattle.meaning.specs.Sight.{Sight, matches, nothing, spoilt, Looking, scan}
+use Rattle.meaning.specs.Sight.{Sight, matches, nothing, spoilt, Looking}
 use Rattle.meaning.specs.Reading.{lostRecord, strayLeaf, Seen, lost, gap, leafSeen, seenBody, seenChild, seenAt, seen}
 use Rattle.meaning.specs.Proving.{isGap}
+use Rattle.indexed.specs.Index.{byTable}
 use Rattle.place.specs.declared.Place as declared-place
 use Rattle.place.specs.Place.{placeOf, Stands, Grown}
 use Rattle.place.proofs.Places.{proper-count}
@@ -30,17 +31,17 @@ use Rattle.prove_trails.specs.Trails.{shownAt, SeenIn, shownBy, stepsBy,
 use Rattle.prove_trails.specs.declared.Trail as declared
 
 -- what is seen, by the case of the answer
-pub sees-shown : (s : Bytes) (p : Place) (x : Seen) (r : declared-seen.Seen) → Sees s p x r → shownAt s p r ≡ x
-sees-shown s p x Gap e = sym e
-sees-shown s p x (Lost t) e = sym e
-sees-shown s p x (Leaf i) e = sym (e .1)
-sees-shown s p x (Inner i) e = sym (e .2)
+pub sees-shown : (s : Bytes) (table : List ℕ) (p : Place) (x : Seen) (r : declared-seen.Seen) → Sees s table p x r → shownAt s table p r ≡ x
+sees-shown s table p x Gap e = sym e
+sees-shown s table p x (Lost t) e = sym e
+sees-shown s table p x (Leaf i) e = sym (e .1)
+sees-shown s table p x (Inner i) e = sym (e .2)
 
-sees-in : (s : Bytes) (p : Place) (x : Seen) (r : declared-seen.Seen) → Sees s p x r → SeenIn s p r
-sees-in s p x Gap e = tt
-sees-in s p x (Lost t) e = tt
-sees-in s p x (Leaf i) e = e .0
-sees-in s p x (Inner i) e = (e .0, e .1)
+sees-in : (s : Bytes) (table : List ℕ) (p : Place) (x : Seen) (r : declared-seen.Seen) → Sees s table p x r → SeenIn s p r
+sees-in s table p x Gap e = tt
+sees-in s table p x (Lost t) e = tt
+sees-in s table p x (Leaf i) e = e .0
+sees-in s table p x (Inner i) e = (e .0, e .1)
 
 -- only a child that is not there is a gap
 no-gap : (p : Place) (o : Sight) (kid : Side → Child → Seen) → isGap (seenChild p o kid) ≡ false
@@ -78,34 +79,34 @@ pub set-below : (a : List ℕ) (n i j : ℕ) → j < n → getD (set a n i) j 0 
 set-below a n i j h = getD-set-other a n j i 0 (λ e. omega arith)
 
 -- what is seen at a child, from its parent
-pub kid-seen : (s : Bytes) (b : Side) (p : Place) (c : Child) → seenBelow s (longer b p) c ≡ seenAt (255 - length p) (scan (storeOf s)) (longer b p) c
+pub kid-seen : (s : Bytes) (table : List ℕ) (b : Side) (p : Place) (c : Child) → seenBelow s table (longer b p) c ≡ seenAt (255 - length p) (byTable table (storeOf s)) (longer b p) c
 unfolding seenBelow
-kid-seen s b p c =
+kid-seen s table b p c =
     let n : 256 - length (longer b p) ≡ 255 - length p = omega (arith, length-longer b p) in
-    ap (λ (m : ℕ). seenAt m (scan (storeOf s)) (longer b p) c) n
+    ap (λ (m : ℕ). seenAt m (byTable table (storeOf s)) (longer b p) c) n
 
 -- the trail at the root
-pub started : (s : Bytes) (v : ℕ) (x : declared-seen.Seen) (a : List ℕ) (p : declared-place.Place) → sizeRight counted (length s) ≡ true → length a ≡ 256 → Stands [] 0 p →
-    Sees s [] (seen (scan (storeOf s)) v) x → Started s v (record { seen = x; slots = a; place = p })
+pub started : (s : Bytes) (table : List ℕ) (v : ℕ) (x : declared-seen.Seen) (a : List ℕ) (p : declared-place.Place) → sizeRight counted (length s) ≡ true → length a ≡ 256 → Stands [] 0 p →
+    Sees s table [] (seen (byTable table (storeOf s)) v) x → Started s table v (record { seen = x; slots = a; place = p })
 unfolding shownBy
-started s v x a p size long w e = record {
+started s table v x a p size long w e = record {
   trail = record {
     size = size;
     proper = w .proper;
     long = long;
     above = λ j h. absurd (omega (arith, w .count));
-    seen = rw (w .place) (sees-in s [] (seen (scan (storeOf s)) v) x e);
+    seen = rw (w .place) (sees-in s table [] (seen (byTable table (storeOf s)) v) x e);
   };
   count = w .count;
-  shown = ap (λ q. shownAt s q x) (w .place) ∙ sees-shown s [] (seen (scan (storeOf s)) v) x e;
+  shown = ap (λ q. shownAt s table q x) (w .place) ∙ sees-shown s table [] (seen (byTable table (storeOf s)) v) x e;
 }
 
 -- one node further
-pub gone-further : (s : Bytes) (t : declared.Trail) (i : ℕ) (b : Side) (p : declared-place.Place) (x : declared-seen.Seen) → AtInner s t i → Grown b (t .place) p →
-    Sees s (placeOf p) (seenBelow s (placeOf p) (kidIn i s b)) x →
-    Further s t i b (record { seen = x; slots = set (t .slots) (t .place .count) i; place = p })
+pub gone-further : (s : Bytes) (table : List ℕ) (t : declared.Trail) (i : ℕ) (b : Side) (p : declared-place.Place) (x : declared-seen.Seen) → AtInner s t i → Grown b (t .place) p →
+    Sees s table (placeOf p) (seenBelow s table (placeOf p) (kidIn i s b)) x →
+    Further s table t i b (record { seen = x; slots = set (t .slots) (t .place .count) i; place = p })
 unfolding shownBy
-gone-further s t i b p x w g e =
+gone-further s table t i b p x w g e =
     let n = t .place .count in
     let h : n < length (t .slots) = omega (arith, w .short, w .long) in
     let below : (j : ℕ) → j < n + 1 → getD (set (t .slots) n i) j 0 < roomOf counted (length s) =
@@ -117,14 +118,14 @@ gone-further s t i b p x w g e =
         proper = g .proper;
         long = length-set (t .slots) n i ∙ w .long;
         above = λ j l. below j (omega (arith, g .count));
-        seen = sees-in s (placeOf p) (seenBelow s (placeOf p) (kidIn i s b)) x e;
+        seen = sees-in s table (placeOf p) (seenBelow s table (placeOf p) (kidIn i s b)) x e;
       };
       place = g;
       slots = refl;
-      shown = sees-shown s (placeOf p) (seenBelow s (placeOf p) (kidIn i s b)) x e;
+      shown = sees-shown s table (placeOf p) (seenBelow s table (placeOf p) (kidIn i s b)) x e;
     }
 
-module _ {s : Bytes} {t : declared.Trail} {i : ℕ} {b : Side} {r : declared.Trail} (w : AtInner s t i) (f : Further s t i b r) where
+module _ {s : Bytes} {table : List ℕ} {t : declared.Trail} {i : ℕ} {b : Side} {r : declared.Trail} (w : AtInner s t i) (f : Further s table t i b r) where
   pub slot-set : getD (r .slots) (t .place .count) 0 ≡ i
   slot-set =
       ap (λ a. getD a (t .place .count) 0) (f .slots) ∙ getD-set-same (t .slots) (t .place .count) i 0 (omega (arith, w .short, w .long))
@@ -146,12 +147,12 @@ module _ {s : Bytes} {t : declared.Trail} {i : ℕ} {b : Side} {r : declared.Tra
       (steps-agree s (r .slots) (t .slots) (longer b p) p n slot-kept (λ j h. List·getD-append p (b ∷ []) left j (omega (arith, m))))
 
   -- what is seen at its end
-  pub shown-further : shownBy s r ≡ seenAt (255 - length (placeOf (t .place))) (scan (storeOf s)) (longer b (placeOf (t .place))) (kidIn i s b)
-  shown-further = f .shown ∙ ap (λ q. seenBelow s q (kidIn i s b)) (f .place .place) ∙ kid-seen s b (placeOf (t .place)) (kidIn i s b)
+  pub shown-further : shownBy s table r ≡ seenAt (255 - length (placeOf (t .place))) (byTable table (storeOf s)) (longer b (placeOf (t .place))) (kidIn i s b)
+  shown-further = f .shown ∙ ap (λ q. seenBelow s table q (kidIn i s b)) (f .place .place) ∙ kid-seen s table b (placeOf (t .place)) (kidIn i s b)
 
 -- what is seen on each side of the inner node in slot i, at the end of a trail
-abbrev pub kidsAt : Bytes → declared.Trail → ℕ → Side → Seen
-kidsAt s t i b = seenAt (255 - length (placeOf (t .place))) (scan (storeOf s)) (longer b (placeOf (t .place))) (kidIn i s b)
+abbrev pub kidsAt : Bytes → List ℕ → declared.Trail → ℕ → Side → Seen
+kidsAt s table t i b = seenAt (255 - length (placeOf (t .place))) (byTable table (storeOf s)) (longer b (placeOf (t .place))) (kidIn i s b)
 
 -- a trail that ends at an inner node goes on there
 pub at-inner : {s : Bytes} {t : declared.Trail} {i : ℕ} → TrailIn s t → t .seen ≡ Inner i → AtInner s t i

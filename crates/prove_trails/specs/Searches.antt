@@ -2,6 +2,7 @@
 use Prim.Native.Nat.{ℕ}
 use mathlib.Core.Path.{_≡_}
 use mathlib.Core.Bool.{cond}
+use mathlib.Core.List.{List}
 use Rattle.terms.specs.declared.Form.the-variants.{Counted as counted}
 use Rattle.terms.specs.Bits.{Bytes, Side}
 use Rattle.meaning.specs.Proving.{raisedBy, descend, Sought, somebody, sought, beyond}
@@ -31,8 +32,8 @@ pub record Finds (s : Bytes) (x : Sought) (r : declared-sought.Sought) : Type 0 
   pub within : NeighbourIn s r
 
 -- What the descent to side b finds from the end of a trail.
-unfoldable pub descentSays : Bytes → declared.Trail → Side → Sought
-descentSays s t b = sought (raisedBy (stepsBy s t) (descend b (shownBy s t)))
+unfoldable pub descentSays : Bytes → List ℕ → declared.Trail → Side → Sought
+descentSays s table t b = sought (raisedBy (stepsBy s t) (descend b (shownBy s table t)))
 
 -- A walk that has ended, within the store.
 pub record WalkedIn (s : Bytes) (w : declared-walked.Walked) : Type 0 where
@@ -47,5 +48,5 @@ endSays s k t b (Leaf i) x = cond (beyond b (keyIn (slotIn counted i s)) k) (som
 endSays s k t b (Inner i) x = x
 
 -- The neighbour of key k on side b where a walk has ended.
-unfoldable pub neighbourSays : Bytes → Bytes → declared-walked.Walked → Side → Sought
-neighbourSays s k w b = endSays s k (w .trail) b (w .trail .seen) (forkSays s (w .trail .slots) b (forkOn b (w .left) (w .right)))
+unfoldable pub neighbourSays : Bytes → List ℕ → Bytes → declared-walked.Walked → Side → Sought
+neighbourSays s table k w b = endSays s k (w .trail) b (w .trail .seen) (forkSays s table (w .trail .slots) b (forkOn b (w .left) (w .right)))

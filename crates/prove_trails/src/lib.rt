@@ -47,11 +47,11 @@ pub struct Walked {
 }
 
 // At the root of a version.
-fn start(store: &[u8], version: u32) -> Trail
+fn start(store: &[u8], index: &[u32], version: u32) -> Trail
     requires { ⌜ sizeRight Form.Counted (length (now store)) ≡ true ⌝ }
-    ensures { λ r. ⌜ Started (now (store .entry)) version r ⌝ }
+    ensures { λ r. ⌜ Started (now (store .entry)) (now (index .entry)) version r ⌝ }
 {
-    let seen = root(store, version);
+    let seen = root(store, index, version);
     let place = Place::top();
     Trail {
         seen,
@@ -61,16 +61,16 @@ fn start(store: &[u8], version: u32) -> Trail
 }
 
 // One inner node further, that in slot i, to a side.
-fn further(store: &[u8], trail: Trail, i: usize, side: bool) -> Trail
+fn further(store: &[u8], index: &[u32], trail: Trail, i: usize, side: bool) -> Trail
     requires { ⌜ AtInner (now store) trail i ⌝ }
-    ensures { λ r. ⌜ Further (now (store .entry)) trail i side r ⌝ }
+    ensures { λ r. ⌜ Further (now (store .entry)) (now (index .entry)) trail i side r ⌝ }
 {
     let mut slots = trail.slots;
     let here = trail.place;
     let depth = here.count;
     slots[depth] = i as u16;
     let place = child_place(here, side);
-    let seen = child(store, i, side, place);
+    let seen = child(store, index, i, side, place);
     Trail { seen, slots, place }
 }
 
@@ -89,12 +89,12 @@ fn deepest(store: &[u8], fork: Fork, place: Place, i: usize, turn: bool, side: b
 }
 
 // Walks by the key's bits from the root of a version to a leaf or a missing child, or until it is stopped.
-pub fn walk(store: &[u8], version: u32, key: &[u8]) -> Walked
+pub fn walk(store: &[u8], index: &[u32], version: u32, key: &[u8]) -> Walked
     requires { ⌜ (sizeRight Form.Counted (length (now store)) ≡ true) × (length (now key) ≡ 32) ⌝ }
-    ensures { λ r. ⌜ Walks (now (store .entry)) version (now (key .entry)) r ⌝ }
+    ensures { λ r. ⌜ Walks (now (store .entry)) (now (index .entry)) version (now (key .entry)) r ⌝ }
 {
     let top = Place::top();
-    let mut trail = start(store, version);
+    let mut trail = start(store, index, version);
     let mut left = Fork {
         there: false,
         place: top,
@@ -113,7 +113,7 @@ pub fn walk(store: &[u8], version: u32, key: &[u8]) -> Walked
         let turn = key_bit(key, depth);
         left = deepest(store, left, place, i, turn, false);
         right = deepest(store, right, place, i, turn, true);
-        trail = further(store, trail, i, turn);
+        trail = further(store, index, trail, i, turn);
     }
 }
 
@@ -143,9 +143,9 @@ fn towards(store: &[u8], i: usize, to: bool) -> bool
 }
 
 // Descends from the end of a trail, to a side where it can, until a leaf.
-fn descend(store: &[u8], trail: Trail, side: bool) -> Sought
+fn descend(store: &[u8], index: &[u32], trail: Trail, side: bool) -> Sought
     requires { ⌜ TrailIn (now store) trail ⌝ }
-    ensures { λ r. ⌜ Finds (now (store .entry)) (descentSays (now (store .entry)) trail side) r ⌝ }
+    ensures { λ r. ⌜ Finds (now (store .entry)) (descentSays (now (store .entry)) (now (index .entry)) trail side) r ⌝ }
 {
     let mut here = trail;
     loop {
@@ -153,7 +153,7 @@ fn descend(store: &[u8], trail: Trail, side: bool) -> Sought
         match seen {
             Seen::Inner(i) => {
                 let turn = towards(store, i, side);
-                here = further(store, here, i, turn);
+                here = further(store, index, here, i, turn);
             }
             Seen::Leaf(i) => return answer(here, Way::Somebody, i),
             Seen::Gap => return answer(here, Way::Lost(Trouble::Lost), 0),
@@ -163,9 +163,9 @@ fn descend(store: &[u8], trail: Trail, side: bool) -> Sought
 }
 
 // Searches from a fork of a trail, where there is one.
-fn from_fork(store: &[u8], trail: Trail, fork: Fork, side: bool) -> Sought
+fn from_fork(store: &[u8], index: &[u32], trail: Trail, fork: Fork, side: bool) -> Sought
     requires { ⌜ TrailIn (now store) trail × ForkIn (trail .place .count) fork ⌝ }
-    ensures { λ r. ⌜ Finds (now (store .entry)) (forkSays (now (store .entry)) (trail .slots) side fork) r ⌝ }
+    ensures { λ r. ⌜ Finds (now (store .entry)) (forkSays (now (store .entry)) (now (index .entry)) (trail .slots) side fork) r ⌝ }
 {
     let there = fork.there;
     if !there {
@@ -180,8 +180,8 @@ fn from_fork(store: &[u8], trail: Trail, fork: Fork, side: bool) -> Sought
         slots,
         place,
     };
-    let next = further(store, back, i, side);
-    descend(store, next, !side)
+    let next = further(store, index, back, i, side);
+    descend(store, index, next, !side)
 }
 
 // Whether a key is on a side of another: smaller on the left, greater on the right.
@@ -204,18 +204,18 @@ fn fork_towards(walked: Walked, side: bool) -> Fork
 }
 
 // The neighbour of a key on a side: the leaf at the end of its walk, if it is on that side; else from the fork.
-pub fn neighbour(store: &[u8], key: &[u8], walked: Walked, side: bool) -> Sought
+pub fn neighbour(store: &[u8], index: &[u32], key: &[u8], walked: Walked, side: bool) -> Sought
     requires { ⌜ WalkedIn (now store) walked ⌝ }
-    ensures { λ r. ⌜ Finds (now (store .entry)) (neighbourSays (now (store .entry)) (now (key .entry)) walked side) r ⌝ }
+    ensures { λ r. ⌜ Finds (now (store .entry)) (neighbourSays (now (store .entry)) (now (index .entry)) (now (key .entry)) walked side) r ⌝ }
 {
     let trail = walked.trail;
     let fork = fork_towards(walked, side);
     let seen = trail.seen;
     let Seen::Leaf(i) = seen else {
-        return from_fork(store, trail, fork, side);
+        return from_fork(store, index, trail, fork, side);
     };
     if beyond(key_of(slot_of(Form::Counted, store, i)), key, side) {
         return answer(trail, Way::Somebody, i);
     }
-    from_fork(store, trail, fork, side)
+    from_fork(store, index, trail, fork, side)
 }

@@ -1,16 +1,19 @@
 -- The answers of the two reads, by the case of what was tested first. Assumes nothing.
 use Prim.Native.Nat.{ℕ}
 use mathlib.Core.Path.{_≡_, ap, sym, _∙_}
-use mathlib.Core.Bool.{true}
+use mathlib.Core.Bool.{true, false, cond}
+use mathlib.Core.List.{List, []}
 use lib.ListN.{length}
+use lib.Dec.{eqb}
 use borrow.Author.Tests.{eq-eqb, ne-eqb}
 use Rattle.terms.specs.declared.Form.the-variants.{Counted as counted}
 use Rattle.terms.specs.Bits.{Bytes}
-use Rattle.meaning.specs.Sight.{rootSight}
 use Rattle.meaning.specs.Calls.{refused, accepted}
-use Rattle.meaning.specs.Reading.{readRoot, readKey, rootRead}
+use Rattle.meaning.specs.Reading.{rootRead, readRootBy, readRoot, readKeyBy, readKey}
+use Rattle.indexed.specs.Index.{rootBy, byTable}
+use Rattle.indexed.proofs.Scanned.{without-table}
 use Rattle.nodehash.specs.Node.{leafHash, innerHash}
-use Rattle.layout.specs.Headers.{sizeRight}
+use Rattle.layout.specs.Headers.{sizeRight, headerOf}
 use Rattle.layout.specs.Stores.{storeOf}
 use Rattle.read_open.specs.Opening.{opened, openedSays}
 use Rattle.read_open.specs.declared.Opened as declared-opened
@@ -22,7 +25,9 @@ use Rattle.read_key.specs.declared.KeyRead.the-variants as read
 use Rattle.read_root.specs.Parts.{rootSays}
 use Rattle.read_root.specs.declared.RootRead as declared-root
 use Rattle.read_root.specs.declared.RootRead.the-variants as root
-use Rattle.read.specs.Reads.{rootAnswer, keyAnswer}
+use Rattle.read_open.specs.Headed.{byHeader, asMany}
+use Rattle.read.specs.Reads.{rootAnswer, rootIndexed, keyAnswer, keyIndexed}
+use Rattle.read.specs.Parts.{rootAnswerBy, keyAnswerBy}
 
 -- what was tested first
 module _ (s : Bytes) (v : ℕ) {o : declared-opened.Opened} (says : openedSays o ≡ opened s v) where
@@ -35,23 +40,57 @@ module _ (s : Bytes) (v : ℕ) {o : declared-opened.Opened} (says : openedSays o
   pub size-kept : o ≡ Kept → sizeRight counted (length s) ≡ true
   size-kept e = opening.kept-size s v (first-kept e)
 
-  pub root-refused : {n : ℕ} → o ≡ Refused n → rootSays (root.Refused n) ≡ rootAnswer s v
-  unfolding rootSays rootAnswer readRoot
-  root-refused e = opening.refused-first (rootRead leafHash innerHash (rootSight (storeOf s) v)) s v (first-refused e)
+  pub root-refused : (table : List ℕ) {n : ℕ} → o ≡ Refused n → rootSays (root.Refused n) ≡ rootAnswerBy s table v
+  unfolding rootSays rootAnswerBy
+  root-refused table e = opening.refused-first (rootRead leafHash innerHash (rootBy table (storeOf s) v)) s v (first-refused e)
 
-  pub root-is-read : (r : declared-root.RootRead) → o ≡ Kept → rootSays r ≡ rootRead leafHash innerHash (rootSight (storeOf s) v) → rootSays r ≡ rootAnswer s v
-  unfolding rootAnswer readRoot
-  root-is-read r e f = f ∙ sym (opening.rest-decides (rootRead leafHash innerHash (rootSight (storeOf s) v)) s v (first-kept e))
+  pub root-is-read : (table : List ℕ) (r : declared-root.RootRead) → o ≡ Kept → rootSays r ≡ rootRead leafHash innerHash (rootBy table (storeOf s) v) → rootSays r ≡ rootAnswerBy s table v
+  unfolding rootAnswerBy
+  root-is-read table r e f = f ∙ sym (opening.rest-decides (rootRead leafHash innerHash (rootBy table (storeOf s) v)) s v (first-kept e))
 
-  module _ (k : Bytes) (whole : length k ≡ 32) where
-    pub key-refused : {n : ℕ} → o ≡ Refused n → readSays (read.Refused n) ≡ keyAnswer s v k
-    unfolding readSays keyAnswer readKey walkRead
-    key-refused e = rw (eq-eqb (length k) 32 whole) (opening.refused-first (walkRead s v k) s v (first-refused e))
+  module _ (table : List ℕ) (k : Bytes) (whole : length k ≡ 32) where
+    pub key-refused : {n : ℕ} → o ≡ Refused n → readSays (read.Refused n) ≡ keyAnswerBy s table v k
+    unfolding readSays keyAnswerBy walkRead
+    key-refused e = rw (eq-eqb (length k) 32 whole) (opening.refused-first (walkRead s table v k) s v (first-refused e))
 
-    pub key-read : (r : declared.KeyRead) → o ≡ Kept → readSays r ≡ walkRead s v k → readSays r ≡ keyAnswer s v k
-    unfolding keyAnswer readKey walkRead
-    key-read r e f = rw (eq-eqb (length k) 32 whole) (f ∙ sym (opening.rest-decides (walkRead s v k) s v (first-kept e)))
+    pub key-read : (r : declared.KeyRead) → o ≡ Kept → readSays r ≡ walkRead s table v k → readSays r ≡ keyAnswerBy s table v k
+    unfolding keyAnswerBy walkRead
+    key-read r e f = rw (eq-eqb (length k) 32 whole) (f ∙ sym (opening.rest-decides (walkRead s table v k) s v (first-kept e)))
 
-pub key-wrong : (s : Bytes) (v : ℕ) (k : Bytes) → (length k ≡ 32 → ⊥) → readSays (read.Refused 12) ≡ keyAnswer s v k
-unfolding readSays keyAnswer
-key-wrong s v k f = rw (ne-eqb (length k) 32 f)
+pub key-wrong : (s : Bytes) (table : List ℕ) (v : ℕ) (k : Bytes) → (length k ≡ 32 → ⊥) → readSays (read.Refused 12) ≡ keyAnswerBy s table v k
+unfolding readSays keyAnswerBy
+key-wrong s table v k f = rw (ne-eqb (length k) 32 f)
+
+-- by a table without entries they are those of the scan
+pub root-plain : (s : Bytes) (v : ℕ) → rootAnswerBy s [] v ≡ rootAnswer s v
+unfolding rootAnswerBy rootAnswer readRoot
+root-plain s v = ap (λ look. byHeader (headerOf counted s) (readRootBy leafHash innerHash look (storeOf s) v)) (without-table (storeOf s))
+
+pub key-plain : (s : Bytes) (v : ℕ) (k : Bytes) → keyAnswerBy s [] v k ≡ keyAnswer s v k
+unfolding keyAnswerBy keyAnswer readKey
+key-plain s v k =
+    ap (λ look. cond (eqb (length k) 32) (byHeader (headerOf counted s) (readKeyBy look (storeOf s) v k)) (refused 12)) (without-table (storeOf s))
+
+-- a table of another length is refused with 1, after 12; else its read is one by a table of any length
+module _ (s : Bytes) (table : List ℕ) (v : ℕ) where
+  pub root-as-many : asMany s table ≡ true → rootAnswerBy s table v ≡ rootIndexed s table v
+  unfolding rootAnswerBy rootIndexed
+  root-as-many e = opening.as-many (readRootBy leafHash innerHash (byTable table (storeOf s)) (storeOf s) v) s table e
+
+  pub root-not-as-many : asMany s table ≡ false → refused 1 ≡ rootIndexed s table v
+  unfolding rootIndexed
+  root-not-as-many e = opening.not-as-many (readRootBy leafHash innerHash (byTable table (storeOf s)) (storeOf s) v) s table e
+
+  pub key-as-many : (k : Bytes) → length k ≡ 32 → asMany s table ≡ true → keyAnswerBy s table v k ≡ keyIndexed s table v k
+  unfolding keyAnswerBy keyIndexed
+  key-as-many k whole e =
+      ap (λ a. cond (eqb (length k) 32) a (refused 12)) (opening.as-many (readKeyBy (byTable table (storeOf s)) (storeOf s) v k) s table e)
+
+  pub key-not-as-many : (k : Bytes) → length k ≡ 32 → asMany s table ≡ false → refused 1 ≡ keyIndexed s table v k
+  unfolding keyIndexed
+  key-not-as-many k whole e =
+      rw (eq-eqb (length k) 32 whole) (opening.not-as-many (readKeyBy (byTable table (storeOf s)) (storeOf s) v k) s table e)
+
+  pub key-wrong-indexed : (k : Bytes) → (length k ≡ 32 → ⊥) → refused 12 ≡ keyIndexed s table v k
+  unfolding keyIndexed
+  key-wrong-indexed k f = rw (ne-eqb (length k) 32 f)

@@ -2,16 +2,18 @@
 -- Order: 12; then 1, 2; then 8; then 3 or 17, the first met. Assumes nothing.
 use Prim.Native.Nat.{ℕ}
 use mathlib.Core.Bool.{cond}
+use mathlib.Core.List.{List}
 use lib.ListN.{length}
 use lib.Dec.{eqb}
 use Rattle.terms.specs.declared.Form.the-variants.{Counted as counted}
 use Rattle.terms.specs.Bits.{Bytes}
 use Rattle.meaning.specs.Calls.{Answer, refused}
-use Rattle.meaning.specs.Reading.{Verdict, readRoot, readKey}
+use Rattle.meaning.specs.Reading.{Verdict, readRootBy, readRoot, readKeyBy, readKey}
+use Rattle.indexed.specs.Index.{byTable}
 use Rattle.nodehash.specs.Node.{leafHash, innerHash}
 use Rattle.layout.specs.Headers.{headerOf}
 use Rattle.layout.specs.Stores.{storeOf}
-use Rattle.read_open.specs.Headed.{byHeader}
+use Rattle.read_open.specs.Headed.{byHeader, headerWith}
 
 -- A root read answers the hash of the root record alone, or zeros: 1, 2, 8, and 3 where the root is spoilt.
 unfoldable pub rootAnswer : Bytes → ℕ → Answer Bytes
@@ -20,3 +22,11 @@ rootAnswer s v = byHeader (headerOf counted s) (readRoot leafHash innerHash (sto
 -- A key read answers the value or "absent": 12 where the key isn't 32 bytes, then 1, 2, 8, 3 or 17.
 unfoldable pub keyAnswer : Bytes → ℕ → Bytes → Answer Verdict
 keyAnswer s v k = cond (eqb (length k) 32) (byHeader (headerOf counted s) (readKey (storeOf s) v k)) (refused 12)
+
+-- Document 02, 2026-05: the same by a table lent with the store, where 1 is also for its length.
+unfoldable pub rootIndexed : Bytes → List ℕ → ℕ → Answer Bytes
+rootIndexed s table v = byHeader (headerWith s table) (readRootBy leafHash innerHash (byTable table (storeOf s)) (storeOf s) v)
+
+unfoldable pub keyIndexed : Bytes → List ℕ → ℕ → Bytes → Answer Verdict
+keyIndexed s table v k =
+    cond (eqb (length k) 32) (byHeader (headerWith s table) (readKeyBy (byTable table (storeOf s)) (storeOf s) v k)) (refused 12)

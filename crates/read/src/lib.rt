@@ -10,22 +10,22 @@ use refusal_numbers::NOT_32_BYTES;
 ghost use mathlib.Core.Path.{_≡_};
 ghost use Rattle.read_key.specs.Parts.{readSays};
 ghost use Rattle.read_root.specs.Parts.{rootSays};
-ghost use Rattle.read.specs.Reads.{rootAnswer, keyAnswer};
+ghost use Rattle.read.specs.Parts.{rootAnswerBy, keyAnswerBy};
 
-// Reads the root of a version.
-pub fn root(store: &[u8], version: u32) -> RootRead
-    ensures { λ r. ⌜ rootSays r ≡ rootAnswer (now (store .entry)) version ⌝ }
+// Reads the root of a version by a table of any length; one without entries is the scan.
+pub fn root(store: &[u8], index: &[u32], version: u32) -> RootRead
+    ensures { λ r. ⌜ rootSays r ≡ rootAnswerBy (now (store .entry)) (now (index .entry)) version ⌝ }
 {
     let opened = open(store, version);
     if let Opened::Refused(n) = opened {
         return RootRead::Refused(n as u64);
     }
-    root_hash(store, version)
+    root_hash(store, index, version)
 }
 
-// Reads a key in a version.
-pub fn get(store: &[u8], version: u32, key: &[u8]) -> KeyRead
-    ensures { λ r. ⌜ readSays r ≡ keyAnswer (now (store .entry)) version (now (key .entry)) ⌝ }
+// Reads a key in a version, likewise.
+pub fn get(store: &[u8], index: &[u32], version: u32, key: &[u8]) -> KeyRead
+    ensures { λ r. ⌜ readSays r ≡ keyAnswerBy (now (store .entry)) (now (index .entry)) version (now (key .entry)) ⌝ }
 {
     if key.len() != 32 {
         return KeyRead::Refused(NOT_32_BYTES as u64);
@@ -34,5 +34,5 @@ pub fn get(store: &[u8], version: u32, key: &[u8]) -> KeyRead
     if let Opened::Refused(n) = opened {
         return KeyRead::Refused(n as u64);
     }
-    walk_read(store, version, key)
+    walk_read(store, index, version, key)
 }

@@ -3,18 +3,22 @@ use hash::Hash;
 use hash::no_hash;
 use hash::put_hash;
 use read_key::KeyRead;
+use read_open::as_many;
 use read_root::RootRead;
+use refusal_numbers::NOT_32_BYTES;
+use refusal_numbers::WRONG_SIZE;
 ghost use mathlib.Core.Path.{_≡_};
 ghost use mathlib.Core.List.{_∷_};
 ghost use lib.ListN.{length};
 ghost use Rattle.hash.specs.Hash.{hashBytes};
-ghost use Rattle.read_c.specs.Export.{ReadsRoot, ReadsKey};
+ghost use Rattle.read.specs.Parts.{rootAnswerBy, keyAnswerBy};
+ghost use Rattle.read_c.specs.Export.{RootTold, KeyTold, ReadsRoot, ReadsRootBy, ReadsKey, ReadsKeyBy};
 
-// The root of a version.
-pub fn grants_root(store: &[u8], version: u32, root: &mut [u8; 32]) -> u64
-    ensures { λ r. ⌜ ReadsRoot (now (store .entry)) version (now (root .entry)) r (now (root .exit)) ⌝ }
+// The root of a version, by a table of any length.
+fn root_by(store: &[u8], index: &[u32], version: u32, root: &mut [u8; 32]) -> u64
+    ensures { λ r. ⌜ RootTold (rootAnswerBy (now (store .entry)) (now (index .entry)) version) (now (root .entry)) r (now (root .exit)) ⌝ }
 {
-    let read = read::root(store, version);
+    let read = read::root(store, index, version);
     match read {
         RootRead::Refused(n) => n,
         RootRead::Hash(hash) => {
@@ -33,11 +37,11 @@ fn put_found(found: &mut [u8], present: u8, value: Hash)
     put_hash(&mut found[1..33], value);
 }
 
-// A key in a version: 1 and its value, or 0 and 32 zero bytes where it is absent.
-pub fn grants_get(store: &[u8], version: u32, key: &[u8], found: &mut [u8; 33]) -> u64
-    ensures { λ r. ⌜ ReadsKey (now (store .entry)) version (now (key .entry)) (now (found .entry)) r (now (found .exit)) ⌝ }
+// A key in a version, by a table of any length: 1 and its value, or 0 and 32 zero bytes where it is absent.
+fn get_by(store: &[u8], index: &[u32], version: u32, key: &[u8], found: &mut [u8; 33]) -> u64
+    ensures { λ r. ⌜ KeyTold (keyAnswerBy (now (store .entry)) (now (index .entry)) version (now (key .entry))) (now (found .entry)) r (now (found .exit)) ⌝ }
 {
-    let read = read::get(store, version, key);
+    let read = read::get(store, index, version, key);
     match read {
         KeyRead::Refused(n) => n,
         KeyRead::Present(value) => {
@@ -49,6 +53,49 @@ pub fn grants_get(store: &[u8], version: u32, key: &[u8], found: &mut [u8; 33]) 
             0
         }
     }
+}
+
+// The root of a version, by scans.
+pub fn grants_root(store: &[u8], version: u32, root: &mut [u8; 32]) -> u64
+    ensures { λ r. ⌜ ReadsRoot (now (store .entry)) version (now (root .entry)) r (now (root .exit)) ⌝ }
+{
+    root_by(store, &[], version, root)
+}
+
+// A key in a version, by scans.
+pub fn grants_get(store: &[u8], version: u32, key: &[u8], found: &mut [u8; 33]) -> u64
+    ensures { λ r. ⌜ ReadsKey (now (store .entry)) version (now (key .entry)) (now (found .entry)) r (now (found .exit)) ⌝ }
+{
+    get_by(store, &[], version, key, found)
+}
+
+// The root of a version, by a table lent with the store (2026-05).
+pub fn root_indexed(store: &[u8], index: &[u32], version: u32, root: &mut [u8; 32]) -> u64
+    ensures { λ r. ⌜ ReadsRootBy (now (store .entry)) (now (index .entry)) version (now (root .entry)) r (now (root .exit)) ⌝ }
+{
+    if !as_many(store, index) {
+        return WRONG_SIZE as u64;
+    }
+    root_by(store, index, version, root)
+}
+
+// A key in a version, by a table lent with the store (2026-05).
+pub fn get_indexed(
+    store: &[u8],
+    index: &[u32],
+    version: u32,
+    key: &[u8],
+    found: &mut [u8; 33],
+) -> u64
+    ensures { λ r. ⌜ ReadsKeyBy (now (store .entry)) (now (index .entry)) version (now (key .entry)) (now (found .entry)) r (now (found .exit)) ⌝ }
+{
+    if key.len() != 32 {
+        return NOT_32_BYTES as u64;
+    }
+    if !as_many(store, index) {
+        return WRONG_SIZE as u64;
+    }
+    get_by(store, index, version, key, found)
 }
 
 // What `grants` exports. No proof file stands behind it, so that an idle one is refused by its contract alone.

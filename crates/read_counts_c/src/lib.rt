@@ -3,13 +3,17 @@ use fields::put_u32;
 use hash::Hash;
 use hash::put_hash;
 use read_number::NumberRead;
+use read_open::as_many;
 use read_position::PositionRead;
+use refusal_numbers::WRONG_SIZE;
 ghost use mathlib.Core.Path.{_≡_};
 ghost use mathlib.Core.List.{_++_};
 ghost use lib.ListN.{length};
 ghost use Rattle.terms.specs.Fields.{le};
 ghost use Rattle.hash.specs.Hash.{hashBytes};
-ghost use Rattle.read_counts_c.specs.Export.{Counts, ReadsAt};
+ghost use Rattle.read_number.specs.Numbers.{numberAnswerBy};
+ghost use Rattle.read_position.specs.Positions.{positionAnswerBy};
+ghost use Rattle.read_counts_c.specs.Export.{NumberTold, GrantTold, Counts, CountsBy, ReadsAt, ReadsAtBy};
 
 // A number in eight bytes.
 fn put_count(count: &mut [u8], n: u64)
@@ -29,11 +33,11 @@ fn put_grant(grant: &mut [u8], key: Hash, value: Hash)
     put_hash(&mut grant[32..64], value);
 }
 
-// The number of grants of a version.
-pub fn grants_count(store: &[u8], version: u32, count: &mut [u8; 8]) -> u64
-    ensures { λ r. ⌜ Counts (now (store .entry)) version (now (count .entry)) r (now (count .exit)) ⌝ }
+// The number of grants of a version, by a table of any length.
+fn count_by(store: &[u8], index: &[u32], version: u32, count: &mut [u8; 8]) -> u64
+    ensures { λ r. ⌜ NumberTold (numberAnswerBy (now (store .entry)) (now (index .entry)) version) (now (count .entry)) r (now (count .exit)) ⌝ }
 {
-    let read = read_number::grants_count(store, version);
+    let read = read_number::grants_count(store, index, version);
     match read {
         NumberRead::Refused(n) => n,
         NumberRead::Number(n) => {
@@ -43,11 +47,11 @@ pub fn grants_count(store: &[u8], version: u32, count: &mut [u8; 8]) -> u64
     }
 }
 
-// The grant at a position of a version, 0 the least key: its key and its value.
-pub fn grants_at(store: &[u8], version: u32, position: u64, grant: &mut [u8; 64]) -> u64
-    ensures { λ r. ⌜ ReadsAt (now (store .entry)) version position (now (grant .entry)) r (now (grant .exit)) ⌝ }
+// The grant at a position of a version, 0 the least key, by a table of any length: its key and its value.
+fn at_by(store: &[u8], index: &[u32], version: u32, position: u64, grant: &mut [u8; 64]) -> u64
+    ensures { λ r. ⌜ GrantTold (positionAnswerBy (now (store .entry)) (now (index .entry)) version position) (now (grant .entry)) r (now (grant .exit)) ⌝ }
 {
-    let read = read_position::grants_at(store, version, position);
+    let read = read_position::grants_at(store, index, version, position);
     match read {
         PositionRead::Refused(n) => n,
         PositionRead::Grant(key, value) => {
@@ -55,4 +59,44 @@ pub fn grants_at(store: &[u8], version: u32, position: u64, grant: &mut [u8; 64]
             0
         }
     }
+}
+
+// The number of grants of a version, by scans.
+pub fn grants_count(store: &[u8], version: u32, count: &mut [u8; 8]) -> u64
+    ensures { λ r. ⌜ Counts (now (store .entry)) version (now (count .entry)) r (now (count .exit)) ⌝ }
+{
+    count_by(store, &[], version, count)
+}
+
+// The grant at a position of a version, by scans.
+pub fn grants_at(store: &[u8], version: u32, position: u64, grant: &mut [u8; 64]) -> u64
+    ensures { λ r. ⌜ ReadsAt (now (store .entry)) version position (now (grant .entry)) r (now (grant .exit)) ⌝ }
+{
+    at_by(store, &[], version, position, grant)
+}
+
+// The number of grants of a version, by a table lent with the store (2026-05).
+pub fn count_indexed(store: &[u8], index: &[u32], version: u32, count: &mut [u8; 8]) -> u64
+    ensures { λ r. ⌜ CountsBy (now (store .entry)) (now (index .entry)) version (now (count .entry)) r (now (count .exit)) ⌝ }
+{
+    if !as_many(store, index) {
+        return WRONG_SIZE as u64;
+    }
+    count_by(store, index, version, count)
+}
+
+// The grant at a position of a version, by a table lent with the store (2026-05).
+pub fn at_indexed(
+    store: &[u8],
+    index: &[u32],
+    version: u32,
+    position: u64,
+    grant: &mut [u8; 64],
+) -> u64
+    ensures { λ r. ⌜ ReadsAtBy (now (store .entry)) (now (index .entry)) version position (now (grant .entry)) r (now (grant .exit)) ⌝ }
+{
+    if !as_many(store, index) {
+        return WRONG_SIZE as u64;
+    }
+    at_by(store, index, version, position, grant)
 }

@@ -9,9 +9,9 @@ use mathlib.Core.List.{List, [], _∷_}
 use lib.ListN.{length}
 use Rattle.terms.specs.declared.Form.the-variants.{Counted as counted}
 use Rattle.terms.specs.Bits.{Bytes, Side, longer, bit}
-use Rattle.meaning.specs.Sight.{scan}
 use Rattle.meaning.specs.Calls.{Answer, refused}
 use Rattle.meaning.specs.Reading.{refusalOf, Seen, lost, gap, leafSeen, fork, seenAt, seen, Pass, walk, Verdict, readEnd}
+use Rattle.indexed.specs.Index.{byTable}
 use Rattle.place.specs.declared.Place as declared-place
 use Rattle.place.specs.Place.{placeOf, Proper, Stands, Grown}
 use Rattle.place.proofs.Places.{proper-count}
@@ -42,46 +42,46 @@ one-turn : (k : Bytes) (i : ℕ) (hashes : Side → Bytes) (kids : Side → Seen
 one-turn k i hashes kids = trail-unread k (suc i) (record { turn = bit i k; hashes = hashes; kids = kids } ∷ []) [] (kids (bit i k))
 
 -- The walk by k has come to the place p, where r was seen.
-pub record Walked (s : Bytes) (v : ℕ) (k : Bytes) (p : declared-place.Place) (r : declared.Seen) : Type 0 where
+pub record Walked (s : Bytes) (table : List ℕ) (v : ℕ) (k : Bytes) (p : declared-place.Place) (r : declared.Seen) : Type 0 where
   pub size : sizeRight counted (length s) ≡ true
   pub whole : length k ≡ 32
   pub proper : Proper p
   pub here : Seen
-  pub sees : Sees s (placeOf p) here r
-  pub rest : walkRead s v k ≡ saidFrom k (p .count) here
+  pub sees : Sees s table (placeOf p) here r
+  pub rest : walkRead s table v k ≡ saidFrom k (p .count) here
 
 -- at the root
-pub set-out : {s : Bytes} {v : ℕ} {k : Bytes} {p : declared-place.Place} {r : declared.Seen} → sizeRight counted (length s) ≡ true →
-    length k ≡ 32 → Stands [] 0 p → Sees s [] (seen (scan (storeOf s)) v) r → Walked s v k p r
+pub set-out : {s : Bytes} {table : List ℕ} {v : ℕ} {k : Bytes} {p : declared-place.Place} {r : declared.Seen} → sizeRight counted (length s) ≡ true →
+    length k ≡ 32 → Stands [] 0 p → Sees s table [] (seen (byTable table (storeOf s)) v) r → Walked s table v k p r
 unfolding walkRead
-set-out {s} {v} {k} {p} {r} size whole top sees = record {
+set-out {s} {table} {v} {k} {p} {r} size whole top sees = record {
   size = size;
   whole = whole;
   proper = top .proper;
-  here = seen (scan (storeOf s)) v;
-  sees = subst (λ q. Sees s q (seen (scan (storeOf s)) v) r) (sym (top .place)) sees;
-  rest = ap (λ n. saidFrom k n (seen (scan (storeOf s)) v)) (sym (top .count));
+  here = seen (byTable table (storeOf s)) v;
+  sees = subst (λ q. Sees s table q (seen (byTable table (storeOf s)) v) r) (sym (top .place)) sees;
+  rest = ap (λ n. saidFrom k n (seen (byTable table (storeOf s)) v)) (sym (top .count));
 }
 
-module _ {s : Bytes} {v : ℕ} {k : Bytes} {p : declared-place.Place} {r : declared.Seen} (w : Walked s v k p r) where
-  sees-as : {q : declared.Seen} → r ≡ q → Sees s (placeOf p) (w .here) q
-  sees-as e = subst (Sees s (placeOf p) (w .here)) e (w .sees)
+module _ {s : Bytes} {table : List ℕ} {v : ℕ} {k : Bytes} {p : declared-place.Place} {r : declared.Seen} (w : Walked s table v k p r) where
+  sees-as : {q : declared.Seen} → r ≡ q → Sees s table (placeOf p) (w .here) q
+  sees-as e = subst (Sees s table (placeOf p) (w .here)) e (w .sees)
 
-  said : {x : Seen} → w .here ≡ x → saidFrom k (p .count) x ≡ walkRead s v k
+  said : {x : Seen} → w .here ≡ x → saidFrom k (p .count) x ≡ walkRead s table v k
   said e = ap (saidFrom k (p .count)) (sym e) ∙ sym (w .rest)
 
-  pub ends-at-gap : r ≡ Gap → readSays read.Absent ≡ walkRead s v k
+  pub ends-at-gap : r ≡ Gap → readSays read.Absent ≡ walkRead s table v k
   unfolding readSays
   ends-at-gap e = said (sees-as e)
 
-  pub ends-lost : {n : ℕ} (t : declared-trouble.Trouble) → r ≡ Lost t → n ≡ refusalOf (troubleSays t) → readSays (read.Refused n) ≡ walkRead s v k
+  pub ends-lost : {n : ℕ} (t : declared-trouble.Trouble) → r ≡ Lost t → n ≡ refusalOf (troubleSays t) → readSays (read.Refused n) ≡ walkRead s table v k
   unfolding readSays
   ends-lost t e f = ap refused f ∙ said (sees-as e)
 
   pub leaf-inside : {i : ℕ} → r ≡ Leaf i → i < roomOf counted (length s)
   leaf-inside e = sees-as e .0
 
-  pub ends-at-leaf : (i : ℕ) → r ≡ Leaf i → leafRead i s k ≡ walkRead s v k
+  pub ends-at-leaf : (i : ℕ) → r ≡ Leaf i → leafRead i s k ≡ walkRead s table v k
   unfolding leafRead leafAt
   ends-at-leaf i e = said (sees-as e .1)
 
@@ -95,24 +95,24 @@ module _ {s : Bytes} {v : ℕ} {k : Bytes} {p : declared-place.Place} {r : decla
 
     -- one turn: to the child on the side of the key's bit
     pub goes-on : {b : Side} {q : declared-place.Place} {t : declared.Seen} → b ≡ bit (p .count) k → Grown b p q →
-        Sees s (placeOf q) (seenBelow s (placeOf q) (kidIn i s b)) t → Walked s v k q t
+        Sees s table (placeOf q) (seenBelow s table (placeOf q) (kidIn i s b)) t → Walked s table v k q t
     unfolding forkAt
     goes-on {b} {q} {t} f g h =
         record {
           size = w .size;
           whole = w .whole;
           proper = g .proper;
-          here = seenBelow s (placeOf q) (kidIn i s b);
+          here = seenBelow s table (placeOf q) (kidIn i s b);
           sees = h;
           rest = turned;
         }
       where
-        turned : walkRead s v k ≡ saidFrom k (q .count) (seenBelow s (placeOf q) (kidIn i s b))
+        turned : walkRead s table v k ≡ saidFrom k (q .count) (seenBelow s table (placeOf q) (kidIn i s b))
         turned =
-            let kids : Side → Seen = λ c. seenAt (255 - length (placeOf p)) (scan (storeOf s)) (longer c (placeOf p)) (kidIn i s c) in
+            let kids : Side → Seen = λ c. seenAt (255 - length (placeOf p)) (byTable table (storeOf s)) (longer c (placeOf p)) (kidIn i s c) in
             w .rest
             ∙ ap (saidFrom k (p .count)) (sees-as e .2)
             ∙ one-turn k (p .count) (λ c. kidIn i s c .hash) kids
             ∙ ap (λ c. saidFrom k (suc (p .count)) (kids c)) (sym f)
-            ∙ ap (saidFrom k (suc (p .count))) (kid-seen s (kidIn i s b) g)
-            ∙ ap (λ n. saidFrom k n (seenBelow s (placeOf q) (kidIn i s b))) (sym (g .count ∙ add-one (p .count)))
+            ∙ ap (saidFrom k (suc (p .count))) (kid-seen s table (kidIn i s b) g)
+            ∙ ap (λ n. saidFrom k n (seenBelow s table (placeOf q) (kidIn i s b))) (sym (g .count ∙ add-one (p .count)))

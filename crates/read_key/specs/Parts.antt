@@ -1,10 +1,10 @@
 -- What each case of a key read's answer says, and what the walk by a key says. No public promise reaches this file. Assumes nothing.
 use Prim.Native.Nat.{ℕ}
-use mathlib.Core.List.{[]}
+use mathlib.Core.List.{List, []}
 use Rattle.terms.specs.Bits.{Bytes}
-use Rattle.meaning.specs.Sight.{scan}
 use Rattle.meaning.specs.Calls.{Answer, refused, accepted}
 use Rattle.meaning.specs.Reading.{Verdict, present, absent, seen, walk, readEnd}
+use Rattle.indexed.specs.Index.{byTable}
 use Rattle.hash.specs.Hash.{hashBytes}
 use Rattle.layout.specs.Stores.{storeOf}
 use Rattle.read_step.specs.Walk.{leafAt}
@@ -21,6 +21,6 @@ readSays read.Absent = accepted absent
 unfoldable pub leafRead : ℕ → Bytes → Bytes → Answer Verdict
 leafRead i s k = readEnd k (walk k 0 [] (leafAt i s))
 
--- What the walk by a key says from the root of a version.
-unfoldable pub walkRead : Bytes → ℕ → Bytes → Answer Verdict
-walkRead s v k = readEnd k (walk k 0 [] (seen (scan (storeOf s)) v))
+-- What the walk by a key says from the root of a version, by a table.
+unfoldable pub walkRead : Bytes → List ℕ → ℕ → Bytes → Answer Verdict
+walkRead s table v k = readEnd k (walk k 0 [] (seen (byTable table (storeOf s)) v))

@@ -41,13 +41,13 @@ fn leaf_read(store: &[u8], i: usize, key: &[u8]) -> KeyRead
     KeyRead::Absent
 }
 
-// Walks by the key's bits from the root of a version to a leaf or a missing child.
-pub fn walk_read(store: &[u8], version: u32, key: &[u8]) -> KeyRead
+// Walks by the key's bits from the root of a version to a leaf or a missing child, and finds by a table.
+pub fn walk_read(store: &[u8], index: &[u32], version: u32, key: &[u8]) -> KeyRead
     requires { ⌜ (sizeRight Form.Counted (length (now store)) ≡ true) × (length (now key) ≡ 32) ⌝ }
-    ensures { λ r. ⌜ readSays r ≡ walkRead (now (store .entry)) version (now (key .entry)) ⌝ }
+    ensures { λ r. ⌜ readSays r ≡ walkRead (now (store .entry)) (now (index .entry)) version (now (key .entry)) ⌝ }
 {
     let mut place = Place::top();
-    let mut seen = read_step::root(store, version);
+    let mut seen = read_step::root(store, index, version);
     loop {
         match seen {
             Seen::Gap => return KeyRead::Absent,
@@ -59,7 +59,7 @@ pub fn walk_read(store: &[u8], version: u32, key: &[u8]) -> KeyRead
             Seen::Inner(i) => {
                 let side = key_bit(key, place.count);
                 place = child_place(place, side);
-                seen = child(store, i, side, place);
+                seen = child(store, index, i, side, place);
             }
         }
     }

@@ -1,25 +1,29 @@
 -- The number of grants by the case of what was tested first, and of what is sighted at the root. Assumes nothing.
 use Prim.Native.Nat.{ℕ}
 use mathlib.Core.Path.{_≡_, ap, sym, _∙_, subst}
-use mathlib.Core.Bool.{true}
+use mathlib.Core.Bool.{true, false}
+use mathlib.Core.List.{List, []}
 use lib.ListN.{length}
 use Rattle.terms.specs.declared.Form.the-variants.{Counted as counted}
 use Rattle.terms.specs.Bits.{Bytes}
 use Rattle.terms.specs.Records.{Record, used}
-use Rattle.meaning.specs.Sight.{Sight, matches, nothing, spoilt, rootSight}
+use Rattle.meaning.specs.Sight.{Sight, matches, nothing, spoilt}
 use Rattle.meaning.specs.Calls.{refused, accepted}
 use Rattle.meaning.specs.Reading.{spoiltRecord, refusalOf}
-use Rattle.meaning.specs.Counting.{weight, numberAt, readNumber}
-use Rattle.layout.specs.Headers.{sizeRight}
+use Rattle.meaning.specs.Counting.{weight, numberAt, readNumberBy, readNumber}
+use Rattle.indexed.specs.Index.{rootBy, byTable}
+use Rattle.indexed.proofs.Scanned.{without-table}
+use Rattle.layout.specs.Headers.{sizeRight, headerOf}
 use Rattle.layout.specs.Stores.{storeOf, slotNo}
 use Rattle.sights.specs.Sights.{Sighted}
 use Rattle.sights.specs.declared.Sight as declared-sight
 use Rattle.sights.specs.declared.Sight.the-variants as sight
+use Rattle.read_open.specs.Headed.{byHeader, asMany}
 use Rattle.read_open.specs.Opening.{opened, openedSays}
 use Rattle.read_open.specs.declared.Opened as declared-opened
 use Rattle.read_open.specs.declared.Opened.the-variants.{Refused, Kept}
 use Rattle.read_open.proofs.Opening as opening
-use Rattle.read_number.specs.Numbers.{numberSays, numberAnswer}
+use Rattle.read_number.specs.Numbers.{numberSays, numberAnswer, numberIndexed, numberAnswerBy}
 use Rattle.read_number.specs.declared.NumberRead as declared
 use Rattle.read_number.specs.declared.NumberRead.the-variants as number
 
@@ -51,10 +55,25 @@ module _ (s : Bytes) (v : ℕ) {o : declared-opened.Opened} (says : openedSays o
   pub size-kept : o ≡ Kept → sizeRight counted (length s) ≡ true
   size-kept e = opening.kept-size s v (first-kept e)
 
-  pub number-refused : {n : ℕ} → o ≡ Refused n → numberSays (number.Refused n) ≡ numberAnswer s v
-  unfolding numberSays numberAnswer readNumber
-  number-refused e = opening.refused-first (numberAt (rootSight (storeOf s) v)) s v (first-refused e)
+  pub number-refused : (table : List ℕ) {n : ℕ} → o ≡ Refused n → numberSays (number.Refused n) ≡ numberAnswerBy s table v
+  unfolding numberSays numberAnswerBy
+  number-refused table e = opening.refused-first (numberAt (rootBy table (storeOf s) v)) s v (first-refused e)
 
-  pub number-is-read : (r : declared.NumberRead) → o ≡ Kept → numberSays r ≡ numberAt (rootSight (storeOf s) v) → numberSays r ≡ numberAnswer s v
-  unfolding numberAnswer readNumber
-  number-is-read r e f = f ∙ sym (opening.rest-decides (numberAt (rootSight (storeOf s) v)) s v (first-kept e))
+  pub number-is-read : (table : List ℕ) (r : declared.NumberRead) → o ≡ Kept → numberSays r ≡ numberAt (rootBy table (storeOf s) v) → numberSays r ≡ numberAnswerBy s table v
+  unfolding numberAnswerBy
+  number-is-read table r e f = f ∙ sym (opening.rest-decides (numberAt (rootBy table (storeOf s) v)) s v (first-kept e))
+
+-- by a table without entries it is that of the scan
+pub number-plain : (s : Bytes) (v : ℕ) → numberAnswerBy s [] v ≡ numberAnswer s v
+unfolding numberAnswerBy numberAnswer readNumber
+number-plain s v = ap (λ look. byHeader (headerOf counted s) (readNumberBy look (storeOf s) v)) (without-table (storeOf s))
+
+-- a table of another length is refused with 1; else its read is one by a table of any length
+module _ (s : Bytes) (table : List ℕ) (v : ℕ) where
+  pub number-as-many : asMany s table ≡ true → numberAnswerBy s table v ≡ numberIndexed s table v
+  unfolding numberAnswerBy numberIndexed
+  number-as-many e = opening.as-many (readNumberBy (byTable table (storeOf s)) (storeOf s) v) s table e
+
+  pub number-not-as-many : asMany s table ≡ false → refused 1 ≡ numberIndexed s table v
+  unfolding numberIndexed
+  number-not-as-many e = opening.not-as-many (readNumberBy (byTable table (storeOf s)) (storeOf s) v) s table e

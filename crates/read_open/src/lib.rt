@@ -1,9 +1,12 @@
 // What a read tests before it looks at a slot, document 01, 'Reading and proving': the header, and whether the version is kept.
 use layout::Header;
 use layout::read_header;
+use layout::sizes::COUNTED_SIZE;
+use layout::sizes::HEADER_SIZE;
 use refusal_numbers::NOT_KEPT;
 use terms::Form;
 ghost use mathlib.Core.Path.{_≡_};
+ghost use Rattle.read_open.specs.Headed.{asMany};
 ghost use Rattle.read_open.specs.Opening.{opened, openedSays};
 
 // What a read tests first.
@@ -33,4 +36,14 @@ pub fn open(store: &[u8], version: u32) -> Opened
             Opened::Kept
         }
     }
+}
+
+// Whether a table has as many entries as a store has slots.
+pub fn as_many(store: &[u8], index: &[u32]) -> bool
+    ensures { λ r. ⌜ r ≡ asMany (now (store .entry)) (now (index .entry)) ⌝ }
+{
+    if store.len() < HEADER_SIZE {
+        return index.len() == 0;
+    }
+    index.len() == (store.len() - HEADER_SIZE) / COUNTED_SIZE
 }

@@ -2,31 +2,34 @@
 use Prim.Native.Nat.{ℕ, _<_, _≤_}
 use mathlib.Core.Path.{_≡_, refl, ap, ap₂, sym, _∙_, subst}
 use mathlib.Core.Bool.{Bool, true, false, cond}
-use mathlib.Core.List.{[], _∷_}
+use mathlib.Core.List.{List, [], _∷_}
 use lib.ListN.{length}
 use lib.Dec.{ltb}
 use borrow.Author.Tests.{lt-ltb, le-ltb}
 use Rattle.terms.specs.declared.Form.the-variants.{Counted as counted}
 use Rattle.terms.specs.Bits.{Bytes, longer}
 use Rattle.terms.specs.Records.{Grant, Record, used}
-use Rattle.meaning.specs.Sight.{Sight, matches, nothing, spoilt, rootSight, scan}
+use Rattle.meaning.specs.Sight.{Sight, matches, nothing, spoilt}
 use Rattle.meaning.specs.Calls.{Answer, refused, accepted}
 use Rattle.meaning.specs.Reading.{spoiltRecord, refusalOf}
-use Rattle.meaning.specs.Counting.{weight, atBody, descend, positionAt, readPosition}
-use Rattle.layout.specs.Headers.{sizeRight}
+use Rattle.meaning.specs.Counting.{weight, atBody, descend, positionAt, readPositionBy, readPosition}
+use Rattle.indexed.specs.Index.{rootBy, byTable}
+use Rattle.indexed.proofs.Scanned.{without-table}
+use Rattle.layout.specs.Headers.{sizeRight, headerOf}
 use Rattle.layout.specs.Slots.{slotOf, countsIn}
 use Rattle.layout.specs.Stores.{storeOf, slotNo, slotIn}
 use Rattle.layout.proofs.Stores.{slot-at}
 use Rattle.sights.specs.Sights.{Sighted}
 use Rattle.sights.specs.declared.Sight as declared-sight
 use Rattle.sights.specs.declared.Sight.the-variants as sight
+use Rattle.read_open.specs.Headed.{byHeader, asMany}
 use Rattle.read_open.specs.Opening.{opened, openedSays}
 use Rattle.read_open.specs.declared.Opened as declared-opened
 use Rattle.read_open.specs.declared.Opened.the-variants.{Refused, Kept}
 use Rattle.read_open.proofs.Opening as opening
 use Rattle.read_step.specs.Walk.{bodyIn}
 use Rattle.read_step.proofs.Seeing.{body-is, inside}
-use Rattle.read_position.specs.Positions.{positionSays, positionAnswer}
+use Rattle.read_position.specs.Positions.{positionSays, positionAnswer, positionIndexed, positionAnswerBy}
 use Rattle.read_position.specs.Parts.{kidsFrom, bodyAt}
 use Rattle.read_position.specs.declared.PositionRead as declared
 use Rattle.read_position.specs.declared.PositionRead.the-variants as position
@@ -39,9 +42,9 @@ choose-no : {b : Bool} (x y : Answer Grant) → b ≡ false → cond b x y ≡ y
 choose-no x y e = ap (λ c. cond c x y) e
 
 -- what was sighted
-module _ (s : Bytes) (x : Sight) (n : ℕ) where
+module _ (s : Bytes) (table : List ℕ) (x : Sight) (n : ℕ) where
   abbrev Says : Answer Grant → Type 0
-  Says a = a ≡ positionAt (scan (storeOf s)) x n
+  Says a = a ≡ positionAt (byTable table (storeOf s)) x n
 
   module _ {r : declared-sight.Sight} {i w : ℕ} (h : Sighted (storeOf s .slots) x r) (e : r ≡ sight.Matches i)
       (weighs : (q : Record) → slotNo counted i s ≡ used q → w ≡ weight q) where
@@ -59,22 +62,22 @@ module _ (s : Bytes) (x : Sight) (n : ℕ) where
 
     pub past-number : w ≤ n → Says (positionSays (position.Refused 20))
     unfolding positionSays
-    past-number l = sym (ap (λ y. positionAt (scan (storeOf s)) y n) (it .1 .2) ∙ choose-no _ (refused 20) (le-ltb n (weight q) (subst (λ m. m ≤ n) its l)))
+    past-number l = sym (ap (λ y. positionAt (byTable table (storeOf s)) y n) (it .1 .2) ∙ choose-no _ (refused 20) (le-ltb n (weight q) (subst (λ m. m ≤ n) its l)))
 
-    pub from-root : n < w → (a : declared.PositionRead) → positionSays a ≡ bodyAt s [] i n → Says (positionSays a)
+    pub from-root : n < w → (a : declared.PositionRead) → positionSays a ≡ bodyAt s table [] i n → Says (positionSays a)
     unfolding bodyAt longer
     from-root l a f =
         f
-        ∙ ap₂ (λ b t. atBody [] b t n (kidsFrom s [])) (sym (body-is (slotIn counted i s) q is)) (sym (counts-are (slotIn counted i s) q is))
-        ∙ sym (ap (λ y. positionAt (scan (storeOf s)) y n) (it .1 .2) ∙ choose-yes _ (refused 20) (lt-ltb n (weight q) (subst (λ m. n < m) its l)))
+        ∙ ap₂ (λ b t. atBody [] b t n (kidsFrom s table [])) (sym (body-is (slotIn counted i s) q is)) (sym (counts-are (slotIn counted i s) q is))
+        ∙ sym (ap (λ y. positionAt (byTable table (storeOf s)) y n) (it .1 .2) ∙ choose-yes _ (refused 20) (lt-ltb n (weight q) (subst (λ m. n < m) its l)))
 
   pub at-nothing : x ≡ nothing → Says (positionSays (position.Refused 20))
   unfolding positionSays
-  at-nothing e = sym (ap (λ y. positionAt (scan (storeOf s)) y n) e)
+  at-nothing e = sym (ap (λ y. positionAt (byTable table (storeOf s)) y n) e)
 
   pub at-spoilt : {m : ℕ} (i : ℕ) → x ≡ spoilt i → m ≡ refusalOf (spoiltRecord i) → Says (positionSays (position.Refused m))
   unfolding positionSays
-  at-spoilt i e f = ap refused f ∙ sym (ap (λ y. positionAt (scan (storeOf s)) y n) e)
+  at-spoilt i e f = ap refused f ∙ sym (ap (λ y. positionAt (byTable table (storeOf s)) y n) e)
 
 -- what was tested first
 module _ (s : Bytes) (v n : ℕ) {o : declared-opened.Opened} (says : openedSays o ≡ opened s v) where
@@ -87,11 +90,26 @@ module _ (s : Bytes) (v n : ℕ) {o : declared-opened.Opened} (says : openedSays
   pub size-kept : o ≡ Kept → sizeRight counted (length s) ≡ true
   size-kept e = opening.kept-size s v (first-kept e)
 
-  pub position-refused : {m : ℕ} → o ≡ Refused m → positionSays (position.Refused m) ≡ positionAnswer s v n
-  unfolding positionSays positionAnswer readPosition
-  position-refused e = opening.refused-first (positionAt (scan (storeOf s)) (rootSight (storeOf s) v) n) s v (first-refused e)
+  pub position-refused : (table : List ℕ) {m : ℕ} → o ≡ Refused m → positionSays (position.Refused m) ≡ positionAnswerBy s table v n
+  unfolding positionSays positionAnswerBy
+  position-refused table e = opening.refused-first (positionAt (byTable table (storeOf s)) (rootBy table (storeOf s) v) n) s v (first-refused e)
 
-  pub position-is-read : (r : declared.PositionRead) → o ≡ Kept → positionSays r ≡ positionAt (scan (storeOf s)) (rootSight (storeOf s) v) n →
-      positionSays r ≡ positionAnswer s v n
-  unfolding positionAnswer readPosition
-  position-is-read r e f = f ∙ sym (opening.rest-decides (positionAt (scan (storeOf s)) (rootSight (storeOf s) v) n) s v (first-kept e))
+  pub position-is-read : (table : List ℕ) (r : declared.PositionRead) → o ≡ Kept → positionSays r ≡ positionAt (byTable table (storeOf s)) (rootBy table (storeOf s) v) n →
+      positionSays r ≡ positionAnswerBy s table v n
+  unfolding positionAnswerBy
+  position-is-read table r e f = f ∙ sym (opening.rest-decides (positionAt (byTable table (storeOf s)) (rootBy table (storeOf s) v) n) s v (first-kept e))
+
+-- by a table without entries it is that of the scan
+pub position-plain : (s : Bytes) (v n : ℕ) → positionAnswerBy s [] v n ≡ positionAnswer s v n
+unfolding positionAnswerBy positionAnswer readPosition
+position-plain s v n = ap (λ look. byHeader (headerOf counted s) (readPositionBy look (storeOf s) v n)) (without-table (storeOf s))
+
+-- a table of another length is refused with 1; else its read is one by a table of any length
+module _ (s : Bytes) (table : List ℕ) (v n : ℕ) where
+  pub position-as-many : asMany s table ≡ true → positionAnswerBy s table v n ≡ positionIndexed s table v n
+  unfolding positionAnswerBy positionIndexed
+  position-as-many e = opening.as-many (readPositionBy (byTable table (storeOf s)) (storeOf s) v n) s table e
+
+  pub position-not-as-many : asMany s table ≡ false → refused 1 ≡ positionIndexed s table v n
+  unfolding positionIndexed
+  position-not-as-many e = opening.not-as-many (readPositionBy (byTable table (storeOf s)) (storeOf s) v n) s table e

@@ -3,6 +3,8 @@
 use check_counts::weight_at;
 use hash::Hash;
 use hash::hash_at;
+use index_sights::look_by;
+use index_sights::look_root_by;
 use place::Place;
 use place::begins;
 use place::child_place;
@@ -14,8 +16,6 @@ use read_step::refusal;
 use refusal_numbers::wide::NOT_SOUND;
 use refusal_numbers::wide::PAST_NUMBER;
 use sights::Sight;
-use sights::look;
-use sights::look_root;
 use slots::is_leaf;
 use slots::key_of;
 use slots::value_of;
@@ -29,15 +29,15 @@ ghost use Prim.Native.Nat.{_<_};
 ghost use lib.ListN.{length};
 ghost use Rattle.terms.specs.Bits.{left};
 ghost use Rattle.terms.specs.Records.{countOn};
-ghost use Rattle.meaning.specs.Sight.{scan, rootSight};
 ghost use Rattle.meaning.specs.Counting.{positionAt};
+ghost use Rattle.indexed.specs.Index.{byTable, rootBy};
 ghost use Rattle.place.specs.Place.{placeOf};
 ghost use Rattle.layout.specs.Sizes.{roomOf};
 ghost use Rattle.layout.specs.Headers.{sizeRight};
 ghost use Rattle.layout.specs.Slots.{isLeaf, countsIn};
 ghost use Rattle.layout.specs.Stores.{slotIn, storeOf, Has};
 ghost use Rattle.read_step.specs.Walk.{kidIn, Slotted, SlotHolds};
-ghost use Rattle.read_position.specs.Positions.{positionSays, positionAnswer};
+ghost use Rattle.read_position.specs.Positions.{positionSays, positionAnswerBy};
 ghost use Rattle.read_position.specs.Parts.{leafAnswer, bodyAt, Turned, Steps};
 
 // What the read of a position answers.
@@ -104,15 +104,15 @@ fn turn_at(store: &[u8], i: usize, n: u64) -> Turn
 }
 
 // The child on a side of the inner record in slot i, at its place.
-fn kid(store: &[u8], i: usize, right: bool, place: Place) -> Step
+fn kid(store: &[u8], index: &[u32], i: usize, right: bool, place: Place) -> Step
     requires { ⌜ Slotted (now store) i place ⌝ }
-    ensures { λ r. ⌜ Steps (now (store .entry)) place (kidIn i (now (store .entry)) right) r ⌝ }
+    ensures { λ r. ⌜ Steps (now (store .entry)) (now (index .entry)) place (kidIn i (now (store .entry)) right) r ⌝ }
 {
     let version = child_version(store, i, right);
     if version == 0 {
         return Step::Refused(NOT_SOUND);
     }
-    let sight = look(store, version, place);
+    let sight = look_by(store, index, version, place);
     match sight {
         Sight::Matches(j) => Step::At(j),
         Sight::Nothing => {
@@ -128,9 +128,9 @@ fn kid(store: &[u8], i: usize, right: bool, place: Place) -> Step
 }
 
 // Goes down from the root record in a slot.
-fn descend(store: &[u8], first: usize, position: u64) -> PositionRead
+fn descend(store: &[u8], index: &[u32], first: usize, position: u64) -> PositionRead
     requires { ⌜ Has Form.Counted (now store) first ⌝ }
-    ensures { λ r. ⌜ positionSays r ≡ bodyAt (now (store .entry)) [] first position ⌝ }
+    ensures { λ r. ⌜ positionSays r ≡ bodyAt (now (store .entry)) (now (index .entry)) [] first position ⌝ }
 {
     let mut place = Place::top();
     let mut at = first;
@@ -141,7 +141,7 @@ fn descend(store: &[u8], first: usize, position: u64) -> PositionRead
         }
         let turn = turn_at(store, at, n);
         place = child_place(place, turn.right);
-        let next = kid(store, at, turn.right, place);
+        let next = kid(store, index, at, turn.right, place);
         match next {
             Step::Refused(m) => return PositionRead::Refused(m),
             Step::At(j) => {
@@ -153,18 +153,18 @@ fn descend(store: &[u8], first: usize, position: u64) -> PositionRead
 }
 
 // The root record first: 3 where it is spoilt, 20 for a position that isn't below its number.
-fn root_position(store: &[u8], version: u32, position: u64) -> PositionRead
+fn root_position(store: &[u8], index: &[u32], version: u32, position: u64) -> PositionRead
     requires { ⌜ sizeRight Form.Counted (length (now store)) ≡ true ⌝ }
-    ensures { λ r. ⌜ positionSays r ≡ positionAt (scan (storeOf (now (store .entry)))) (rootSight (storeOf (now (store .entry))) version) position ⌝ }
+    ensures { λ r. ⌜ positionSays r ≡ positionAt (byTable (now (index .entry)) (storeOf (now (store .entry)))) (rootBy (now (index .entry)) (storeOf (now (store .entry))) version) position ⌝ }
 {
-    let sight = look_root(store, version);
+    let sight = look_root_by(store, index, version);
     match sight {
         Sight::Matches(i) => {
             let number = weight_at(Form::Counted, store, i);
             if number <= position {
                 return PositionRead::Refused(PAST_NUMBER);
             }
-            descend(store, i, position)
+            descend(store, index, i, position)
         }
         Sight::Nothing => PositionRead::Refused(PAST_NUMBER),
         Sight::Spoilt(i) => {
@@ -175,13 +175,13 @@ fn root_position(store: &[u8], version: u32, position: u64) -> PositionRead
     }
 }
 
-// Reads the grant at a position of a version, 0 the least key.
-pub fn grants_at(store: &[u8], version: u32, position: u64) -> PositionRead
-    ensures { λ r. ⌜ positionSays r ≡ positionAnswer (now (store .entry)) version position ⌝ }
+// Reads the grant at a position of a version, 0 the least key, by a table of any length; one without entries is the scan.
+pub fn grants_at(store: &[u8], index: &[u32], version: u32, position: u64) -> PositionRead
+    ensures { λ r. ⌜ positionSays r ≡ positionAnswerBy (now (store .entry)) (now (index .entry)) version position ⌝ }
 {
     let opened = open(store, version);
     if let Opened::Refused(n) = opened {
         return PositionRead::Refused(n as u64);
     }
-    root_position(store, version, position)
+    root_position(store, index, version, position)
 }

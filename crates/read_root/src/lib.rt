@@ -1,18 +1,18 @@
 // The root record of a version looked for, for the root read of document 01, 'Reading and proving'. Writes nothing.
 use hash::Hash;
 use hash::no_hash;
+use index_sights::look_root_by;
 use read_hash::record_hash;
 use read_step::Trouble;
 use read_step::refusal;
 use sights::Sight;
-use sights::look_root;
 use store::slot_of;
 use terms::Form;
 ghost use mathlib.Core.Path.{_≡_};
 ghost use mathlib.Core.Bool.{true};
 ghost use lib.ListN.{length};
 ghost use Rattle.meaning.specs.Reading.{rootRead};
-ghost use Rattle.meaning.specs.Sight.{rootSight};
+ghost use Rattle.indexed.specs.Index.{rootBy};
 ghost use Rattle.nodehash.specs.Node.{leafHash, innerHash};
 ghost use Rattle.layout.specs.Headers.{sizeRight};
 ghost use Rattle.layout.specs.Stores.{storeOf};
@@ -25,12 +25,12 @@ pub enum RootRead {
     Hash(Hash),
 }
 
-// The hash of a version's root record, or zeros; refused where it is spoilt.
-pub fn root_hash(store: &[u8], version: u32) -> RootRead
+// The hash of a version's root record, found by a table, or zeros; refused where it is spoilt.
+pub fn root_hash(store: &[u8], index: &[u32], version: u32) -> RootRead
     requires { ⌜ sizeRight Form.Counted (length (now store)) ≡ true ⌝ }
-    ensures { λ r. ⌜ rootSays r ≡ rootRead leafHash innerHash (rootSight (storeOf (now (store .entry))) version) ⌝ }
+    ensures { λ r. ⌜ rootSays r ≡ rootRead leafHash innerHash (rootBy (now (index .entry)) (storeOf (now (store .entry))) version) ⌝ }
 {
-    let sight = look_root(store, version);
+    let sight = look_root_by(store, index, version);
     match sight {
         Sight::Matches(i) => {
             let hash = record_hash(slot_of(Form::Counted, store, i));

@@ -4,7 +4,7 @@ use Prim.Native.Nat.{ℕ, suc, _-_, _<_, _≤_}
 use native.Mathlib.Omega.{arith}
 use mathlib.Core.Path.{_≡_, refl, ap, sym, _∙_, subst}
 use mathlib.Core.Bool.{Bool, true, false, cond}
-use mathlib.Core.List.{[]}
+use mathlib.Core.List.{List, []}
 use lib.ListN.{length}
 use Rattle.terms.specs.declared.Form.the-variants.{Counted as counted}
 use Rattle.terms.specs.Bits.{Bytes, Byte, All, Side, Place, longer, begins}
@@ -12,12 +12,11 @@ use Rattle.terms.specs.Records.{Child, leafBody, innerBody, Record, used}
 use Rattle.terms.specs.Form.{RecordForm, placeLimit}
 use Rattle.terms.proofs.Places.{length-longer}
 use Rattle.meaning.specs.Store.{childOn}
-use Rattle.meaning.specs.Sight.{Sight, matches, nothing, spoilt, rootSight, nodeSight, scan}
+use Rattle.meaning.specs.Sight.{Sight, matches, nothing, spoilt}
 use Rattle.meaning.specs.Calls.{accepted}
 use Rattle.meaning.specs.Reading.{lostRecord, spoiltRecord, strayLeaf, lost, gap, leafSeen, fork, seenAt, seen, bodyHash, rootRead}
-use Rattle.meaning.proofs.Finding.{found-in}
-use Rattle.meaning.proofs.Roots.{root-at}
-use Rattle.meaning.proofs.Sights.{sighted-root, sighted-node}
+use Rattle.indexed.specs.Index.{rootBy, nodeBy, byTable}
+use Rattle.indexed.proofs.Scanned.{root-found-at, node-found-at}
 use Rattle.shown.proofs.SeenAt as shown
 use Rattle.shown.proofs.SeenAt.{root-gap, root-leaf, root-fork, child-gap, child-lost, child-leaf, child-fork}
 use Rattle.place.specs.declared.Place as declared-place
@@ -34,7 +33,7 @@ use Rattle.store.proofs.Slots.{slots-many, slot-formed}
 use Rattle.sights.specs.Sights.{Sighted}
 use Rattle.sights.specs.declared.Sight as declared-sight
 use Rattle.sights.specs.declared.Sight.the-variants as sight
-use Rattle.read_step.specs.Walk.{bodyIn, kidIn, seenBelow, bodySeen, leafAt, forkAt, Sees, SlotHolds}
+use Rattle.read_step.specs.Walk.{bodyIn, kidIn, seenBelow, bodySeen, leafAt, forkAt, Sees, SeesIn, SlotHolds}
 use Rattle.read_step.specs.declared.Trouble.the-variants as trouble
 use Rattle.read_step.specs.declared.Seen as declared
 use Rattle.read_step.specs.declared.Seen.the-variants.{Lost, Leaf, Inner}
@@ -66,11 +65,11 @@ abbrev pub PlacedAt : Sight → declared-place.Place → Type 0
 PlacedAt o p = (q : Record) → o ≡ matches q → q .place ≡ placeOf p
 
 -- so it is with the node of a version and place, and with a root at the empty place
-pub node-placed : (s : Bytes) (v : ℕ) (p : declared-place.Place) → PlacedAt (nodeSight (storeOf s) v (placeOf p)) p
-node-placed s v p q e = found-in (storeOf s .slots) v (placeOf p) q (sighted-node (storeOf s) v (placeOf p) q e) .3
+pub node-placed : (s : Bytes) (table : List ℕ) (v : ℕ) (p : declared-place.Place) → PlacedAt (nodeBy table (storeOf s) v (placeOf p)) p
+node-placed s table v p q e = node-found-at (storeOf s) table v (placeOf p) q e
 
-pub root-placed : (s : Bytes) (v : ℕ) (p : declared-place.Place) → placeOf p ≡ [] → PlacedAt (rootSight (storeOf s) v) p
-root-placed s v p top q e = root-at (storeOf s) v q (sighted-root (storeOf s) v q e) .2 ∙ sym top
+pub root-placed : (s : Bytes) (table : List ℕ) (v : ℕ) (p : declared-place.Place) → placeOf p ≡ [] → PlacedAt (rootBy table (storeOf s) v) p
+root-placed s table v p top q e = root-found-at (storeOf s) table v q e ∙ sym top
 
 -- what was found of the record sought
 module _ (s : Bytes) (o : Sight) {r : declared-sight.Sight} (sighted : Sighted (storeOf s .slots) o r) where
@@ -79,12 +78,13 @@ module _ (s : Bytes) (o : Sight) {r : declared-sight.Sight} (sighted : Sighted (
     pub none-sighted : o ≡ nothing
     none-sighted = subst (Sighted (storeOf s .slots) o) no sighted
 
-    pub root-nothing : (v : ℕ) → rootSight (storeOf s) v ≡ o → seen (scan (storeOf s)) v ≡ gap
-    root-nothing v e = root-gap (scan (storeOf s)) v (e ∙ none-sighted)
+    pub root-nothing : (table : List ℕ) (v : ℕ) → rootBy table (storeOf s) v ≡ o → seen (byTable table (storeOf s)) v ≡ gap
+    root-nothing table v e = root-gap (byTable table (storeOf s)) v (e ∙ none-sighted)
 
-    pub child-nothing : (p : Place) (c : Child) → nodeSight (storeOf s) (c .version) p ≡ o → 1 ≤ c .version → seenBelow s p c ≡ lost lostRecord
+    pub child-nothing : (table : List ℕ) (p : Place) (c : Child) → nodeBy table (storeOf s) (c .version) p ≡ o → 1 ≤ c .version →
+        seenBelow s table p c ≡ lost lostRecord
     unfolding seenBelow
-    child-nothing p c e h = child-lost (scan (storeOf s)) p c (256 - length p) h (e ∙ none-sighted)
+    child-nothing table p c e h = child-lost (byTable table (storeOf s)) p c (256 - length p) h (e ∙ none-sighted)
 
   -- a spoilt slot
   module _ {i : ℕ} (at-i : r ≡ sight.Spoilt i) where
@@ -97,12 +97,13 @@ module _ (s : Bytes) (o : Sight) {r : declared-sight.Sight} (sighted : Sighted (
     pub spoilt-small : sizeRight counted (length s) ≡ true → i < 65536
     spoilt-small size = let h = rw (slots-many counted s) at (is-spoilt .0) in omega (arith, size-says counted (length s) size)
 
-    pub root-spoilt : (v : ℕ) → rootSight (storeOf s) v ≡ o → seen (scan (storeOf s)) v ≡ lost (spoiltRecord i)
-    root-spoilt v e = shown.root-spoilt (scan (storeOf s)) v i (e ∙ spoilt-sighted)
+    pub root-spoilt : (table : List ℕ) (v : ℕ) → rootBy table (storeOf s) v ≡ o → seen (byTable table (storeOf s)) v ≡ lost (spoiltRecord i)
+    root-spoilt table v e = shown.root-spoilt (byTable table (storeOf s)) v i (e ∙ spoilt-sighted)
 
-    pub child-spoilt : (p : Place) (c : Child) → nodeSight (storeOf s) (c .version) p ≡ o → 1 ≤ c .version → seenBelow s p c ≡ lost (spoiltRecord i)
+    pub child-spoilt : (table : List ℕ) (p : Place) (c : Child) → nodeBy table (storeOf s) (c .version) p ≡ o → 1 ≤ c .version →
+        seenBelow s table p c ≡ lost (spoiltRecord i)
     unfolding seenBelow
-    child-spoilt p c e h = shown.child-spoilt (scan (storeOf s)) p c (256 - length p) i h (e ∙ spoilt-sighted)
+    child-spoilt table p c e h = shown.child-spoilt (byTable table (storeOf s)) p c (256 - length p) i h (e ∙ spoilt-sighted)
 
   -- a record, in slot i
   module _ {i : ℕ} (at-i : r ≡ sight.Matches i) where
@@ -156,84 +157,84 @@ module _ (s : Bytes) (size : sizeRight counted (length s) ≡ true) (bytes : All
   }
 
   -- the root
-  module _ (v : ℕ) (root : rootSight (storeOf s) v ≡ o) (top : placeOf p ≡ []) where
-    root-is : rootSight (storeOf s) v ≡ matches it
+  module _ (table : List ℕ) (v : ℕ) (root : rootBy table (storeOf s) v ≡ o) (top : placeOf p ≡ []) where
+    root-is : rootBy table (storeOf s) v ≡ matches it
     root-is = root ∙ is-found
 
-    root-leaf-is : isLeaf (slotIn counted i s) ≡ true → seen (scan (storeOf s)) v ≡ bodySeen s (placeOf p) (bodyIn (slotIn counted i s))
+    root-leaf-is : isLeaf (slotIn counted i s) ≡ true → seen (byTable table (storeOf s)) v ≡ bodySeen s table (placeOf p) (bodyIn (slotIn counted i s))
     unfolding begins
     root-leaf-is e =
         let k = keyIn (slotIn counted i s) in
         let y = valueIn (slotIn counted i s) in
         let b = leaf-body (slotIn counted i s) e in
-        root-leaf (scan (storeOf s)) v it k y root-is (holds ∙ b)
+        root-leaf (byTable table (storeOf s)) v it k y root-is (holds ∙ b)
         ∙ ap (λ q. cond (begins q k) (leafSeen k y) (lost strayLeaf)) (sym top)
-        ∙ ap (bodySeen s (placeOf p)) (sym b)
+        ∙ ap (bodySeen s table (placeOf p)) (sym b)
 
-    root-fork-is : isLeaf (slotIn counted i s) ≡ false → seen (scan (storeOf s)) v ≡ bodySeen s (placeOf p) (bodyIn (slotIn counted i s))
+    root-fork-is : isLeaf (slotIn counted i s) ≡ false → seen (byTable table (storeOf s)) v ≡ bodySeen s table (placeOf p) (bodyIn (slotIn counted i s))
     root-fork-is e =
         let n = 255 - length (placeOf p) in
         let l = leftIn (slotIn counted i s) in
         let m = rightIn (slotIn counted i s) in
         let b = inner-body (slotIn counted i s) e in
         let w : 255 - length (placeOf p) ≡ 255 = omega (arith, ap length top) in
-        root-fork (scan (storeOf s)) v n it l m w root-is (holds ∙ b)
-        ∙ ap (λ q. fork (λ c. childOn c l m .hash) (λ c. seenAt n (scan (storeOf s)) (longer c q) (childOn c l m))) (sym top)
-        ∙ ap (bodySeen s (placeOf p)) (sym b)
+        root-fork (byTable table (storeOf s)) v n it l m w root-is (holds ∙ b)
+        ∙ ap (λ q. fork (λ c. childOn c l m .hash) (λ c. seenAt n (byTable table (storeOf s)) (longer c q) (childOn c l m))) (sym top)
+        ∙ ap (bodySeen s table (placeOf p)) (sym b)
 
-    pub root-sees : (t : declared.Seen) → Sees s (placeOf p) (bodySeen s (placeOf p) (bodyIn (slotIn counted i s))) t → Sees s [] (seen (scan (storeOf s)) v) t
+    pub root-sees : (t : declared.Seen) → Sees s table (placeOf p) (bodySeen s table (placeOf p) (bodyIn (slotIn counted i s))) t → Sees s table [] (seen (byTable table (storeOf s)) v) t
     root-sees t h =
         let e = by-kind (isLeaf (slotIn counted i s)) root-leaf-is root-fork-is in
-        subst (λ q. Sees s q (seen (scan (storeOf s)) v) t) top (subst (λ y. Sees s (placeOf p) y t) (sym e) h)
+        subst (λ q. Sees s table q (seen (byTable table (storeOf s)) v) t) top (subst (λ y. Sees s table (placeOf p) y t) (sym e) h)
 
   -- a child
-  module _ (c : Child) (child : nodeSight (storeOf s) (c .version) (placeOf p) ≡ o) (present : 1 ≤ c .version) where
-    child-is : nodeSight (storeOf s) (c .version) (placeOf p) ≡ matches it
+  module _ (table : List ℕ) (c : Child) (child : nodeBy table (storeOf s) (c .version) (placeOf p) ≡ o) (present : 1 ≤ c .version) where
+    child-is : nodeBy table (storeOf s) (c .version) (placeOf p) ≡ matches it
     child-is = child ∙ is-found
 
-    child-leaf-is : isLeaf (slotIn counted i s) ≡ true → seenBelow s (placeOf p) c ≡ bodySeen s (placeOf p) (bodyIn (slotIn counted i s))
+    child-leaf-is : isLeaf (slotIn counted i s) ≡ true → seenBelow s table (placeOf p) c ≡ bodySeen s table (placeOf p) (bodyIn (slotIn counted i s))
     unfolding seenBelow
     child-leaf-is e =
         let b = leaf-body (slotIn counted i s) e in
-        rw b (child-leaf (scan (storeOf s)) (placeOf p) c (256 - length (placeOf p)) it _ _ present child-is (holds ∙ b))
+        rw b (child-leaf (byTable table (storeOf s)) (placeOf p) c (256 - length (placeOf p)) it _ _ present child-is (holds ∙ b))
 
-    child-fork-is : isLeaf (slotIn counted i s) ≡ false → seenBelow s (placeOf p) c ≡ bodySeen s (placeOf p) (bodyIn (slotIn counted i s))
+    child-fork-is : isLeaf (slotIn counted i s) ≡ false → seenBelow s table (placeOf p) c ≡ bodySeen s table (placeOf p) (bodyIn (slotIn counted i s))
     unfolding seenBelow
     child-fork-is e =
         let b = inner-body (slotIn counted i s) e in
         let n : 256 - length (placeOf p) ≡ suc (255 - length (placeOf p)) = omega (arith, short e) in
-        rw (b, n) (child-fork (scan (storeOf s)) (placeOf p) c (255 - length (placeOf p)) it _ _ present child-is (holds ∙ b))
+        rw (b, n) (child-fork (byTable table (storeOf s)) (placeOf p) c (255 - length (placeOf p)) it _ _ present child-is (holds ∙ b))
 
-    pub child-sees : (t : declared.Seen) → Sees s (placeOf p) (bodySeen s (placeOf p) (bodyIn (slotIn counted i s))) t →
-        Sees s (placeOf p) (seenBelow s (placeOf p) c) t
-    child-sees t h = subst (λ y. Sees s (placeOf p) y t) (sym (by-kind (isLeaf (slotIn counted i s)) child-leaf-is child-fork-is)) h
+    pub child-sees : (t : declared.Seen) → Sees s table (placeOf p) (bodySeen s table (placeOf p) (bodyIn (slotIn counted i s))) t →
+        Sees s table (placeOf p) (seenBelow s table (placeOf p) c) t
+    child-sees t h = subst (λ y. Sees s table (placeOf p) y t) (sym (by-kind (isLeaf (slotIn counted i s)) child-leaf-is child-fork-is)) h
 
 -- what an inner node has on a side is what is seen at the child's place
-pub kid-seen : {b : Side} {p q : declared-place.Place} (s : Bytes) (c : Child) → Grown b p q →
-    seenAt (255 - length (placeOf p)) (scan (storeOf s)) (longer b (placeOf p)) c ≡ seenBelow s (placeOf q) c
+pub kid-seen : {b : Side} {p q : declared-place.Place} (s : Bytes) (table : List ℕ) (c : Child) → Grown b p q →
+    seenAt (255 - length (placeOf p)) (byTable table (storeOf s)) (longer b (placeOf p)) c ≡ seenBelow s table (placeOf q) c
 unfolding seenBelow
-kid-seen {b} {p} {q} s c g =
+kid-seen {b} {p} {q} s table c g =
     let n : 255 - length (placeOf p) ≡ 256 - length (placeOf q) = omega (arith, ap length (g .place) ∙ length-longer b (placeOf p)) in
-    ap (λ l. seenAt (255 - length (placeOf p)) (scan (storeOf s)) l c) (sym (g .place)) ∙ ap (λ m. seenAt m (scan (storeOf s)) (placeOf q) c) n
+    ap (λ l. seenAt (255 - length (placeOf p)) (byTable table (storeOf s)) l c) (sym (g .place)) ∙ ap (λ m. seenAt m (byTable table (storeOf s)) (placeOf q) c) n
 
 -- version 0 is no child
-pub child-none : (s : Bytes) (p : Place) (c : Child) → c .version ≡ 0 → seenBelow s p c ≡ gap
+pub child-none : (s : Bytes) (table : List ℕ) (p : Place) (c : Child) → c .version ≡ 0 → seenBelow s table p c ≡ gap
 unfolding seenBelow
-child-none s p c e = child-gap (scan (storeOf s)) p c (256 - length p) e
+child-none s table p c e = child-gap (byTable table (storeOf s)) p c (256 - length p) e
 
 -- an inner node, a leaf whose key does not begin with its place, and one whose key does
 module _ {s : Bytes} {i : ℕ} {p : declared-place.Place} (h : SlotHolds s i p) where
   -- What is seen there.
   abbrev Here : declared.Seen → Type 0
-  Here t = Sees s (placeOf p) (bodySeen s (placeOf p) (bodyIn (slotIn counted i s))) t
+  Here t = SeesIn s i (placeOf p) t
 
   pub inner-seen : {x : Bytes} {b : Bool} → x ≡ slotIn counted i s → b ≡ isLeaf x → b ≡ false → Here (Inner i)
   unfolding forkAt kidIn
-  inner-seen q d e =
+  inner-seen q d e table =
       let f = ap isLeaf (sym q) ∙ sym d ∙ e in (
         h .slotted .inside,
         omega (arith, h .short f, proper-count p (h .slotted .proper)),
-        ap (bodySeen s (placeOf p)) (inner-body (slotIn counted i s) f),
+        ap (bodySeen s table (placeOf p)) (inner-body (slotIn counted i s) f),
       )
 
   module _ {x k : Bytes} {b : Bool} (q : x ≡ slotIn counted i s) (d : b ≡ isLeaf x) (e : b ≡ true) (key : k ≡ keyIn x) where
@@ -244,8 +245,8 @@ module _ {s : Bytes} {i : ℕ} {p : declared-place.Place} (h : SlotHolds s i p) 
     its-key f = ap (λ y. begins (placeOf p) (keyIn y)) (sym q) ∙ ap (begins (placeOf p)) (sym key) ∙ sym f
 
     pub leaf-lost : {a : Bool} → a ≡ begins (placeOf p) k → a ≡ false → Here (Lost trouble.Stray)
-    leaf-lost f g = rw (its-body, its-key f, g)
+    leaf-lost f g table = rw (its-body, its-key f, g)
 
     pub leaf-seen : {a : Bool} → a ≡ begins (placeOf p) k → a ≡ true → Here (Leaf i)
     unfolding leafAt
-    leaf-seen f g = (h .slotted .inside, rw (its-body, its-key f, g))
+    leaf-seen f g table = (h .slotted .inside, rw (its-body, its-key f, g))

@@ -1,12 +1,12 @@
 // The steps of a walk down a store in lent memory, document 01, 'Reading and proving': what is seen at the root of a version, what at a child.
 // Only the records on the way are looked at.
+use index_sights::look_by;
+use index_sights::look_root_by;
 use place::Place;
 use place::begins;
 use refusal_numbers::wide::LOST;
 use refusal_numbers::wide::NOT_SOUND;
 use sights::Sight;
-use sights::look;
-use sights::look_root;
 use slots::is_leaf;
 use slots::key_of;
 use store::child_version_at;
@@ -17,13 +17,13 @@ ghost use mathlib.Core.Bool.{true};
 ghost use mathlib.Core.List.{[]};
 ghost use Prim.Native.Nat.{_<_};
 ghost use lib.ListN.{length};
-ghost use Rattle.meaning.specs.Sight.{scan};
 ghost use Rattle.meaning.specs.Reading.{refusalOf, seen};
+ghost use Rattle.indexed.specs.Index.{byTable};
 ghost use Rattle.place.specs.Place.{placeOf};
 ghost use Rattle.layout.specs.Sizes.{roomOf};
 ghost use Rattle.layout.specs.Headers.{sizeRight};
-ghost use Rattle.layout.specs.Stores.{slotIn, storeOf};
-ghost use Rattle.read_step.specs.Walk.{troubleSays, bodyIn, kidIn, seenBelow, bodySeen, Sees, Slotted, SlotHolds};
+ghost use Rattle.layout.specs.Stores.{storeOf};
+ghost use Rattle.read_step.specs.Walk.{troubleSays, kidIn, seenBelow, Sees, SeesIn, Slotted, SlotHolds};
 
 const HIGH: u64 = 4294967296;
 
@@ -57,10 +57,10 @@ pub enum Seen {
     Inner(usize),
 }
 
-// What is seen at a place whose record was found in slot i.
+// What is seen at a place whose record was found in slot i, whatever table finds what stands below it.
 fn seen_in(store: &[u8], i: usize, place: Place) -> Seen
     requires { ⌜ SlotHolds (now store) i place ⌝ }
-    ensures { λ r. ⌜ Sees (now (store .entry)) (placeOf place) (bodySeen (now (store .entry)) (placeOf place) (bodyIn (slotIn Form.Counted i (now (store .entry))))) r ⌝ }
+    ensures { λ r. ⌜ SeesIn (now (store .entry)) i (placeOf place) r ⌝ }
 {
     let slot = slot_of(Form::Counted, store, i);
     if !is_leaf(slot) {
@@ -72,13 +72,13 @@ fn seen_in(store: &[u8], i: usize, place: Place) -> Seen
     Seen::Leaf(i)
 }
 
-// What is seen at the root of a version.
-pub fn root(store: &[u8], version: u32) -> Seen
+// What is seen by a table at the root of a version. One without entries is the scan.
+pub fn root(store: &[u8], index: &[u32], version: u32) -> Seen
     requires { ⌜ sizeRight Form.Counted (length (now store)) ≡ true ⌝ }
-    ensures { λ r. ⌜ Sees (now (store .entry)) [] (seen (scan (storeOf (now (store .entry)))) version) r ⌝ }
+    ensures { λ r. ⌜ Sees (now (store .entry)) (now (index .entry)) [] (seen (byTable (now (index .entry)) (storeOf (now (store .entry)))) version) r ⌝ }
 {
     let top = Place::top();
-    let sight = look_root(store, version);
+    let sight = look_root_by(store, index, version);
     match sight {
         Sight::Matches(i) => seen_in(store, i, top),
         Sight::Nothing => Seen::Gap,
@@ -98,15 +98,15 @@ pub fn child_version(store: &[u8], i: usize, right: bool) -> u32
 }
 
 // What is seen on a side of the inner node in slot i; the place is the child's, one bit longer than the node's.
-pub fn child(store: &[u8], i: usize, right: bool, place: Place) -> Seen
+pub fn child(store: &[u8], index: &[u32], i: usize, right: bool, place: Place) -> Seen
     requires { ⌜ Slotted (now store) i place ⌝ }
-    ensures { λ r. ⌜ Sees (now (store .entry)) (placeOf place) (seenBelow (now (store .entry)) (placeOf place) (kidIn i (now (store .entry)) right)) r ⌝ }
+    ensures { λ r. ⌜ Sees (now (store .entry)) (now (index .entry)) (placeOf place) (seenBelow (now (store .entry)) (now (index .entry)) (placeOf place) (kidIn i (now (store .entry)) right)) r ⌝ }
 {
     let version = child_version(store, i, right);
     if version == 0 {
         return Seen::Gap;
     }
-    let sight = look(store, version, place);
+    let sight = look_by(store, index, version, place);
     match sight {
         Sight::Matches(j) => seen_in(store, j, place),
         Sight::Nothing => Seen::Lost(Trouble::Lost),

@@ -13,6 +13,7 @@ mod forging;
 #[path = "../../passes/src/hostile.rs"]
 #[allow(dead_code)] // those of roots are the passes' alone
 mod hostile;
+mod indexing;
 mod moving;
 mod ours;
 mod quarter;
@@ -139,6 +140,7 @@ fn round(seed: u64, tally: &mut Tally) {
         let _ = both::apply(tally, "to a made store", seed, &mut s.clone(), n, &b);
     }
     moving::round(tally, &mut random, seed, &s);
+    indexing::round(tally, &mut random, seed, &s, &keys);
     both::format(tally, seed, &mut s);
 }
 
@@ -393,6 +395,7 @@ fn all(rounds: u64, first: u64, tally: &mut Tally) {
     shelf::named(first, tally);
     quarter::named(tally);
     moving::named(tally);
+    indexing::named(tally);
     for n in 0..rounds {
         let seed = first.wrapping_add(n).wrapping_mul(0x9E37_79B9_7F4A_7C15);
         round(seed, tally);

@@ -128,6 +128,65 @@ extern "C" {
         answers_len: usize,
     ) -> u32;
     fn grants_sha256(bytes: *const u8, len: usize, digest: *mut [u8; 32]) -> u32;
+    fn grants_index(store: *const u8, store_len: usize, index: *mut u32, index_len: usize) -> u32;
+    fn grants_index_check(store: *const u8, store_len: usize, index: *const u32, index_len: usize) -> u32;
+    fn grants_format_indexed(store: *mut u8, store_len: usize, index: *mut u32, index_len: usize) -> u32;
+    fn grants_apply_indexed(
+        store: *mut u8,
+        store_len: usize,
+        index: *mut u32,
+        index_len: usize,
+        number: u32,
+        batch: *const u8,
+        batch_len: usize,
+        answer: *mut [u8; 40],
+    ) -> u32;
+    fn grants_prune_indexed(store: *mut u8, store_len: usize, index: *mut u32, index_len: usize, version: u32, freed: *mut [u8; 4]) -> u32;
+    fn grants_root_indexed(store: *const u8, store_len: usize, index: *const u32, index_len: usize, version: u32, root: *mut [u8; 32]) -> u64;
+    fn grants_get_indexed(
+        store: *const u8,
+        store_len: usize,
+        index: *const u32,
+        index_len: usize,
+        version: u32,
+        key: *const u8,
+        key_len: usize,
+        found: *mut [u8; 33],
+    ) -> u64;
+    fn grants_prove_indexed(
+        store: *const u8,
+        store_len: usize,
+        index: *const u32,
+        index_len: usize,
+        version: u32,
+        key: *const u8,
+        key_len: usize,
+        room: *mut u8,
+        room_len: usize,
+        length: *mut [u8; 4],
+    ) -> u64;
+    fn grants_palette_indexed(
+        store: *const u8,
+        store_len: usize,
+        index: *const u32,
+        index_len: usize,
+        version: u32,
+        keys: *const u8,
+        keys_len: usize,
+        room: *mut u8,
+        room_len: usize,
+        length: *mut [u8; 4],
+    ) -> u64;
+    fn grants_count_indexed(store: *const u8, store_len: usize, index: *const u32, index_len: usize, version: u32, count: *mut [u8; 8]) -> u64;
+    fn grants_at_indexed(
+        store: *const u8,
+        store_len: usize,
+        index: *const u32,
+        index_len: usize,
+        version: u32,
+        position: u64,
+        grant: *mut [u8; 64],
+    ) -> u64;
 }
 
 const MARK: u8 = 0xA5;
@@ -383,4 +442,71 @@ pub fn sha256(bytes: &[u8]) -> Bytes32 {
         recorded("sha256", &[read(bytes), array(digest)], || unsafe { grants_sha256(bytes.as_ptr(), bytes.len(), digest) })
     })
     .expect("never refused")
+}
+
+fn alone(number: u32) -> Result<(), Refusal> {
+    match number {
+        0 => Ok(()),
+        number => Err(number),
+    }
+}
+
+pub fn index(store: &[u8], table: &mut [u32]) -> Result<(), Refusal> {
+    alone(unsafe { grants_index(store.as_ptr(), store.len(), table.as_mut_ptr(), table.len()) })
+}
+
+pub fn index_check(store: &[u8], table: &[u32]) -> Result<(), Refusal> {
+    alone(unsafe { grants_index_check(store.as_ptr(), store.len(), table.as_ptr(), table.len()) })
+}
+
+pub fn format_indexed(store: &mut [u8], table: &mut [u32]) -> Result<(), Refusal> {
+    alone(unsafe { grants_format_indexed(store.as_mut_ptr(), store.len(), table.as_mut_ptr(), table.len()) })
+}
+
+pub fn apply_indexed(store: &mut [u8], table: &mut [u32], version: u32, batch: &[u8]) -> Result<(u32, Bytes32, u32), Refusal> {
+    let answer = answered(|a| unsafe {
+        grants_apply_indexed(store.as_mut_ptr(), store.len(), table.as_mut_ptr(), table.len(), version, batch.as_ptr(), batch.len(), a)
+    })?;
+    Ok((u32_at(&answer, 0), b32_at(&answer, 4), u32_at(&answer, 36)))
+}
+
+pub fn prune_indexed(store: &mut [u8], table: &mut [u32], version: u32) -> Result<u32, Refusal> {
+    answered(|freed| unsafe { grants_prune_indexed(store.as_mut_ptr(), store.len(), table.as_mut_ptr(), table.len(), version, freed) })
+        .map(u32::from_le_bytes)
+}
+
+pub fn root_indexed(store: &[u8], table: &[u32], version: u32) -> Result<Bytes32, Stopped> {
+    read_so(|root| unsafe { grants_root_indexed(store.as_ptr(), store.len(), table.as_ptr(), table.len(), version, root) })
+}
+
+pub fn get_indexed(store: &[u8], table: &[u32], version: u32, key: &[u8]) -> Result<Option<Bytes32>, Stopped> {
+    read_so(|found| unsafe {
+        grants_get_indexed(store.as_ptr(), store.len(), table.as_ptr(), table.len(), version, key.as_ptr(), key.len(), found)
+    })
+    .map(verdict)
+}
+
+pub fn count_indexed(store: &[u8], table: &[u32], version: u32) -> Result<u64, Stopped> {
+    read_so(|count| unsafe { grants_count_indexed(store.as_ptr(), store.len(), table.as_ptr(), table.len(), version, count) }).map(u64::from_le_bytes)
+}
+
+pub fn at_indexed(store: &[u8], table: &[u32], version: u32, position: u64) -> Result<(Bytes32, Bytes32), Stopped> {
+    read_so(|grant| unsafe { grants_at_indexed(store.as_ptr(), store.len(), table.as_ptr(), table.len(), version, position, grant) })
+        .map(|grant: [u8; 64]| (b32_at(&grant, 0), b32_at(&grant, 32)))
+}
+
+pub fn prove_indexed(store: &[u8], table: &[u32], version: u32, key: &[u8], room: &mut [u8]) -> Result<u32, Stopped> {
+    let (to, most) = (room.as_mut_ptr(), room.len());
+    read_so(|length| unsafe {
+        grants_prove_indexed(store.as_ptr(), store.len(), table.as_ptr(), table.len(), version, key.as_ptr(), key.len(), to, most, length)
+    })
+    .map(u32::from_le_bytes)
+}
+
+pub fn palette_indexed(store: &[u8], table: &[u32], version: u32, keys: &[u8], room: &mut [u8]) -> Result<u32, Stopped> {
+    let (to, most) = (room.as_mut_ptr(), room.len());
+    read_so(|length| unsafe {
+        grants_palette_indexed(store.as_ptr(), store.len(), table.as_ptr(), table.len(), version, keys.as_ptr(), keys.len(), to, most, length)
+    })
+    .map(u32::from_le_bytes)
 }

@@ -1,6 +1,6 @@
 //! Format, apply, prune, and the two reads.
 
-use crate::bytes::{self, bit, Body, Form, Place, Slot, FORM};
+use crate::bytes::{self, bit, Body, Form, Place, Slot, Store, FORM};
 use crate::sound::sound;
 use crate::tree::{grants_of, make, placing, record_hash, version_tree, Grants, Index};
 use crate::{proof, Bytes32, Refusal, Stopped, ZEROS};
@@ -110,8 +110,12 @@ pub fn root(s: &[u8], version: u32) -> Result<Bytes32, Stopped> {
 
 pub fn root_in(form: Form, s: &[u8], version: u32) -> Result<Bytes32, Stopped> {
     let store = bytes::store_in(form, s)?;
-    proof::kept(&store, version)?;
-    Ok(proof::judged_root(&store, &Index::of(&store), version)?.map_or(ZEROS, record_hash))
+    root_of(&store, &Index::of(&store), version)
+}
+
+pub fn root_of(store: &Store, index: &Index, version: u32) -> Result<Bytes32, Stopped> {
+    proof::kept(store, version)?;
+    Ok(proof::judged_root(store, index, version)?.map_or(ZEROS, record_hash))
 }
 
 /// The value, or None for absent.
@@ -122,10 +126,13 @@ pub fn get(s: &[u8], version: u32, key: &[u8]) -> Result<Option<Bytes32>, Stoppe
 pub fn get_in(form: Form, s: &[u8], version: u32, key: &[u8]) -> Result<Option<Bytes32>, Stopped> {
     let key: Bytes32 = key.try_into().map_err(|_| 12u32)?;
     let store = bytes::store_in(form, s)?;
-    proof::kept(&store, version)?;
-    let index = Index::of(&store);
-    let walk = proof::walk(&store, &index, version, &key)?;
-    Ok(walk.end.filter(|(k, _)| *k == key).map(|(_, v)| v))
+    value_of(&store, &Index::of(&store), version, &key)
+}
+
+pub fn value_of(store: &Store, index: &Index, version: u32, key: &Bytes32) -> Result<Option<Bytes32>, Stopped> {
+    proof::kept(store, version)?;
+    let walk = proof::walk(store, index, version, key)?;
+    Ok(walk.end.filter(|(k, _)| k == key).map(|(_, v)| v))
 }
 
 /// Every key's bits lead to its leaf: used by tests that ask for a key's path.

@@ -8,6 +8,7 @@ pub mod check;
 pub mod figures;
 pub mod forged;
 pub mod form;
+pub mod indexed;
 pub mod many;
 pub mod moving;
 pub mod palette;

@@ -1,6 +1,6 @@
 //! 02, request 2026-09: how many grants a version holds, and the grant at a position, by the counts alone.
 
-use crate::bytes::{self, Body, Record};
+use crate::bytes::{self, Body, Record, Store};
 use crate::proof::{judged, judged_root, kept};
 use crate::tree::Index;
 use crate::{alone, Bytes32, Stopped};
@@ -16,17 +16,24 @@ pub fn number(r: &Record) -> u64 {
 /// 1, 2, 8, the root lookup. No root: 0.
 pub fn count(s: &[u8], version: u32) -> Result<u64, Stopped> {
     let store = bytes::store(s)?;
-    kept(&store, version)?;
-    Ok(judged_root(&store, &Index::of(&store), version)?.map_or(0, number))
+    count_of(&store, &Index::of(&store), version)
+}
+
+pub fn count_of(store: &Store, index: &Index, version: u32) -> Result<u64, Stopped> {
+    kept(store, version)?;
+    Ok(judged_root(store, index, version)?.map_or(0, number))
 }
 
 /// Key and value. 1, 2, 8, the root lookup; 20 for a position not below the number; then the descent by counts, which gives 3 also where it meets a
 /// missing child, or a leaf with a position left over. Position 0 has the least key.
 pub fn at(s: &[u8], version: u32, position: u64) -> Result<(Bytes32, Bytes32), Stopped> {
     let store = bytes::store(s)?;
-    kept(&store, version)?;
-    let index = Index::of(&store);
-    let root = judged_root(&store, &index, version)?;
+    grant_of(&store, &Index::of(&store), version, position)
+}
+
+pub fn grant_of(store: &Store, index: &Index, version: u32, position: u64) -> Result<(Bytes32, Bytes32), Stopped> {
+    kept(store, version)?;
+    let root = judged_root(store, index, version)?;
     if position >= root.map_or(0, number) {
         return Err(alone(20));
     }
@@ -47,6 +54,6 @@ pub fn at(s: &[u8], version: u32, position: u64) -> Result<(Bytes32, Bytes32), S
         if c.version == 0 {
             return Err(alone(3));
         }
-        r = judged(&store, &index, c, r.place.longer(side))?;
+        r = judged(store, index, c, r.place.longer(side))?;
     }
 }

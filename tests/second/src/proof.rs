@@ -149,20 +149,23 @@ pub fn proof(s: &[u8], version: u32, key: &[u8]) -> Result<Vec<u8>, Stopped> {
 pub fn proof_in(form: Form, s: &[u8], version: u32, key: &[u8]) -> Result<Vec<u8>, Stopped> {
     let key: Bytes32 = key.try_into().map_err(|_| 12u32)?;
     let store = bytes::store_in(form, s)?;
-    kept(&store, version)?;
-    let index = Index::of(&store);
-    if matches!(index.see_root(&store, version), Sight::Nothing) {
+    proof_of(&store, &Index::of(&store), version, &key)
+}
+
+pub fn proof_of(store: &Store, index: &Index, version: u32, key: &Bytes32) -> Result<Vec<u8>, Stopped> {
+    kept(store, version)?;
+    if matches!(index.see_root(store, version), Sight::Nothing) {
         return Err(alone(14));
     }
-    let walk = walk(&store, &index, version, &key)?;
+    let walk = walk(store, index, version, key)?;
     if let Some((k, v)) = walk.end {
-        if k == key {
+        if k == *key {
             return Ok(presence_bytes(&Presence { key: k, value: v, steps: steps(&walk.trail) }));
         }
     }
-    let left = neighbour(&store, &index, &walk, &key, false)?;
-    let right = neighbour(&store, &index, &walk, &key, true)?;
-    Ok(absence_bytes(&key, left.as_ref(), right.as_ref()))
+    let left = neighbour(store, index, &walk, key, false)?;
+    let right = neighbour(store, index, &walk, key, true)?;
+    Ok(absence_bytes(key, left.as_ref(), right.as_ref()))
 }
 
 /// The proof fills the front of the room; its length.

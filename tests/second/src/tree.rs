@@ -3,6 +3,7 @@
 use crate::bytes::{bit, Body, Child, Fields, Place, Record, Slot, Store, NO_CHILD};
 use crate::sha256::{inner_hash, leaf_hash};
 use crate::{Bytes32, ZEROS};
+use std::cmp::Ordering;
 use std::collections::{BTreeMap, HashMap};
 
 pub type Grants = BTreeMap<Bytes32, Bytes32>;
@@ -13,6 +14,8 @@ pub struct Index {
     roots: Vec<usize>,
     /// The used slots that are not in form, ascending.
     spoiled: Vec<(usize, Fields)>,
+    /// The table that a read looks in first (02, 2026-05); without one it scans.
+    table: Vec<u32>,
 }
 
 /// What finding a node tells apart (02, 2026-07), with the lowest such slot.
@@ -47,7 +50,20 @@ impl Index {
                 Slot::Spoiled(fields) => spoiled.push((i, *fields)),
             }
         }
-        Index { nodes, roots, spoiled }
+        Index { nodes, roots, spoiled, table: vec![] }
+    }
+
+    /// The same, looking in a table first.
+    pub fn by(store: &Store, table: &[u32]) -> Index {
+        Index { table: table.to_vec(), ..Index::of(store) }
+    }
+
+    /// What the search in the table ends on, where it ends on a match.
+    fn searched<'a>(&self, store: &'a Store, look: impl Fn(&Record) -> Ordering) -> Option<(usize, &'a Record)> {
+        if self.table.is_empty() {
+            return None;
+        }
+        crate::indexed::search(store, &self.table, look)
     }
 
     /// The root of a version: the root record, if any, whose lifetime covers it; of several the lowest slot's.
@@ -77,7 +93,8 @@ impl Index {
     /// A node by its version and place.
     pub fn see<'a>(&self, store: &'a Store, version: u32, place: Place) -> Sight<'a> {
         let agrees = |f: &Fields| f.version == version && f.count as usize == place.count && f.bits == place.bits;
-        self.sight(self.find(store, version, place), agrees)
+        let searched = self.searched(store, |r| crate::indexed::order(r, version, place));
+        self.sight(searched.or_else(|| self.find(store, version, place)), agrees)
     }
 
     /// The root of a version, which matches or agrees by empty place and a lifetime that covers it (02, 2026-13).
@@ -86,7 +103,8 @@ impl Index {
             let covers = f.version <= version && (f.retired == 0 || version < f.retired);
             f.count == 0 && f.bits == ZEROS && covers
         };
-        self.sight(self.root(store, version), agrees)
+        let searched = self.searched(store, |r| crate::indexed::root_order(r, version));
+        self.sight(searched.or_else(|| self.root(store, version)), agrees)
     }
 }
 

@@ -5,8 +5,11 @@ use borrow.Author.Needs.{needs}
 use Rattle.finding.proofs.holds_none.Statement.{statement}
 use Rattle.finding.proofs.holds_none.Tie as tie
 
+slice-aggregate-root : tie.Need-slice-aggregate-root
+slice-aggregate-root c = search needs
+
 root-requires : tie.Need-root-requires
-root-requires c κs = sound-size (c .before .pre .sound)
+root-requires c κs = sound-size (c .before .before .pre .sound)
 
 enum-told : tie.Need-enum-told
 enum-told c = search needs
@@ -23,27 +26,28 @@ enum-told-4 c = search needs
 returns : tie.Need-returns
 returns c =
     let r = c .before .before in
-    gap-holds-none (r .before .before .pre) (r .root .result) (r .root .ensures) (c .enum-told .given .1)
+    gap-holds-none (r .before .before .before .pre) (r .root .result) (r .root .ensures) (c .enum-told .given .1)
 
 returns-2 : tie.Need-returns-2
 returns-2 c =
     let r = c .before .before in
-    lost-holds (r .before .before .pre) (r .root .result) (r .root .ensures) (c .enum-told2 .given .1)
+    lost-holds (r .before .before .before .pre) (r .root .result) (r .root .ensures) (c .enum-told2 .given .1)
 
 returns-3 : tie.Need-returns-3
 returns-3 c =
     let r = c .before .before in
-    leaf-holds (r .before .before .pre) (r .root .result) (r .root .ensures) (c .enum-told3 .given .1)
+    leaf-holds (r .before .before .before .pre) (r .root .result) (r .root .ensures) (c .enum-told3 .given .1)
 
 returns-4 : tie.Need-returns-4
 returns-4 c =
     let r = c .before .before in
-    inner-holds (r .before .before .pre) (r .root .result) (r .root .ensures) (c .enum-told4 .given .1)
+    inner-holds (r .before .before .before .pre) (r .root .result) (r .root .ensures) (c .enum-told4 .given .1)
 
 pub holds-none-spec : {M : Type 1} → statement M
 holds-none-spec =
     tie.close
     (tie.spec
+    slice-aggregate-root
     root-requires
     enum-told
     enum-told-2

@@ -9,8 +9,11 @@ use borrow.Author.Needs.{needs}
 use Rattle.forged_truth.proofs.has_value.Statement.{statement}
 use Rattle.forged_truth.proofs.has_value.Tie as tie
 
+slice-aggregate-walk-read : tie.Need-slice-aggregate-walk-read
+slice-aggregate-walk-read c = search needs
+
 walk-read-requires : tie.Need-walk-read-requires
-walk-read-requires c κs = let s = c .before .before in (sound-size (s .pre .0 .sound), s .pre .1)
+walk-read-requires c κs = let s = c .before .before .before in (sound-size (s .pre .0 .sound), s .pre .1)
 
 enum-told : tie.Need-enum-told
 enum-told c = search needs
@@ -27,27 +30,28 @@ enum-told-2 c = search needs
 returns : tie.Need-returns
 returns c =
     let w = c .before .before in
-    let s = w .before .before .before in
-    refused-value (s .pre .0) (s .args .key .now) (s .pre .1, all-of Byte (s .args .key .now) 0 (λ i _. omega (arith, w .before .shared-slice-known2 .given i))) (w .walk-read .result) (w .walk-read .ensures) (hashBytes (s .args .value)) (c .enum-told .given .1)
+    let s = w .before .before .before .before in
+    refused-value (s .pre .0) (s .args .key .now) (s .pre .1, all-of Byte (s .args .key .now) 0 (λ i _. omega (arith, w .before .before .shared-slice-known2 .given i))) (w .walk-read .result) (w .walk-read .ensures) (hashBytes (s .args .value)) (c .enum-told .given .1)
 
 returns-2 : tie.Need-returns-2
 returns-2 c =
     let m = c .before .before in
     let w = m .before .before in
-    let s = w .before .before .before in
+    let s = w .before .before .before .before in
     c .same-hash .ensures
-    ∙ same-value (s .pre .0) (s .args .key .now) (s .pre .1, all-of Byte (s .args .key .now) 0 (λ i _. omega (arith, w .before .shared-slice-known2 .given i))) (w .walk-read .result) (w .walk-read .ensures) (hashBytes (s .args .value)) (m .read .given .1)
+    ∙ same-value (s .pre .0) (s .args .key .now) (s .pre .1, all-of Byte (s .args .key .now) 0 (λ i _. omega (arith, w .before .before .shared-slice-known2 .given i))) (w .walk-read .result) (w .walk-read .ensures) (hashBytes (s .args .value)) (m .read .given .1)
 
 returns-3 : tie.Need-returns-3
 returns-3 c =
     let w = c .before .before in
-    let s = w .before .before .before in
-    no-value (s .pre .0) (s .args .key .now) (s .pre .1, all-of Byte (s .args .key .now) 0 (λ i _. omega (arith, w .before .shared-slice-known2 .given i))) (w .walk-read .result) (w .walk-read .ensures) (hashBytes (s .args .value)) (c .enum-told2 .given .1)
+    let s = w .before .before .before .before in
+    no-value (s .pre .0) (s .args .key .now) (s .pre .1, all-of Byte (s .args .key .now) 0 (λ i _. omega (arith, w .before .before .shared-slice-known2 .given i))) (w .walk-read .result) (w .walk-read .ensures) (hashBytes (s .args .value)) (c .enum-told2 .given .1)
 
 pub has-value-spec : {M : Type 1} → statement M
 has-value-spec =
     tie.close
     (tie.spec
+    slice-aggregate-walk-read
     walk-read-requires
     enum-told
     enum-known-read

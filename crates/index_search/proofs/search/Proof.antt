@@ -6,6 +6,7 @@ use lib.ListN.{length, getD}
 use Rattle.terms.specs.declared.Form.the-variants.{Counted as counted}
 use Rattle.indexed.proofs.Halving.{Between, middle, search-start, search-above, search-below, search-met, search-over}
 use Rattle.indexed.proofs.Searching.{entry-met}
+use Rattle.indexed.proofs.Scanned.{search-nowhere}
 use Rattle.place.specs.Place.{placeOf}
 use Rattle.layout.specs.Stores.{storeOf}
 use Rattle.layout.proofs.Headers.{size-says}
@@ -18,50 +19,47 @@ use Rattle.index_search.proofs.search.Tie as tie
 
 abbrev Inv-loop : tie.InvT-loop
 Inv-loop store table version place root n lo₀ hi₀ lo hi =
-    Between (lookFor root version (placeOf place)) table (storeOf store .slots) lo hi × (n ≡ length (storeOf store .slots)) × (length table ≡ n) × (n ≤ 16384)
+    Between (lookFor root version (placeOf place)) table (storeOf store .slots) lo hi × (n ≡ length (storeOf store .slots)) × (n ≤ 16384)
 
 abbrev μ-loop : tie.MeasureT-loop
 μ-loop store table version place root n lo₀ hi₀ lo hi = hi - lo
 
+returns : tie.Need-returns Inv-loop μ-loop
+returns c =
+    let a = c .before .before .before .args in
+    search-nowhere (lookFor (a .root) (a .version) (placeOf (a .place))) (a .table .now) (storeOf (a .store .now) .slots) (c .if1 .taken)
+
 slot-count-requires : tie.Need-slot-count-requires Inv-loop μ-loop
-slot-count-requires c κs = c .before .before .pre .0
+slot-count-requires c κs = c .before .before .before .pre .0
 
 loop-holds : tie.Need-loop-holds Inv-loop μ-loop
 loop-holds c =
-    let start = c .before .before .before in
+    let start = c .before .before .before .before in
     let a = start .args in
     let look = lookFor (a .root) (a .version) (placeOf (a .place)) in
     let s = storeOf (a .store .now) .slots in
     let many = c .slot-count .ensures ∙ sym (slots-many counted (a .store .now)) in
-    (subst (λ h. Between look (a .table .now) s 0 h) (sym many) (search-start look (a .table .now) s), many, start .pre .1 ∙ sym (c .slot-count .ensures), omega (arith, c .slot-count .ensures, size-says counted (length (a .store .now)) (start .pre .0)))
+    (subst (λ h. Between look (a .table .now) s 0 h) (sym many) (search-start look (a .table .now) s), many, omega (arith, c .slot-count .ensures, size-says counted (length (a .store .now)) (start .pre .0)))
 
 add-middle : tie.Need-add-middle Inv-loop μ-loop
-add-middle c = let inv = c .before .loop .inv in omega (arith, inv .0 .within, inv .0 .ordered, inv .1, inv .3)
+add-middle c = let inv = c .before .loop .inv in omega (arith, inv .0 .within, inv .0 .ordered, inv .1, inv .2)
 
-mul-wide : tie.Need-mul-wide Inv-loop μ-loop
-mul-wide c = let inv = c .before .loop .inv in omega (arith, inv .0 .within, inv .0 .ordered, inv .1, inv .3)
-
-shared-slice-read-wide : tie.Need-shared-slice-read-wide Inv-loop μ-loop
-shared-slice-read-wide c =
-    let inv = c .before .before .loop .inv in
-    omega (arith, inv .0 .within, inv .1, inv .2, c .before .loop-test .taken)
-
-wide-requires : tie.Need-wide-requires Inv-loop μ-loop
-wide-requires c κs = search needs
+entry-at-requires : tie.Need-entry-at-requires Inv-loop μ-loop
+entry-at-requires c κs = search needs
 
 look-entry-requires : tie.Need-look-entry-requires Inv-loop μ-loop
 look-entry-requires c κs =
     let start = c .before .before .before .before .before .before .before in
-    (start .pre .0, c .before .before .before .before .slot-count .ensures, start .pre .2)
+    (start .pre .0, c .before .before .before .slot-count .ensures, start .pre .1)
 
 enum-told : tie.Need-enum-told Inv-loop μ-loop
 enum-told c = search needs
 
 add-lo : tie.Need-add-lo Inv-loop μ-loop
-add-lo c = let inv = c .before .before .before .before .before .before .loop .inv in omega (arith, inv .0 .within, inv .0 .ordered, inv .1, inv .3)
+add-lo c = let inv = c .before .before .before .before .before .loop .inv in omega (arith, inv .0 .within, inv .0 .ordered, inv .1, inv .2)
 
 loop-less : tie.Need-loop-less Inv-loop μ-loop
-loop-less c = let less = c .before .before .before .before .before .loop-test .taken in omega arith
+loop-less c = let less = c .before .before .before .before .loop-test .taken in omega arith
 
 loop-again : tie.Need-loop-again Inv-loop μ-loop
 loop-again c =
@@ -69,18 +67,18 @@ loop-again c =
     let a = start .args in
     let look = lookFor (a .root) (a .version) (placeOf (a .place)) in
     let s = storeOf (a .store .now) .slots in
-    let inv = c .before .before .before .before .before .before .loop .inv in
-    let less = c .before .before .before .before .before .loop-test .taken in
+    let inv = c .before .before .before .before .before .loop .inv in
+    let less = c .before .before .before .before .loop-test .taken in
     let seen = c .before .before .look-entry .ensures in
-    let here = in-middle look (a .table .now) s (c .before .before .before .wide .result) (inv .0) less (inv .2 ∙ inv .1) (c .before .before .before .wide .ensures) in
+    let here = in-middle look (a .table .now) s (c .before .before .before .before .before .loop .lo) (c .before .before .before .before .before .loop .hi) (inv .1) (c .before .before .before .entry-at .ensures) in
     let above = search-above look (a .table .now) s (inv .0) less (sym here ∙ was-small _ _ seen (c .enum-told .given .1)) in
-    (subst (λ k. Between look (a .table .now) s k (c .before .before .before .before .before .before .loop .hi)) (omega arith) above, inv .1, inv .2, inv .3)
+    (subst (λ k. Between look (a .table .now) s k (c .before .before .before .before .before .loop .hi)) (omega arith) above, inv .1, inv .2)
 
 enum-told-2 : tie.Need-enum-told-2 Inv-loop μ-loop
 enum-told-2 c = search needs
 
 loop-less-2 : tie.Need-loop-less-2 Inv-loop μ-loop
-loop-less-2 c = let less = c .before .before .before .before .before .loop-test .taken in omega arith
+loop-less-2 c = let less = c .before .before .before .before .loop-test .taken in omega arith
 
 loop-again-2 : tie.Need-loop-again-2 Inv-loop μ-loop
 loop-again-2 c =
@@ -88,32 +86,32 @@ loop-again-2 c =
     let a = start .args in
     let look = lookFor (a .root) (a .version) (placeOf (a .place)) in
     let s = storeOf (a .store .now) .slots in
-    let inv = c .before .before .before .before .before .before .loop .inv in
-    let less = c .before .before .before .before .before .loop-test .taken in
+    let inv = c .before .before .before .before .before .loop .inv in
+    let less = c .before .before .before .before .loop-test .taken in
     let seen = c .before .before .look-entry .ensures in
-    let here = in-middle look (a .table .now) s (c .before .before .before .wide .result) (inv .0) less (inv .2 ∙ inv .1) (c .before .before .before .wide .ensures) in
-    (search-below look (a .table .now) s (inv .0) less (sym here ∙ was-great _ _ seen (c .enum-told2 .given .1)), inv .1, inv .2, inv .3)
+    let here = in-middle look (a .table .now) s (c .before .before .before .before .before .loop .lo) (c .before .before .before .before .before .loop .hi) (inv .1) (c .before .before .before .entry-at .ensures) in
+    (search-below look (a .table .now) s (inv .0) less (sym here ∙ was-great _ _ seen (c .enum-told2 .given .1)), inv .1, inv .2)
 
 enum-told-3 : tie.Need-enum-told-3 Inv-loop μ-loop
 enum-told-3 c = search needs
 
-returns : tie.Need-returns Inv-loop μ-loop
-returns c =
+returns-2 : tie.Need-returns-2 Inv-loop μ-loop
+returns-2 c =
     let start = c .before .before .before .before .before .before .before .before .before .before in
     let a = start .args in
     let look = lookFor (a .root) (a .version) (placeOf (a .place)) in
     let s = storeOf (a .store .now) .slots in
-    let inv = c .before .before .before .before .before .before .loop .inv in
-    let less = c .before .before .before .before .before .loop-test .taken in
+    let inv = c .before .before .before .before .before .loop .inv in
+    let less = c .before .before .before .before .loop-test .taken in
     let seen = c .before .before .look-entry .ensures in
-    let here = in-middle look (a .table .now) s (c .before .before .before .wide .result) (inv .0) less (inv .2 ∙ inv .1) (c .before .before .before .wide .ensures) in
+    let here = in-middle look (a .table .now) s (c .before .before .before .before .before .loop .lo) (c .before .before .before .before .before .loop .hi) (inv .1) (c .before .before .before .entry-at .ensures) in
     let met = was-met _ _ seen (c .enum-told3 .given .1) in
-    let slot = entry-met look (own-met (a .root) (a .version) (placeOf (a .place))) s (c .before .before .before .wide .result) (met .0) (met .1) in
+    let slot = entry-met look (own-met (a .root) (a .version) (placeOf (a .place))) s (c .before .before .before .entry-at .result) (met .0) (met .1) in
     (slot .0, (met .0, slot .1, search-met look (a .table .now) s (inv .0) (met .0) less (sym here ∙ met .1)))
 
-returns-2 : tie.Need-returns-2 Inv-loop μ-loop
-returns-2 c =
-    let a = c .before .before .before .before .before .args in
+returns-3 : tie.Need-returns-3 Inv-loop μ-loop
+returns-3 c =
+    let a = c .before .before .before .before .before .before .args in
     search-over (lookFor (a .root) (a .version) (placeOf (a .place))) (a .table .now) (storeOf (a .store .now) .slots) (c .before .loop .inv .0) (c .loop-test .left)
 
 pub search-spec : {M : Type 1} → statement M
@@ -122,12 +120,11 @@ search-spec =
     (tie.spec
     Inv-loop
     μ-loop
+    returns
     slot-count-requires
     loop-holds
     add-middle
-    mul-wide
-    shared-slice-read-wide
-    wide-requires
+    entry-at-requires
     look-entry-requires
     enum-told
     add-lo
@@ -137,5 +134,5 @@ search-spec =
     loop-less-2
     loop-again-2
     enum-told-3
-    returns
-    returns-2)
+    returns-2
+    returns-3)

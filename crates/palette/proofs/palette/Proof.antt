@@ -9,13 +9,13 @@ use Rattle.palette.proofs.palette.Tie as tie
 whole-keys-requires : tie.Need-whole-keys-requires
 whole-keys-requires c κs = search needs
 
-cast-t12 : tie.Need-cast-t12
-cast-t12 c = search needs
+cast-t13 : tie.Need-cast-t13
+cast-t13 c = search needs
 
 returns : tie.Need-returns
 returns c =
-    let a = c .before .before .before .before .before .args in
-    torn-list (a .store .now) (a .version) (a .keys .now) (a .room .now) (c .before .whole-keys .ensures) (not-true _ (c .if1 .taken))
+    let a = c .before .before .before .before .before .before .args in
+    torn-list (a .store .now) (a .index .now) (a .version) (a .keys .now) (a .room .now) (c .before .whole-keys .ensures) (not-true _ (c .if1 .taken))
 
 open-requires : tie.Need-open-requires
 open-requires c κs = search needs
@@ -23,15 +23,15 @@ open-requires c κs = search needs
 enum-known-opened : tie.Need-enum-known-opened
 enum-known-opened c = search needs
 
-cast-t13 : tie.Need-cast-t13
-cast-t13 c = search needs
+cast-t14 : tie.Need-cast-t14
+cast-t14 c = search needs
 
 returns-2 : tie.Need-returns-2
 returns-2 c =
     let o = c .before .before .before in
     let w = o .before .before .whole-keys in
-    let a = o .before .before .before .before .before .before .args in
-    first-refused (a .store .now) (a .version) (a .keys .now) (a .room .now) (w .ensures) (not-false _ (o .before .if1 .left)) _ (o .«open» .ensures) (c .before .opened .given .1)
+    let a = o .before .before .before .before .before .before .before .args in
+    first-refused (a .store .now) (a .index .now) (a .version) (a .keys .now) (a .room .now) (w .ensures) (not-false _ (o .before .if1 .left)) _ (o .«open» .ensures) (c .before .opened .given .1)
 
 enum-told : tie.Need-enum-told
 enum-told c = search needs
@@ -40,7 +40,7 @@ measure-requires : tie.Need-measure-requires
 measure-requires c κs =
     let o = c .before .before in
     let w = o .before .before .whole-keys in
-    let a = o .before .before .before .before .before .before .args in
+    let a = o .before .before .before .before .before .before .before .args in
     (kept-size (a .store .now) (a .version) (o .«open» .ensures) (c .enum-told .given .1), sym (w .ensures) ∙ not-false _ (o .before .if1 .left))
 
 enum-known-measured : tie.Need-enum-known-measured
@@ -54,7 +54,7 @@ give-requires c κs =
     let m = c .before .before .before .before in
     let o = m .before .before .before in
     let w = o .before .before .whole-keys in
-    let a = o .before .before .before .before .before .before .args in (
+    let a = o .before .before .before .before .before .before .before .args in (
       kept-size (a .store .now) (a .version) (o .«open» .ensures) (m .before .enum-told .given .1),
       sym (w .ensures) ∙ not-false _ (o .before .if1 .left),
       measured-length _ (m .measure .ensures) (c .before .before .measured2 .given .1),
@@ -65,8 +65,8 @@ returns-3 c =
     let m = c .before .before .before in
     let o = m .before .before .before in
     let w = o .before .before .whole-keys in
-    let a = o .before .before .before .before .before .before .args in
-    single-refused (a .store .now) (a .version) (a .keys .now) (a .room .now) (w .ensures) (not-false _ (o .before .if1 .left)) (o .«open» .ensures)
+    let a = o .before .before .before .before .before .before .before .args in
+    single-refused (a .store .now) (a .index .now) (a .version) (a .keys .now) (a .room .now) (w .ensures) (not-false _ (o .before .if1 .left)) (o .«open» .ensures)
     (m .before .enum-told .given .1) _ (m .measure .ensures) (c .before .measured .given .1)
 
 same-length : tie.Need-same-length
@@ -77,8 +77,8 @@ returns-4 c =
     let m = c .before .before .before .before .before .before .before in
     let o = m .before .before .before in
     let w = o .before .before .whole-keys in
-    let a = o .before .before .before .before .before .before .args in
-    all-given (a .store .now) (a .version) (a .keys .now) (a .room .now) (w .ensures) (not-false _ (o .before .if1 .left)) (o .«open» .ensures)
+    let a = o .before .before .before .before .before .before .before .args in
+    all-given (a .store .now) (a .index .now) (a .version) (a .keys .now) (a .room .now) (w .ensures) (not-false _ (o .before .if1 .left)) (o .«open» .ensures)
     (m .before .enum-told .given .1) (c .before .before .give .ensures)
 
 pub palette-spec : {M : Type 1} → statement M
@@ -86,11 +86,11 @@ palette-spec =
     tie.close
     (tie.spec
     whole-keys-requires
-    cast-t12
+    cast-t13
     returns
     open-requires
     enum-known-opened
-    cast-t13
+    cast-t14
     returns-2
     enum-told
     measure-requires

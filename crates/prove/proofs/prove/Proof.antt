@@ -5,7 +5,7 @@ use Rattle.prove.proofs.prove.Statement.{statement}
 use Rattle.prove.proofs.prove.Tie as tie
 
 returns : tie.Need-returns
-returns c = let a = c .before .before .before .before .args in wrong-key (a .store .now) (a .version) (a .key .now) (a .room .now) (c .if1 .taken)
+returns c = let a = c .before .before .before .before .before .args in wrong-key (a .store .now) (a .index .now) (a .version) (a .key .now) (a .room .now) (c .if1 .taken)
 
 open-requires : tie.Need-open-requires
 open-requires c κs = search needs
@@ -16,8 +16,8 @@ enum-known-opened c = search needs
 returns-2 : tie.Need-returns-2
 returns-2 c =
     let o = c .before .before .before in
-    let a = o .before .before .before .before .before .args in
-    first-refused (a .store .now) (a .version) (a .key .now) (a .room .now) (o .before .if1 .left) _ (o .«open» .ensures) (c .before .opened .given .1)
+    let a = o .before .before .before .before .before .before .args in
+    first-refused (a .store .now) (a .index .now) (a .version) (a .key .now) (a .room .now) (o .before .if1 .left) _ (o .«open» .ensures) (c .before .opened .given .1)
 
 enum-told : tie.Need-enum-told
 enum-told c = search needs
@@ -25,7 +25,7 @@ enum-told c = search needs
 plan-of-requires : tie.Need-plan-of-requires
 plan-of-requires c κs =
     let o = c .before .before in
-    let a = o .before .before .before .before .before .args in
+    let a = o .before .before .before .before .before .before .args in
     (kept-size (a .store .now) (a .version) (o .«open» .ensures) (c .enum-told .given .1), o .before .if1 .left)
 
 give-requires : tie.Need-give-requires
@@ -38,24 +38,24 @@ returns-3 : tie.Need-returns-3
 returns-3 c =
     let p = c .before .before .before .before in
     let o = p .before .before .before in
-    let a = o .before .before .before .before .before .args in
-    kept-proved (a .store .now) (a .version) (a .key .now) (a .room .now) (o .before .if1 .left) (o .«open» .ensures) (p .before .enum-told .given .1) (p .plan-of .ensures) (c .before .before .give .ensures)
-
-cast-t9 : tie.Need-cast-t9
-cast-t9 c = search needs
+    let a = o .before .before .before .before .before .before .args in
+    kept-proved (a .store .now) (a .index .now) (a .version) (a .key .now) (a .room .now) (o .before .if1 .left) (o .«open» .ensures) (p .before .enum-told .given .1) (p .plan-of .ensures) (c .before .before .give .ensures)
 
 cast-t10 : tie.Need-cast-t10
 cast-t10 c = search needs
+
+cast-t11 : tie.Need-cast-t11
+cast-t11 c = search needs
 
 pub prove-spec : {M : Type 1} → statement M
 prove-spec =
     tie.close
     (tie.spec
-    cast-t9
+    cast-t10
     returns
     open-requires
     enum-known-opened
-    cast-t10
+    cast-t11
     returns-2
     enum-told
     plan-of-requires

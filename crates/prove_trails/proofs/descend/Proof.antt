@@ -11,13 +11,13 @@ use Rattle.prove_trails.proofs.descend.Statement.{statement}
 use Rattle.prove_trails.proofs.descend.Tie as tie
 
 abbrev Inv-loop : tie.InvT-loop
-Inv-loop store side here₀ here = Descent store side here₀ here
+Inv-loop store index side here₀ here = Descent store index side here₀ here
 
 abbrev μ-loop : tie.MeasureT-loop
-μ-loop store side here₀ here = 256 - here .place .count
+μ-loop store index side here₀ here = 256 - here .place .count
 
 loop-holds : tie.Need-loop-holds Inv-loop μ-loop
-loop-holds c = descent-start _ _ _ (c .before .pre)
+loop-holds c = descent-start _ _ _ _ (c .before .before .pre)
 
 enum-known-seen : tie.Need-enum-known-seen Inv-loop μ-loop
 enum-known-seen c = search needs

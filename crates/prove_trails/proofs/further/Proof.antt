@@ -7,7 +7,7 @@ use Rattle.prove_trails.proofs.further.Statement.{statement}
 use Rattle.prove_trails.proofs.further.Tie as tie
 
 cast-slots : tie.Need-cast-slots
-cast-slots c = let w = c .before .before .before .pre in omega (arith, w .inside, size-says _ _ (w .size))
+cast-slots c = let w = c .before .before .before .before .pre in omega (arith, w .inside, size-says _ _ (w .size))
 
 mul-slots : tie.Need-mul-slots
 mul-slots c = search needs
@@ -22,7 +22,7 @@ child-requires : tie.Need-child-requires
 child-requires c κs = search needs
 
 returns : tie.Need-returns
-returns c = let start = c .before .before .before .before .before in gone-further (start .args .store .now) (start .args .trail) (start .args .i) (start .args .side) _ _ (start .pre) (c .before .child-place .ensures) (c .child .ensures)
+returns c = let start = c .before .before .before .before .before .before in gone-further (start .args .store .now) (start .args .index .now) (start .args .trail) (start .args .i) (start .args .side) _ _ (start .pre) (c .before .child-place .ensures) (c .child .ensures)
 
 pub further-spec : {M : Type 1} → statement M
 further-spec =

@@ -12,7 +12,7 @@ top-requires : tie.Need-top-requires
 top-requires c κs = search needs
 
 returns : tie.Need-returns
-returns c = started (c .before .before .before .args .store .now) (c .before .before .before .args .version) _ _ _ (c .before .before .before .pre) refl (c .top .ensures) (c .before .root .ensures)
+returns c = started (c .before .before .before .before .args .store .now) (c .before .before .before .before .args .index .now) (c .before .before .before .before .args .version) _ _ _ (c .before .before .before .before .pre) refl (c .top .ensures) (c .before .root .ensures)
 
 pub start-spec : {M : Type 1} → statement M
 start-spec = tie.close (tie.spec root-requires top-requires returns)

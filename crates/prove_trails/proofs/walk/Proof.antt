@@ -9,10 +9,10 @@ use Rattle.prove_trails.proofs.walk.Statement.{statement}
 use Rattle.prove_trails.proofs.walk.Tie as tie
 
 abbrev Inv-loop : tie.InvT-loop
-Inv-loop store version key trail₀ left₀ right₀ trail left right = Walking store version key trail left right
+Inv-loop store index version key trail₀ left₀ right₀ trail left right = Walking store index version key trail left right
 
 abbrev μ-loop : tie.MeasureT-loop
-μ-loop store version key trail₀ left₀ right₀ trail left right = 256 - trail .place .count
+μ-loop store index version key trail₀ left₀ right₀ trail left right = 256 - trail .place .count
 
 top-requires : tie.Need-top-requires Inv-loop μ-loop
 top-requires c κs = search needs
@@ -21,7 +21,7 @@ start-requires : tie.Need-start-requires Inv-loop μ-loop
 start-requires c κs = search needs
 
 loop-holds : tie.Need-loop-holds Inv-loop μ-loop
-loop-holds c = walking-start (c .before .before .before .before .args .store .now) (c .before .before .before .before .args .version) (c .before .before .before .before .args .key .now) _ _ (c .start .ensures) (c .before .top .ensures .proper)
+loop-holds c = walking-start (c .before .before .before .before .before .args .store .now) (c .before .before .before .before .before .args .index .now) (c .before .before .before .before .before .args .version) (c .before .before .before .before .before .args .key .now) _ _ (c .start .ensures) (c .before .top .ensures .proper)
 
 enum-known-seen : tie.Need-enum-known-seen Inv-loop μ-loop
 enum-known-seen c = search needs
@@ -30,7 +30,7 @@ returns : tie.Need-returns Inv-loop μ-loop
 returns c = walk-ended _ _ _ (c .before .loop .inv) (c .match .keys2)
 
 key-bit-requires : tie.Need-key-bit-requires Inv-loop μ-loop
-key-bit-requires c κs = let a = at-inner (c .before .before .before .before .loop .inv .trail) (c .before .before .seen .given .1) in omega (arith, a .short, c .before .before .before .before .before .before .before .before .before .pre .1)
+key-bit-requires c κs = let a = at-inner (c .before .before .before .before .loop .inv .trail) (c .before .before .seen .given .1) in omega (arith, a .short, c .before .before .before .before .before .before .before .before .before .before .pre .1)
 
 deepest-requires : tie.Need-deepest-requires Inv-loop μ-loop
 deepest-requires c κs = let a = at-inner (c .before .before .before .before .before .loop .inv .trail) (c .before .before .before .seen .given .1) in (a .size, a .inside)

@@ -5,7 +5,7 @@ use Rattle.read.proofs.get.Statement.{statement}
 use Rattle.read.proofs.get.Tie as tie
 
 returns : tie.Need-returns
-returns c = let a = c .before .before .before .args in key-wrong (a .store .now) (a .version) (a .key .now) (c .if1 .taken)
+returns c = let a = c .before .before .before .before .args in key-wrong (a .store .now) (a .index .now) (a .version) (a .key .now) (c .if1 .taken)
 
 open-requires : tie.Need-open-requires
 open-requires c κs = search needs
@@ -15,41 +15,41 @@ enum-known-opened c = search needs
 
 returns-2 : tie.Need-returns-2
 returns-2 c =
-    let a = c .before .before .before .before .before .before .before .args in
+    let a = c .before .before .before .before .before .before .before .before .args in
     let o = c .before .before .before in
-    key-refused (a .store .now) (a .version) (o .«open» .ensures) (a .key .now) (o .before .if1 .left) (c .before .opened .given .1)
+    key-refused (a .store .now) (a .version) (o .«open» .ensures) (a .index .now) (a .key .now) (o .before .if1 .left) (c .before .opened .given .1)
 
 enum-told : tie.Need-enum-told
 enum-told c = search needs
 
 walk-read-requires : tie.Need-walk-read-requires
 walk-read-requires c κs =
-    let a = c .before .before .before .before .before .before .args in
+    let a = c .before .before .before .before .before .before .before .args in
     let o = c .before .before in
     (size-kept (a .store .now) (a .version) (o .«open» .ensures) (c .enum-told .given .1), o .before .if1 .left)
 
 returns-3 : tie.Need-returns-3
 returns-3 c =
-    let a = c .before .before .before .before .before .before .before .args in
+    let a = c .before .before .before .before .before .before .before .before .args in
     let o = c .before .before .before in
-    key-read (a .store .now) (a .version) (o .«open» .ensures) (a .key .now) (o .before .if1 .left) (c .walk-read .result)
+    key-read (a .store .now) (a .version) (o .«open» .ensures) (a .index .now) (a .key .now) (o .before .if1 .left) (c .walk-read .result)
     (c .before .enum-told .given .1) (c .walk-read .ensures)
-
-cast-t8 : tie.Need-cast-t8
-cast-t8 c = search needs
 
 cast-t9 : tie.Need-cast-t9
 cast-t9 c = search needs
+
+cast-t10 : tie.Need-cast-t10
+cast-t10 c = search needs
 
 pub get-spec : {M : Type 1} → statement M
 get-spec =
     tie.close
     (tie.spec
-    cast-t8
+    cast-t9
     returns
     open-requires
     enum-known-opened
-    cast-t9
+    cast-t10
     returns-2
     enum-told
     walk-read-requires

@@ -10,14 +10,14 @@ open-requires c κs = search needs
 enum-known-opened : tie.Need-enum-known-opened
 enum-known-opened c = search needs
 
-cast-t5 : tie.Need-cast-t5
-cast-t5 c = search needs
+cast-t6 : tie.Need-cast-t6
+cast-t6 c = search needs
 
 returns : tie.Need-returns
 returns c =
     let o = c .before .before .before in
-    let a = o .before .before .args in
-    root-refused (a .store .now) (a .version) (o .«open» .ensures) (c .before .opened .given .1)
+    let a = o .before .before .before .args in
+    root-refused (a .store .now) (a .version) (o .«open» .ensures) (a .index .now) (c .before .opened .given .1)
 
 enum-told : tie.Need-enum-told
 enum-told c = search needs
@@ -25,14 +25,14 @@ enum-told c = search needs
 root-hash-requires : tie.Need-root-hash-requires
 root-hash-requires c κs =
     let o = c .before .before in
-    let a = o .before .before .args in
+    let a = o .before .before .before .args in
     size-kept (a .store .now) (a .version) (o .«open» .ensures) (c .enum-told .given .1)
 
 returns-2 : tie.Need-returns-2
 returns-2 c =
     let o = c .before .before .before in
-    let a = o .before .before .args in
-    root-is-read (a .store .now) (a .version) (o .«open» .ensures) (c .root-hash .result) (c .before .enum-told .given .1) (c .root-hash .ensures)
+    let a = o .before .before .before .args in
+    root-is-read (a .store .now) (a .version) (o .«open» .ensures) (a .index .now) (c .root-hash .result) (c .before .enum-told .given .1) (c .root-hash .ensures)
 
 pub root-spec : {M : Type 1} → statement M
 root-spec =
@@ -40,7 +40,7 @@ root-spec =
     (tie.spec
     open-requires
     enum-known-opened
-    cast-t5
+    cast-t6
     returns
     enum-told
     root-hash-requires

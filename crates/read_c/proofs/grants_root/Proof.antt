@@ -1,33 +1,20 @@
--- `read_c::grants_root` meets its contract: the case of the read decides the number and the bytes. Assumes nothing.
-use Rattle.read_c.proofs.Exported.{root-refused, root-written}
+-- `read_c::grants_root` meets its contract: a table without entries is the scan. Assumes nothing.
+use Rattle.read.proofs.Answers.{root-plain}
+use Rattle.read_c.proofs.Exported.{root-as, root-told}
 use borrow.Author.Needs.{needs}
 use Rattle.read_c.proofs.grants_root.Statement.{statement}
 use Rattle.read_c.proofs.grants_root.Tie as tie
 
-root-requires : tie.Need-root-requires
-root-requires c κs = search needs
+slice-aggregate-root-by : tie.Need-slice-aggregate-root-by
+slice-aggregate-root-by c = search needs
 
-enum-known-read : tie.Need-enum-known-read
-enum-known-read c = search needs
-
-enum-known-read-2 : tie.Need-enum-known-read-2
-enum-known-read-2 c = search needs
-
-put-hash-requires : tie.Need-put-hash-requires
-put-hash-requires c κs = search needs
+root-by-requires : tie.Need-root-by-requires
+root-by-requires c κs = search needs
 
 returns : tie.Need-returns
 returns c =
-    let d = c .before .before .before in
-    root-refused (d .root .ensures) (d .before .before .args .root .now) (c .before .read .given .1)
-
-returns-2 : tie.Need-returns-2
-returns-2 c =
-    let r = c .before .before .before in
-    let d = r .before .before in
-    root-written (d .root .ensures) (d .before .before .args .root .now) (r .read2 .given .1) (search needs) (c .put-hash .ensures)
+    let a = c .before .before .before .before .args in
+    root-told (root-as (root-plain (a .store .now) (a .version)) (c .root-by .ensures))
 
 pub grants-root-spec : {M : Type 1} → statement M
-grants-root-spec =
-    tie.close
-    (tie.spec root-requires enum-known-read enum-known-read-2 put-hash-requires returns returns-2)
+grants-root-spec = tie.close (tie.spec slice-aggregate-root-by root-by-requires returns)

@@ -1,39 +1,20 @@
--- `read_counts_c::grants_at` meets its contract: the case of the read decides the number and the bytes. Assumes nothing.
-use Rattle.read_counts_c.proofs.Exported.{at-refused, at-written}
+-- `read_counts_c::grants_at` meets its contract: a table without entries is the scan. Assumes nothing.
+use Rattle.read_position.proofs.Answers.{position-plain}
+use Rattle.read_counts_c.proofs.Exported.{grant-as, grant-told}
 use borrow.Author.Needs.{needs}
 use Rattle.read_counts_c.proofs.grants_at.Statement.{statement}
 use Rattle.read_counts_c.proofs.grants_at.Tie as tie
 
-grants-at-requires : tie.Need-grants-at-requires
-grants-at-requires c κs = search needs
+slice-aggregate-at-by : tie.Need-slice-aggregate-at-by
+slice-aggregate-at-by c = search needs
 
-enum-known-read : tie.Need-enum-known-read
-enum-known-read c = search needs
-
-enum-known-read-2 : tie.Need-enum-known-read-2
-enum-known-read-2 c = search needs
-
-put-grant-requires : tie.Need-put-grant-requires
-put-grant-requires c κs = search needs
+at-by-requires : tie.Need-at-by-requires
+at-by-requires c κs = search needs
 
 returns : tie.Need-returns
 returns c =
-    let d = c .before .before .before in
-    at-refused (d .grants-at .ensures) (d .before .before .args .grant .now) (c .before .read .given .1)
-
-returns-2 : tie.Need-returns-2
-returns-2 c =
-    let r = c .before .before .before in
-    let d = r .before .before in
-    at-written (d .grants-at .ensures) (d .before .before .args .grant .now) (r .read2 .given .1) (c .put-grant .ensures)
+    let a = c .before .before .before .before .args in
+    grant-told (grant-as (position-plain (a .store .now) (a .version) (a .position)) (c .at-by .ensures))
 
 pub grants-at-spec : {M : Type 1} → statement M
-grants-at-spec =
-    tie.close
-    (tie.spec
-    grants-at-requires
-    enum-known-read
-    enum-known-read-2
-    put-grant-requires
-    returns
-    returns-2)
+grants-at-spec = tie.close (tie.spec slice-aggregate-at-by at-by-requires returns)

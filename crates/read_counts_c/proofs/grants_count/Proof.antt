@@ -1,39 +1,20 @@
--- `read_counts_c::grants_count` meets its contract: the case of the read decides the number and the bytes. Assumes nothing.
-use Rattle.read_counts_c.proofs.Exported.{count-refused, count-written}
+-- `read_counts_c::grants_count` meets its contract: a table without entries is the scan. Assumes nothing.
+use Rattle.read_number.proofs.Answers.{number-plain}
+use Rattle.read_counts_c.proofs.Exported.{number-as, number-told}
 use borrow.Author.Needs.{needs}
 use Rattle.read_counts_c.proofs.grants_count.Statement.{statement}
 use Rattle.read_counts_c.proofs.grants_count.Tie as tie
 
-grants-count-requires : tie.Need-grants-count-requires
-grants-count-requires c κs = search needs
+slice-aggregate-count-by : tie.Need-slice-aggregate-count-by
+slice-aggregate-count-by c = search needs
 
-enum-known-read : tie.Need-enum-known-read
-enum-known-read c = search needs
-
-enum-known-read-2 : tie.Need-enum-known-read-2
-enum-known-read-2 c = search needs
-
-put-count-requires : tie.Need-put-count-requires
-put-count-requires c κs = search needs
+count-by-requires : tie.Need-count-by-requires
+count-by-requires c κs = search needs
 
 returns : tie.Need-returns
 returns c =
-    let d = c .before .before .before in
-    count-refused (d .grants-count .ensures) (d .before .before .args .count .now) (c .before .read .given .1)
-
-returns-2 : tie.Need-returns-2
-returns-2 c =
-    let r = c .before .before .before in
-    let d = r .before .before in
-    count-written (d .grants-count .ensures) (d .before .before .args .count .now) (r .read2 .given .1) (c .put-count .ensures)
+    let a = c .before .before .before .before .args in
+    number-told (number-as (number-plain (a .store .now) (a .version)) (c .count-by .ensures))
 
 pub grants-count-spec : {M : Type 1} → statement M
-grants-count-spec =
-    tie.close
-    (tie.spec
-    grants-count-requires
-    enum-known-read
-    enum-known-read-2
-    put-count-requires
-    returns
-    returns-2)
+grants-count-spec = tie.close (tie.spec slice-aggregate-count-by count-by-requires returns)

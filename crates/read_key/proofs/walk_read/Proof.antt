@@ -18,10 +18,10 @@ use Rattle.read_key.proofs.walk_read.Statement.{statement}
 use Rattle.read_key.proofs.walk_read.Tie as tie
 
 abbrev Inv-loop : tie.InvT-loop
-Inv-loop store version key place₀ seen₀ place seen = Walked store version key place seen
+Inv-loop store index version key place₀ seen₀ place seen = Walked store index version key place seen
 
 abbrev μ-loop : tie.MeasureT-loop
-μ-loop store version key place₀ seen₀ place seen = 256 - place .count
+μ-loop store index version key place₀ seen₀ place seen = 256 - place .count
 
 top-requires : tie.Need-top-requires Inv-loop μ-loop
 top-requires c κs = search needs
@@ -30,7 +30,7 @@ root-requires : tie.Need-root-requires Inv-loop μ-loop
 root-requires c κs = search needs
 
 loop-holds : tie.Need-loop-holds Inv-loop μ-loop
-loop-holds c = let h = c .before .before .before .before .pre in set-out (h .0) (h .1) (c .before .top .ensures) (c .root .ensures)
+loop-holds c = let h = c .before .before .before .before .before .pre in set-out (h .0) (h .1) (c .before .top .ensures) (c .root .ensures)
 
 enum-told : tie.Need-enum-told Inv-loop μ-loop
 enum-told c = search needs

@@ -10,14 +10,14 @@ open-requires c κs = search needs
 enum-known-opened : tie.Need-enum-known-opened
 enum-known-opened c = search needs
 
-cast-t5 : tie.Need-cast-t5
-cast-t5 c = search needs
+cast-t6 : tie.Need-cast-t6
+cast-t6 c = search needs
 
 returns : tie.Need-returns
 returns c =
     let o = c .before .before .before in
-    let a = o .before .before .args in
-    number-refused (a .store .now) (a .version) (o .«open» .ensures) (c .before .opened .given .1)
+    let a = o .before .before .before .args in
+    number-refused (a .store .now) (a .version) (o .«open» .ensures) (a .index .now) (c .before .opened .given .1)
 
 enum-told : tie.Need-enum-told
 enum-told c = search needs
@@ -25,14 +25,14 @@ enum-told c = search needs
 root-number-requires : tie.Need-root-number-requires
 root-number-requires c κs =
     let o = c .before .before in
-    let a = o .before .before .args in
+    let a = o .before .before .before .args in
     size-kept (a .store .now) (a .version) (o .«open» .ensures) (c .enum-told .given .1)
 
 returns-2 : tie.Need-returns-2
 returns-2 c =
     let o = c .before .before .before in
-    let a = o .before .before .args in
-    number-is-read (a .store .now) (a .version) (o .«open» .ensures) (c .root-number .result) (c .before .enum-told .given .1) (c .root-number .ensures)
+    let a = o .before .before .before .args in
+    number-is-read (a .store .now) (a .version) (o .«open» .ensures) (a .index .now) (c .root-number .result) (c .before .enum-told .given .1) (c .root-number .ensures)
 
 pub grants-count-spec : {M : Type 1} → statement M
 grants-count-spec =
@@ -40,7 +40,7 @@ grants-count-spec =
     (tie.spec
     open-requires
     enum-known-opened
-    cast-t5
+    cast-t6
     returns
     enum-told
     root-number-requires

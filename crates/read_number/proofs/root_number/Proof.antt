@@ -1,6 +1,6 @@
 -- `read_number::root_number` meets its contract: the record sighted is the root record. Assumes nothing.
 use native.Mathlib.Omega.{arith}
-use Rattle.meaning.specs.Sight.{rootSight}
+use Rattle.indexed.specs.Index.{rootBy}
 use Rattle.layout.specs.Stores.{storeOf}
 use Rattle.read_step.proofs.Seeing.{none-sighted, spoilt-sighted, spoilt-small, inside}
 use Rattle.read_number.proofs.Answers.{number-weighs, number-none, number-spoilt}
@@ -8,17 +8,17 @@ use borrow.Author.Needs.{needs}
 use Rattle.read_number.proofs.root_number.Statement.{statement}
 use Rattle.read_number.proofs.root_number.Tie as tie
 
-look-root-requires : tie.Need-look-root-requires
-look-root-requires c κs = search needs
+look-root-by-requires : tie.Need-look-root-by-requires
+look-root-by-requires c κs = search needs
 
 enum-known-sight : tie.Need-enum-known-sight
 enum-known-sight c = search needs
 
 weight-at-requires : tie.Need-weight-at-requires
 weight-at-requires c κs =
-    let start = c .before .before .before .before .before in
+    let start = c .before .before .before .before .before .before in
     let s = start .args .store .now in
-    record { size = start .pre; inside = inside s (rootSight (storeOf s) (start .args .version)) (c .before .before .before .look-root .ensures) (c .before .sight .given .1) }
+    record { size = start .pre; inside = inside s (rootBy (start .args .index .now) (storeOf s) (start .args .version)) (c .before .before .before .look-root-by .ensures) (c .before .sight .given .1) }
 
 enum-told : tie.Need-enum-told
 enum-told c = search needs
@@ -28,38 +28,38 @@ enum-known-sight-2 c = search needs
 
 cast-slot : tie.Need-cast-slot
 cast-slot c =
-    let start = c .before .before .before .before .before in
+    let start = c .before .before .before .before .before .before in
     let s = start .args .store .now in
-    omega (arith, spoilt-small s (rootSight (storeOf s) (start .args .version)) (c .before .before .before .look-root .ensures) (c .before .sight2 .given .1) (start .pre))
+    omega (arith, spoilt-small s (rootBy (start .args .index .now) (storeOf s) (start .args .version)) (c .before .before .before .look-root-by .ensures) (c .before .sight2 .given .1) (start .pre))
 
 refusal-requires : tie.Need-refusal-requires
 refusal-requires c κs = search needs
 
 returns : tie.Need-returns
 returns c =
-    let start = c .before .before .before .before .before .before in
+    let start = c .before .before .before .before .before .before .before in
     let s = start .args .store .now in
-    number-weighs s (rootSight (storeOf s) (start .args .version)) (c .before .before .before .before .look-root .ensures) (c .before .before .sight .given .1) (c .weight-at .ensures .0)
+    number-weighs s (rootBy (start .args .index .now) (storeOf s) (start .args .version)) (c .before .before .before .before .look-root-by .ensures) (c .before .before .sight .given .1) (c .weight-at .ensures .0)
 
 returns-2 : tie.Need-returns-2
 returns-2 c =
-    let start = c .before .before .before .before in
+    let start = c .before .before .before .before .before in
     let s = start .args .store .now in
-    let x = rootSight (storeOf s) (start .args .version) in
-    number-none s x (none-sighted s x (c .before .before .look-root .ensures) (c .enum-told .given .1))
+    let x = rootBy (start .args .index .now) (storeOf s) (start .args .version) in
+    number-none s x (none-sighted s x (c .before .before .look-root-by .ensures) (c .enum-told .given .1))
 
 returns-3 : tie.Need-returns-3
 returns-3 c =
-    let start = c .before .before .before .before .before .before in
+    let start = c .before .before .before .before .before .before .before in
     let s = start .args .store .now in
-    let x = rootSight (storeOf s) (start .args .version) in
-    number-spoilt s x _ (spoilt-sighted s x (c .before .before .before .before .look-root .ensures) (c .before .before .sight2 .given .1)) (c .refusal .ensures)
+    let x = rootBy (start .args .index .now) (storeOf s) (start .args .version) in
+    number-spoilt s x _ (spoilt-sighted s x (c .before .before .before .before .look-root-by .ensures) (c .before .before .sight2 .given .1)) (c .refusal .ensures)
 
 pub root-number-spec : {M : Type 1} → statement M
 root-number-spec =
     tie.close
     (tie.spec
-    look-root-requires
+    look-root-by-requires
     enum-known-sight
     weight-at-requires
     enum-told

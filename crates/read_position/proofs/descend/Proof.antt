@@ -16,10 +16,10 @@ use Rattle.read_position.proofs.leaf_here.Reads as leaf-here-reads
 use Rattle.read_position.proofs.turn_at.Reads as turn-at-reads
 
 abbrev Inv-loop : tie.InvT-loop
-Inv-loop store first position place₀ at₀ n₀ place at n = Going store first position place at n
+Inv-loop store index first position place₀ at₀ n₀ place at n = Going store index first position place at n
 
 abbrev μ-loop : tie.MeasureT-loop
-μ-loop store first position place₀ at₀ n₀ place at n = 256 - place .count
+μ-loop store index first position place₀ at₀ n₀ place at n = 256 - place .count
 
 -- src/lib.rt:136:9
 top-requires : tie.Need-top-requires Inv-loop μ-loop
@@ -27,7 +27,7 @@ top-requires c κs = search needs
 
 -- src/lib.rt:139:5
 loop-holds : tie.Need-loop-holds Inv-loop μ-loop
-loop-holds c = set-out (c .before .before .pre) (c .top .ensures)
+loop-holds c = set-out (c .before .before .before .pre) (c .top .ensures)
 
 -- src/lib.rt:140:12
 leaf-here-requires : tie.Need-leaf-here-requires Inv-loop μ-loop

@@ -10,14 +10,14 @@ open-requires c κs = search needs
 enum-known-opened : tie.Need-enum-known-opened
 enum-known-opened c = search needs
 
-cast-t6 : tie.Need-cast-t6
-cast-t6 c = search needs
+cast-t7 : tie.Need-cast-t7
+cast-t7 c = search needs
 
 returns : tie.Need-returns
 returns c =
     let o = c .before .before .before in
-    let a = o .before .before .args in
-    position-refused (a .store .now) (a .version) (a .position) (o .«open» .ensures) (c .before .opened .given .1)
+    let a = o .before .before .before .args in
+    position-refused (a .store .now) (a .version) (a .position) (o .«open» .ensures) (a .index .now) (c .before .opened .given .1)
 
 enum-told : tie.Need-enum-told
 enum-told c = search needs
@@ -25,14 +25,14 @@ enum-told c = search needs
 root-position-requires : tie.Need-root-position-requires
 root-position-requires c κs =
     let o = c .before .before in
-    let a = o .before .before .args in
+    let a = o .before .before .before .args in
     size-kept (a .store .now) (a .version) (a .position) (o .«open» .ensures) (c .enum-told .given .1)
 
 returns-2 : tie.Need-returns-2
 returns-2 c =
     let o = c .before .before .before in
-    let a = o .before .before .args in
-    position-is-read (a .store .now) (a .version) (a .position) (o .«open» .ensures) (c .root-position .result) (c .before .enum-told .given .1) (c .root-position .ensures)
+    let a = o .before .before .before .args in
+    position-is-read (a .store .now) (a .version) (a .position) (o .«open» .ensures) (a .index .now) (c .root-position .result) (c .before .enum-told .given .1) (c .root-position .ensures)
 
 pub grants-at-spec : {M : Type 1} → statement M
 grants-at-spec =
@@ -40,7 +40,7 @@ grants-at-spec =
     (tie.spec
     open-requires
     enum-known-opened
-    cast-t6
+    cast-t7
     returns
     enum-told
     root-position-requires

@@ -3,7 +3,7 @@ use native.Mathlib.Omega.{arith}
 use mathlib.Core.Path.{ap, sym, _∙_}
 use Rattle.terms.specs.Bits.{Byte}
 use Rattle.terms.proofs.Lists.{all-of}
-use Rattle.meaning.specs.Sight.{nodeSight}
+use Rattle.indexed.specs.Index.{nodeBy}
 use Rattle.place.specs.Place.{placeOf}
 use Rattle.layout.specs.Stores.{storeOf}
 use Rattle.read_step.specs.Walk.{kidIn}
@@ -12,11 +12,6 @@ use Rattle.read_position.proofs.Descending.{step-missing, step-lost, st
 use borrow.Author.Needs.{needs}
 use Rattle.read_position.proofs.kid.Statement.{statement}
 use Rattle.read_position.proofs.kid.Tie as tie
-use Rattle.read_position.proofs.kid.Reads as reads
-use Rattle.read_position.proofs.kid.Lts as lts
-use Rattle.read_step.proofs.child_version.Reads as child-version-reads
-use Rattle.read_step.proofs.refusal.Reads as refusal-reads
-use Rattle.sights.proofs.look.Reads as look-reads
 
 -- src/lib.rt:112:9
 child-version-requires : tie.Need-child-version-requires
@@ -26,15 +21,15 @@ child-version-requires c κs = search needs
 returns : tie.Need-returns
 returns c =
     let version = c .before in
-    let start = version .before .before in
+    let start = version .before .before .before in
     let s = start .args .store .now in
     let p = start .args .place in
     let k = kidIn (start .args .i) s (start .args .right) in
-    step-missing s p k (sym (version .child-version .ensures) ∙ c .if1 .taken)
+    step-missing s (start .args .index .now) p k (sym (version .child-version .ensures) ∙ c .if1 .taken)
 
 -- src/lib.rt:116:9
-look-requires : tie.Need-look-requires
-look-requires c κs = search needs
+look-by-requires : tie.Need-look-by-requires
+look-by-requires c κs = search needs
 
 -- src/lib.rt:118:24
 enum-known-sight : tie.Need-enum-known-sight
@@ -56,11 +51,11 @@ enum-known-sight-2 c = search needs
 cast-slot : tie.Need-cast-slot
 cast-slot c =
     let version = c .before .before .before .before .before in
-    let start = version .before .before in
+    let start = version .before .before .before in
     let s = start .args .store .now in
     let p = start .args .place in
     let k = kidIn (start .args .i) s (start .args .right) in
-    omega (arith, spoilt-small s (nodeSight (storeOf s) (version .child-version .result) (placeOf p)) (c .before .before .before .look .ensures) (c .before .sight2 .given .1) (start .pre .size))
+    omega (arith, spoilt-small s (nodeBy (start .args .index .now) (storeOf s) (version .child-version .result) (placeOf p)) (c .before .before .before .look-by .ensures) (c .before .sight2 .given .1) (start .pre .size))
 
 -- src/lib.rt:125:17
 refusal-requires-2 : tie.Need-refusal-requires-2
@@ -70,34 +65,34 @@ refusal-requires-2 c κs = search needs
 returns-2 : tie.Need-returns-2
 returns-2 c =
     let version = c .before .before .before .before .before in
-    let start = version .before .before in
+    let start = version .before .before .before in
     let s = start .args .store .now in
     let p = start .args .place in
     let k = kidIn (start .args .i) s (start .args .right) in
-    let b = all-of Byte s 0 (λ i _. omega (arith, version .before .shared-slice-known .given i)) in
-    step-at s p k (λ z. c .before .before .before .before .if1 .left (version .child-version .ensures ∙ z)) (start .pre .size) b (start .pre .proper) (version .child-version .ensures) (c .before .before .before .look .ensures) _ (c .before .sight .given .1)
+    let b = all-of Byte s 0 (λ i _. omega (arith, version .before .before .shared-slice-known .given i)) in
+    step-at s (start .args .index .now) p k (λ z. c .before .before .before .before .if1 .left (version .child-version .ensures ∙ z)) (start .pre .size) b (start .pre .proper) (version .child-version .ensures) (c .before .before .before .look-by .ensures) _ (c .before .sight .given .1)
 
 -- src/lib.rt:108:1
 returns-3 : tie.Need-returns-3
 returns-3 c =
     let version = c .before .before .before .before .before in
-    let start = version .before .before in
+    let start = version .before .before .before in
     let s = start .args .store .now in
     let p = start .args .place in
     let k = kidIn (start .args .i) s (start .args .right) in
-    step-lost s p k (λ z. c .before .before .before .before .if1 .left (version .child-version .ensures ∙ z))
-    (ap (λ v. nodeSight (storeOf s) v (placeOf p)) (sym (version .child-version .ensures)) ∙ none-sighted s (nodeSight (storeOf s) (version .child-version .result) (placeOf p)) (c .before .before .before .look .ensures) (c .before .enum-told .given .1)) (c .refusal .ensures)
+    step-lost s (start .args .index .now) p k (λ z. c .before .before .before .before .if1 .left (version .child-version .ensures ∙ z))
+    (ap (λ v. nodeBy (start .args .index .now) (storeOf s) v (placeOf p)) (sym (version .child-version .ensures)) ∙ none-sighted s (nodeBy (start .args .index .now) (storeOf s) (version .child-version .result) (placeOf p)) (c .before .before .before .look-by .ensures) (c .before .enum-told .given .1)) (c .refusal .ensures)
 
 -- src/lib.rt:108:1
 returns-4 : tie.Need-returns-4
 returns-4 c =
     let version = c .before .before .before .before .before .before in
-    let start = version .before .before in
+    let start = version .before .before .before in
     let s = start .args .store .now in
     let p = start .args .place in
     let k = kidIn (start .args .i) s (start .args .right) in
-    step-spoilt s p k (λ z. c .before .before .before .before .before .if1 .left (version .child-version .ensures ∙ z)) _
-    (ap (λ v. nodeSight (storeOf s) v (placeOf p)) (sym (version .child-version .ensures)) ∙ spoilt-sighted s (nodeSight (storeOf s) (version .child-version .result) (placeOf p)) (c .before .before .before .before .look .ensures) (c .before .before .sight2 .given .1)) (c .refusal2 .ensures)
+    step-spoilt s (start .args .index .now) p k (λ z. c .before .before .before .before .before .if1 .left (version .child-version .ensures ∙ z)) _
+    (ap (λ v. nodeBy (start .args .index .now) (storeOf s) v (placeOf p)) (sym (version .child-version .ensures)) ∙ spoilt-sighted s (nodeBy (start .args .index .now) (storeOf s) (version .child-version .result) (placeOf p)) (c .before .before .before .before .look-by .ensures) (c .before .before .sight2 .given .1)) (c .refusal2 .ensures)
 
 pub kid-spec : {M : Type 1} → statement M
 kid-spec =
@@ -105,7 +100,7 @@ kid-spec =
     (tie.spec
     child-version-requires
     returns
-    look-requires
+    look-by-requires
     enum-known-sight
     enum-told
     refusal-requires

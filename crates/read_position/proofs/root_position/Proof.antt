@@ -1,6 +1,6 @@
 -- `read_position::root_position` meets its contract: the record sighted is the root record. Assumes nothing.
 use native.Mathlib.Omega.{arith}
-use Rattle.meaning.specs.Sight.{rootSight}
+use Rattle.indexed.specs.Index.{rootBy}
 use Rattle.layout.specs.Stores.{storeOf}
 use Rattle.read_step.proofs.Seeing.{none-sighted, spoilt-sighted, spoilt-small, inside}
 use Rattle.read_position.proofs.Answers.{past-number, from-root, at-nothing, at-spoilt}
@@ -8,33 +8,33 @@ use borrow.Author.Needs.{needs}
 use Rattle.read_position.proofs.root_position.Statement.{statement}
 use Rattle.read_position.proofs.root_position.Tie as tie
 
-look-root-requires : tie.Need-look-root-requires
-look-root-requires c κs = search needs
+look-root-by-requires : tie.Need-look-root-by-requires
+look-root-by-requires c κs = search needs
 
 enum-known-sight : tie.Need-enum-known-sight
 enum-known-sight c = search needs
 
 weight-at-requires : tie.Need-weight-at-requires
 weight-at-requires c κs =
-    let start = c .before .before .before .before .before in
+    let start = c .before .before .before .before .before .before in
     let s = start .args .store .now in
-    record { size = start .pre; inside = inside s (rootSight (storeOf s) (start .args .version)) (c .before .before .before .look-root .ensures) (c .before .sight .given .1) }
+    record { size = start .pre; inside = inside s (rootBy (start .args .index .now) (storeOf s) (start .args .version)) (c .before .before .before .look-root-by .ensures) (c .before .sight .given .1) }
 
 returns : tie.Need-returns
 returns c =
     let w = c .before in
     let look = w .before .before .before .before in
-    let start = look .before .before in
+    let start = look .before .before .before in
     let s = start .args .store .now in
-    past-number s (rootSight (storeOf s) (start .args .version)) (start .args .position) (look .look-root .ensures) (w .before .before .sight .given .1) (w .weight-at .ensures .0)
+    past-number s (start .args .index .now) (rootBy (start .args .index .now) (storeOf s) (start .args .version)) (start .args .position) (look .look-root-by .ensures) (w .before .before .sight .given .1) (w .weight-at .ensures .0)
     (omega (arith, c .if1 .taken))
 
 descend-requires : tie.Need-descend-requires
 descend-requires c κs =
     let look = c .before .before .before .before .before in
-    let start = look .before .before in
+    let start = look .before .before .before in
     let s = start .args .store .now in
-    record { size = start .pre; inside = inside s (rootSight (storeOf s) (start .args .version)) (look .look-root .ensures) (c .before .before .before .sight .given .1) }
+    record { size = start .pre; inside = inside s (rootBy (start .args .index .now) (storeOf s) (start .args .version)) (look .look-root-by .ensures) (c .before .before .before .sight .given .1) }
 
 enum-told : tie.Need-enum-told
 enum-told c = search needs
@@ -44,9 +44,9 @@ enum-known-sight-2 c = search needs
 
 cast-slot : tie.Need-cast-slot
 cast-slot c =
-    let start = c .before .before .before .before .before in
+    let start = c .before .before .before .before .before .before in
     let s = start .args .store .now in
-    omega (arith, spoilt-small s (rootSight (storeOf s) (start .args .version)) (c .before .before .before .look-root .ensures) (c .before .sight2 .given .1) (start .pre))
+    omega (arith, spoilt-small s (rootBy (start .args .index .now) (storeOf s) (start .args .version)) (c .before .before .before .look-root-by .ensures) (c .before .sight2 .given .1) (start .pre))
 
 refusal-requires : tie.Need-refusal-requires
 refusal-requires c κs = search needs
@@ -55,30 +55,30 @@ returns-2 : tie.Need-returns-2
 returns-2 c =
     let w = c .before .before in
     let look = w .before .before .before .before in
-    let start = look .before .before in
+    let start = look .before .before .before in
     let s = start .args .store .now in
-    from-root s (rootSight (storeOf s) (start .args .version)) (start .args .position) (look .look-root .ensures) (w .before .before .sight .given .1) (w .weight-at .ensures .0)
+    from-root s (start .args .index .now) (rootBy (start .args .index .now) (storeOf s) (start .args .version)) (start .args .position) (look .look-root-by .ensures) (w .before .before .sight .given .1) (w .weight-at .ensures .0)
     (omega (arith, c .before .if1 .left)) (c .descend .result) (c .descend .ensures)
 
 returns-3 : tie.Need-returns-3
 returns-3 c =
-    let start = c .before .before .before .before in
+    let start = c .before .before .before .before .before in
     let s = start .args .store .now in
-    let x = rootSight (storeOf s) (start .args .version) in
-    at-nothing s x (start .args .position) (none-sighted s x (c .before .before .look-root .ensures) (c .enum-told .given .1))
+    let x = rootBy (start .args .index .now) (storeOf s) (start .args .version) in
+    at-nothing s (start .args .index .now) x (start .args .position) (none-sighted s x (c .before .before .look-root-by .ensures) (c .enum-told .given .1))
 
 returns-4 : tie.Need-returns-4
 returns-4 c =
-    let start = c .before .before .before .before .before .before in
+    let start = c .before .before .before .before .before .before .before in
     let s = start .args .store .now in
-    let x = rootSight (storeOf s) (start .args .version) in
-    at-spoilt s x (start .args .position) _ (spoilt-sighted s x (c .before .before .before .before .look-root .ensures) (c .before .before .sight2 .given .1)) (c .refusal .ensures)
+    let x = rootBy (start .args .index .now) (storeOf s) (start .args .version) in
+    at-spoilt s (start .args .index .now) x (start .args .position) _ (spoilt-sighted s x (c .before .before .before .before .look-root-by .ensures) (c .before .before .sight2 .given .1)) (c .refusal .ensures)
 
 pub root-position-spec : {M : Type 1} → statement M
 root-position-spec =
     tie.close
     (tie.spec
-    look-root-requires
+    look-root-by-requires
     enum-known-sight
     weight-at-requires
     returns

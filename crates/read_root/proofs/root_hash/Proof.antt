@@ -3,7 +3,7 @@ use native.Mathlib.Omega.{arith}
 use mathlib.Core.Path.{ap, _∙_}
 use Rattle.meaning.specs.Calls.{accepted}
 use Rattle.meaning.specs.Reading.{bodyHash}
-use Rattle.meaning.specs.Sight.{rootSight}
+use Rattle.indexed.specs.Index.{rootBy}
 use Rattle.layout.specs.Stores.{storeOf}
 use Rattle.nodehash.specs.Node.{leafHash, innerHash}
 use Rattle.read_step.specs.Walk.{bodyIn}
@@ -14,17 +14,17 @@ use borrow.Author.Needs.{needs}
 use Rattle.read_root.proofs.root_hash.Statement.{statement}
 use Rattle.read_root.proofs.root_hash.Tie as tie
 
-look-root-requires : tie.Need-look-root-requires
-look-root-requires c κs = search needs
+look-root-by-requires : tie.Need-look-root-by-requires
+look-root-by-requires c κs = search needs
 
 enum-known-sight : tie.Need-enum-known-sight
 enum-known-sight c = search needs
 
 slot-of-requires : tie.Need-slot-of-requires
 slot-of-requires c κs =
-    let start = c .before .before .before .before .before in
+    let start = c .before .before .before .before .before .before in
     let s = start .args .store .now in
-    slot-fits _ s (start .pre) _ (inside s (rootSight (storeOf s) (start .args .version)) (c .before .before .before .look-root .ensures) (c .before .sight .given .1))
+    slot-fits _ s (start .pre) _ (inside s (rootBy (start .args .index .now) (storeOf s) (start .args .version)) (c .before .before .before .look-root-by .ensures) (c .before .sight .given .1))
 
 record-hash-requires : tie.Need-record-hash-requires
 record-hash-requires c κs = search needs
@@ -40,41 +40,41 @@ enum-known-sight-2 c = search needs
 
 cast-slot : tie.Need-cast-slot
 cast-slot c =
-    let start = c .before .before .before .before .before in
+    let start = c .before .before .before .before .before .before in
     let s = start .args .store .now in
-    omega (arith, spoilt-small s (rootSight (storeOf s) (start .args .version)) (c .before .before .before .look-root .ensures) (c .before .sight2 .given .1) (start .pre))
+    omega (arith, spoilt-small s (rootBy (start .args .index .now) (storeOf s) (start .args .version)) (c .before .before .before .look-root-by .ensures) (c .before .sight2 .given .1) (start .pre))
 
 refusal-requires : tie.Need-refusal-requires
 refusal-requires c κs = search needs
 
 returns : tie.Need-returns
 returns c =
-    let start = c .before .before .before .before .before .before .before in
+    let start = c .before .before .before .before .before .before .before .before in
     let s = start .args .store .now in
-    let x = rootSight (storeOf s) (start .args .version) in
+    let x = rootBy (start .args .index .now) (storeOf s) (start .args .version) in
     root-hashed x (c .record-hash .result)
     (ap accepted (c .record-hash .ensures ∙ ap (λ y. bodyHash leafHash innerHash (bodyIn y)) (c .before .slot-of .ensures .0))
-    ∙ root-hash s x (c .before .before .before .before .before .look-root .ensures) (c .before .before .before .sight .given .1) leafHash innerHash)
+    ∙ root-hash s x (c .before .before .before .before .before .look-root-by .ensures) (c .before .before .before .sight .given .1) leafHash innerHash)
 
 returns-2 : tie.Need-returns-2
 returns-2 c =
-    let start = c .before .before .before .before .before in
+    let start = c .before .before .before .before .before .before in
     let s = start .args .store .now in
-    let x = rootSight (storeOf s) (start .args .version) in
-    root-empty x (c .no-hash .result) (none-sighted s x (c .before .before .before .look-root .ensures) (c .before .enum-told .given .1)) (c .no-hash .ensures)
+    let x = rootBy (start .args .index .now) (storeOf s) (start .args .version) in
+    root-empty x (c .no-hash .result) (none-sighted s x (c .before .before .before .look-root-by .ensures) (c .before .enum-told .given .1)) (c .no-hash .ensures)
 
 returns-3 : tie.Need-returns-3
 returns-3 c =
-    let start = c .before .before .before .before .before .before in
+    let start = c .before .before .before .before .before .before .before in
     let s = start .args .store .now in
-    let x = rootSight (storeOf s) (start .args .version) in
-    root-spoilt x _ (spoilt-sighted s x (c .before .before .before .before .look-root .ensures) (c .before .before .sight2 .given .1)) (c .refusal .ensures)
+    let x = rootBy (start .args .index .now) (storeOf s) (start .args .version) in
+    root-spoilt x _ (spoilt-sighted s x (c .before .before .before .before .look-root-by .ensures) (c .before .before .sight2 .given .1)) (c .refusal .ensures)
 
 pub root-hash-spec : {M : Type 1} → statement M
 root-hash-spec =
     tie.close
     (tie.spec
-    look-root-requires
+    look-root-by-requires
     enum-known-sight
     slot-of-requires
     record-hash-requires

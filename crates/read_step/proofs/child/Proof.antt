@@ -3,7 +3,7 @@ use native.Mathlib.Omega.{arith}
 use mathlib.Core.Path.{ap, sym, _∙_}
 use Rattle.terms.specs.Bits.{Byte}
 use Rattle.terms.proofs.Lists.{all-of}
-use Rattle.meaning.specs.Sight.{nodeSight}
+use Rattle.indexed.specs.Index.{nodeBy}
 use Rattle.place.specs.Place.{placeOf}
 use Rattle.layout.specs.Stores.{storeOf}
 use Rattle.read_step.specs.Walk.{kidIn}
@@ -17,12 +17,12 @@ child-version-requires c κs = search needs
 
 returns : tie.Need-returns
 returns c =
-    let a = c .before .before .before .args in
+    let a = c .before .before .before .before .args in
     let s = a .store .now in
-    child-none s (placeOf (a .place)) (kidIn (a .i) s (a .right)) (sym (c .before .child-version .ensures) ∙ c .if1 .taken)
+    child-none s (a .index .now) (placeOf (a .place)) (kidIn (a .i) s (a .right)) (sym (c .before .child-version .ensures) ∙ c .if1 .taken)
 
-look-requires : tie.Need-look-requires
-look-requires c κs = search needs
+look-by-requires : tie.Need-look-by-requires
+look-by-requires c κs = search needs
 
 enum-known-sight : tie.Need-enum-known-sight
 enum-known-sight c = search needs
@@ -30,11 +30,12 @@ enum-known-sight c = search needs
 seen-in-requires : tie.Need-seen-in-requires
 seen-in-requires c κs =
     let version = c .before .before .before .before .before in
-    let start = version .before .before in
+    let start = version .before .before .before in
     let s = start .args .store .now in
-    let b = all-of Byte s 0 (λ i _. omega (arith, version .before .shared-slice-known .given i)) in
+    let table = start .args .index .now in
+    let b = all-of Byte s 0 (λ i _. omega (arith, version .before .before .shared-slice-known .given i)) in
     holds-found s (start .pre .size) b (start .args .place) (start .pre .proper)
-    (node-placed s (version .child-version .result) (start .args .place)) (c .before .before .before .look .ensures) (c .before .sight .given .1)
+    (node-placed s table (version .child-version .result) (start .args .place)) (c .before .before .before .look-by .ensures) (c .before .sight .given .1)
 
 enum-told : tie.Need-enum-told
 enum-told c = search needs
@@ -44,44 +45,48 @@ enum-known-sight-2 c = search needs
 
 cast-slot : tie.Need-cast-slot
 cast-slot c =
-    let start = c .before .before .before .before .before .before .before in
+    let start = c .before .before .before .before .before .before .before .before in
     let s = start .args .store .now in
+    let table = start .args .index .now in
     omega (
       arith,
-      spoilt-small s (nodeSight (storeOf s) (c .before .before .before .before .before .child-version .result) (placeOf (start .args .place)))
-          (c .before .before .before .look .ensures) (c .before .sight2 .given .1) (start .pre .size),
+      spoilt-small s (nodeBy table (storeOf s) (c .before .before .before .before .before .child-version .result) (placeOf (start .args .place)))
+          (c .before .before .before .look-by .ensures) (c .before .sight2 .given .1) (start .pre .size),
     )
 
 returns-2 : tie.Need-returns-2
 returns-2 c =
     let version = c .before .before .before .before .before .before in
-    let start = version .before .before in
+    let start = version .before .before .before in
     let s = start .args .store .now in
-    let b = all-of Byte s 0 (λ i _. omega (arith, version .before .shared-slice-known .given i)) in
+    let table = start .args .index .now in
+    let b = all-of Byte s 0 (λ i _. omega (arith, version .before .before .shared-slice-known .given i)) in
     let p = placeOf (start .args .place) in
     child-sees s (start .pre .size) b (start .args .place) (start .pre .proper)
-    (node-placed s (version .child-version .result) (start .args .place)) (c .before .before .before .before .look .ensures) (c .before .before .sight .given .1)
-    (kidIn (start .args .i) s (start .args .right)) (ap (λ v. nodeSight (storeOf s) v p) (sym (version .child-version .ensures)))
-    (omega (arith, version .child-version .ensures, c .before .before .before .before .before .if1 .left)) (c .seen-in .result) (c .seen-in .ensures)
+    (node-placed s table (version .child-version .result) (start .args .place)) (c .before .before .before .before .look-by .ensures) (c .before .before .sight .given .1)
+    table (kidIn (start .args .i) s (start .args .right)) (ap (λ v. nodeBy table (storeOf s) v p) (sym (version .child-version .ensures)))
+    (omega (arith, version .child-version .ensures, c .before .before .before .before .before .if1 .left)) (c .seen-in .result) (c .seen-in .ensures table)
 
 returns-3 : tie.Need-returns-3
 returns-3 c =
     let version = c .before .before .before .before in
-    let start = version .before .before in
+    let start = version .before .before .before in
     let s = start .args .store .now in
+    let table = start .args .index .now in
     let p = placeOf (start .args .place) in
-    child-nothing s (nodeSight (storeOf s) (version .child-version .result) p) (c .before .before .look .ensures) (c .enum-told .given .1) p
-    (kidIn (start .args .i) s (start .args .right)) (ap (λ v. nodeSight (storeOf s) v p) (sym (version .child-version .ensures)))
+    child-nothing s (nodeBy table (storeOf s) (version .child-version .result) p) (c .before .before .look-by .ensures) (c .enum-told .given .1) table p
+    (kidIn (start .args .i) s (start .args .right)) (ap (λ v. nodeBy table (storeOf s) v p) (sym (version .child-version .ensures)))
     (omega (arith, version .child-version .ensures, c .before .before .before .if1 .left))
 
 returns-4 : tie.Need-returns-4
 returns-4 c =
     let version = c .before .before .before .before .before in
-    let start = version .before .before in
+    let start = version .before .before .before in
     let s = start .args .store .now in
+    let table = start .args .index .now in
     let p = placeOf (start .args .place) in
-    child-spoilt s (nodeSight (storeOf s) (version .child-version .result) p) (c .before .before .before .look .ensures) (c .before .sight2 .given .1) p
-    (kidIn (start .args .i) s (start .args .right)) (ap (λ v. nodeSight (storeOf s) v p) (sym (version .child-version .ensures)))
+    child-spoilt s (nodeBy table (storeOf s) (version .child-version .result) p) (c .before .before .before .look-by .ensures) (c .before .sight2 .given .1) table p
+    (kidIn (start .args .i) s (start .args .right)) (ap (λ v. nodeBy table (storeOf s) v p) (sym (version .child-version .ensures)))
     (omega (arith, version .child-version .ensures, c .before .before .before .before .if1 .left))
 
 pub child-spec : {M : Type 1} → statement M
@@ -90,7 +95,7 @@ child-spec =
     (tie.spec
     child-version-requires
     returns
-    look-requires
+    look-by-requires
     enum-known-sight
     seen-in-requires
     enum-told

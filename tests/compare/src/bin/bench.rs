@@ -2,7 +2,7 @@
 //! that it does not grow with the versions, and the stack that each call takes. With the argument `stack` that last part alone, with
 //! `changes` the comparisons alone, with `gaps` the publishings under numbers with gaps, with `beside-check` apply and prune beside check, with
 //! `missing` the reads that miss a record, with `rescue` the rescues, with `moves` the moves over and back, with `positions` the numbers of grants and
-//! the grants by position, with `figures` the figures of a range, with `finding` what is found of a true proof.
+//! the grants by position, with `tables` the calls by a table, with `figures` the figures of a range, with `finding` what is found of a true proof.
 
 #[path = "../cases.rs"]
 #[allow(dead_code)]
@@ -487,6 +487,76 @@ fn moves() {
     }
 }
 
+/// 2026-05: a full, sound store of 16,384 slots with its table, in processor time: the reads by scans and by the table, and beside the second program's hash map
+/// once that is made; a palette beside its single calls; what keeping the table costs. Fails above the bars.
+fn tables() {
+    let (s, keys) = filled(&mut Random(47), 16_384, 256, 16_384, 0);
+    let latest = second::bytes::store(&s).unwrap().latest;
+    let mut table = vec![0; 16_384];
+    let best = |turns: usize, call: &mut dyn FnMut()| (0..turns).map(|_| processor(call)).fold(f64::MAX, f64::min);
+    let mut missed = vec![];
+    let mut bar = |name: &str, took: f64, beside: &str, other: f64, most: f64| {
+        println!("bar {name} {took:.3}ms, {:.3} of {beside} {other:.3}ms, bar {most}", took / other);
+        if took > most * other {
+            missed.push(name.to_string());
+        }
+    };
+    let check = best(9, &mut || assert_eq!(ours::check(&s), Ok(())));
+    let build = best(9, &mut || assert_eq!(ours::index(&s, &mut table), Ok(())));
+    bar("index-beside-check", build - check, "check's", check, 1.0);
+    let told = best(9, &mut || assert_eq!(ours::index_check(&s, &table), Ok(())));
+    println!("where index_check {told:.3}ms, check {check:.3}ms");
+    let some: Vec<&[u8; 32]> = keys.iter().step_by(keys.len() / 50).collect();
+    let mut room = vec![0; 17_080];
+    let scan = best(5, &mut || some.iter().for_each(|k| assert!(black_box(ours::get(&s, latest, &k[..])).is_ok())));
+    let by = best(9, &mut || some.iter().for_each(|k| assert!(black_box(ours::get_indexed(&s, &table, latest, &k[..])).is_ok())));
+    bar("get-by-table", by, "scans'", scan, 1.0 / 8.0);
+    let store = second::bytes::store(&s).unwrap();
+    let map = second::tree::Index::of(&store);
+    let plain = best(9, &mut || some.iter().for_each(|k| assert!(black_box(second::calls::value_of(&store, &map, latest, k)).is_ok())));
+    println!("where get-by-table {by:.3}ms, {:.2} of a hash map's {plain:.3}ms (1.5 was the aim: docs/landings/2026-05.md)", by / plain);
+    let scan = best(5, &mut || some.iter().for_each(|k| assert!(black_box(ours::prove(&s, latest, &k[..], &mut room)).is_ok())));
+    let by = best(9, &mut || some.iter().for_each(|k| assert!(black_box(ours::prove_indexed(&s, &table, latest, &k[..], &mut room)).is_ok())));
+    bar("prove-by-table", by, "scans'", scan, 1.0 / 8.0);
+    let plain = best(9, &mut || some.iter().for_each(|k| assert!(black_box(second::proof::proof_of(&store, &map, latest, k)).is_ok())));
+    println!("where prove-by-table {by:.3}ms, {:.2} of a hash map's {plain:.3}ms (1.5 was the aim: docs/landings/2026-05.md)", by / plain);
+    let list: Vec<u8> = (0..256).flat_map(|i| *keys[i * keys.len() / 256..].first().unwrap()).collect();
+    let mut wide = vec![0; 256 * 17_080];
+    let whole = best(9, &mut || assert!(ours::palette_indexed(&s, &table, latest, &list, &mut wide).is_ok()));
+    let single = best(9, &mut || list.chunks(32).for_each(|k| assert!(ours::prove_indexed(&s, &table, latest, k, &mut room).is_ok())));
+    // Each key is planned twice, once for the length and once to be written; 1.1 was the aim (docs/landings/2026-05.md).
+    bar("palette-256-by-table", whole, "single calls'", single, 2.2);
+    // Room for a publishing: half full.
+    let (s, keys) = filled(&mut Random(53), 16_384, 256, 8_192, 0);
+    let next = cases::next(&s);
+    ours::index(&s, &mut table).unwrap();
+    for size in [1, 64, MOST_ASKS] {
+        let b = batch(&mut Random(59), &keys, size, size.min(500));
+        let (mut plain, mut with) = (f64::MAX, f64::MAX);
+        for _ in 0..9 {
+            let mut t = s.clone();
+            plain = plain.min(processor(&mut || assert!(ours::apply(&mut t, next, &b).is_ok())));
+            let (mut u, mut w) = (s.clone(), table.clone());
+            with = with.min(processor(&mut || assert!(ours::apply_indexed(&mut u, &mut w, next, &b).is_ok())));
+            assert!(t == u, "not the same store");
+        }
+        bar(&format!("apply-{size}-with-table"), with, "apply's", plain, 1.15);
+    }
+    let (mut plain, mut with) = (f64::MAX, f64::MAX);
+    for _ in 0..9 {
+        let mut t = s.clone();
+        plain = plain.min(processor(&mut || assert!(ours::prune(&mut t, next - 2).is_ok())));
+        let (mut u, mut w) = (s.clone(), table.clone());
+        with = with.min(processor(&mut || assert!(ours::prune_indexed(&mut u, &mut w, next - 2).is_ok())));
+        assert!(t == u, "not the same store");
+    }
+    bar("prune-with-table", with, "prune's", plain, 1.15);
+    if !missed.is_empty() {
+        println!("bench: above their bars: {}", missed.join(", "));
+        std::process::exit(1);
+    }
+}
+
 /// 2026-08: rescues of full stores of 16,384 slots, sound ones, so that all comes back: nothing takes longer. Beside check on the same store, and the
 /// second program's walk. Fails above two seconds.
 fn rescues() {
@@ -604,6 +674,9 @@ fn main() {
     if std::env::args().nth(1).as_deref() == Some("moves") {
         return moves();
     }
+    if std::env::args().nth(1).as_deref() == Some("tables") {
+        return tables();
+    }
     let mut random = Random(11);
     let proofs: Vec<_> = (0..1000).map(|_| path(&mut random, 20)).collect();
     compare(
@@ -645,5 +718,6 @@ fn main() {
     findings(&mut Random(43));
     rescues();
     moves();
+    tables();
     stacks();
 }

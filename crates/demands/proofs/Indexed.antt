@@ -1,0 +1,299 @@
+-- Document 02, 2026-05: the reads by a table. One outcome; refused, nothing is written; where no two slots match, each answers and leaves every byte as
+-- the plain call does if the table has the right length, and each number exactly by its row; so it is of every sound store. Assumes nothing.
+use Prim.Native.Nat.{ℕ}
+use native.Mathlib.Omega.{arith}
+use mathlib.Core.Path.{_≡_, refl, ap, sym, _∙_, subst}
+use mathlib.Core.Logic.{inl, inr}
+use mathlib.Core.Bool.{Bool, true, false, cond, true≢false}
+use mathlib.Core.List.{List, [], _∷_, _++_}
+use lib.ListN.{length}
+use lib.Dec.{eqb}
+use borrow.Author.Tests.{eqb-true, eq-eqb}
+use Rattle.terms.specs.declared.Form.the-variants.{Counted as counted}
+use Rattle.terms.specs.Bits.{Bytes, Byte, All}
+use Rattle.terms.specs.Fields.{le}
+use Rattle.meaning.specs.Calls.{Answer, refused}
+use Rattle.meaning.specs.Answers.{numberOf, toldOf, foundAfter}
+use Rattle.meaning.specs.Reading.{Trouble, lostRecord, spoiltRecord, readKeyBy, readRootBy}
+use Rattle.meaning.specs.Proving.{proofBy, proveBy}
+use Rattle.meaning.specs.Counting.{readNumberBy, readPositionBy}
+use Rattle.palette_rules.specs.Palette.{wholeKeys, keysIn, paletteOf}
+use Rattle.indexed.specs.Index.{byTable}
+use Rattle.index_reads.proofs.Alike.{root-alike, key-alike, number-alike, position-alike, prove-alike, palette-alike, sound-no-two}
+use Rattle.nodehash.specs.Node.{leafHash, innerHash}
+use Rattle.layout.specs.Sizes.{roomOf}
+use Rattle.layout.specs.Headers.{Headed, refusal, header, headerOf}
+use Rattle.layout.specs.Stores.{storeOf}
+use Rattle.layout.proofs.Headers.{room-of}
+use Rattle.promises.specs.Calls.{SoundBytes}
+use Rattle.read_open.specs.Headed.{byHeader, asMany, headerWith}
+use Rattle.read.specs.Reads.{rootAnswer, rootIndexed, keyAnswer, keyIndexed}
+use Rattle.read_c.specs.Export.{rootBytes}
+use Rattle.read_number.specs.Numbers.{numberAnswer, numberIndexed}
+use Rattle.read_position.specs.Positions.{positionAnswer, positionIndexed}
+use Rattle.read_counts_c.specs.Export.{grantBytes}
+use Rattle.prove.specs.Proving.{proveAnswer, proveIndexed, roomAfter}
+use Rattle.prove_c.specs.Export.{lengthBytes}
+use Rattle.palette.specs.Palettes as palettes
+use Rattle.palette.specs.Palettes.{paletteAnswer, paletteIndexed}
+use Rattle.palette_c.specs.Export as palettes-c
+use Rattle.refusals.specs.Exactly.{Table, Exactly, NoneOf, low, Names}
+use Rattle.refusals.specs.Rows.{WrongLength, StopsRoot, StopsGet, StopsAt, StopsProve, StopsPalette, TooLong, TooLongTogether}
+use Rattle.refusals.proofs.Exactly.{exactly}
+use Rattle.refusals.proofs.Headers.{Header, wrong-length, wrong-header, right, header-is, records-formed}
+use Rattle.refusals.proofs.Stopped.{Stopped, stopped-past, stopped-within, stopped-first, stopped-found, stopped-names}
+use Rattle.refusals.proofs.Walks.{kept-said, root-stopped, get-stopped, prove-stopped}
+use Rattle.refusals.proofs.Positions.{number-stopped, position-stopped}
+use Rattle.refusals.proofs.Palettes.{palette-stopped}
+use Rattle.grants.specs.Contracts.{ReadsRootBy, ReadsKeyBy, CountsBy, ReadsAtBy, ProvesBy, PalettesBy}
+use Rattle.demands.specs.Indexed.{WrongLengths, headerRowsBy, rootTestsBy, rootRowsBy, getTestsBy, getRowsBy, atTestsBy, atRowsBy, proveTestsBy, proveRowsBy, paletteTestsBy, paletteRowsBy, NoneTwice, AsPlain}
+use Rattle.demands.proofs.Refusals.{refused-of}
+use Rattle.demands.proofs.Exact.{key-stopped, list-stopped, never-lost}
+
+-- One outcome.
+module _ {s : Bytes} {table : List ℕ} {v a b : ℕ} where
+  pub one-root-by : {f g h : Bytes} → ReadsRootBy s table v f a g → ReadsRootBy s table v f b h → (a ≡ b) × (g ≡ h)
+  one-root-by x y = (x .answer ∙ sym (y .answer), x .root ∙ sym (y .root))
+
+  pub one-get-by : {k f g h : Bytes} → ReadsKeyBy s table v k f a g → ReadsKeyBy s table v k f b h → (a ≡ b) × (g ≡ h)
+  one-get-by x y = (x .answer ∙ sym (y .answer), x .found ∙ sym (y .found))
+
+  pub one-count-by : {f g h : Bytes} → CountsBy s table v f a g → CountsBy s table v f b h → (a ≡ b) × (g ≡ h)
+  one-count-by x y = (x .answer ∙ sym (y .answer), x .count ∙ sym (y .count))
+
+  pub one-at-by : {i : ℕ} {f g h : Bytes} → ReadsAtBy s table v i f a g → ReadsAtBy s table v i f b h → (a ≡ b) × (g ≡ h)
+  one-at-by x y = (x .answer ∙ sym (y .answer), x .grant ∙ sym (y .grant))
+
+  pub one-prove-by : {k room f t u g h : Bytes} → ProvesBy s table v k room f a t g → ProvesBy s table v k room f b u h → (a ≡ b) × (t ≡ u) × (g ≡ h)
+  one-prove-by x y = (x .answer ∙ sym (y .answer), x .proof ∙ sym (y .proof), x .told ∙ sym (y .told))
+
+  pub one-palette-by : {list room f t u g h : Bytes} → PalettesBy s table v list room f a t g → PalettesBy s table v list room f b u h →
+      (a ≡ b) × (t ≡ u) × (g ≡ h)
+  one-palette-by x y = (x .answer ∙ sym (y .answer), x .proofs ∙ sym (y .proofs), x .told ∙ sym (y .told))
+
+-- Refused, nothing is written.
+refusal-of : {A : Type 0} {r : ℕ} → (r ≡ 0 → ⊥) → (a : Answer A) → r ≡ numberOf a → (n : ℕ) × (a ≡ refused n)
+refusal-of f a e = refused-of a (λ z. f (e ∙ z))
+
+module _ {s : Bytes} {table : List ℕ} {v r : ℕ} (not-0 : r ≡ 0 → ⊥) where
+  pub refused-root-by-writes-nothing : {f g : Bytes} → ReadsRootBy s table v f r g → g ≡ f
+  refused-root-by-writes-nothing {f} w = w .root ∙ ap (λ a. rootBytes a f) (refusal-of not-0 (rootIndexed s table v) (w .answer) .1)
+
+  pub refused-get-by-writes-nothing : {k f g : Bytes} → ReadsKeyBy s table v k f r g → g ≡ f
+  refused-get-by-writes-nothing {k} {f} w = w .found ∙ ap (λ a. foundAfter a f) (refusal-of not-0 (keyIndexed s table v k) (w .answer) .1)
+
+  pub refused-count-by-writes-nothing : {f g : Bytes} → CountsBy s table v f r g → g ≡ f
+  refused-count-by-writes-nothing {f} w = w .count ∙ ap (λ a. toldOf (le 8) a f) (refusal-of not-0 (numberIndexed s table v) (w .answer) .1)
+
+  pub refused-at-by-writes-nothing : {i : ℕ} {f g : Bytes} → ReadsAtBy s table v i f r g → g ≡ f
+  refused-at-by-writes-nothing {i} {f} w = w .grant ∙ ap (λ a. toldOf grantBytes a f) (refusal-of not-0 (positionIndexed s table v i) (w .answer) .1)
+
+  pub refused-prove-by-writes-nothing : {k room f t g : Bytes} → ProvesBy s table v k room f r t g → (t ≡ room) × (g ≡ f)
+  refused-prove-by-writes-nothing {k} {room} {f} w =
+      let e = refusal-of not-0 (proveIndexed s table v k (length room)) (w .answer) .1 in
+      (w .proof ∙ ap (λ a. roomAfter a room) e, w .told ∙ ap (λ a. lengthBytes a f) e)
+
+  pub refused-palette-by-writes-nothing : {list room f t g : Bytes} → PalettesBy s table v list room f r t g → (t ≡ room) × (g ≡ f)
+  refused-palette-by-writes-nothing {list} {room} {f} w =
+      let e = refusal-of not-0 (paletteIndexed s table v list (length room)) (w .answer) .1 in
+      (w .proofs ∙ ap (λ a. palettes.roomAfter a room) e, w .told ∙ ap (λ a. palettes-c.lengthBytes a f) e)
+
+-- A table of the right length, and no two slots that match: the answers are the plain ones.
+module _ (s : Bytes) (table : List ℕ) (v : ℕ) (many : length table ≡ roomOf counted (length s)) (once : NoneTwice s v) where
+  fits : asMany s table ≡ true
+  unfolding asMany
+  fits = eq-eqb (length table) (roomOf counted (length s)) many
+
+  headed : {A : Type 0} {a b : Answer A} → a ≡ b → byHeader (headerWith s table) a ≡ byHeader (headerOf counted s) b
+  unfolding headerWith
+  headed {a = a} e =
+      ap (λ c. byHeader (cond c (headerOf counted s) (refusal 1)) a) fits ∙ ap (byHeader (headerOf counted s)) e
+
+  same-root : rootIndexed s table v ≡ rootAnswer s v
+  unfolding rootIndexed rootAnswer
+  same-root = headed (root-alike (storeOf s) table v once leafHash innerHash)
+
+  same-key : (k : Bytes) → keyIndexed s table v k ≡ keyAnswer s v k
+  unfolding keyIndexed keyAnswer
+  same-key k = ap (λ a. cond (eqb (length k) 32) a (refused 12)) (headed (key-alike (storeOf s) table v once k))
+
+  same-number : numberIndexed s table v ≡ numberAnswer s v
+  unfolding numberIndexed numberAnswer
+  same-number = headed (number-alike (storeOf s) table v once)
+
+  same-position : (i : ℕ) → positionIndexed s table v i ≡ positionAnswer s v i
+  unfolding positionIndexed positionAnswer
+  same-position i = headed (position-alike (storeOf s) table v once i)
+
+  same-proof : (k : Bytes) (room : ℕ) → proveIndexed s table v k room ≡ proveAnswer s v k room
+  unfolding proveIndexed proveAnswer
+  same-proof k room = ap (λ a. cond (eqb (length k) 32) a (refused 12)) (headed (prove-alike (storeOf s) table v once k room))
+
+  same-palette : (list : Bytes) (room : ℕ) → paletteIndexed s table v list room ≡ paletteAnswer s v list room
+  unfolding paletteIndexed paletteAnswer
+  same-palette list room =
+      ap (λ a. cond (wholeKeys list) a (refused 12)) (headed (palette-alike (storeOf s) table v once (keysIn list) room))
+
+  -- Any table, any store: a read by the table differs from the plain one only where two slots match.
+  pub indexed-as-plain : AsPlain s table v
+  indexed-as-plain = record {
+    root = λ {f} x y.
+        (x .answer ∙ ap numberOf same-root ∙ sym (y .answer), x .root ∙ ap (λ a. rootBytes a f) same-root ∙ sym (y .root));
+    key = λ {k} {f} x y.
+        (x .answer ∙ ap numberOf (same-key k) ∙ sym (y .answer), x .found ∙ ap (λ a. foundAfter a f) (same-key k) ∙ sym (y .found));
+    count = λ {f} x y.
+        (x .answer ∙ ap numberOf same-number ∙ sym (y .answer), x .count ∙ ap (λ a. toldOf (le 8) a f) same-number ∙ sym (y .count));
+    position = λ {i} {f} x y.
+        (x .answer ∙ ap numberOf (same-position i) ∙ sym (y .answer), x .grant ∙ ap (λ a. toldOf grantBytes a f) (same-position i) ∙ sym (y .grant));
+    proof = λ {k} {room} {f} x y.
+        let e = same-proof k (length room) in (
+          x .answer ∙ ap numberOf e ∙ sym (y .answer),
+          x .proof ∙ ap (λ a. roomAfter a room) e ∙ sym (y .proof),
+          x .told ∙ ap (λ a. lengthBytes a f) e ∙ sym (y .told),
+        );
+    palette = λ {list} {room} {f} x y.
+        let e = same-palette list (length room) in (
+          x .answer ∙ ap numberOf e ∙ sym (y .answer),
+          x .proofs ∙ ap (λ a. palettes.roomAfter a room) e ∙ sym (y .proofs),
+          x .told ∙ ap (λ a. palettes-c.lengthBytes a f) e ∙ sym (y .told),
+        );
+  }
+
+-- No two slots match in a sound store, so a stale or hostile table of the right length costs time and nothing else.
+pub sound-none-twice : {s : Bytes} → SoundBytes s → (v : ℕ) → NoneTwice s v
+sound-none-twice {s} w v e = sound-no-two leafHash innerHash (storeOf s) (w .sound) v (kept-said (storeOf s) v e)
+
+pub sound-indexed-as-plain : {s : Bytes} → SoundBytes s → (table : List ℕ) → length table ≡ roomOf counted (length s) → (v : ℕ) → AsPlain s table v
+sound-indexed-as-plain {s} w table many v = indexed-as-plain s table v many (sound-none-twice w v)
+
+-- Rows 1 and 2 with a table.
+module _ (s : Bytes) (table : List ℕ) where
+  -- row 1 by the test of both lengths
+  not-many : asMany s table ≡ false → WrongLengths s table
+  unfolding asMany
+  not-many e n least most size many =
+      true≢false (sym (eq-eqb (length table) (roomOf counted (length s)) (many ∙ sym (room-of counted (length s) n size))) ∙ e)
+
+  right-lengths : asMany s table ≡ true → (WrongLength s → ⊥) → WrongLengths s table → ⊥
+  unfolding asMany
+  right-lengths e ok wrong =
+      ok (λ n least most size.
+      wrong n least most size (eqb-true (length table) (roomOf counted (length s)) e ∙ room-of counted (length s) n size))
+
+  module _ {A : Type 0} {early later : Table} {stops : Trouble → Type 0} (a : Answer A)
+      (rest : (c o l : ℕ) → headerOf counted s ≡ header c o l → Stopped early later stops (numberOf a)) where
+    abbrev Deserved : ℕ → Type 0
+    Deserved n = Stopped (headerRowsBy s table ++ early) later stops n
+
+    of-right-length : asMany s table ≡ true → {h : Headed} → headerOf counted s ≡ h → Header s h → Deserved (numberOf (byHeader h a))
+    of-right-length many e (wrong-length w) =
+        stopped-within (headerRowsBy s table) early (inl (λ n least most size its. w n least most size, refl)) (λ z. absurd (omega arith))
+    of-right-length many e (wrong-header ok w) =
+        stopped-within (headerRowsBy s table) early (inr (right-lengths many ok, inl (w, refl))) (λ z. absurd (omega arith))
+    of-right-length many e (right {c} {o} {l} ok w) =
+        stopped-past (headerRowsBy s table) early (right-lengths many ok, (w, tt)) (rest c o l e)
+
+    by-header : Deserved (numberOf (byHeader (headerWith s table) a))
+    unfolding headerWith
+    by-header = go (asMany s table) refl
+      where
+        go : (b : Bool) → asMany s table ≡ b → Deserved (numberOf (byHeader (cond b (headerOf counted s) (refusal 1)) a))
+        go false e = stopped-within (headerRowsBy s table) early (inl (not-many e, refl)) (λ z. absurd (omega arith))
+        go true e = of-right-length e refl (header-is s)
+
+-- an answer that is equal to one that is stopped so is
+as-stopped : {A : Type 0} {early later : Table} {stops : Trouble → Type 0} {a b : Answer A} → a ≡ b → Stopped early later stops (numberOf b) →
+    Stopped early later stops (numberOf a)
+as-stopped {early = early} {later = later} {stops = stops} e w = subst (λ x. Stopped early later stops (numberOf x)) (sym e) w
+
+-- Where no two slots match, each number is answered exactly if its row deserves it and no earlier one does; and the slot beside 3.
+module _ {s : Bytes} {table : List ℕ} {v : ℕ} (once : NoneTwice s v) where
+  module _ {f g : Bytes} {r : ℕ} where
+    root-answers : ReadsRootBy s table v f r g → Stopped (rootTestsBy s table v) [] (StopsRoot s v) r
+    unfolding rootIndexed
+    root-answers w =
+        subst (Stopped (rootTestsBy s table v) [] (StopsRoot s v)) (sym (w .answer))
+        (by-header s table (readRootBy leafHash innerHash (byTable table (storeOf s)) (storeOf s) v)
+        (λ c o l e. as-stopped (root-alike (storeOf s) table v once leafHash innerHash) (root-stopped leafHash innerHash s v)))
+
+    pub root-by-exactly : ReadsRootBy s table v f r g → Exactly (rootRowsBy s table v) (low r)
+    root-by-exactly w = exactly (rootRowsBy s table v) (low r) refl (stopped-found refl refl (root-answers w) (never-lost s v lostRecord refl))
+
+    pub root-by-names-slot : ReadsRootBy s table v f r g → Names (λ i. NoneOf (rootTestsBy s table v) × StopsRoot s v (spoiltRecord i)) r
+    root-by-names-slot w = stopped-names refl refl (root-answers w)
+
+    count-answers : CountsBy s table v f r g → Stopped (rootTestsBy s table v) [] (StopsRoot s v) r
+    unfolding numberIndexed
+    count-answers w =
+        subst (Stopped (rootTestsBy s table v) [] (StopsRoot s v)) (sym (w .answer))
+        (by-header s table (readNumberBy (byTable table (storeOf s)) (storeOf s) v)
+        (λ c o l e. as-stopped (number-alike (storeOf s) table v once) (number-stopped leafHash innerHash s v)))
+
+    pub count-by-exactly : CountsBy s table v f r g → Exactly (rootRowsBy s table v) (low r)
+    count-by-exactly w = exactly (rootRowsBy s table v) (low r) refl (stopped-found refl refl (count-answers w) (never-lost s v lostRecord refl))
+
+    pub count-by-names-slot : CountsBy s table v f r g → Names (λ i. NoneOf (rootTestsBy s table v) × StopsRoot s v (spoiltRecord i)) r
+    count-by-names-slot w = stopped-names refl refl (count-answers w)
+
+  module _ (bytes : All Byte s) where
+    get-answers : {k f g : Bytes} {r : ℕ} → ReadsKeyBy s table v k f r g → Stopped (getTestsBy s table v k) [] (StopsGet s v k) r
+    unfolding keyIndexed
+    get-answers {k} w =
+        subst (Stopped (getTestsBy s table v k) [] (StopsGet s v k)) (sym (w .answer))
+        (key-stopped k (byHeader (headerWith s table) (readKeyBy (byTable table (storeOf s)) (storeOf s) v k))
+        (by-header s table (readKeyBy (byTable table (storeOf s)) (storeOf s) v k)
+        (λ c o l e. as-stopped (key-alike (storeOf s) table v once k) (get-stopped s (records-formed s bytes e) v k))))
+
+    pub get-by-exactly : {k f g : Bytes} {r : ℕ} → ReadsKeyBy s table v k f r g → Exactly (getRowsBy s table v k) (low r)
+    get-by-exactly {k} {r = r} w = exactly (getRowsBy s table v k) (low r) refl (stopped-first refl refl (get-answers w))
+
+    pub get-by-names-slot : {k f g : Bytes} {r : ℕ} → ReadsKeyBy s table v k f r g →
+        Names (λ i. NoneOf (getTestsBy s table v k) × StopsGet s v k (spoiltRecord i)) r
+    get-by-names-slot w = stopped-names refl refl (get-answers w)
+
+    at-answers : {i : ℕ} {f g : Bytes} {r : ℕ} → ReadsAtBy s table v i f r g → Stopped (atTestsBy s table v i) [] (StopsAt s v i) r
+    unfolding positionIndexed
+    at-answers {i} w =
+        subst (Stopped (atTestsBy s table v i) [] (StopsAt s v i)) (sym (w .answer))
+        (by-header s table (readPositionBy (byTable table (storeOf s)) (storeOf s) v i)
+        (λ c o l e. as-stopped (position-alike (storeOf s) table v once i) (position-stopped s (records-formed s bytes e) v i)))
+
+    pub at-by-exactly : {i : ℕ} {f g : Bytes} {r : ℕ} → ReadsAtBy s table v i f r g → Exactly (atRowsBy s table v i) (low r)
+    at-by-exactly {i} {r = r} w = exactly (atRowsBy s table v i) (low r) refl (stopped-first refl refl (at-answers w))
+
+    pub at-by-names-slot : {i : ℕ} {f g : Bytes} {r : ℕ} → ReadsAtBy s table v i f r g →
+        Names (λ j. NoneOf (atTestsBy s table v i) × StopsAt s v i (spoiltRecord j)) r
+    at-by-names-slot w = stopped-names refl refl (at-answers w)
+
+    prove-answers : {k room f t g : Bytes} {r : ℕ} → ProvesBy s table v k room f r t g →
+        Stopped (proveTestsBy s table v k) ((9, TooLong s v k room) ∷ []) (StopsProve s v k) r
+    unfolding proveIndexed
+    prove-answers {k} {room} w =
+        subst (Stopped (proveTestsBy s table v k) ((9, TooLong s v k room) ∷ []) (StopsProve s v k)) (sym (w .answer))
+        (key-stopped k (byHeader (headerWith s table) (proveBy (byTable table (storeOf s)) (storeOf s) v k (length room)))
+        (by-header s table (proveBy (byTable table (storeOf s)) (storeOf s) v k (length room))
+        (λ c o l e. as-stopped (prove-alike (storeOf s) table v once k (length room)) (prove-stopped s (records-formed s bytes e) v k room))))
+
+    pub prove-by-exactly : {k room f t g : Bytes} {r : ℕ} → ProvesBy s table v k room f r t g → Exactly (proveRowsBy s table v k room) (low r)
+    prove-by-exactly {k} {room} {r = r} w = exactly (proveRowsBy s table v k room) (low r) refl (stopped-first refl refl (prove-answers w))
+
+    pub prove-by-names-slot : {k room f t g : Bytes} {r : ℕ} → ProvesBy s table v k room f r t g →
+        Names (λ i. NoneOf (proveTestsBy s table v k) × StopsProve s v k (spoiltRecord i)) r
+    prove-by-names-slot w = stopped-names refl refl (prove-answers w)
+
+    palette-answers : {list room f t g : Bytes} {r : ℕ} → PalettesBy s table v list room f r t g →
+        Stopped (paletteTestsBy s table v list) ((9, TooLongTogether s v (keysIn list) room) ∷ []) (StopsPalette s v (keysIn list)) r
+    unfolding paletteIndexed
+    palette-answers {list} {room} w =
+        let its = paletteOf (proofBy (byTable table (storeOf s)) (storeOf s) v) (storeOf s) v (keysIn list) (length room) in
+        subst (Stopped (paletteTestsBy s table v list) ((9, TooLongTogether s v (keysIn list) room) ∷ []) (StopsPalette s v (keysIn list))) (sym (w .answer))
+        (list-stopped list (byHeader (headerWith s table) its)
+        (by-header s table its
+        (λ c o l e. as-stopped (palette-alike (storeOf s) table v once (keysIn list) (length room)) (palette-stopped s (records-formed s bytes e) v (keysIn list) room))))
+
+    pub palette-by-exactly : {list room f t g : Bytes} {r : ℕ} → PalettesBy s table v list room f r t g → Exactly (paletteRowsBy s table v list room) (low r)
+    palette-by-exactly {list} {room} {r = r} w = exactly (paletteRowsBy s table v list room) (low r) refl (stopped-first refl refl (palette-answers w))
+
+    pub palette-by-names-slot : {list room f t g : Bytes} {r : ℕ} → PalettesBy s table v list room f r t g →
+        Names (λ i. NoneOf (paletteTestsBy s table v list) × StopsPalette s v (keysIn list) (spoiltRecord i)) r
+    palette-by-names-slot w = stopped-names refl refl (palette-answers w)

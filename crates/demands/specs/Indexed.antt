@@ -1,0 +1,77 @@
+-- Document 02, 2026-05: the reads by a table of slot numbers lent with the store. 'A table of another length gives 1';
+-- 'whatever the index holds, a read differs from the plain scan's only where two slots match.' Assumes nothing.
+use Prim.Native.Nat.{ℕ, _+_, _*_, _≤_}
+use mathlib.Core.Path.{_≡_}
+use mathlib.Core.Bool.{true}
+use mathlib.Core.List.{List, [], _∷_, _++_}
+use lib.ListN.{length}
+use Rattle.terms.specs.declared.Form.the-variants.{Counted as counted}
+use Rattle.terms.specs.Bits.{Bytes}
+use Rattle.meaning.specs.Calls.{isKept}
+use Rattle.palette_rules.specs.Palette.{keysIn}
+use Rattle.index_reads.specs.Matching.{NoTwoMatch}
+use Rattle.layout.specs.Sizes.{headerSize, mostSlots, slotSize}
+use Rattle.layout.specs.Stores.{storeOf}
+use Rattle.refusals.specs.Exactly.{Table}
+use Rattle.refusals.specs.Rows.{WrongHeader, Not32, NotKeys}
+use Rattle.refusals.specs.Orders.{versionRows, lookupRows, keyRows, placingRows, positionRows, provingRows, proofRows}
+use Rattle.refusals.specs.Orders.{askingRows, togetherRows}
+use Rattle.grants.specs.Contracts.{ReadsRoot, ReadsKey, Counts, ReadsAt, Proves, Palettes}
+use Rattle.grants.specs.Contracts.{ReadsRootBy, ReadsKeyBy, CountsBy, ReadsAtBy, ProvesBy, PalettesBy}
+
+-- 1: the store's length isn't 24 + 128n, n in 1 to 16,384, or the table hasn't n entries.
+abbrev pub WrongLengths : Bytes → List ℕ → Type 0
+WrongLengths s table =
+    (n : ℕ) → 1 ≤ n → n ≤ mostSlots → length s ≡ headerSize + slotSize counted * n → length table ≡ n → ⊥
+
+-- 1, 2.
+abbrev pub headerRowsBy : Bytes → List ℕ → Table
+headerRowsBy s table = (1, WrongLengths s table) ∷ (2, WrongHeader s) ∷ []
+
+-- The tables of the six reads, each with the rows that it tests before it looks for records: those of the plain call,
+-- with this 1.
+abbrev pub rootTestsBy : Bytes → List ℕ → ℕ → Table
+rootTestsBy s table v = headerRowsBy s table ++ versionRows s v
+
+abbrev pub rootRowsBy : Bytes → List ℕ → ℕ → Table
+rootRowsBy s table v = headerRowsBy s table ++ lookupRows s v
+
+abbrev pub getTestsBy : Bytes → List ℕ → ℕ → Bytes → Table
+getTestsBy s table v k = (12, Not32 (k ∷ [])) ∷ headerRowsBy s table ++ versionRows s v
+
+abbrev pub getRowsBy : Bytes → List ℕ → ℕ → Bytes → Table
+getRowsBy s table v k = (12, Not32 (k ∷ [])) ∷ headerRowsBy s table ++ keyRows s v k
+
+abbrev pub atTestsBy : Bytes → List ℕ → ℕ → ℕ → Table
+atTestsBy s table v i = headerRowsBy s table ++ placingRows s v i
+
+abbrev pub atRowsBy : Bytes → List ℕ → ℕ → ℕ → Table
+atRowsBy s table v i = headerRowsBy s table ++ positionRows s v i
+
+abbrev pub proveTestsBy : Bytes → List ℕ → ℕ → Bytes → Table
+proveTestsBy s table v k = (12, Not32 (k ∷ [])) ∷ headerRowsBy s table ++ provingRows s v
+
+abbrev pub proveRowsBy : Bytes → List ℕ → ℕ → Bytes → Bytes → Table
+proveRowsBy s table v k room = (12, Not32 (k ∷ [])) ∷ headerRowsBy s table ++ proofRows s v k room
+
+abbrev pub paletteTestsBy : Bytes → List ℕ → ℕ → Bytes → Table
+paletteTestsBy s table v list = (12, NotKeys list) ∷ headerRowsBy s table ++ askingRows s v (keysIn list)
+
+abbrev pub paletteRowsBy : Bytes → List ℕ → ℕ → Bytes → Bytes → Table
+paletteRowsBy s table v list room = (12, NotKeys list) ∷ headerRowsBy s table ++ togetherRows s v (keysIn list) room
+
+-- No two slots match where version v is read: nothing is looked for of a version that isn't kept.
+abbrev pub NoneTwice : Bytes → ℕ → Type 0
+NoneTwice s v = isKept (storeOf s) v ≡ true → NoTwoMatch (storeOf s) v
+
+-- Every read of version v by the table answers, and leaves every byte, as the plain call does.
+pub record AsPlain (s : Bytes) (table : List ℕ) (v : ℕ) : Type 0 where
+  pub root : {f g h : Bytes} {r q : ℕ} → ReadsRootBy s table v f r g → ReadsRoot s v f q h → (r ≡ q) × (g ≡ h)
+  pub key : {k f g h : Bytes} {r q : ℕ} → ReadsKeyBy s table v k f r g → ReadsKey s v k f q h → (r ≡ q) × (g ≡ h)
+  pub count : {f g h : Bytes} {r q : ℕ} → CountsBy s table v f r g → Counts s v f q h → (r ≡ q) × (g ≡ h)
+  pub position : {i : ℕ} {f g h : Bytes} {r q : ℕ} → ReadsAtBy s table v i f r g → ReadsAt s v i f q h →
+      (r ≡ q) × (g ≡ h)
+  pub proof : {k room f t u g h : Bytes} {r q : ℕ} → ProvesBy s table v k room f r t g → Proves s v k room f q u h →
+      (r ≡ q) × (t ≡ u) × (g ≡ h)
+  pub palette : {list room f t u g h : Bytes} {r q : ℕ} → PalettesBy s table v list room f r t g →
+      Palettes s v list room f q u h → (r ≡ q) × (t ≡ u) × (g ≡ h)

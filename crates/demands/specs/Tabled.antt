@@ -1,0 +1,54 @@
+-- Document 02, 2026-05: a table kept beside the store: built, told right or wrong, and kept right by format, apply and prune. 'A table of
+-- another length gives 1; apply and prune test for 16 after 3.' Assumes nothing.
+use Prim.Native.Nat.{ℕ, _≤_}
+use mathlib.Core.Bool.{Bool, false}
+use mathlib.Core.List.{List, [], _∷_, _++_}
+use lib.Dec.{eqb}
+use Rattle.terms.specs.Bits.{Bytes, Byte, All}
+use Rattle.terms.specs.Form.{top32}
+use Rattle.meaning.specs.History.{Call, looking, Entry}
+use Rattle.index_rules.specs.Tables.{RightFor}
+use Rattle.refusals.specs.Exactly.{Table}
+use Rattle.refusals.specs.Rows.{NotSound}
+use Rattle.refusals.specs.Orders.{batchRows, versionRows}
+use Rattle.grants.specs.Contracts.{Indexes, FormatsIndexed, AppliesIndexed, PrunesIndexed}
+use Rattle.demands.specs.Indexed.{WrongLengths, headerRowsBy}
+use Rattle.demands.specs.Calls.{Called, Life}
+
+-- 16: the table isn't the right one of the store.
+abbrev pub WrongTable : Bytes → List ℕ → Type 0
+WrongTable s table = RightFor s table → ⊥
+
+-- Building: 1, 2; then 3 by full soundness.
+abbrev pub indexRows : Bytes → List ℕ → Table
+indexRows s table = headerRowsBy s table ++ (3, NotSound s) ∷ []
+
+-- Telling: 1, 2, 3, 16.
+abbrev pub tellRows : Bytes → List ℕ → Table
+tellRows s table = headerRowsBy s table ++ (3, NotSound s) ∷ (16, WrongTable s table) ∷ []
+
+-- Format: 1.
+abbrev pub formatRowsBy : Bytes → List ℕ → Table
+formatRowsBy s table = (1, WrongLengths s table) ∷ []
+
+-- Apply: 1, 2, 3, 16; then 4, 5, 18, 7.
+abbrev pub applyRowsBy : ℕ → Bytes → Bytes → List ℕ → Table
+applyRowsBy number batch s table =
+    headerRowsBy s table ++ (3, NotSound s) ∷ (16, WrongTable s table) ∷ batchRows number batch s
+
+-- Prune: 1, 2, 3, 16; then 8.
+abbrev pub pruneRowsBy : ℕ → Bytes → List ℕ → Table
+pruneRowsBy n s table = headerRowsBy s table ++ (3, NotSound s) ∷ (16, WrongTable s table) ∷ versionRows s n
+
+-- A store and a table that only public calls wrote, each lent both: they begin by a format of both that was accepted, or by a table built for a
+-- store with a life of its own; then come calls that keep both, calls that build the table anew, and calls that only look at the store.
+pub data Together : Bytes → List ℕ → Type 0 where
+  formatted-both : {s t : Bytes} {table u : List ℕ} → FormatsIndexed s table 0 t u → Together t u
+  built-for : {start : List Entry} {history : List (Call × Bool)} {s : Bytes} {table u : List ℕ} → Life start history s →
+      Indexes s table 0 u → Together s u
+  then-formatted : {s t : Bytes} {table u : List ℕ} {r : ℕ} → Together s table → FormatsIndexed s table r t u → Together t u
+  then-applied : (number : ℕ) (batch : Bytes) {r : ℕ} {s f t g : Bytes} {table u : List ℕ} → number ≤ top32 → All Byte batch → Together s table →
+      AppliesIndexed number batch s table f r t u g → Together t u
+  then-pruned : (n : ℕ) {r : ℕ} {s f t g : Bytes} {table u : List ℕ} → Together s table → PrunesIndexed n s table f r t u g → Together t u
+  then-built : {s : Bytes} {table u : List ℕ} {r : ℕ} → Together s table → Indexes s table r u → Together s u
+  then-looked : {s : Bytes} {table : List ℕ} → Together s table → Called s (looking, false) s → Together s table

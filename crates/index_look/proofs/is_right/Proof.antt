@@ -1,0 +1,54 @@
+-- `index_look::is_right` meets its contract: as many entries ascend as there are records, and the rest is empty. Assumes nothing.
+use native.Mathlib.Omega.{arith}
+use mathlib.Core.Path.{_≡_, sym, _∙_}
+use borrow.Author.Needs.{needs}
+use Rattle.terms.specs.declared.Form.the-variants.{Counted as counted}
+use Rattle.layout.specs.Stores.{storeOf}
+use Rattle.store.proofs.Slots.{slots-many}
+use Rattle.index_look.proofs.Nodes.{sound-size}
+use Rattle.index_look.proofs.Entries.{decided-so, decided-not, decided-map, used-at-most, right-by, right-ascends, right-rest}
+use Rattle.index_look.proofs.is_right.Statement.{statement}
+use Rattle.index_look.proofs.is_right.Tie as tie
+
+slot-count-requires : tie.Need-slot-count-requires
+slot-count-requires c κs = sound-size (c .before .before .pre .0)
+
+used-slots-requires : tie.Need-used-slots-requires
+used-slots-requires c κs = search needs
+
+ascending-requires : tie.Need-ascending-requires
+ascending-requires c κs =
+    let a = c .before .before .before .before in
+    let s = a .args .store .now in
+    let n = c .before .slot-count .ensures in
+    (a .pre .0, n, a .pre .1 ∙ sym n, omega (arith, n, c .used-slots .ensures, used-at-most (storeOf s .slots), slots-many counted s))
+
+returns : tie.Need-returns
+returns c =
+    let a = c .before .before .before .before .before .before in
+    let n = c .before .before .before .slot-count .ensures in
+    λ right. decided-not (c .before .ascending .result) (c .if1 .taken) (c .before .ascending .ensures)
+    (right-ascends (a .args .store .now) (a .args .table .now) n (a .pre .1 ∙ sym n) (c .before .before .used-slots .ensures) right)
+
+rest-empty-requires : tie.Need-rest-empty-requires
+rest-empty-requires c κs =
+    let a = c .before .before .before .before .before .before in
+    let s = a .args .store .now in
+    let n = c .before .before .before .slot-count .ensures in
+    (a .pre .1 ∙ sym n, omega (arith, n, c .before .before .used-slots .ensures, used-at-most (storeOf s .slots), slots-many counted s))
+
+returns-2 : tie.Need-returns-2
+returns-2 c =
+    let a = c .before .before .before .before .before .before .before in
+    let s = a .args .store .now in
+    let t = a .args .table .now in
+    let n = c .before .before .before .before .slot-count .ensures in
+    let fits = a .pre .1 ∙ sym n in
+    let many = c .before .before .before .used-slots .ensures in
+    let up = decided-so (c .before .before .ascending .result) (c .before .if1 .left) (c .before .before .ascending .ensures) in
+    decided-map (c .rest-empty .result) (λ rest. right-by s t n fits many up rest) (λ right. right-rest s t n fits many right) (c .rest-empty .ensures)
+
+pub is-right-spec : {M : Type 1} → statement M
+is-right-spec =
+    tie.close
+    (tie.spec slot-count-requires used-slots-requires ascending-requires returns rest-empty-requires returns-2)

@@ -1,0 +1,38 @@
+-- `index_open::built` meets its contract. Assumes nothing.
+use mathlib.Core.Path.{_≡_, ap, sym, _∙_, subst}
+use borrow.Author.Needs.{needs}
+use Rattle.index_rules.specs.Tables.{Opened, not-built, built}
+use Rattle.index_rules.proofs.Outcomes.{opened-sound, opened-fits}
+use Rattle.index_open.proofs.built.Statement.{statement}
+use Rattle.index_open.proofs.built.Tie as tie
+
+opened-requires : tie.Need-opened-requires
+opened-requires c κs = search needs
+
+same-length : tie.Need-same-length
+same-length c = search needs
+
+returns : tie.Need-returns
+returns c = not-built (c .if1 .taken) (c .before .opened .ensures)
+
+build-requires : tie.Need-build-requires
+build-requires c κs = (opened-sound (c .before .before .opened .ensures) (c .before .if1 .left), opened-fits (c .before .before .opened .ensures) (c .before .if1 .left))
+
+same-length-2 : tie.Need-same-length-2
+same-length-2 c = search needs
+
+returns-2 : tie.Need-returns-2
+returns-2 c =
+    let a = c .before .before .before .before .before .before .before .before .before .args in
+    built (subst (Opened (a .store .now) (a .table .now)) (c .before .before .before .before .if1 .left) (c .before .before .before .before .before .opened .ensures)) (c .before .before .build .ensures)
+
+pub built-spec : {M : Type 1} → statement M
+built-spec =
+    tie.close
+    (tie.spec
+    opened-requires
+    same-length
+    returns
+    build-requires
+    same-length-2
+    returns-2)

@@ -1,0 +1,48 @@
+-- `prove_c::prove_by` meets its contract: the case of the answer decides the number, the room and the four bytes. Assumes nothing.
+use Rattle.prove_c.proofs.Exported.{prove-refused, prove-given}
+use borrow.Author.Needs.{needs}
+use Rattle.prove_c.proofs.prove_by.Statement.{statement}
+use Rattle.prove_c.proofs.prove_by.Tie as tie
+
+prove-requires : tie.Need-prove-requires
+prove-requires c κs = search needs
+
+enum-known-proved : tie.Need-enum-known-proved
+enum-known-proved c = search needs
+
+enum-known-proved-2 : tie.Need-enum-known-proved-2
+enum-known-proved-2 c = search needs
+
+put-u32-requires : tie.Need-put-u32-requires
+put-u32-requires c κs = search needs
+
+same-length : tie.Need-same-length
+same-length c = search needs
+
+returns : tie.Need-returns
+returns c =
+    let a = c .before .before .before .before .before .before .before .before .before .before .before .args in
+    let d = c .before .before .before .before .before .prove .ensures in
+    prove-refused (d .0) (d .1) (a .length .now) (c .before .proved .given .1)
+
+same-length-2 : tie.Need-same-length-2
+same-length-2 c = search needs
+
+returns-2 : tie.Need-returns-2
+returns-2 c =
+    let a = c .before .before .before .before .before .before .before .before .before .before .before .before .before .args in
+    let d = c .before .before .before .before .before .before .before .prove .ensures in
+    prove-given (d .0) (d .1) (a .length .now) (c .before .before .before .proved2 .given .1) (search needs) (c .put-u32 .ensures)
+
+pub prove-by-spec : {M : Type 1} → statement M
+prove-by-spec =
+    tie.close
+    (tie.spec
+    prove-requires
+    enum-known-proved
+    enum-known-proved-2
+    put-u32-requires
+    same-length
+    returns
+    same-length-2
+    returns-2)

@@ -1,0 +1,33 @@
+-- `read_c::root_by` meets its contract: the case of the read decides the number and the bytes. Assumes nothing.
+use Rattle.read_c.proofs.Exported.{root-refused, root-written}
+use borrow.Author.Needs.{needs}
+use Rattle.read_c.proofs.root_by.Statement.{statement}
+use Rattle.read_c.proofs.root_by.Tie as tie
+
+root-requires : tie.Need-root-requires
+root-requires c κs = search needs
+
+enum-known-read : tie.Need-enum-known-read
+enum-known-read c = search needs
+
+enum-known-read-2 : tie.Need-enum-known-read-2
+enum-known-read-2 c = search needs
+
+put-hash-requires : tie.Need-put-hash-requires
+put-hash-requires c κs = search needs
+
+returns : tie.Need-returns
+returns c =
+    let d = c .before .before .before in
+    root-refused (d .root .ensures) (d .before .before .before .args .root .now) (c .before .read .given .1)
+
+returns-2 : tie.Need-returns-2
+returns-2 c =
+    let r = c .before .before .before in
+    let d = r .before .before in
+    root-written (d .root .ensures) (d .before .before .before .args .root .now) (r .read2 .given .1) (search needs) (c .put-hash .ensures)
+
+pub root-by-spec : {M : Type 1} → statement M
+root-by-spec =
+    tie.close
+    (tie.spec root-requires enum-known-read enum-known-read-2 put-hash-requires returns returns-2)

@@ -1,0 +1,39 @@
+-- `read_c::root_indexed` meets its contract: a table of another length is refused, else the read is by the table. Assumes nothing.
+use mathlib.Core.Path.{sym, _∙_}
+use borrow.Author.Tests.{not-true, not-false}
+use Rattle.read.proofs.Answers.{root-as-many, root-not-as-many}
+use Rattle.read_c.proofs.Exported.{root-as, root-refusal, root-told-by}
+use borrow.Author.Needs.{needs}
+use Rattle.read_c.proofs.root_indexed.Statement.{statement}
+use Rattle.read_c.proofs.root_indexed.Tie as tie
+
+as-many-requires : tie.Need-as-many-requires
+as-many-requires c κs = search needs
+
+cast-result : tie.Need-cast-result
+cast-result c = search needs
+
+returns : tie.Need-returns
+returns c =
+    let a = c .before .before .before .before .args in
+    root-told-by (root-refusal 1 (a .root .now)
+    (root-not-as-many (a .store .now) (a .index .now) (a .version) (sym (c .before .as-many .ensures) ∙ not-true _ (c .if1 .taken))))
+
+root-by-requires : tie.Need-root-by-requires
+root-by-requires c κs = search needs
+
+returns-2 : tie.Need-returns-2
+returns-2 c =
+    let a = c .before .before .before .before .before .before .args in
+    root-told-by (root-as (root-as-many (a .store .now) (a .index .now) (a .version) (sym (c .before .before .before .as-many .ensures) ∙ not-false _ (c .before .before .if1 .left)))
+    (c .root-by .ensures))
+
+pub root-indexed-spec : {M : Type 1} → statement M
+root-indexed-spec =
+    tie.close
+    (tie.spec
+    as-many-requires
+    cast-result
+    returns
+    root-by-requires
+    returns-2)

@@ -1,0 +1,39 @@
+-- `read_counts_c::at_indexed` meets its contract: a table of another length is refused, else the read is by the table. Assumes nothing.
+use mathlib.Core.Path.{sym, _∙_}
+use borrow.Author.Tests.{not-true, not-false}
+use Rattle.read_position.proofs.Answers.{position-as-many, position-not-as-many}
+use Rattle.read_counts_c.proofs.Exported.{grant-as, grant-refusal, grant-told-by}
+use borrow.Author.Needs.{needs}
+use Rattle.read_counts_c.proofs.at_indexed.Statement.{statement}
+use Rattle.read_counts_c.proofs.at_indexed.Tie as tie
+
+as-many-requires : tie.Need-as-many-requires
+as-many-requires c κs = search needs
+
+cast-result : tie.Need-cast-result
+cast-result c = search needs
+
+returns : tie.Need-returns
+returns c =
+    let a = c .before .before .before .before .args in
+    grant-told-by (grant-refusal 1 (a .grant .now)
+    (position-not-as-many (a .store .now) (a .index .now) (a .version) (a .position) (sym (c .before .as-many .ensures) ∙ not-true _ (c .if1 .taken))))
+
+at-by-requires : tie.Need-at-by-requires
+at-by-requires c κs = search needs
+
+returns-2 : tie.Need-returns-2
+returns-2 c =
+    let a = c .before .before .before .before .before .before .args in
+    grant-told-by (grant-as (position-as-many (a .store .now) (a .index .now) (a .version) (a .position) (sym (c .before .before .before .as-many .ensures) ∙ not-false _ (c .before .before .if1 .left)))
+    (c .at-by .ensures))
+
+pub at-indexed-spec : {M : Type 1} → statement M
+at-indexed-spec =
+    tie.close
+    (tie.spec
+    as-many-requires
+    cast-result
+    returns
+    at-by-requires
+    returns-2)

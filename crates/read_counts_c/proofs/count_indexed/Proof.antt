@@ -1,0 +1,39 @@
+-- `read_counts_c::count_indexed` meets its contract: a table of another length is refused, else the read is by the table. Assumes nothing.
+use mathlib.Core.Path.{sym, _∙_}
+use borrow.Author.Tests.{not-true, not-false}
+use Rattle.read_number.proofs.Answers.{number-as-many, number-not-as-many}
+use Rattle.read_counts_c.proofs.Exported.{number-as, number-refusal, number-told-by}
+use borrow.Author.Needs.{needs}
+use Rattle.read_counts_c.proofs.count_indexed.Statement.{statement}
+use Rattle.read_counts_c.proofs.count_indexed.Tie as tie
+
+as-many-requires : tie.Need-as-many-requires
+as-many-requires c κs = search needs
+
+cast-result : tie.Need-cast-result
+cast-result c = search needs
+
+returns : tie.Need-returns
+returns c =
+    let a = c .before .before .before .before .args in
+    number-told-by (number-refusal 1 (a .count .now)
+    (number-not-as-many (a .store .now) (a .index .now) (a .version) (sym (c .before .as-many .ensures) ∙ not-true _ (c .if1 .taken))))
+
+count-by-requires : tie.Need-count-by-requires
+count-by-requires c κs = search needs
+
+returns-2 : tie.Need-returns-2
+returns-2 c =
+    let a = c .before .before .before .before .before .before .args in
+    number-told-by (number-as (number-as-many (a .store .now) (a .index .now) (a .version) (sym (c .before .before .before .as-many .ensures) ∙ not-false _ (c .before .before .if1 .left)))
+    (c .count-by .ensures))
+
+pub count-indexed-spec : {M : Type 1} → statement M
+count-indexed-spec =
+    tie.close
+    (tie.spec
+    as-many-requires
+    cast-result
+    returns
+    count-by-requires
+    returns-2)
