@@ -19,12 +19,13 @@
  *   5  the batch's keys aren't strictly ascending
  *   7  fewer free slots than new records
  *   8  the version isn't in oldest to latest; figures: not a range of 1 to 1,024 such versions
- *   9  the proof, the proofs together, the list or the figures are longer than the room
- *  10  the proof isn't one whole record in form (of a shelf one or two), no byte over
+ *   9  the proof, the proofs together, the list, the figures or the message are longer than the room
+ *  10  the proof isn't one whole record in form (of a shelf one or two), no byte over; or the message isn't in its one encoding
  *  11  the proof is in form, but doesn't hold
  *  12  a key or root handed in isn't 32 bytes, or a list of keys isn't 0 to 256 whole keys
  *  13  a comparison has more visits than the limit
  *  14  the version is empty, so there is no proof
+ *  15  a raw key or value has another length than 1 to 256, or 1 to 4,096 bytes, or doesn't hash to what the proof holds
  *  16  the table beside the store isn't its right one
  *  17  a record is lost: a child that is wanted stands in no slot (reads)
  *  18  the number isn't above latest
@@ -242,6 +243,21 @@ uint64_t grants_prove_indexed(const uint8_t *store, size_t store_len, const uint
                               const uint8_t *key, size_t key_len, uint8_t *room, size_t room_len, uint8_t length[4]);
 uint64_t grants_palette_indexed(const uint8_t *store, size_t store_len, const uint32_t *index, size_t index_len, uint32_t version,
                                 const uint8_t *keys, size_t keys_len, uint8_t *room, size_t room_len, uint8_t length[4]);
+
+/* Writes a proof as the message of ICS 23 that partners' verifiers read, a protobuf CommitmentProof (docs/PARTNERS.md), to the front of room; the rest stays.
+   Keys and values are raw there, so the caller lends what was hashed: the raw key asked for, and raw key and value of each leaf that the proof shows. Leaf 1 is
+   the leaf shown, or the left one of two; leaf 2 the right one of two. A leaf that isn't shown is lent with length 0 for key and value. Raw keys have 1 to 256
+   bytes, raw values 1 to 4,096. Whether the proof holds is not looked at. A message has at most 14,868 bytes for a grant that stands, 29,999 for one that doesn't.
+   length: of the message. Refused: 10 (the proof), 15 (a raw part, a leaf too many or too few), 9. */
+uint32_t grants_ics23_write(const uint8_t *proof, size_t proof_len, const uint8_t *asked, size_t asked_len, const uint8_t *key1, size_t key1_len,
+                            const uint8_t *value1, size_t value1_len, const uint8_t *key2, size_t key2_len, const uint8_t *value2, size_t value2_len,
+                            uint8_t *room, size_t room_len, uint8_t length[4]);
+
+/* Reads such a message back into the proof that it was written from, to the front of room, which needs 17,080 bytes at most; the rest stays. It takes the
+   one encoding that grants_ics23_write writes and no other. The proof is for grants_verify to judge, with the SHA-256 of the raw key asked for as key.
+   answer: the proof's length (4 bytes), then where in the message the raw parts stand, offset (4) and length (4) each, both 0 where there is none: the key asked
+   for, key and value of leaf 1, key and value of leaf 2. Refused: 10, 9. */
+uint32_t grants_ics23_read(const uint8_t *message, size_t message_len, uint8_t *room, size_t room_len, uint8_t answer[44]);
 
 /* SHA-256 of any bytes. Never refused. */
 uint32_t grants_sha256(const uint8_t *bytes, size_t len, uint8_t digest[32]);

@@ -14,6 +14,7 @@ export const PRESENCE_BYTES = 72;
 export const STEP_BYTES = 33;
 export const ABSENCE_BYTES = 40;
 export const LONGEST_PROOF = 17080;
+export const LONGEST_MESSAGE = 29999;
 
 export const HEADER_KIND = 4;
 export const OLD_HEADER_KIND = 1;

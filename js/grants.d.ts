@@ -124,6 +124,19 @@ export interface Rescued {
   out: number;
 }
 
+/** What was hashed for a leaf that a proof shows. */
+export interface RawLeaf<T = Bytes> {
+  key: T;
+  value: T;
+}
+
+/** What an ICS 23 message was written from: the proof, the raw key asked for, and the raw leaves shown, the left one first. */
+export interface Message {
+  proof: Uint8Array;
+  asked: Uint8Array;
+  leaves: RawLeaf<Uint8Array>[];
+}
+
 /** The calls that need no store, and stores. */
 export class Grants {
   private constructor();
@@ -139,6 +152,13 @@ export class Grants {
   shelfVerify(root: Bytes, bits: number, key: Bytes, proof: Bytes): Found;
   /** As `verify` for proofs of at most 32 steps for each leaf shown; 19 for others. */
   verifyPocket(root: Bytes, key: Bytes, proof: Bytes): Found;
+  /** A proof as the message of ICS 23 that partners' verifiers read (docs/PARTNERS.md): the raw key asked for, and raw key and value of each leaf that the
+   * proof shows, the left one first. Raw keys have 1 to 256 bytes, raw values 1 to 4,096. Needs grants.wasm. Refused: 10, 15. */
+  writeMessage(proof: Bytes, asked: Bytes, leaves: readonly RawLeaf[]): Uint8Array;
+  /** What such a message was written from; no other encoding is taken. Refused: 10. */
+  readMessage(message: Bytes): Message;
+  /** What a message shows of the raw key in it, against a root. Refused: 10, 12, 11. */
+  verifyMessage(root: Bytes, message: Bytes): Found;
   sha256(bytes: Bytes): Uint8Array;
   /** The key that stands for a name: the SHA-256 of its UTF-8 bytes. */
   name(text: string): Uint8Array;

@@ -1,5 +1,5 @@
 // The calls of the grant store for Node, browsers and workers. What a store, a batch or a proof is worth is always the WebAssembly's word.
-import { AT, DELETE_KIND, DELETE_LENGTH, HEADER_BYTES, INSERT_KIND, LONGEST_PROOF, MOST_SLOTS, OLD_FORM, OLD_SLOT_BYTES, RECORD_BYTES, SLOT_BYTES, isOldForm, oldStoreBytes, storeBytes, u16, u32 } from './form.js';
+import { AT, DELETE_KIND, DELETE_LENGTH, HEADER_BYTES, INSERT_KIND, LONGEST_MESSAGE, LONGEST_PROOF, MOST_SLOTS, OLD_FORM, OLD_SLOT_BYTES, RECORD_BYTES, SLOT_BYTES, isOldForm, oldStoreBytes, storeBytes, u16, u32 } from './form.js';
 import { REFUSALS } from './refusals.js';
 
 // What a number means in one call alone.
@@ -382,6 +382,32 @@ export class Grants {
     return found(this.#machine.call('pocket_verify', bytesOf(root), bytesOf(key), bytesOf(proof), answer(33))[0]);
   }
 
+  // A proof as the message of ICS 23 that partners' verifiers read. Keys and values are raw there: the key asked for, and key and value of each leaf that the
+  // proof shows, the left one first. 10, 15.
+  writeMessage(proof, asked, leaves) {
+    this.#whole('ics23_write');
+    const lent = Array.from(leaves, ({ key, value }) => [bytesOf(key), bytesOf(value)]);
+    if (lent.length > 2) throw new Refused(15);
+    while (lent.length < 2) lent.push([new Uint8Array(0), new Uint8Array(0)]);
+    const [message, length] = this.#machine.call('ics23_write', bytesOf(proof), bytesOf(asked), ...lent.flat(), room(LONGEST_MESSAGE), answer(4));
+    return message.slice(0, u32(length, 0));
+  }
+
+  // What such a message was written from. No other encoding is taken. 10.
+  readMessage(message) {
+    const bytes = bytesOf(message);
+    const [record, wrote] = this.#machine.call('ics23_read', bytes, room(LONGEST_PROOF), answer(44));
+    const part = (i) => bytes.slice(u32(wrote, 4 + 8 * i), u32(wrote, 4 + 8 * i) + u32(wrote, 8 + 8 * i));
+    const leaves = [1, 3].map((i) => ({ key: part(i), value: part(i + 1) })).filter(({ key }) => key.length > 0);
+    return { proof: record.slice(0, u32(wrote, 0)), asked: part(0), leaves };
+  }
+
+  // What a message shows of the raw key in it, against a root. 10, 12, 11.
+  verifyMessage(root, message) {
+    const { proof, asked } = this.readMessage(message);
+    return this.verify(root, this.sha256(asked), proof);
+  }
+
   sha256(bytes) {
     return this.#machine.call('sha256', bytesOf(bytes), answer(32))[0];
   }
@@ -424,8 +450,12 @@ export class Grants {
     }
   }
 
+  #whole(call) {
+    if (!this.#machine.has(call)) throw new Error('this WebAssembly only checks proofs: load grants.wasm');
+  }
+
   async #opened(bytes) {
-    if (!this.#machine.has('apply')) throw new Error('this WebAssembly only checks proofs: load grants.wasm');
+    this.#whole('apply');
     const machine = new Machine(await WebAssembly.instantiate(this.module));
     machine.keep(bytes);
     return machine;

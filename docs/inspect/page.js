@@ -237,6 +237,27 @@ function takeStatement({ version, root, bits, until }) {
   at('stated').textContent = `The root of version ${version}${bits === '' ? '' : ` of a shelf of ${bits} bits`}${until ? `, ${past ? 'past its date' : 'good until'} ${until}` : ''}. Its signature is not looked at here.`;
 }
 
+// What an ICS 23 message was written from, where a file has one or its hex digits.
+function messageOf(bytes) {
+  const digits = new TextDecoder().decode(bytes).replace(/\s/g, '');
+  for (const given of /^([0-9a-f]{2})+$/i.test(digits) ? [fromHex(digits)] : [bytes]) {
+    try {
+      return grants.readMessage(given);
+    } catch (refused) {
+      if (!(refused instanceof Refused)) throw refused;
+    }
+  }
+  return undefined;
+}
+
+// The key asked for stands in a message as it was before hashing: as a name where it is text, else its SHA-256 is the key.
+function takeMessage({ proof, asked }) {
+  const text = new TextDecoder().decode(asked);
+  const isName = /^[\p{L}\p{N}\p{P}\p{S} ]+$/u.test(text) && toHex(grants.name(text)) === toHex(grants.sha256(asked));
+  at('key').value = isName ? `"${text}"` : toHex(grants.sha256(asked));
+  at('proof').value = toHex(proof);
+}
+
 // A file is taken for what it is; one of hex digits for the bytes that they stand for.
 async function taken(file) {
   forget();
@@ -244,14 +265,20 @@ async function taken(file) {
     notTaken(file.name, `it has ${file.size} bytes, and no root, proof, book or store for this page has more than ${MOST_BYTES}.`);
     return false;
   }
-  const it = kindOf(new Uint8Array(await file.arrayBuffer()));
+  const bytes = new Uint8Array(await file.arrayBuffer());
+  const message = messageOf(bytes);
+  if (message) {
+    takeMessage(message);
+    return true;
+  }
+  const it = kindOf(bytes);
   if (it.kind === 'root' || it.kind === 'statement') at('stated').textContent = '';
   if (it.kind === 'root') at('root').value = it.root;
   else if (it.kind === 'statement') takeStatement(it);
   else if (it.kind === 'store') await openStore(file.name, it.bytes);
   else if (it.kind === 'book') takeNames(file.name, it.names);
   else if (it.kind === 'proof') at('proof').value = toHex(it.bytes);
-  else notTaken(file.name, 'it is neither a root, nor a proof, nor a store, nor a book.');
+  else notTaken(file.name, 'it is neither a root, nor a proof, nor an ICS 23 message, nor a store, nor a book.');
   return it.kind !== 'nothing';
 }
 

@@ -18,7 +18,7 @@ grants.Refused: refused with 11: the proof is in form, but doesn't hold
 
 The root must come from who signs it, the proof may come from anybody. What a store, a batch or a proof is worth is always the library's word."""
 
-from .library import Refused, name, sha256, shelf_verify, verify, verify_many, verify_palette, verify_pocket, version
+from .library import Message, Refused, name, read_message, sha256, shelf_verify, verify, verify_many, verify_palette, verify_pocket, version, write_message
 from .refusals import REFUSALS
 from .statement import Seen, Statement, Verdict
 from .store import Applied, Change, Figures, Finding, Report, Rescued, Store, batch, move_back, move_over, rescue
@@ -28,6 +28,7 @@ __all__ = [
     "Change",
     "Figures",
     "Finding",
+    "Message",
     "REFUSALS",
     "Refused",
     "Report",
@@ -40,6 +41,7 @@ __all__ = [
     "move_back",
     "move_over",
     "name",
+    "read_message",
     "rescue",
     "sha256",
     "shelf_verify",
@@ -48,4 +50,5 @@ __all__ = [
     "verify_palette",
     "verify_pocket",
     "version",
+    "write_message",
 ]

@@ -4,7 +4,7 @@
 import ctypes
 import os
 import struct
-from typing import List, Optional, Sequence, Tuple, Union
+from typing import List, NamedTuple, Optional, Sequence, Tuple, Union
 
 from .refusals import REFUSALS
 
@@ -22,6 +22,8 @@ RECORD_BYTES = 72
 POCKET_BYTES = 2296
 ANSWER_BYTES = 34
 MOST_FIGURES = 1024
+# The longest ICS 23 message.
+MESSAGE_BYTES = 29999
 
 Bytes = Union[bytes, bytearray, memoryview]
 
@@ -80,6 +82,8 @@ _CALLS = {
     "version": (_u32, []),
     "verify": (_u32, [_lent, _size, _lent, _size, _lent, _size, _lent]),
     "shelf_verify": (_u32, [_lent, _size, _u32, _lent, _size, _lent, _size, _lent]),
+    "ics23_write": (_u32, [_lent, _size] * 7 + [_lent]),
+    "ics23_read": (_u32, [_lent, _size, _lent, _size, _lent]),
     "sha256": (_u32, [_lent, _size, _lent]),
 }
 for _name, (_result, _words) in _CALLS.items():
@@ -202,6 +206,40 @@ def shelf_verify(root: Bytes, bits: int, key: Bytes, proof: Bytes) -> Optional[b
     found = Room(33)
     call("shelf_verify", room_of(root), number_of(bits), room_of(key), room_of(proof), (found,))
     return found_in(found)
+
+
+class Message(NamedTuple):
+    """What an ICS 23 message was written from: the proof, the raw key asked for, and raw key and value of each leaf shown, the left one first."""
+
+    proof: bytes
+    asked: bytes
+    leaves: List[Tuple[bytes, bytes]]
+
+    def verify(self, root: Bytes) -> Optional[bytes]:
+        """What the proof shows of the key asked for, against a root. Refused: 12, 11."""
+        return verify(root, sha256(self.asked), self.proof)
+
+
+def write_message(proof: Bytes, asked: Bytes, leaves: Sequence[Tuple[Bytes, Bytes]]) -> bytes:
+    """A proof as the message of ICS 23 that partners' verifiers read (docs/PARTNERS.md). Keys and values are raw there: the key asked for, and key and value of each
+    leaf that the proof shows, the left one first. Refused: 10, 15."""
+    if len(leaves) > 2:
+        raise Refused(15)
+    lent = [part for leaf in leaves for part in leaf] + [b""] * (4 - 2 * len(leaves))
+    room, length = Room(MESSAGE_BYTES), Room(4)
+    call("ics23_write", room_of(proof), room_of(asked), *map(room_of, lent), room, (length,))
+    return room.front(u32_at(length.front(4), 0))
+
+
+def read_message(message: Bytes) -> Message:
+    """What such a message was written from; no other encoding is taken. Refused: 10."""
+    given = as_bytes(message)
+    room, answer = Room(PROOF_BYTES), Room(44)
+    call("ics23_read", room_of(given), room, (answer,))
+    said = answer.front(44)
+    length, *spots = struct.unpack("<11I", said)
+    asked, *parts = [given[at : at + size] for at, size in zip(spots[::2], spots[1::2])]
+    return Message(room.front(length), asked, [(key, value) for key, value in zip(parts[::2], parts[1::2]) if key])
 
 
 def cut(proofs: Bytes) -> List[bytes]:

@@ -32,9 +32,9 @@ pub enum Error {
     NoRoom,
     /// 8: the version isn't in oldest to latest; figures: not a range of 1 to 1,024 such versions.
     VersionNotKept,
-    /// 9: the proof, the proofs together, the list or the figures are longer than the room.
+    /// 9: the proof, the proofs together, the list, the figures or the message are longer than the room.
     ProofTooLong,
-    /// 10: the proof isn't one whole record in form (of a shelf one or two), no byte over.
+    /// 10: the proof isn't one whole record in form (of a shelf one or two), no byte over; or the message isn't in its one encoding.
     ProofForm,
     /// 11: the proof is in form, but doesn't hold.
     ProofFails,
@@ -44,6 +44,8 @@ pub enum Error {
     TooManyVisits,
     /// 14: the version is empty, so there is no proof; its root of 32 zero bytes itself shows that nothing is granted.
     EmptyVersion,
+    /// 15: a raw key or value has another length than 1 to 256, or 1 to 4,096 bytes, or doesn't hash to what the proof holds.
+    RawPart,
     /// 16: the table isn't the right one of the store.
     WrongIndex,
     /// 17 (reads): a record is lost: a child that is wanted stands in no slot.
@@ -59,7 +61,7 @@ pub enum Error {
 }
 
 /// The table of the rules, number 1 first, in the words of include/grants.h.
-const TABLE: [(u32, Error, &str); 19] = [
+const TABLE: [(u32, Error, &str); 20] = [
     (
         1,
         Error::Size,
@@ -90,12 +92,12 @@ const TABLE: [(u32, Error, &str); 19] = [
     (
         9,
         Error::ProofTooLong,
-        "the proof, the proofs together, the list or the figures are longer than the room",
+        "the proof, the proofs together, the list, the figures or the message are longer than the room",
     ),
     (
         10,
         Error::ProofForm,
-        "the proof isn't one whole record in form (of a shelf one or two), no byte over",
+        "the proof isn't one whole record in form (of a shelf one or two), no byte over; or the message isn't in its one encoding",
     ),
     (
         11,
@@ -116,6 +118,11 @@ const TABLE: [(u32, Error, &str); 19] = [
         14,
         Error::EmptyVersion,
         "the version is empty, so there is no proof",
+    ),
+    (
+        15,
+        Error::RawPart,
+        "a raw key or value has another length than 1 to 256, or 1 to 4,096 bytes, or doesn't hash to what the proof holds",
     ),
     (
         16,
@@ -193,7 +200,7 @@ mod tests {
         let numbers: Vec<u32> = TABLE.iter().map(|(_, error, _)| error.number()).collect();
         assert_eq!(
             numbers,
-            [1, 2, 3, 4, 5, 7, 8, 9, 10, 11, 12, 13, 14, 16, 17, 18, 19, 20, 21]
+            [1, 2, 3, 4, 5, 7, 8, 9, 10, 11, 12, 13, 14, 15, 16, 17, 18, 19, 20, 21]
         );
         for number in 0..=25 {
             let listed = numbers.contains(&number).then_some(number);

@@ -155,6 +155,30 @@ extern "C" {
         answers_len: usize,
     ) -> u32;
     fn grants_version() -> u32;
+    fn grants_ics23_write(
+        proof: *const u8,
+        proof_len: usize,
+        asked: *const u8,
+        asked_len: usize,
+        key1: *const u8,
+        key1_len: usize,
+        value1: *const u8,
+        value1_len: usize,
+        key2: *const u8,
+        key2_len: usize,
+        value2: *const u8,
+        value2_len: usize,
+        room: *mut u8,
+        room_len: usize,
+        length: *mut [u8; 4],
+    ) -> u32;
+    fn grants_ics23_read(
+        message: *const u8,
+        message_len: usize,
+        room: *mut u8,
+        room_len: usize,
+        answer: *mut [u8; 44],
+    ) -> u32;
     fn grants_sha256(bytes: *const u8, len: usize, digest: *mut [u8; 32]) -> u32;
     fn grants_index(store: *const u8, len: usize, index: *mut u32, entries: usize) -> u32;
     fn grants_index_check(store: *const u8, len: usize, index: *const u32, entries: usize) -> u32;
@@ -554,6 +578,51 @@ pub fn pocket_verify(root: &[u8], key: &[u8], proof: &[u8]) -> Result<[u8; 33], 
 pub fn version() -> [u8; 3] {
     let [major, minor, patch, _] = unsafe { grants_version() }.to_be_bytes();
     [major, minor, patch]
+}
+
+/// The proof, the raw key asked for, and raw key and value of two leaves; the message fills the front of the room.
+pub fn ics23_write(
+    proof: &[u8],
+    asked: &[u8],
+    leaves: [[&[u8]; 2]; 2],
+    room: &mut [u8],
+) -> Result<[u8; 4], Error> {
+    let mut length = [0; 4];
+    let [[key1, value1], [key2, value2]] = leaves;
+    accepted(unsafe {
+        grants_ics23_write(
+            proof.as_ptr(),
+            proof.len(),
+            asked.as_ptr(),
+            asked.len(),
+            key1.as_ptr(),
+            key1.len(),
+            value1.as_ptr(),
+            value1.len(),
+            key2.as_ptr(),
+            key2.len(),
+            value2.as_ptr(),
+            value2.len(),
+            room.as_mut_ptr(),
+            room.len(),
+            &mut length,
+        )
+    })?;
+    Ok(length)
+}
+
+pub fn ics23_read(message: &[u8], room: &mut [u8]) -> Result<[u8; 44], Error> {
+    let mut answer = [0; 44];
+    accepted(unsafe {
+        grants_ics23_read(
+            message.as_ptr(),
+            message.len(),
+            room.as_mut_ptr(),
+            room.len(),
+            &mut answer,
+        )
+    })?;
+    Ok(answer)
 }
 
 pub fn sha256(bytes: &[u8]) -> [u8; 32] {

@@ -51,6 +51,7 @@ mod finding;
 mod form;
 mod hex;
 mod index;
+mod message;
 mod moving;
 mod palette;
 mod proof;
@@ -74,6 +75,7 @@ pub use form::{
 };
 pub use hex::{from_hex, to_hex, HexError};
 pub use index::Index;
+pub use message::{read_message, write_message, Message, RawLeaf, ABSENCE_MESSAGE_BYTES, PRESENCE_MESSAGE_BYTES, RAW_KEY_BYTES, RAW_VALUE_BYTES};
 pub use palette::{Palette, RefusedAt, PALETTE_KEYS};
 pub use proof::{verify, verify_pocket, verify_many, Proof, POCKET_BYTES, PROOF_BYTES};
 pub use records::{Body, Child, Place, Record};

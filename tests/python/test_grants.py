@@ -152,7 +152,7 @@ class Refusals(unittest.TestCase):
 
 # Calls that the package doesn't have yet: whoever adds one to it takes it off this list.
 LATER = set(
-    "ics23_read ics23_write index index_check".split()
+    "index index_check".split()
     + [call + "_indexed" for call in "apply at count format get palette prove prune root".split()]
 )
 
@@ -219,6 +219,24 @@ class Later(unittest.TestCase):
         with open(TOP + "/include/grants.h") as f:
             said = int(re.search(r"#define GRANTS_VERSION (\w+)", f.read()).group(1), 16)
         self.assertEqual(version(), (said >> 24, said >> 16 & 255, said >> 8 & 255))
+class Messages(unittest.TestCase):
+    def test_there_and_back(self):
+        store = grants.Store.format(20)
+        first = store.apply(1, {grants.name("viola"): grants.name("may write")})
+        proof = store.prove(1, grants.name("viola"))
+        message = grants.write_message(proof, b"viola", [(b"viola", b"may write")])
+        self.assertEqual(grants.read_message(message), grants.Message(proof, b"viola", [(b"viola", b"may write")]))
+        self.assertEqual(grants.read_message(message).verify(first.root), grants.name("may write"))
+        absent = grants.write_message(store.prove(1, grants.name("flute")), b"flute", [(b"viola", b"may write")])
+        self.assertIsNone(grants.read_message(absent).verify(first.root))
+        for number, leaves in [(15, [(b"viola", b"may read")]), (15, []), (15, [(b"viola", b"may write")] * 2), (15, [(b"viola", b"may write")] * 3)]:
+            with self.assertRaises(grants.Refused) as refused:
+                grants.write_message(proof, b"viola", leaves)
+            self.assertEqual(refused.exception.number, number)
+        for wrong in (message + b"\0", message[:-1], proof, b""):
+            with self.assertRaises(grants.Refused) as refused:
+                grants.read_message(wrong)
+            self.assertEqual(refused.exception.number, 10)
 
 
 class Proofs(unittest.TestCase):

@@ -1,4 +1,4 @@
-"""What the requests of later landings bring to the tool: moving, figures, the pocket profile, what a forged proof would cost."""
+"""What the requests of later landings bring to the tool: moving, figures, the pocket profile, what a forged proof would cost, messages for partners."""
 
 import json
 import os
@@ -132,3 +132,68 @@ def proofs_of_the_pocket_profile():
     answered(0, "prove", s, A, "--out", "short", "--pocket")
     assert answered(0, "verify", answered(0, "root", s).split()[0], A, "short", "--pocket").startswith("present ")
     refused(2, "--pocket is for one key", "prove", s, A, B, "--version", 1, "--pocket")
+
+
+@test
+def messages_for_partners():
+    answered(0, "format", "s", 20)
+    write("batch", '+ "oboe" "may read"\n+ "viola" "may write"\n')
+    answered(0, "apply", "s", "batch")
+    root = answered(0, "root", "s").strip()
+    docs = os.path.join(os.path.dirname(os.path.abspath(__file__)), "../../docs/ics23")
+    # The messages of docs/PARTNERS.md, by names of the book and by a name between double quotes.
+    assert answered(0, "prove", "s", "viola", "--ics23", "--out", "viola").startswith("viola: a message of 70 bytes, present in version 1")
+    answered(0, "prove", "s", '"flute"', "--ics23", "--out", "flute")
+    for name, kind in (("viola", "present"), ("flute", "absent")):
+        assert read(name) == read("%s/%s.%s.bin" % (docs, name, kind)), name
+    shown = answered(0, "verify", root, "viola", "--ics23").split(" ", 3)
+    assert shown[0] == '"viola"' and shown[1] == "present" and shown[3] == '"may write"\n', shown
+    assert answered(1, "verify", root, "flute", "--ics23") == '"flute" absent\n'
+    assert answered(1, "verify", root, '"flute"', "flute", "--ics23") == '"flute" absent\n'
+    refused(21, "not to be trusted", "verify", root, '"oboe"', "flute", "--ics23")
+    refused(21, "not to be trusted", "verify", 64 * "1", "viola", "--ics23")
+    told = json.loads(answered(0, "verify", root, "viola", "--ics23", "--json"))
+    assert bytes.fromhex(told["raw_key"]) == b"viola" and bytes.fromhex(told["raw_value"]) == b"may write" and told["present"], told
+    told = json.loads(answered(1, "verify", root, "flute", "--ics23", "--json"))
+    assert told["raw_value"] is None and told["value"] is None and not told["present"], told
+    # Hex digits, and standard input and output.
+    digits = answered(0, "prove", "s", "viola", "--ics23")
+    assert bytes.fromhex(digits.strip()) == read("viola")
+    assert answered(0, "verify", root, "-", "--ics23", input=digits).startswith('"viola" present ')
+    # As text.
+    text = answered(0, "ics23", "show", "viola")
+    assert text.startswith('exist\n  key    5 bytes, "viola"\n  value  9 bytes, "may write"\n') and "prefix 00d8ed" in text, text
+    text = answered(0, "ics23", "show", "flute")
+    assert text.startswith('nonexist\n  key    5 bytes, "flute"\n  left\n    key    4 bytes, "oboe"\n') and "\n  right\n" in text and "prefix 00, suffix fd8b" in text, text
+    told = json.loads(answered(0, "ics23", "show", "flute", "--json"))["nonexist"]
+    assert [bytes.fromhex(told[side]["key"]) for side in ("left", "right")] == [b"oboe", b"viola"] and told["left"]["path"][0]["prefix"] == "00", told
+    # A byte over, a bit, a proof of ours.
+    write("over", read("viola") + b"\0")
+    write("bent", read("viola")[:30] + b"\2" + read("viola")[31:])
+    answered(0, "prove", "s", "viola", "--out", "own")
+    for name in ("over", "bent", "own"):
+        refused(20, "no ICS 23 message", "verify", root, name, "--ics23")
+        refused(20, "no ICS 23 message", "ics23", "show", name)
+    # Without a book the names are not known; files give them.
+    refused(2, "no raw value is known", "prove", "s", '"viola"', "--ics23", "--no-book")
+    write("value", "may write")
+    answered(0, "prove", "s", '"viola"', "--ics23", "--no-book", "--raw-value", "value", "--out", "again")
+    assert read("again") == read("viola")
+    for name in ("oboe", "may read"):
+        write(name, name)
+    refused(2, "no raw key is known that hashes to c52c4fb8", "prove", "s", "c52c4fb88926f84bcbc39459fb74792f00032309d52aa2f242741702958003cc", "--ics23")
+    raw = ["--raw-key", "oboe", "--raw-value", "may read", "--raw-value", "value", "--raw-key", "viola.key"]
+    write("viola.key", "viola")
+    answered(0, "prove", "s", '"flute"', "--ics23", "--no-book", *raw, "--out", "again", "--force")
+    assert read("again") == read("flute")
+    # A raw key that no message takes: 257 bytes.
+    write("long", "x" * 257)
+    answered(0, "format", "t", 20)
+    answered(0, "apply", "t", "-", "--no-book", input='+ "%s" "may write"\n' % ("x" * 257))
+    refused(25, "1 to 256 bytes", "prove", "t", '"%s"' % ("x" * 257), "--ics23", "--no-book", "--raw-value", "value")
+    refused(2, "--ics23 is for one key", "prove", "s", "oboe", "viola", "--version", 1, "--ics23")
+    refused(2, "--raw-key goes with --ics23", "prove", "s", "oboe", "--raw-key", "oboe")
+    refused(2, "--pocket does not go with --ics23", "prove", "s", "oboe", "--ics23", "--pocket")
+    refused(2, "--against does not go with --ics23", "verify", root, "viola", "--ics23", "--against", "s")
+    refused(2, "ics23 show FILE", "ics23", "list", "viola")
+    refused(24, "32 zero bytes", "prove", "s", "viola", 0, "--ics23")

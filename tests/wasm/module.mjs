@@ -102,6 +102,19 @@ async function publishing(tally, grants) {
     records: 43,
   });
   tally.equal('no range', [refused(() => deep.figures(1, 0)), refused(() => deep.figures(0, 2)), refused(() => deep.figures(0, 1, 31))], [8, 8, 9]);
+  const orchestra = await grants.format(20);
+  const [raw, hashed] = [(text) => new TextEncoder().encode(text), (text) => grants.name(text)];
+  const viola = { key: raw('viola'), value: raw('may write') };
+  const played = orchestra.apply(1, [{ key: hashed('viola'), value: hashed('may write') }]);
+  const message = grants.writeMessage(orchestra.prove(1, hashed('viola')), viola.key, [viola]);
+  tally.equal('a message there and back', grants.readMessage(message), { proof: orchestra.prove(1, hashed('viola')), asked: viola.key, leaves: [viola] });
+  tally.equal('a message', grants.verifyMessage(played.root, message), { present: true, value: hashed('may write') });
+  tally.equal('a message, last month', refused(() => grants.verifyMessage(first.root, message)), 11);
+  const nothing = grants.writeMessage(orchestra.prove(1, hashed('flute')), raw('flute'), [viola]);
+  tally.equal('a message of absence', [grants.verifyMessage(played.root, nothing).present, grants.readMessage(nothing).leaves.length], [false, 1]);
+  tally.equal('another value', refused(() => grants.writeMessage(orchestra.prove(1, hashed('viola')), viola.key, [{ ...viola, value: raw('may read') }])), 15);
+  tally.equal('three leaves', refused(() => grants.writeMessage(orchestra.prove(1, hashed('viola')), viola.key, [viola, viola, viola])), 15);
+  tally.equal('no message', [refused(() => grants.readMessage(message.slice(1))), refused(() => grants.verifyMessage(played.root, [...message, 0].reduce((h, b) => h + b.toString(16).padStart(2, '0'), '')))], [10, 10]);
   tally.equal('no bytes', refused(() => grants.verify('', '', '')), 12);
   for (const odd of ['abc', 'xy', ' ab', null, undefined, 7, [1, 2]]) tally.equal(`key ${odd}`, refused(() => grants.verify(first.root, odd, then)), 'TypeError');
   for (const odd of [-1, 1.5, 2 ** 32, NaN, '1', undefined, 1n]) tally.equal(`version ${odd}`, refused(() => store.get(odd, lyrics)), 'RangeError');

@@ -56,6 +56,20 @@ const asked = async (root, name, proof) => {
   return text('verdict');
 };
 
+// The messages of docs/PARTNERS.md, dropped: the key asked for is filled in as a name, and the proof as our own.
+async function messages() {
+  const [root, before] = [await browser.ask(`document.getElementById('root').value`), await browser.ask(`document.getElementById('proof').value`)];
+  await fill('root', 'c5ba00392d36eae8192ce851a9c4faa39a8c35b320cc16717af7fa72874a6d8b');
+  for (const [name, asked, verdict] of [['viola.present.bin', '"viola"', 'granted'], ['flute.absent.bin', '"flute"', 'not granted']]) {
+    await fill('key', '');
+    await browser.drop(resolve(`docs/ics23/${name}`));
+    await browser.until(`document.getElementById('verdict').textContent !== ''`);
+    tally.equal(`${name}, dropped`, [await browser.ask(`document.getElementById('key').value`), await text('verdict')], [asked, verdict]);
+  }
+  await fill('root', root);
+  await fill('proof', before);
+}
+
 async function verdicts() {
   await fill('root', old);
   await fill('key', 'lyrics sonata');
@@ -175,6 +189,7 @@ async function otherFiles() {
   await browser.drop(file('market.book', `# a book\nname ${toHex(key('chords sonata'))} "chords \\"sonata\\" \\u{1b}"\nname ${toHex(key('write'))} "write"\n`));
   await browser.until(`document.getElementById('named').textContent !== ''`);
   tally.holds('names of the book', (await text('tree')).includes('“chords "sonata" \\u{1b}” = “write”') && (await text('named')).startsWith('2 names from market.book, which is not trusted'));
+  await messages();
   for (const [name, bytes, why] of [['notes.txt', 'hello\n', 'it is neither a root'], ['large', new Uint8Array(5_000_001), 'it has 5000001 bytes']]) {
     await browser.drop(file(name, bytes));
     await browser.until(`document.getElementById('reason').textContent.includes(${JSON.stringify(`${name}: ${why}`)})`);

@@ -21,6 +21,10 @@ export async function published(): Promise<number> {
   const grant = store.at(version, BigInt(count) - 1n);
   const least: Uint8Array = store.at(version, 0).key;
   const truth: boolean = store.finding(version, least, store.prove(version, least)).truth;
+  const message: Uint8Array = grants.writeMessage(store.prove(version, least), '61', [{ key: '61', value: grant.value }]);
+  const asked: Uint8Array = grants.readMessage(message).asked;
+  // @ts-expect-error a leaf has a value
+  grants.writeMessage(message, asked, [{ key: '61' }]);
   // @ts-expect-error a position is a number
   store.at(version, '0');
   // @ts-expect-error a publishing has a number

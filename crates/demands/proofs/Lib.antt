@@ -29,3 +29,4 @@ pub mod Forged
 pub mod Sentences
 pub mod Shelf
 pub mod Indexed
+pub mod Messages

@@ -11,3 +11,4 @@ pub mod Forged
 pub mod Indexed
 pub mod Tabled
 pub mod Desk
+pub mod Messages

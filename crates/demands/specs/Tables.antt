@@ -11,7 +11,8 @@ use Rattle.refusals.specs.Exactly.{Table}
 use Rattle.refusals.specs.Rows.{WrongLength, NotSound, Not32, NotKeys}
 use Rattle.refusals.specs.Orders.{headerRows, batchRows, versionRows, lookupRows, keyRows, placingRows, positionRows, provingRows, proofRows, askingRows, togetherRows, comparisonRows, holdingRows, rowRows, rescueRows, moveRows}
 use Rattle.refusals.specs.Orders.{rangeRows, pocketRows, pocketHoldingRows}
-use Rattle.refusals.specs.Orders.{foundRows}
+use Rattle.refusals.specs.Orders.{foundRows, messageRows, readingRows}
+use Rattle.messages.specs.Lending.{Lent}
 use Rattle.refusals.specs.Orders.{shelfRows}
 
 -- 1, 2; then 3 by full soundness.
@@ -119,3 +120,10 @@ shelfVerifyRows root b k x = (12, Not32 (root ∷ k ∷ [])) ∷ shelfRows root 
 -- A hash is never refused.
 abbrev pub sha256Rows : Table
 sha256Rows = []
+
+-- Document 02, 2026-02: writing a message: 10, 15, 9; reading one: 10, 9.
+abbrev pub writeMessageRows : Bytes → Lent → Bytes → Table
+writeMessageRows x lent room = messageRows x lent room
+
+abbrev pub readMessageRows : Bytes → Bytes → Table
+readMessageRows m room = readingRows m room

@@ -26,6 +26,8 @@ use Rattle.verify.specs.Verify as verify
 use Rattle.verify_rows.specs.Rows as rows
 use Rattle.pocket_verify.specs.Verify as pocket-verify
 use Rattle.shelf_rules.specs.Shelf as shelf
+use Rattle.messages.specs.Lending.{Lent}
+use Rattle.message_rules.specs.Contracts as message
 
 -- Formatting the bytes s answers r and leaves the bytes t.
 pub record Formats (s : Bytes) (r : ℕ) (t : Bytes) : Type 0 where
@@ -162,6 +164,14 @@ TellsVersion r = r ≡ (0 * 256 * 256 + 1 * 256 + 0) * 256
 -- as g.
 abbrev pub ShelfVerifies : Bytes → ℕ → Bytes → Bytes → Bytes → ℕ → Bytes → Type 0
 ShelfVerifies root b k x f r g = shelf.ShelfVerifies root b k x f r g
+
+-- Writing the record x as a message, with what is lent, answers r; the room is left as t, the array f for the message's length as g.
+abbrev pub WritesMessage : Bytes → Lent → Bytes → Bytes → ℕ → Bytes → Bytes → Type 0
+WritesMessage x lent room f r t g = message.WritesMessage x lent room f r t g
+
+-- Reading the bytes m as a message answers r; the room is left as t, the array f for lengths and places as g.
+abbrev pub ReadsMessage : Bytes → Bytes → Bytes → ℕ → Bytes → Bytes → Type 0
+ReadsMessage m room f r t g = message.ReadsMessage m room f r t g
 
 -- Hashing the bytes x answers 0; the array for the digest is left as g.
 pub record Hashes (x : Bytes) (r : ℕ) (g : Bytes) : Type 0 where

@@ -1,7 +1,8 @@
 // The public calls, for C, Rust and others to link. Each answers 0 where it is accepted, else document 01's number of refusal; a refused
 // call writes nothing, its answer included. A slice is passed as a pointer and a length, an array as a pointer alone.
 use terms::Form;
-ghost use Rattle.grants.specs.Contracts.{Formats, Checks, Indexes, TellsIndex, FormatsIndexed, AppliesIndexed, PrunesIndexed, Applies, Prunes, ReadsRoot, ReadsKey, Counts, ReadsAt, Proves, Palettes, ReadsRootBy, ReadsKeyBy, CountsBy, ReadsAtBy, ProvesBy, PalettesBy, Changes, Rescues, MovesOver, MovesBack, Finds, Figures, PocketProves, Verifies, PocketVerifies, ShelfVerifies, VerifiesMany, TellsVersion, Hashes};
+ghost use Rattle.grants.specs.Contracts.{Formats, Checks, Indexes, TellsIndex, FormatsIndexed, AppliesIndexed, PrunesIndexed, Applies, Prunes, ReadsRoot, ReadsKey, Counts, ReadsAt, Proves, Palettes, ReadsRootBy, ReadsKeyBy, CountsBy, ReadsAtBy, ProvesBy, PalettesBy, Changes, Rescues, MovesOver, MovesBack, Finds, Figures, PocketProves, Verifies, PocketVerifies, ShelfVerifies, VerifiesMany, WritesMessage, ReadsMessage, TellsVersion, Hashes};
+ghost use Rattle.message_rules.specs.Contracts.{lentOf};
 
 // Makes a fresh store of any bytes of the right length.
 #[no_mangle]
@@ -380,6 +381,33 @@ pub extern "C" fn grants_shelf_verify(
     ensures { λ r. ⌜ ShelfVerifies (now (root .entry)) bits (now (key .entry)) (now (proof .entry)) (now (found .entry)) r (now (found .exit)) ⌝ }
 {
     shelf_verify::grants_shelf_verify(root, bits, key, proof, found)
+}
+
+// Writes our record as an ICS 23 message to the front of the room, with the raw key asked for and raw key and value of the leaf shown or the left of two, and of
+// the right of two; a leaf not shown is lent without bytes. length: the message's, little-endian.
+#[no_mangle]
+pub extern "C" fn grants_ics23_write(
+    proof: &[u8],
+    asked: &[u8],
+    key1: &[u8],
+    value1: &[u8],
+    key2: &[u8],
+    value2: &[u8],
+    room: &mut [u8],
+    length: &mut [u8; 4],
+) -> u32
+    ensures { λ r. ⌜ WritesMessage (now (proof .entry)) (lentOf (now (asked .entry)) (now (key1 .entry)) (now (value1 .entry)) (now (key2 .entry)) (now (value2 .entry))) (now (room .entry)) (now (length .entry)) r (now (room .exit)) (now (length .exit)) ⌝ }
+{
+    message_write::written_out(proof, asked, key1, value1, key2, value2, room, length)
+}
+
+// Reads an ICS 23 message into our record at the front of the room. answer: the record's length, then where in the message asked, key1, value1, key2, value2 stand:
+// offset and length, 4 bytes little-endian each, zero where there is none.
+#[no_mangle]
+pub extern "C" fn grants_ics23_read(message: &[u8], room: &mut [u8], answer: &mut [u8; 44]) -> u32
+    ensures { λ r. ⌜ ReadsMessage (now (message .entry)) (now (room .entry)) (now (answer .entry)) r (now (room .exit)) (now (answer .exit)) ⌝ }
+{
+    message_read::read_out(message, room, answer)
 }
 
 // SHA-256 of the bytes; never refused.

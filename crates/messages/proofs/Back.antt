@@ -194,11 +194,11 @@ nonexistence-back a h =
       somebody-is (a .leftward) (a .rightward) (h .3),
     )
 
-record NonexistenceSaid (m : Bytes) (a : Absence) : Type 0 where
-  is : nonexistence a ≡ m
-  raw : RawProof (absence a)
+pub record NonexistenceSaid (m : Bytes) (a : Absence) : Type 0 where
+  pub is : nonexistence a ≡ m
+  pub raw : RawProof (absence a)
 
-nonexistence-said : (m : Bytes) (a : Absence) → All Byte m → nonexistenceIn m ≡ some a → NonexistenceSaid m a
+pub nonexistence-said : (m : Bytes) (a : Absence) → All Byte m → nonexistenceIn m ≡ some a → NonexistenceSaid m a
 unfolding nonexistenceIn
 nonexistence-said m a h e =
     let u = onward-some (fieldFrom 1 m) _ a e in

@@ -72,7 +72,7 @@ module _ (sha : Bytes → Bytes) where
       record { left-raw = s .0; right-raw = t .0; somebody = omega arith; left-own = ap some (s .1); right-own = ap some (t .1) }
 
   -- what is lent and fits is raw, and our own record of it is the record it was lent with
-  lent-said : (lent : Lent) (p : Proof) → ProofForm p → LentBytes lent → lentFits sha lent p ≡ true →
+  pub lent-said : (lent : Lent) (p : Proof) → ProofForm p → LentBytes lent → lentFits sha lent p ≡ true →
       RawProof (rawProof lent p) × (ownProof sha (rawProof lent p) ≡ p)
   lent-said lent (presence p) h b e =
       let s = leaf-said (lent .first) p h (b .first-key) (b .first-value) (all-of-tests _ (all-of-tests _ e .1 .0) .0) in (s .0, ap presence (s .1))

@@ -13,3 +13,4 @@ pub mod Pocket
 pub mod Findings
 pub mod Moves
 pub mod Shelf
+pub mod Messages

@@ -6,7 +6,8 @@ use Rattle.terms.specs.declared.Form.{Form}
 use Rattle.terms.specs.Bits.{Bytes}
 use Rattle.refusals.specs.Exactly.{Table}
 use Rattle.refusals.specs.Rows.{WrongLength, WrongHeader, StopsRoot, StopsGet, StopsProve, StopsAt, PastNumber, Lost, Unsound, BatchOffForm, NotAscending, NotAbove, TooFewFree, NotKept, TooLong, ProofOffForm, DoesNotHold, EmptyVersion, NotBothKept, TooManyVisits, ListTooLong, AskedOfEmpty, StopsPalette, TooLongTogether, NotRootAndKeys, NotPieces, AnswersTooLong, WrongSizes, OldestAbove, NoVersion, WrongRoom, WrongHeaderIn, NotSoundIn}
-use Rattle.refusals.specs.Rows.{NoKeptRange, FiguresTooLong, OutsidePocket, ProvedOutside}
+use Rattle.refusals.specs.Rows.{NoKeptRange, FiguresTooLong, OutsidePocket, ProvedOutside, NotRaw, MessageTooLong, NoMessage, RecordTooLong}
+use Rattle.messages.specs.Lending.{Lent}
 use Rattle.refusals.specs.Rows.{HoldsNoGrant, rootOfVersion}
 use Rattle.refusals.specs.Rows.{TooManyBits, ShelfOffForm, ShelfDoesNotHold}
 
@@ -99,3 +100,10 @@ moveRows from s old = (1, WrongRoom from s old) ∷ (2, WrongHeaderIn from s) �
 -- The check of a shelf's proof, its own: 21, 10, 11.
 abbrev pub shelfRows : Bytes → ℕ → Bytes → Bytes → Table
 shelfRows root b k x = (21, TooManyBits b) ∷ (10, ShelfOffForm x) ∷ (11, ShelfDoesNotHold root b k x) ∷ []
+
+-- Document 02, 2026-02: 'Writing tests 10, 15, 9, reading 10, 9.'
+abbrev pub messageRows : Bytes → Lent → Bytes → Table
+messageRows x lent room = (10, ProofOffForm x) ∷ (15, NotRaw x lent) ∷ (9, MessageTooLong x lent room) ∷ []
+
+abbrev pub readingRows : Bytes → Bytes → Table
+readingRows m room = (10, NoMessage m) ∷ (9, RecordTooLong m room) ∷ []

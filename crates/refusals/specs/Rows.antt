@@ -2,7 +2,7 @@
 use Prim.Native.Nat.{ℕ, _+_, _*_, _-_, _≤_, _<_}
 use mathlib.Core.Path.{_≡_}
 use mathlib.Core.Logic.{_⊎_}
-use mathlib.Core.Bool.{false}
+use mathlib.Core.Bool.{false, true}
 use mathlib.Core.List.{List, [], _∷_}
 use lib.ListN.{length}
 use Rattle.terms.specs.declared.Form.{Form}
@@ -29,6 +29,10 @@ use Rattle.rescue_bytes.specs.Rescues.{NoRun}
 use Rattle.quarter.specs.Figures.{figuresSize, mostVersions}
 use Rattle.pocket.specs.Pocket.{Outside}
 use Rattle.nodehash.specs.Node.{leafHash, innerHash}
+use Rattle.sha256.specs.Sha256.{sha256}
+use Rattle.messages.specs.Message.{messageBytes}
+use Rattle.messages.specs.Lending.{Lent, lentFits, rawProof, recordOf}
+use Rattle.message_rules.specs.Contracts.{Encodes}
 use Rattle.proofrecords.specs.ProofBytes.{proofBytes, ProofForm}
 use Rattle.layout.specs.Sizes.{headerSize, headerKind, mostSlots, kindAt, capacityAt, oldestAt, latestAt, slotSize}
 use Rattle.layout.specs.Stores.{storeIn, storeOf}
@@ -263,3 +267,19 @@ ShelfOffForm x = (p : ShelfProof) → ShelfIs x p → ⊥
 abbrev pub ShelfDoesNotHold : Bytes → ℕ → Bytes → Bytes → Type 0
 ShelfDoesNotHold root b k x =
     (p : ShelfProof) × ShelfIs x p × ((answer : Verdict) → ShelfHolds root b k p answer → ⊥)
+
+-- 15 (document 02, 2026-02), of a proof in form: a raw key or value has another length or doesn't hash to what the proof holds, or a leaf too many is lent.
+abbrev pub NotRaw : Bytes → Lent → Type 0
+NotRaw x lent = (p : Proof) × ProofIs x p × (lentFits sha256 lent p ≡ true → ⊥)
+
+-- 9 of writing a message: it is longer than the room.
+abbrev pub MessageTooLong : Bytes → Lent → Bytes → Type 0
+MessageTooLong x lent room = (p : Proof) × ProofIs x p × (length room < length (messageBytes (rawProof lent p)))
+
+-- 10 of reading a message: the bytes are the message of no proof.
+abbrev pub NoMessage : Bytes → Type 0
+NoMessage m = (q : Proof) → Encodes m q → ⊥
+
+-- 9 of reading it: our own record of what it says is longer than the room.
+abbrev pub RecordTooLong : Bytes → Bytes → Type 0
+RecordTooLong m room = (q : Proof) × Encodes m q × (length room < length (recordOf sha256 q))

@@ -8,6 +8,7 @@ mod damaged;
 mod figured;
 mod forged;
 mod moving;
+mod partners;
 mod several;
 
 use place::same;
@@ -25,15 +26,15 @@ struct Region {
 }
 
 fn main() {
-    let mut lines = [0u8; 16384];
+    let mut lines = [0u8; 32768];
     let mut memory = [0u8; 262144];
     run(&mut lines, &mut memory);
 }
 
 // The length of so large an array is known where it is a parameter.
-fn run(lines: &mut [u8; 16384], memory: &mut [u8; 262144]) {
+fn run(lines: &mut [u8; 32768], memory: &mut [u8; 262144]) {
     let n = io::read_full(0, lines);
-    if n == 16384 {
+    if n == 32768 {
         say::text(b"THE SCRIPT IS TOO LONG\n");
     } else {
         front(lines, n, memory);
@@ -177,6 +178,20 @@ fn by_figures(l: &[u8], c: &[u8], store: &mut [u8]) -> bool {
 fn by_finding(l: &[u8], c: &[u8], store: &mut [u8]) -> bool {
     if same(c, b"finding") {
         return forged::finding(l, store);
+    }
+    by_messages(l, c, store)
+}
+
+// ICS 23's messages.
+fn by_messages(l: &[u8], c: &[u8], store: &mut [u8]) -> bool {
+    if same(c, b"grant") {
+        return partners::grant(l, store);
+    }
+    if same(c, b"message") {
+        return partners::message(l, store);
+    }
+    if same(c, b"read") {
+        return partners::read(l);
     }
     by_moves(l, c, store)
 }

@@ -1,6 +1,7 @@
 //! The proved library beside the second program, on random histories, damaged stores and forged proofs. Deterministic: the first argument
 //! is the number of rounds (a round is some forty cases, every tenth a history besides, every 4,000th the largest store), the second the seed.
-//! A third names a file: each call of the library is written to it, but those on the largest store, whose copies would fill it.
+//! A third names a file: each call of the library is written to it, but those on the largest store, whose copies would fill it. A fourth, `messages`, runs the
+//! calls on ICS 23 messages alone (tests/proto).
 
 mod applying;
 mod base;
@@ -14,6 +15,7 @@ mod forging;
 #[allow(dead_code)] // those of roots are the passes' alone
 mod hostile;
 mod indexing;
+mod messages;
 mod moving;
 mod ours;
 mod quarter;
@@ -396,13 +398,15 @@ fn all(rounds: u64, first: u64, tally: &mut Tally) {
     quarter::named(tally);
     moving::named(tally);
     indexing::named(tally);
+    messages::named(tally);
     for n in 0..rounds {
-        let seed = first.wrapping_add(n).wrapping_mul(0x9E37_79B9_7F4A_7C15);
+        let seed = seed(first, n);
         round(seed, tally);
         rescuing::round(seed, tally);
         rows::round(seed, tally);
         shelf::round(seed, tally);
         quarter::round(seed, tally);
+        messages::round(seed, tally);
         if n % 10 == 0 {
             applying::history(seed, tally);
             finding::round(seed, tally);
@@ -415,6 +419,15 @@ fn all(rounds: u64, first: u64, tally: &mut Tally) {
     }
 }
 
+fn seed(first: u64, n: u64) -> u64 {
+    first.wrapping_add(n).wrapping_mul(0x9E37_79B9_7F4A_7C15)
+}
+
+fn only_messages(rounds: u64, first: u64, tally: &mut Tally) {
+    messages::named(tally);
+    (0..rounds).for_each(|n| messages::round(seed(first, n), tally));
+}
+
 fn main() {
     std::env::args().nth(3).iter().for_each(|name| ours::record::start(name));
     let mut words = std::env::args().skip(1).take(2).map(|w| w.parse::<u64>().expect("a number"));
@@ -422,7 +435,8 @@ fn main() {
     let first = words.next().unwrap_or(1);
     let mut tally = Tally::default();
     // A panic, such as that of a call that wrote where it must not, ends the run; it counts as one failure.
-    if std::panic::catch_unwind(std::panic::AssertUnwindSafe(|| all(rounds, first, &mut tally))).is_err() {
+    let run = if std::env::args().nth(4).as_deref() == Some("messages") { only_messages } else { all };
+    if std::panic::catch_unwind(std::panic::AssertUnwindSafe(|| run(rounds, first, &mut tally))).is_err() {
         tally.failed += 1;
     }
     ours::record::end();

@@ -4,6 +4,7 @@
 use record::{array, long, number, read, recorded, written};
 use second::bytes::{b32_at, u32_at};
 use second::forged::{Finding, Message};
+use second::message::Leaf;
 use second::{Bytes32, Refusal, Stopped};
 
 #[path = "record.rs"]
@@ -117,6 +118,24 @@ extern "C" {
         proof_len: usize,
         found: *mut [u8; 33],
     ) -> u32;
+    fn grants_ics23_write(
+        proof: *const u8,
+        proof_len: usize,
+        asked: *const u8,
+        asked_len: usize,
+        key1: *const u8,
+        key1_len: usize,
+        value1: *const u8,
+        value1_len: usize,
+        key2: *const u8,
+        key2_len: usize,
+        value2: *const u8,
+        value2_len: usize,
+        room: *mut u8,
+        room_len: usize,
+        length: *mut [u8; 4],
+    ) -> u32;
+    fn grants_ics23_read(message: *const u8, message_len: usize, room: *mut u8, room_len: usize, answer: *mut [u8; 44]) -> u32;
     fn grants_verify_many(
         root: *const u8,
         root_len: usize,
@@ -424,6 +443,45 @@ pub fn shelf_verify(root: &[u8], bits: u32, key: &[u8], proof: &[u8]) -> Result<
         })
     })
     .map(verdict)
+}
+
+/// The length of the message, at the front of the room.
+pub fn ics23_write(proof: &[u8], asked: &[u8], first: Leaf, second: Leaf, room: &mut [u8]) -> Result<u32, Refusal> {
+    let (to, most) = (room.as_mut_ptr(), room.len());
+    let (k, v, l, w) = (first.key, first.value, second.key, second.value);
+    answered(|length| {
+        let lent = [read(proof), read(asked), read(k), read(v), read(l), read(w), written(room), array(length)];
+        recorded("ics23_write", &lent, || unsafe {
+            grants_ics23_write(
+                proof.as_ptr(),
+                proof.len(),
+                asked.as_ptr(),
+                asked.len(),
+                k.as_ptr(),
+                k.len(),
+                v.as_ptr(),
+                v.len(),
+                l.as_ptr(),
+                l.len(),
+                w.as_ptr(),
+                w.len(),
+                to,
+                most,
+                length,
+            )
+        })
+    })
+    .map(u32::from_le_bytes)
+}
+
+/// The record's length, and where the raw parts stand in the message; the record is at the front of the room.
+pub fn ics23_read(message: &[u8], room: &mut [u8]) -> Result<[u8; 44], Refusal> {
+    let (to, most) = (room.as_mut_ptr(), room.len());
+    answered(|answer| {
+        recorded("ics23_read", &[read(message), written(room), array(answer)], || unsafe {
+            grants_ics23_read(message.as_ptr(), message.len(), to, most, answer)
+        })
+    })
 }
 
 /// 34 bytes for each key, at the front of the answers.

@@ -160,6 +160,27 @@ pub fn of_finding() -> usize {
     most(move || assert_eq!(crate::ours::finding(&s, 1, &key(3), &proof), Ok(second::forged::Finding::Nothing)))
 }
 
+/// A message's most, written and read: an absence with two neighbours of 256 steps and the longest raw parts.
+#[allow(dead_code)]
+pub fn of_messages() -> [(&'static str, usize); 2] {
+    use second::message::{message, Leaf};
+    use second::proof::{absence_bytes, Presence, Step};
+    use second::sha256::sha256;
+    let (key, value) = (vec![5; 256], vec![6; 4_096]);
+    let steps = vec![Step { side: false, sibling: [7; 32] }; 256];
+    let leaf = Presence { key: sha256(&key), value: sha256(&value), steps };
+    let record = absence_bytes(&sha256(&key), Some(&leaf), Some(&leaf));
+    let lent = Leaf { key: &key, value: &value };
+    let m = message(&record, &key, lent, lent).unwrap();
+    assert_eq!(m.len(), 29_999);
+    let (k, v) = (key.clone(), value.clone());
+    let write = most(move || {
+        let lent = Leaf { key: &k, value: &v };
+        assert_eq!(crate::ours::ics23_write(&record, &k, lent, lent, &mut vec![0; 29_999]), Ok(29_999))
+    });
+    [("ics23_write", write), ("ics23_read", most(move || assert!(crate::ours::ics23_read(&m, &mut vec![0; 17_080]).is_ok())))]
+}
+
 /// A rescue's most: the same two versions, so that both trees are walked to the last bit.
 #[allow(dead_code)]
 pub fn of_rescue() -> usize {

@@ -8,6 +8,7 @@ use crate::files::{self, is_shelf, Locked, PROOF_LIMIT};
 use crate::finding::{self, Accepted};
 use crate::held;
 use crate::json::{object, Json};
+use crate::message;
 use crate::missing::{self, refused_read};
 use crate::moving;
 use crate::out::{both_to_output, Out, ABSENT};
@@ -189,8 +190,23 @@ pub fn get(args: &Args, out: &mut Out) -> Result<u8, Fail> {
 
 /// The pocket profile has no call for several keys.
 fn one_proof(args: &Args) -> Result<(), Fail> {
-    match args.has("--pocket") {
-        true => Err(Fail::Usage("--pocket is for one key".to_string())),
+    for name in ["--pocket", "--ics23"] {
+        if args.has(name) {
+            return Err(Fail::Usage(format!("{name} is for one key")));
+        }
+    }
+    Ok(())
+}
+
+/// What goes with a message alone, and what doesn't.
+fn message_options(args: &Args) -> Result<(), Fail> {
+    for name in ["--raw-key", "--raw-value"] {
+        if args.has(name) && !args.has("--ics23") {
+            return Err(Fail::Usage(format!("{name} goes with --ics23")));
+        }
+    }
+    match args.has("--ics23") && args.has("--pocket") {
+        true => Err(Fail::Usage("--pocket does not go with --ics23".to_string())),
         false => Ok(()),
     }
 }
@@ -201,6 +217,7 @@ fn no_pocket() -> Fail {
 }
 
 pub fn prove(args: &Args, out: &mut Out) -> Result<u8, Fail> {
+    message_options(args)?;
     if args.has("--version") || args.has("--keys") {
         one_proof(args)?;
         return palette::prove(args, out);
@@ -218,6 +235,9 @@ pub fn prove(args: &Args, out: &mut Out) -> Result<u8, Fail> {
     let key = key(args, 1, Some(path))?;
     let store = read_kept(path)?;
     let version = version(args, 2, &store, path)?;
+    if args.has("--ics23") {
+        return message::prove(args, out, &store, version, &key);
+    }
     let refused = refused_read(&store, path, version, Some(&key));
     let proof = match (args.has("--pocket"), &store) {
         (true, Kept::Store(store)) => store.prove_pocket(version, &key).map_err(Into::into),
@@ -267,6 +287,9 @@ pub fn prove(args: &Args, out: &mut Out) -> Result<u8, Fail> {
 }
 
 pub fn verify(args: &Args, out: &mut Out) -> Result<u8, Fail> {
+    if args.has("--ics23") {
+        return message::verify(args, out);
+    }
     if args.word(3).is_some() || args.has("--keys") {
         one_proof(args)?;
         if args.has("--against") {

@@ -20,6 +20,7 @@ mod json;
 mod kept;
 mod lines;
 mod listing;
+mod message;
 mod missing;
 mod moving;
 mod names;

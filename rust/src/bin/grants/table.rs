@@ -4,8 +4,8 @@ use crate::args::{Args, Choice, Form};
 use crate::fail::Fail;
 use crate::out::Out;
 use crate::{
-    commands, counts, diff, grow, listing, moving, names, note, publish, report, rescue, shelves,
-    show, statement,
+    commands, counts, diff, grow, listing, message, moving, names, note, publish, report, rescue,
+    shelves, show, statement,
 };
 
 pub struct Command {
@@ -370,13 +370,20 @@ may be -.",
 Prints the proof in hex, or writes its bytes to a file with --out. Without VERSION, the latest. STORE may be -. In a version
 without a grant there is no proof (refused with 14): its root, 32 zero bytes, itself shows that nothing is granted.
 With --version or --keys, up to 256 keys: their proofs in the order asked, in one call; where one is refused, the first
-refusal is the answer.",
+refusal is the answer.
+
+With --ics23 the proof of one key as the message of ICS 23 that partners' verifiers read (docs/PARTNERS.md). It holds raw keys and
+values, those of the neighbours too: names of the book serve where their SHA-256 is the key or the value; --raw-key and --raw-value
+give files, each whole, in any order.",
         words: (1, usize::MAX),
         choices: &[
             JSON,
             AT,
             valued("--version", "VERSION", "the version; every word after STORE is then a key"),
             flag("--pocket", "refuse with 19 a proof that shows a leaf with more than 32 steps"),
+            flag("--ics23", "the message of ICS 23 for partners"),
+            valued("--raw-key", "FILE", "a raw key, with --ics23; may be given again"),
+            valued("--raw-value", "FILE", "a raw value, with --ics23; may be given again"),
             valued("--out", "FILE", "write the proof's bytes to FILE (- for standard output)"),
             KEYS,
             FORCE,
@@ -398,7 +405,10 @@ with their hex digits; it may be -. No store is needed.
 
 With --against STORE and --version VERSION, whose root ROOT then must be, the proof is also held against that version's grants:
 it tells the truth, or the two different messages with equal SHA-256, or the one whose SHA-256 is zero, that it took to forge
-it are named, with exit status 4. --out writes that as a text for sha256sum. docs/FORGERY.md says what it means.",
+it are named, with exit status 4. --out writes that as a text for sha256sum. docs/FORGERY.md says what it means.
+
+With --ics23 the words are ROOT and the file of an ICS 23 message, or ROOT, KEY and that file: without KEY it is the key in the message
+that is asked for, which the answer names.",
         words: (2, usize::MAX),
         choices: &[
             JSON,
@@ -409,6 +419,7 @@ it are named, with exit status 4. --out writes that as a text for sha256sum. doc
             ),
             flag("--pocket", "refuse with 19 a proof that shows a leaf with more than 32 steps"),
             valued("--bits", "B", "the proof is of a shelf with so many bits, and ROOT is its list's; a ROOT file says it itself"),
+            flag("--ics23", "the proof is a message of ICS 23"),
             valued("--against", "STORE", "hold the proof against a version's grants"),
             valued("--version", "VERSION", "the version, with --against"),
             valued("--out", "FILE", "write what is found to FILE (- for standard output)"),
@@ -418,6 +429,17 @@ it are named, with exit status 4. --out writes that as a text for sha256sum. doc
             NO_BOOK,
         ],
         run: commands::verify,
+    },
+    Command {
+        name: "ics23",
+        usage: "show FILE",
+        what: "a message of ICS 23 as text",
+        help: "\
+What `grants prove --ics23` wrote, field by field: which leaves it shows, with raw keys and values, and the steps from each to the
+root. Whether it holds is for `grants verify --ics23` to say. FILE has the message's bytes, or their hex digits; it may be -.",
+        words: (2, 2),
+        choices: &[JSON],
+        run: message::ics23,
     },
     Command {
         name: "list",

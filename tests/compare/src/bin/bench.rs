@@ -2,7 +2,8 @@
 //! that it does not grow with the versions, and the stack that each call takes. With the argument `stack` that last part alone, with
 //! `changes` the comparisons alone, with `gaps` the publishings under numbers with gaps, with `beside-check` apply and prune beside check, with
 //! `missing` the reads that miss a record, with `rescue` the rescues, with `moves` the moves over and back, with `positions` the numbers of grants and
-//! the grants by position, with `tables` the calls by a table, with `figures` the figures of a range, with `finding` what is found of a true proof.
+//! the grants by position, with `tables` the calls by a table, with `figures` the figures of a range, with `finding` what is found of a true proof, with
+//! `messages` ICS 23's messages.
 
 #[path = "../cases.rs"]
 #[allow(dead_code)]
@@ -382,6 +383,33 @@ fn quarters(random: &mut Random) {
     }
 }
 
+/// 1,000 presence records of 20 steps as ICS 23 messages, with raw keys of 20 bytes and values of 40, written and read back. The cost grows with the steps, and by the
+/// two hashes of raw bytes for each leaf.
+fn messages(random: &mut Random) {
+    use second::message::Leaf;
+    use second::proof::{presence_bytes, Presence, Step};
+    use second::sha256::sha256;
+    let lent: Vec<(Vec<u8>, Vec<u8>)> = (0..1_000).map(|_| ((0..20).map(|_| random.byte()).collect(), (0..40).map(|_| random.byte()).collect())).collect();
+    let steps: Vec<Step> = (0..20).map(|i| Step { side: i % 2 == 1, sibling: random.hash() }).collect();
+    let records: Vec<Vec<u8>> = lent.iter().map(|(k, v)| presence_bytes(&Presence { key: sha256(k), value: sha256(v), steps: steps.clone() })).collect();
+    let all = || records.iter().zip(lent.iter().map(|(key, value)| Leaf { key, value }));
+    let mut room = vec![0; 30_000];
+    let made: Vec<Vec<u8>> = all().map(|(p, leaf)| second::message::message(p, leaf.key, leaf, Leaf::default()).unwrap()).collect();
+    let mut other = room.clone();
+    compare(
+        "ics23-write-1000-of-20-steps",
+        5,
+        || all().zip(&made).for_each(|((p, leaf), m)| assert_eq!(black_box(ours::ics23_write(p, leaf.key, leaf, Leaf::default(), &mut room)), Ok(m.len() as u32))),
+        || all().zip(&made).for_each(|((p, leaf), m)| assert_eq!(black_box(second::ics23_write(p, leaf.key, leaf, Leaf::default(), &mut other)), Ok(m.len() as u32))),
+    );
+    compare(
+        "ics23-read-1000-of-20-steps",
+        5,
+        || made.iter().for_each(|m| assert!(black_box(ours::ics23_read(m, &mut room)).is_ok())),
+        || made.iter().for_each(|m| assert!(black_box(second::ics23_read(m, &mut other)).is_ok())),
+    );
+}
+
 /// 2026-12: what is found of a true proof, of a key that is there and of one that isn't, in a full store: beside the second program, and beside check on the
 /// same store, with which the call begins. The search for a finding runs only where an accepted proof is false, which SHA-256 allows no test of.
 fn findings(random: &mut Random) {
@@ -626,6 +654,9 @@ fn stacks() {
     print("changes", stack::of_changes());
     print("figures", stack::of_figures());
     print("finding", stack::of_finding());
+    for (name, bytes) in stack::of_messages() {
+        print(name, bytes);
+    }
     print("rescue", stack::of_rescue());
     for (name, used) in stack::of_moves() {
         print(name, used);
@@ -664,6 +695,9 @@ fn main() {
     }
     if std::env::args().nth(1).as_deref() == Some("figures") {
         return quarters(&mut Random(41));
+    }
+    if std::env::args().nth(1).as_deref() == Some("messages") {
+        return messages(&mut Random(47));
     }
     if std::env::args().nth(1).as_deref() == Some("finding") {
         return findings(&mut Random(43));
@@ -716,6 +750,7 @@ fn main() {
     positions(&mut Random(37));
     quarters(&mut Random(41));
     findings(&mut Random(43));
+    messages(&mut Random(47));
     rescues();
     moves();
     tables();

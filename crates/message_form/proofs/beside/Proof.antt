@@ -1,0 +1,95 @@
+-- `message_form::beside` meets its contract: the field, where its tag stands, and the existence proof in it. Assumes nothing.
+use native.Mathlib.Nat.{sub-zero}
+use mathlib.Core.Path.{ap, sym, _∙_, subst}
+use lib.ListN.{take}
+use lib.Seq.{length-take-le}
+use borrow.Author.Tests.{not-true, not-false}
+use Rattle.hash.proofs.Digits.{all-bytes}
+use Rattle.message_leaf.specs.Shown.{Shows}
+use Rattle.message_form.proofs.Besides.{neighbours-none, past-end, neighbours-no-field, neighbours-no-proof, neighbours-there}
+use native.Mathlib.Omega.{arith}
+use borrow.Author.Needs.{needs}
+use Rattle.message_form.proofs.beside.Statement.{statement}
+use Rattle.message_form.proofs.beside.Tie as tie
+
+nobody-requires : tie.Need-nobody-requires
+nobody-requires c κs = search needs
+
+returns : tie.Need-returns
+returns c =
+    let a = c .before .before .before .args in neighbours-none (c .before .before .before .pre .0) (past-end (a .n) (a .x .now) (a .at) (omega arith)) (c .nobody .ensures)
+
+shared-slice-read-if2 : tie.Need-shared-slice-read-if2
+shared-slice-read-if2 c = search needs
+
+mul-if2 : tie.Need-mul-if2
+mul-if2 c = search needs
+
+add-if2 : tie.Need-add-if2
+add-if2 c = search needs
+
+nobody-requires-2 : tie.Need-nobody-requires-2
+nobody-requires-2 c κs = search needs
+
+returns-2 : tie.Need-returns-2
+returns-2 c =
+    neighbours-none (c .before .before .before .before .before .pre .0) (c .before .if2 .taken) (c .nobody2 .ensures)
+
+field-requires : tie.Need-field-requires
+field-requires c κs = search needs
+
+no-neighbour-requires : tie.Need-no-neighbour-requires
+no-neighbour-requires c κs = search needs
+
+returns-3 : tie.Need-returns-3
+returns-3 c =
+    neighbours-no-field (c .before .before .before .before .if2 .left) (c .before .before .before .field .ensures) (not-true _ (c .before .if3 .taken)) (c .no-neighbour .ensures)
+
+sub-existence : tie.Need-sub-existence
+sub-existence c = search needs
+
+part-existence-start : tie.Need-part-existence-start
+part-existence-start c = search needs
+
+part-existence-end : tie.Need-part-existence-end
+part-existence-end c =
+    omega (arith, c .before .before .field .ensures .inside (not-false _ (c .if3 .left)) .2)
+
+existence-requires : tie.Need-existence-requires
+existence-requires c κs =
+    let i = c .before .before .before .field .ensures .inside (not-false _ (c .before .if3 .left)) in
+    omega (arith, length-take-le (c .before .before .before .field .result .to) (c .before .before .before .before .before .before .before .before .args .x .now) (i .2), i .1)
+
+no-neighbour-requires-2 : tie.Need-no-neighbour-requires-2
+no-neighbour-requires-2 c κs = search needs
+
+returns-4 : tie.Need-returns-4
+returns-4 c =
+    neighbours-no-proof (c .before .before .before .before .before .before .before .before .if2 .left) (c .before .before .before .before .before .before .before .field .ensures) (not-false _ (c .before .before .before .before .before .if3 .left)) (subst (λ k. Shows (take k (c .before .before .before .before .before .before .before .before .before .before .before .before .args .x .now)) (c .before .before .before .before .before .before .before .field .result .from) (c .before .before .before .existence .result)) (sub-zero (c .before .before .before .before .before .before .before .field .result .to)) (c .before .before .before .existence .ensures)) (not-true _ (c .before .if4 .taken)) (c .no-neighbour2 .ensures)
+
+returns-5 : tie.Need-returns-5
+returns-5 c =
+    neighbours-there (c .before .before .before .before .before .before .before .if2 .left) (c .before .before .before .before .before .before .field .ensures) (not-false _ (c .before .before .before .before .if3 .left)) (subst (λ k. Shows (take k (c .before .before .before .before .before .before .before .before .before .before .before .args .x .now)) (c .before .before .before .before .before .before .field .result .from) (c .before .before .existence .result)) (sub-zero (c .before .before .before .before .before .before .field .result .to)) (c .before .before .existence .ensures)) (c .before .before .before .before .before .before .before .before .before .before .before .pre .1)
+    (all-bytes (c .before .before .before .before .before .before .before .before .before .before .before .args .x .now) (λ i. omega (arith, c .before .before .before .before .before .before .before .before .before .before .shared-slice-known .given i))) (not-false _ (c .if4 .left))
+
+pub beside-spec : {M : Type 1} → statement M
+beside-spec =
+    tie.close
+    (tie.spec
+    nobody-requires
+    returns
+    shared-slice-read-if2
+    mul-if2
+    add-if2
+    nobody-requires-2
+    returns-2
+    field-requires
+    no-neighbour-requires
+    returns-3
+    sub-existence
+    part-existence-start
+    part-existence-end
+    existence-requires
+    no-neighbour-requires-2
+    returns-4
+    returns-5)

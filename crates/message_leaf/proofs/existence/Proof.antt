@@ -1,0 +1,90 @@
+-- `message_leaf::existence` meets its contract: the head, raw lengths, the path. Assumes nothing.
+use mathlib.Core.Path.{sym, _∙_}
+use borrow.Author.Tests.{not-true, not-false}
+use Rattle.message_leaf.proofs.Heads.{shows-none, shows-there, no-path, key-length-wrong, value-length-wrong, length-right-is, head-none}
+use borrow.Author.Needs.{needs}
+use Rattle.message_leaf.proofs.existence.Statement.{statement}
+use Rattle.message_leaf.proofs.existence.Tie as tie
+
+head-requires : tie.Need-head-requires
+head-requires c κs = search needs
+
+no-shown-requires : tie.Need-no-shown-requires
+no-shown-requires c κs = search needs
+
+returns : tie.Need-returns
+returns c =
+    shows-none (head-none (c .before .before .before .head .ensures) (not-true _ (c .before .if1 .taken))) (c .no-shown .ensures)
+
+length-right-requires : tie.Need-length-right-requires
+length-right-requires c κs =
+    c .before .before .head .ensures .inside (not-false _ (c .if1 .left)) .key-inside .1
+
+no-shown-requires-2 : tie.Need-no-shown-requires-2
+no-shown-requires-2 c κs = search needs
+
+returns-2 : tie.Need-returns-2
+returns-2 c =
+    let f = not-false _ (c .before .before .before .if1 .left) in
+    let h = c .before .before .before .before .before .head in
+    let i = h .ensures .inside f .key-inside in
+    shows-none (key-length-wrong (h .ensures) f (length-right-is 256 (h .result .key) (h .result .kstop) (c .before .before .before .before .before .before .before .args .x .now) (i .1) (i .2) ∙ sym (c .before .before .length-right .ensures) ∙ not-true _ (c .before .if2 .taken))) (c .no-shown2 .ensures)
+
+length-right-requires-2 : tie.Need-length-right-requires-2
+length-right-requires-2 c κs =
+    c .before .before .before .before .head .ensures .inside (not-false _ (c .before .before .if1 .left)) .value-inside .1
+
+no-shown-requires-3 : tie.Need-no-shown-requires-3
+no-shown-requires-3 c κs = search needs
+
+returns-3 : tie.Need-returns-3
+returns-3 c =
+    let f = not-false _ (c .before .before .before .before .before .if1 .left) in
+    let h = c .before .before .before .before .before .before .before .head in
+    let i = h .ensures .inside f .key-inside in
+    let j = h .ensures .inside f .value-inside in
+    shows-none (value-length-wrong (h .ensures) f (length-right-is 256 (h .result .key) (h .result .kstop) (c .before .before .before .before .before .before .before .before .before .args .x .now) (i .1) (i .2) ∙ sym (c .before .before .before .before .length-right .ensures) ∙ not-false _ (c .before .before .before .if2 .left))
+    (length-right-is 4096 (h .result .value) (h .result .vstop) (c .before .before .before .before .before .before .before .before .before .args .x .now) (j .1) (j .2) ∙ sym (c .before .before .length-right2 .ensures) ∙ not-true _ (c .before .if3 .taken))) (c .no-shown3 .ensures)
+
+walk-requires : tie.Need-walk-requires
+walk-requires c κs =
+    c .before .before .before .before .before .before .head .ensures .inside (not-false _ (c .before .before .before .before .if1 .left)) .path-inside .1
+
+no-shown-requires-4 : tie.Need-no-shown-requires-4
+no-shown-requires-4 c κs = search needs
+
+returns-4 : tie.Need-returns-4
+returns-4 c =
+    let f = not-false _ (c .before .before .before .before .before .before .before .before .if1 .left) in
+    let h = c .before .before .before .before .before .before .before .before .before .before .head in
+    let i = h .ensures .inside f .key-inside in
+    let j = h .ensures .inside f .value-inside in
+    shows-none (no-path (h .ensures) f (length-right-is 256 (h .result .key) (h .result .kstop) (c .before .before .before .before .before .before .before .before .before .before .before .before .args .x .now) (i .1) (i .2) ∙ sym (c .before .before .before .before .before .before .before .length-right .ensures) ∙ not-false _ (c .before .before .before .before .before .before .if2 .left))
+    (length-right-is 4096 (h .result .value) (h .result .vstop) (c .before .before .before .before .before .before .before .before .before .before .before .before .args .x .now) (j .1) (j .2) ∙ sym (c .before .before .before .before .before .length-right2 .ensures) ∙ not-false _ (c .before .before .before .before .if3 .left)) (c .before .before .before .walk .ensures) (not-true _ (c .before .if4 .taken))) (c .no-shown4 .ensures)
+
+returns-5 : tie.Need-returns-5
+returns-5 c =
+    let f = not-false _ (c .before .before .before .before .before .before .before .if1 .left) in
+    let h = c .before .before .before .before .before .before .before .before .before .head in
+    let i = h .ensures .inside f .key-inside in
+    let j = h .ensures .inside f .value-inside in
+    shows-there (h .ensures) f (length-right-is 256 (h .result .key) (h .result .kstop) (c .before .before .before .before .before .before .before .before .before .before .before .args .x .now) (i .1) (i .2) ∙ sym (c .before .before .before .before .before .before .length-right .ensures) ∙ not-false _ (c .before .before .before .before .before .if2 .left))
+    (length-right-is 4096 (h .result .value) (h .result .vstop) (c .before .before .before .before .before .before .before .before .before .before .before .args .x .now) (j .1) (j .2) ∙ sym (c .before .before .before .before .length-right2 .ensures) ∙ not-false _ (c .before .before .before .if3 .left)) (c .before .before .walk .ensures) (not-false _ (c .if4 .left))
+
+pub existence-spec : {M : Type 1} → statement M
+existence-spec =
+    tie.close
+    (tie.spec
+    head-requires
+    no-shown-requires
+    returns
+    length-right-requires
+    no-shown-requires-2
+    returns-2
+    length-right-requires-2
+    no-shown-requires-3
+    returns-3
+    walk-requires
+    no-shown-requires-4
+    returns-4
+    returns-5)

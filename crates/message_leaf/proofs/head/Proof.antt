@@ -1,0 +1,95 @@
+-- `message_leaf::head` meets its contract: key, value and leaf op one after the other. Assumes nothing.
+use mathlib.Core.Path.{sym, _∙_}
+use borrow.Author.Tests.{not-true, not-false}
+use Rattle.hash.proofs.Digits.{all-bytes}
+use Rattle.terms.specs.Fields.{slice}
+use Rattle.message_leaf.proofs.Heads.{heads-none, no-key, no-value, no-op, other-op, heads-there}
+use native.Mathlib.Omega.{arith}
+use borrow.Author.Needs.{needs}
+use Rattle.message_leaf.proofs.head.Statement.{statement}
+use Rattle.message_leaf.proofs.head.Tie as tie
+
+field-requires : tie.Need-field-requires
+field-requires c κs = search needs
+
+no-shown-requires : tie.Need-no-shown-requires
+no-shown-requires c κs = search needs
+
+returns : tie.Need-returns
+returns c =
+    heads-none (no-key (c .before .before .before .field .ensures) (not-true _ (c .before .if1 .taken))) (c .no-shown .ensures)
+
+field-requires-2 : tie.Need-field-requires-2
+field-requires-2 c κs =
+    (c .before .before .field .ensures .inside (not-false _ (c .if1 .left)) .2, omega arith)
+
+no-shown-requires-2 : tie.Need-no-shown-requires-2
+no-shown-requires-2 c κs = search needs
+
+returns-2 : tie.Need-returns-2
+returns-2 c =
+    heads-none (no-value (c .before .before .before .before .before .before .field .ensures) (not-false _ (c .before .before .before .before .if1 .left)) (c .before .before .before .field2 .ensures) (not-true _ (c .before .if2 .taken))) (c .no-shown2 .ensures)
+
+field-requires-3 : tie.Need-field-requires-3
+field-requires-3 c κs =
+    (c .before .before .field2 .ensures .inside (not-false _ (c .if2 .left)) .2, omega arith)
+
+no-shown-requires-3 : tie.Need-no-shown-requires-3
+no-shown-requires-3 c κs = search needs
+
+returns-3 : tie.Need-returns-3
+returns-3 c =
+    heads-none (no-op (c .before .before .before .before .before .before .before .before .before .field .ensures) (not-false _ (c .before .before .before .before .before .before .before .if1 .left)) (c .before .before .before .before .before .before .field2 .ensures) (not-false _ (c .before .before .before .before .if2 .left)) (c .before .before .before .field3 .ensures) (not-true _ (c .before .if3 .taken))) (c .no-shown3 .ensures)
+
+sub-same : tie.Need-sub-same
+sub-same c =
+    omega (arith, c .before .before .field3 .ensures .inside (not-false _ (c .if3 .left)) .1)
+
+part-same-start : tie.Need-part-same-start
+part-same-start c =
+    let i = c .before .before .field3 .ensures .inside (not-false _ (c .if3 .left)) in omega (arith, i .1, i .2)
+
+part-same-end : tie.Need-part-same-end
+part-same-end c =
+    omega (arith, c .before .before .field3 .ensures .inside (not-false _ (c .if3 .left)) .2)
+
+slice-aggregate-same : tie.Need-slice-aggregate-same
+slice-aggregate-same c = search needs
+
+same-requires : tie.Need-same-requires
+same-requires c κs = search needs
+
+no-shown-requires-4 : tie.Need-no-shown-requires-4
+no-shown-requires-4 c κs = search needs
+
+returns-4 : tie.Need-returns-4
+unfolding slice
+returns-4 c =
+    heads-none (other-op (all-bytes (c .before .before .before .before .before .before .before .before .before .before .before .before .before .before .before .args .x .now) (λ i. omega (arith, c .before .before .before .before .before .before .before .before .before .before .before .before .before .before .shared-slice-known .given i))) (c .before .before .before .before .before .before .before .before .before .before .before .before .before .field .ensures) (not-false _ (c .before .before .before .before .before .before .before .before .before .before .before .if1 .left)) (c .before .before .before .before .before .before .before .before .before .before .field2 .ensures) (not-false _ (c .before .before .before .before .before .before .before .before .if2 .left)) (c .before .before .before .before .before .before .before .field3 .ensures) (not-false _ (c .before .before .before .before .before .if3 .left)) (sym (c .before .before .same .ensures) ∙ not-true _ (c .before .if4 .taken))) (c .no-shown4 .ensures)
+
+returns-5 : tie.Need-returns-5
+unfolding slice
+returns-5 c =
+    heads-there (all-bytes (c .before .before .before .before .before .before .before .before .before .before .before .before .before .before .args .x .now) (λ i. omega (arith, c .before .before .before .before .before .before .before .before .before .before .before .before .before .shared-slice-known .given i))) (c .before .before .before .before .before .before .before .before .before .before .before .before .field .ensures) (not-false _ (c .before .before .before .before .before .before .before .before .before .before .if1 .left)) (c .before .before .before .before .before .before .before .before .before .field2 .ensures) (not-false _ (c .before .before .before .before .before .before .before .if2 .left)) (c .before .before .before .before .before .before .field3 .ensures) (not-false _ (c .before .before .before .before .if3 .left)) (sym (c .before .same .ensures) ∙ not-false _ (c .if4 .left))
+
+pub head-spec : {M : Type 1} → statement M
+head-spec =
+    tie.close
+    (tie.spec
+    field-requires
+    no-shown-requires
+    returns
+    field-requires-2
+    no-shown-requires-2
+    returns-2
+    field-requires-3
+    no-shown-requires-3
+    returns-3
+    sub-same
+    part-same-start
+    part-same-end
+    slice-aggregate-same
+    same-requires
+    no-shown-requires-4
+    returns-4
+    returns-5)

@@ -1,0 +1,43 @@
+-- `message_leaf::is_step` meets its contract, by the case of the inner op. Assumes nothing.
+use mathlib.Core.Path.{ap, _∙_}
+use Rattle.message_fields.specs.Standing.{stepBy}
+use Rattle.message_leaf.proofs.Walking.{step-is, step-none}
+use borrow.Author.Needs.{needs}
+use Rattle.message_leaf.proofs.is_step.Statement.{statement}
+use Rattle.message_leaf.proofs.is_step.Tie as tie
+
+inner-op-requires : tie.Need-inner-op-requires
+inner-op-requires c κs = search needs
+
+enum-told : tie.Need-enum-told
+enum-told c = search needs
+
+enum-told-2 : tie.Need-enum-told-2
+enum-told-2 c = search needs
+
+enum-told-3 : tie.Need-enum-told-3
+enum-told-3 c = search needs
+
+returns : tie.Need-returns
+returns c =
+    step-is (c .before .before .inner-op .ensures ∙ ap (stepBy (c .before .before .before .before .args .x .now)) (c .enum-told .given .1))
+
+returns-2 : tie.Need-returns-2
+returns-2 c =
+    step-is (c .before .before .inner-op .ensures ∙ ap (stepBy (c .before .before .before .before .args .x .now)) (c .enum-told2 .given .1))
+
+returns-3 : tie.Need-returns-3
+returns-3 c =
+    step-none (c .before .before .inner-op .ensures ∙ ap (stepBy (c .before .before .before .before .args .x .now)) (c .enum-told3 .given .1))
+
+pub is-step-spec : {M : Type 1} → statement M
+is-step-spec =
+    tie.close
+    (tie.spec
+    inner-op-requires
+    enum-told
+    enum-told-2
+    enum-told-3
+    returns
+    returns-2
+    returns-3)

@@ -1,0 +1,56 @@
+-- `message_put::put_existence` meets its contract: key, value, leaf op, path. Assumes nothing.
+use mathlib.Core.Path.{refl, ap}
+use lib.ListN.{length}
+use Rattle.proofrecords.specs.ProofBytes.{presenceIn}
+use Rattle.message_rules.proofs.Writing.{puts-then}
+use mathlib.Core.List.{_++_}
+use Rattle.messages.specs.Wire.{messageField}
+use Rattle.messages.specs.Message.{leafOp, path}
+use Rattle.message_put.proofs.Parts.{room-first, room-second, existence-parts, puts-four, room-third, room-fourth}
+use native.Mathlib.Omega.{arith}
+use borrow.Author.Needs.{needs}
+use Rattle.message_put.proofs.put_existence.Statement.{statement}
+use Rattle.message_put.proofs.put_existence.Tie as tie
+
+put-field-requires : tie.Need-put-field-requires
+put-field-requires c κs =
+    let a = c .before .before .before .before .before .args in
+    let l = c .before .before .before .before .before .pre .0 .1 in
+    ((omega arith, omega (arith, l .key-short)), room-first (messageField 2 (a .value .now) ++ (messageField 3 leafOp ++ path (presenceIn (a .p .now) .steps))) (existence-parts (a .key .now) (a .value .now) (presenceIn (a .p .now)) l) (c .before .before .before .before .before .pre .1))
+
+put-field-requires-2 : tie.Need-put-field-requires-2
+put-field-requires-2 c κs =
+    let a = c .before .before .before .before .before .before .before .before .before .args in
+    let l = c .before .before .before .before .before .before .before .before .before .pre .0 .1 in
+    ((omega arith, omega (arith, l .value-short)), room-first (messageField 3 leafOp ++ path (presenceIn (a .p .now) .steps)) refl (room-second (c .before .before .before .put-field .ensures) (existence-parts (a .key .now) (a .value .now) (presenceIn (a .p .now)) l) (c .before .before .before .before .before .before .before .before .before .pre .1)))
+
+put-leaf-op-requires : tie.Need-put-leaf-op-requires
+put-leaf-op-requires c κs =
+    let a = c .before .before .before .before .before .before .before .before .before .before .before .before .before .args in
+    let l = c .before .before .before .before .before .before .before .before .before .before .before .before .before .pre .0 .1 in
+    room-third (messageField 3 leafOp) (path (presenceIn (a .p .now) .steps)) (c .before .before .before .before .before .before .before .put-field .ensures) (c .before .before .before .put-field2 .ensures) (existence-parts (a .key .now) (a .value .now) (presenceIn (a .p .now)) l) (c .before .before .before .before .before .before .before .before .before .before .before .before .before .pre .1)
+
+put-path-requires : tie.Need-put-path-requires
+put-path-requires c κs =
+    let a = c .before .before .before .before .before .before .before .before .before .before .before .before .before .before .before .before .before .args in
+    let l = c .before .before .before .before .before .before .before .before .before .before .before .before .before .before .before .before .before .pre .0 .1 in
+    (c .before .before .before .before .before .before .before .before .before .before .before .before .before .before .before .before .before .pre .0 .0, room-fourth (messageField 3 leafOp) (path (presenceIn (a .p .now) .steps)) (c .before .before .before .before .before .before .before .before .before .before .before .put-field .ensures) (c .before .before .before .before .before .before .before .put-field2 .ensures) (existence-parts (a .key .now) (a .value .now) (presenceIn (a .p .now)) l) (c .before .before .before .before .before .before .before .before .before .before .before .before .before .before .before .before .before .pre .1) (c .before .before .before .put-leaf-op .ensures))
+
+same-length : tie.Need-same-length
+same-length c = search needs
+
+returns : tie.Need-returns
+returns c =
+    let a = c .before .before .before .before .before .before .before .before .before .before .before .before .before .before .before .before .before .before .before .before .args in
+    puts-four (messageField 3 leafOp) (path (presenceIn (a .p .now) .steps)) (c .before .before .before .before .before .before .before .before .before .before .before .before .before .before .put-field .ensures) (c .before .before .before .before .before .before .before .before .before .before .put-field2 .ensures) (existence-parts (a .key .now) (a .value .now) (presenceIn (a .p .now)) (c .before .before .before .before .before .before .before .before .before .before .before .before .before .before .before .before .before .before .before .before .pre .0 .1)) (c .before .before .before .before .before .before .before .before .before .before .before .before .before .before .before .before .before .before .before .before .pre .1) (c .before .before .before .before .before .before .put-leaf-op .ensures) (c .before .before .put-path .ensures)
+
+pub put-existence-spec : {M : Type 1} → statement M
+put-existence-spec =
+    tie.close
+    (tie.spec
+    put-field-requires
+    put-field-requires-2
+    put-leaf-op-requires
+    put-path-requires
+    same-length
+    returns)

@@ -1,0 +1,106 @@
+-- `message_put::put_path` meets its contract: a step a turn. Assumes nothing.
+use Prim.Native.Nat.{_-_}
+use mathlib.Core.Path.{ap, sym, _∙_, subst}
+use lib.ListN.{length, length-take, length-drop}
+use Rattle.terms.specs.Fields.{slice}
+use Rattle.proofrecords.specs.ProofBytes.{presenceIn}
+use Rattle.proofrecords.proofs.Forms.{presence-whole}
+use Rattle.message_lent.proofs.Lengths.{few-steps, count-read}
+use Rattle.message_put.proofs.Parts.{Pathing, pathing-start, inner-room, inner-next, pathing-done, path-room, long-enough}
+use Rattle.message_rules.proofs.Writing.{puts-length}
+use native.Mathlib.Omega.{arith}
+use Rattle.message_put.proofs.put_path.Statement.{statement}
+use Rattle.message_put.proofs.put_path.Tie as tie
+
+abbrev Inv-loop : tie.InvT-loop
+Inv-loop room₀ at p n next₀ i₀ room next i = Pathing n p at room₀ room i next
+
+abbrev μ-loop : tie.MeasureT-loop
+μ-loop room₀ at p n next₀ i₀ room next i = n - i
+
+get-u16-requires : tie.Need-get-u16-requires Inv-loop μ-loop
+get-u16-requires c κs =
+    omega (arith, presence-whole (c .before .before .args .p .now) (c .before .before .pre .0))
+
+cast-n : tie.Need-cast-n Inv-loop μ-loop
+cast-n c = omega arith
+
+loop-holds : tie.Need-loop-holds Inv-loop μ-loop
+loop-holds c =
+    pathing-start _ _ _ _
+
+mul-from : tie.Need-mul-from Inv-loop μ-loop
+mul-from c =
+    omega arith
+
+add-from : tie.Need-add-from Inv-loop μ-loop
+add-from c =
+    omega arith
+
+add-end : tie.Need-add-end Inv-loop μ-loop
+add-end c =
+    omega arith
+
+sub-put-inner : tie.Need-sub-put-inner Inv-loop μ-loop
+sub-put-inner c = omega arith
+
+part-put-inner-start : tie.Need-part-put-inner-start Inv-loop μ-loop
+part-put-inner-start c =
+    omega (arith, long-enough (c .before .before .before .before .before .before .args .p .now) (c .before .before .before .get-u16 .result) (c .before .before .before .before .before .before .pre .0) (count-read (c .before .before .before .before .before .before .args .p .now) (c .before .before .before .get-u16 .result) (c .before .before .before .get-u16 .ensures)))
+
+part-put-inner-end : tie.Need-part-put-inner-end Inv-loop μ-loop
+part-put-inner-end c =
+    omega (arith, long-enough (c .before .before .before .before .before .before .args .p .now) (c .before .before .before .get-u16 .result) (c .before .before .before .before .before .before .pre .0) (count-read (c .before .before .before .before .before .before .args .p .now) (c .before .before .before .get-u16 .result) (c .before .before .before .get-u16 .ensures)))
+
+put-inner-requires : tie.Need-put-inner-requires Inv-loop μ-loop
+put-inner-requires c κs =
+    let a = c .before .before .before .before .before .before .before .args in
+    let e = count-read (a .p .now) (c .before .before .before .before .get-u16 .result) (c .before .before .before .before .get-u16 .ensures) in
+    let long = long-enough (a .p .now) (c .before .before .before .before .get-u16 .result) (c .before .before .before .before .before .before .before .pre .0) e in
+    inner-room (c .before .before .before .loop .inv) (c .before .before .loop-test .taken) long (path-room (a .p .now) (c .before .before .before .before .get-u16 .result) (a .at) (a .room .now) e (c .before .before .before .before .before .before .before .pre .1))
+
+add-i : tie.Need-add-i Inv-loop μ-loop
+add-i c = omega arith
+
+loop-less : tie.Need-loop-less Inv-loop μ-loop
+loop-less c = omega arith
+
+loop-again : tie.Need-loop-again Inv-loop μ-loop
+loop-again c =
+    let a = c .before .before .before .before .before .before .before .before .before .before .args in
+    let e = count-read (a .p .now) (c .before .before .before .before .before .before .before .get-u16 .result) (c .before .before .before .before .before .before .before .get-u16 .ensures) in
+    let long = long-enough (a .p .now) (c .before .before .before .before .before .before .before .get-u16 .result) (c .before .before .before .before .before .before .before .before .before .before .pre .0) e in
+    inner-next (c .before .before .before .before .before .before .loop .inv) (c .before .before .before .before .before .loop-test .taken) long (path-room (a .p .now) (c .before .before .before .before .before .before .before .get-u16 .result) (a .at) (a .room .now) e (c .before .before .before .before .before .before .before .before .before .before .pre .1)) (c .before .before .put-inner .ensures)
+
+same-length : tie.Need-same-length Inv-loop μ-loop
+same-length c =
+    let a = c .before .before .before .before .before .args in
+    let e = count-read (a .p .now) (c .before .before .get-u16 .result) (c .before .before .get-u16 .ensures) in
+    puts-length (pathing-done (c .before .loop .inv) (c .loop-test .left) e) (c .before .before .before .before .before .pre .1 .fits)
+
+returns : tie.Need-returns Inv-loop μ-loop
+returns c =
+    let e = count-read (c .before .before .before .before .before .args .p .now) (c .before .before .get-u16 .result) (c .before .before .get-u16 .ensures) in
+    pathing-done (c .before .loop .inv) (c .loop-test .left) e
+
+pub put-path-spec : {M : Type 1} → statement M
+put-path-spec =
+    tie.close
+    (tie.spec
+    Inv-loop
+    μ-loop
+    get-u16-requires
+    cast-n
+    loop-holds
+    mul-from
+    add-from
+    add-end
+    sub-put-inner
+    part-put-inner-start
+    part-put-inner-end
+    put-inner-requires
+    add-i
+    loop-less
+    loop-again
+    same-length
+    returns)

@@ -1,0 +1,59 @@
+-- What is answered once it is known what a message says. Assumes nothing.
+use Prim.Native.Nat.{ℕ, _+_, _-_, _<_, _≤_}
+use native.Mathlib.Omega.{arith}
+use mathlib.Core.Path.{_≡_, refl, ap, ap₂, sym, _∙_, subst}
+use mathlib.Core.Bool.{Bool, true, false, cond}
+use mathlib.Core.List.{[], _∷_, _++_}
+use mathlib.Core.Option.{Option, none, some, Option·none-ne-some}
+use lib.ListN.{length, drop}
+use borrow.Author.Tests.{lt-ltb, le-ltb}
+use Rattle.terms.specs.Bits.{Bytes, Byte, All}
+use Rattle.terms.specs.Fields.{le}
+use Rattle.terms.specs.Records.{Proof, presence, absence}
+use Rattle.meaning.specs.Calls.{refused, accepted}
+use Rattle.fields.specs.Written.{written}
+use Rattle.sha256.specs.Sha256.{sha256}
+use Rattle.messages.specs.Message.{messageBytes, RawProof}
+use Rattle.messages.specs.Reading.{messageIn}
+use Rattle.messages.specs.Lending.{fitted, recordOf, readFrom}
+use Rattle.messages.specs.Spots.{spotsIn}
+use Rattle.messages.proofs.Back.{mostBytes, message-at-most, message-exactly, message-said}
+use Rattle.message_rules.specs.Contracts.{Encodes, Said, spotsBytes, ReadsMessage}
+use Rattle.message_rules.proofs.Writing.{written-front}
+use Rattle.message_form.specs.declared.Said.{Said as SaidCode}
+use Rattle.message_form.specs.Said.{proofAt, Placed, Says}
+use Rattle.message_read.specs.Reads.{ReadsAs}
+
+-- no room, and room
+pub reads-no-room : {q : Proof} {room f : Bytes} → length room < length (recordOf sha256 q) → ReadsAs q room f 9 room f
+unfolding readFrom fitted
+reads-no-room {q} {room} {f} h =
+    let e = lt-ltb (length room) (length (recordOf sha256 q)) h in record { answer = rw e; record-is = rw e; told = rw e }
+
+pub reads-there : {q : Proof} {room f t g : Bytes} → length (recordOf sha256 q) ≤ length room → t ≡ written 0 (recordOf sha256 q) room →
+    g ≡ le 4 (length (recordOf sha256 q)) ++ spotsBytes (spotsIn q) → ReadsAs q room f 0 t g
+unfolding readFrom fitted
+reads-there {q} {room} {f} {t} {g} h w a =
+    let e = le-ltb (length room) (length (recordOf sha256 q)) h in
+    record { answer = rw e; record-is = rw e (w ∙ written-front (recordOf sha256 q) room); told = rw e a }
+
+most-bytes : (q : Proof) → mostBytes q ≤ 29999
+most-bytes (presence p) = omega arith
+most-bytes (absence a) = omega arith
+
+-- what a message says is what it encodes
+pub encodes : {m : Bytes} {q : Proof} → All Byte m → messageIn m ≡ some q → Encodes m q
+encodes {m} {q} b e = let s = message-said m q b e in record { raw = s .0; is = s .1 }
+
+pub short : {m : Bytes} {q : Proof} → Encodes m q → length m ≤ 29999
+short {m} {q} e = omega (arith, message-at-most q (e .raw), most-bytes q, ap length (e .is))
+
+pub says-none : {m : Bytes} → All Byte m → messageIn m ≡ none → Said m none
+says-none {m} b e q k = Option·none-ne-some q (sym e ∙ message-exactly m q b .1 (k .raw, k .is))
+
+pub reads-nothing : {m room f : Bytes} → All Byte m → messageIn m ≡ none → ReadsMessage m room f 10 room f
+unfolding readFrom
+reads-nothing b e = record { said = none; exactly = says-none b e; answer = refl; record-is = refl; told = refl }
+
+pub reads-as : {m room f t g : Bytes} {q : Proof} {r : ℕ} → Encodes m q → ReadsAs q room f r t g → ReadsMessage m room f r t g
+reads-as {m} {room} {f} {t} {g} {q} e a = record { said = some q; exactly = e; answer = a .answer; record-is = a .record-is; told = a .told }

@@ -1,0 +1,2 @@
+pub mod Spotting
+pub mod Answering

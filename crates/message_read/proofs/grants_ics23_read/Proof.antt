@@ -1,0 +1,72 @@
+-- `message_read::grants_ics23_read` meets its contract, by what the message says. Assumes nothing.
+use mathlib.Core.Path.{ap, _∙_, subst}
+use Rattle.hash.proofs.Digits.{all-bytes}
+use Rattle.message_form.specs.Said.{proofAt, Placed}
+use Rattle.message_read.proofs.Answering.{reads-nothing, reads-as, encodes, short}
+use native.Mathlib.Omega.{arith}
+use borrow.Author.Needs.{needs}
+use Rattle.message_read.proofs.grants_ics23_read.Statement.{statement}
+use Rattle.message_read.proofs.grants_ics23_read.Tie as tie
+
+says-requires : tie.Need-says-requires
+says-requires c κs = search needs
+
+enum-told : tie.Need-enum-told
+enum-told c = search needs
+
+enum-known-what : tie.Need-enum-known-what
+enum-known-what c = search needs
+
+read-presence-requires : tie.Need-read-presence-requires
+read-presence-requires c κs =
+    let a = c .before .before .before .before .before .before .before .before .args in
+    let e = c .before .before .before .before .before .says .ensures .is ∙ ap (proofAt (a .message .now)) (c .before .before .before .what .given .1) in
+    (subst (Placed (a .message .now)) (c .before .before .before .what .given .1) (c .before .before .before .before .before .says .ensures .placed), short (encodes (all-bytes (a .message .now) (λ i. omega (arith, c .before .before .before .before .before .before .before .shared-slice-known .given i))) e))
+
+enum-known-what-2 : tie.Need-enum-known-what-2
+enum-known-what-2 c = search needs
+
+read-absence-requires : tie.Need-read-absence-requires
+read-absence-requires c κs =
+    let a = c .before .before .before .before .before .before .before .before .args in
+    let e = c .before .before .before .before .before .says .ensures .is ∙ ap (proofAt (a .message .now)) (c .before .before .before .what2 .given .1) in
+    (subst (Placed (a .message .now)) (c .before .before .before .what2 .given .1) (c .before .before .before .before .before .says .ensures .placed), short (encodes (all-bytes (a .message .now) (λ i. omega (arith, c .before .before .before .before .before .before .before .shared-slice-known .given i))) e))
+
+returns : tie.Need-returns
+returns c =
+    let a = c .before .before .before .before .before .args in
+    reads-nothing (all-bytes (a .message .now) (λ i. omega (arith, c .before .before .before .before .shared-slice-known .given i))) (c .before .before .says .ensures .is ∙ ap (proofAt (a .message .now)) (c .enum-told .given .1))
+
+same-length : tie.Need-same-length
+same-length c = search needs
+
+returns-2 : tie.Need-returns-2
+returns-2 c =
+    let a = c .before .before .before .before .before .before .before .before .before .before .before .args in
+    let e = c .before .before .before .before .before .before .before .before .says .ensures .is ∙ ap (proofAt (a .message .now)) (c .before .before .before .before .before .before .what .given .1) in
+    reads-as (encodes (all-bytes (a .message .now) (λ i. omega (arith, c .before .before .before .before .before .before .before .before .before .before .shared-slice-known .given i))) e) (c .before .before .read-presence .ensures)
+
+same-length-2 : tie.Need-same-length-2
+same-length-2 c = search needs
+
+returns-3 : tie.Need-returns-3
+returns-3 c =
+    let a = c .before .before .before .before .before .before .before .before .before .before .before .args in
+    let e = c .before .before .before .before .before .before .before .before .says .ensures .is ∙ ap (proofAt (a .message .now)) (c .before .before .before .before .before .before .what2 .given .1) in
+    reads-as (encodes (all-bytes (a .message .now) (λ i. omega (arith, c .before .before .before .before .before .before .before .before .before .before .shared-slice-known .given i))) e) (c .before .before .read-absence .ensures)
+
+pub grants-ics23-read-spec : {M : Type 1} → statement M
+grants-ics23-read-spec =
+    tie.close
+    (tie.spec
+    says-requires
+    enum-told
+    enum-known-what
+    read-presence-requires
+    enum-known-what-2
+    read-absence-requires
+    returns
+    same-length
+    returns-2
+    same-length-2
+    returns-3)

@@ -1,0 +1,37 @@
+-- `message_read::put_leaves` meets its contract, by whether the left neighbour is there. Assumes nothing.
+use mathlib.Core.Path.{ap, sym, _∙_}
+use mathlib.Core.List.{_++_}
+use Rattle.terms.specs.Fields.{le}
+use Rattle.message_rules.specs.Contracts.{spotsBytes}
+use Rattle.message_read.proofs.Spotting.{left-bounded, right-bounded, key-bounds, spots-with-left, spots-without-left}
+use Rattle.message_read.proofs.put_leaves.Statement.{statement}
+use Rattle.message_read.proofs.put_leaves.Tie as tie
+
+put-answer-requires : tie.Need-put-answer-requires
+put-answer-requires c κs =
+    let h = c .before .before .before .before .before .pre .0 in
+    let l = c .before .before .before .before .before .pre .1 .0 in
+    ((c .before .before .before .before .before .pre .1 .1, key-bounds h l), (left-bounded h l, right-bounded h l))
+
+returns : tie.Need-returns
+returns c =
+    c .put-answer .ensures ∙ ap (λ s. le 4 (c .before .before .before .before .before .before .args .size) ++ spotsBytes s) (sym (spots-with-left (c .before .before .before .before .before .before .pre .0) (c .before .before .if1 .taken)))
+
+put-answer-requires-2 : tie.Need-put-answer-requires-2
+put-answer-requires-2 c κs =
+    let h = c .before .before .before .before .before .pre .0 in
+    let l = c .before .before .before .before .before .pre .1 .0 in
+    ((c .before .before .before .before .before .pre .1 .1, key-bounds h l), (right-bounded h l, left-bounded h l))
+
+returns-2 : tie.Need-returns-2
+returns-2 c =
+    c .put-answer2 .ensures ∙ ap (λ s. le 4 (c .before .before .before .before .before .before .args .size) ++ spotsBytes s) (sym (spots-without-left (c .before .before .before .before .before .before .pre .0) (c .before .before .if1 .left)))
+
+pub put-leaves-spec : {M : Type 1} → statement M
+put-leaves-spec =
+    tie.close
+    (tie.spec
+    put-answer-requires
+    returns
+    put-answer-requires-2
+    returns-2)

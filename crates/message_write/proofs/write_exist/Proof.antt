@@ -1,0 +1,72 @@
+-- `message_write::write_exist` meets its contract: the length first, then the field and the existence proof. Assumes nothing.
+use mathlib.Core.Path.{ap}
+use lib.ListN.{length}
+use Rattle.terms.specs.Records.{presence}
+use Rattle.messages.specs.Message.{existence}
+use Rattle.messages.specs.Lending.{rawPresence}
+use Rattle.proofrecords.specs.ProofBytes.{presenceIn}
+use Rattle.message_lent.specs.Lent.{leaf}
+use Rattle.message_put.proofs.Parts.{puts-two, room-first, room-second}
+use Rattle.message_write.proofs.Fitting.{writes-no-room, writes-there, exist-total, exist-parts}
+use native.Mathlib.Omega.{arith}
+use borrow.Author.Needs.{needs}
+use Rattle.message_write.proofs.write_exist.Statement.{statement}
+use Rattle.message_write.proofs.write_exist.Tie as tie
+
+existence-size-requires : tie.Need-existence-size-requires
+existence-size-requires c κs =
+    (c .before .before .before .before .pre .0, c .before .before .before .before .pre .1 .key-short, c .before .before .before .before .pre .1 .value-short)
+
+field-size-requires : tie.Need-field-size-requires
+field-size-requires c κs =
+    omega (arith, c .existence-size .ensures .1)
+
+returns : tie.Need-returns
+returns c =
+    let a = c .before .before .before .before .before .before .before .args in
+    let e = exist-total (a .key .now) (a .value .now) (presenceIn (a .p .now)) (c .before .before .before .before .before .before .before .pre .1) (c .before .before .existence-size .ensures .0) (c .before .field-size .ensures .0) in
+    writes-no-room (presence (rawPresence (leaf (a .key .now) (a .value .now)) (presenceIn (a .p .now)))) (a .room .now) (omega (arith, e, c .if1 .taken))
+
+put-head-requires : tie.Need-put-head-requires
+put-head-requires c κs =
+    let a = c .before .before .before .before .before .before .before .before .args in
+    let s = c .before .before .before .existence-size .ensures in
+    let e = exist-total (a .key .now) (a .value .now) (presenceIn (a .p .now)) (c .before .before .before .before .before .before .before .before .pre .1) (s .0) (c .before .before .field-size .ensures .0) in
+    let w = exist-parts (a .key .now) (a .value .now) (presenceIn (a .p .now)) (c .before .before .before .before .before .before .before .before .pre .1) (s .0) (c .before .before .field-size .ensures .0) in
+    ((omega arith, omega (arith, s .1)), room-first (existence (rawPresence (leaf (a .key .now) (a .value .now)) (presenceIn (a .p .now)))) w (record { fits = omega (arith, e, c .before .if1 .left) }))
+
+put-existence-requires : tie.Need-put-existence-requires
+put-existence-requires c κs =
+    let a = c .before .before .before .before .before .before .before .before .before .before .before .before .args in
+    let s = c .before .before .before .before .before .before .before .existence-size .ensures in
+    let e = exist-total (a .key .now) (a .value .now) (presenceIn (a .p .now)) (c .before .before .before .before .before .before .before .before .before .before .before .before .pre .1) (s .0) (c .before .before .before .before .before .before .field-size .ensures .0) in
+    let w = exist-parts (a .key .now) (a .value .now) (presenceIn (a .p .now)) (c .before .before .before .before .before .before .before .before .before .before .before .before .pre .1) (s .0) (c .before .before .before .before .before .before .field-size .ensures .0) in
+    (c .before .before .before .before .before .before .before .before .before .before .before .before .pre, room-second (c .before .before .before .put-head .ensures) w (record { fits = omega (arith, e, c .before .before .before .before .before .if1 .left) }))
+
+cast-t15 : tie.Need-cast-t15
+cast-t15 c =
+    omega (arith, c .before .before .before .before .before .before .before .before .before .before .existence-size .ensures .1, c .before .before .before .before .before .before .before .before .before .field-size .ensures .1)
+
+same-length : tie.Need-same-length
+same-length c = search needs
+
+returns-2 : tie.Need-returns-2
+returns-2 c =
+    let a = c .before .before .before .before .before .before .before .before .before .before .before .before .before .before .before .args in
+    let s = c .before .before .before .before .before .before .before .before .before .before .existence-size .ensures in
+    let e = exist-total (a .key .now) (a .value .now) (presenceIn (a .p .now)) (c .before .before .before .before .before .before .before .before .before .before .before .before .before .before .before .pre .1) (s .0) (c .before .before .before .before .before .before .before .before .before .field-size .ensures .0) in
+    let w = exist-parts (a .key .now) (a .value .now) (presenceIn (a .p .now)) (c .before .before .before .before .before .before .before .before .before .before .before .before .before .before .before .pre .1) (s .0) (c .before .before .before .before .before .before .before .before .before .field-size .ensures .0) in
+    writes-there (presence (rawPresence (leaf (a .key .now) (a .value .now)) (presenceIn (a .p .now)))) (omega (arith, e, c .before .before .before .before .before .before .before .before .if1 .left)) e (puts-two (c .before .before .before .before .before .before .put-head .ensures) (c .before .before .put-existence .ensures) w (record { fits = omega (arith, e, c .before .before .before .before .before .before .before .before .if1 .left) }))
+
+pub write-exist-spec : {M : Type 1} → statement M
+write-exist-spec =
+    tie.close
+    (tie.spec
+    existence-size-requires
+    field-size-requires
+    returns
+    put-head-requires
+    put-existence-requires
+    cast-t15
+    same-length
+    returns-2)

@@ -1,0 +1,118 @@
+-- `message_write::write_one` meets its contract: the neighbour is the left one or the right one. Assumes nothing.
+use mathlib.Core.Path.{sym, _∙_}
+use lib.ListN.{length}
+use borrow.Author.Tests.{not-true, not-false}
+use Rattle.terms.specs.Fields.{slice}
+use Rattle.proofrecords.specs.ProofBytes.{flags}
+use Rattle.proofrecords.proofs.Forms.{absence-head}
+use Rattle.message_lent.specs.Lent.{leaf}
+use Rattle.message_write.proofs.Lending.{writes-15, writes-same, right-lengths, flags-read, flags-are-2, form-none, form-rest, one-over, one-left, one-right}
+use native.Mathlib.Omega.{arith}
+use borrow.Author.Needs.{needs}
+use Rattle.message_write.proofs.write_one.Statement.{statement}
+use Rattle.message_write.proofs.write_one.Tie as tie
+
+unlent-requires : tie.Need-unlent-requires
+unlent-requires c κs = search needs
+
+returns : tie.Need-returns
+returns c =
+    let a = c .before .before .before .before .before .before .before .before .before .args in
+    writes-15 (one-over (a .asked .now) (leaf (a .key1 .now) (a .value1 .now)) (leaf (a .key2 .now) (a .value2 .now)) (length (a .room .now)) (a .p .now) (c .before .before .before .before .before .before .before .before .before .pre .0 .0) (c .before .before .before .before .before .before .before .before .before .pre .1) (c .before .before .before .before .before .before .before .before .before .pre .0 .1) (sym (c .before .unlent .ensures) ∙ not-true _ (c .if1 .taken)))
+
+get-u16-requires : tie.Need-get-u16-requires
+get-u16-requires c κs =
+    omega (arith, absence-head (c .before .before .before .before .before .before .before .before .before .args .p .now) (c .before .before .before .before .before .before .before .before .before .pre .0 .0))
+
+sub-write-neighbours : tie.Need-sub-write-neighbours
+sub-write-neighbours c =
+    omega (arith, absence-head (c .before .before .before .before .before .before .before .before .before .before .before .args .p .now) (c .before .before .before .before .before .before .before .before .before .before .before .pre .0 .0))
+
+part-write-neighbours-start : tie.Need-part-write-neighbours-start
+part-write-neighbours-start c =
+    omega (arith, absence-head (c .before .before .before .before .before .before .before .before .before .before .before .args .p .now) (c .before .before .before .before .before .before .before .before .before .before .before .pre .0 .0))
+
+part-write-neighbours-end : tie.Need-part-write-neighbours-end
+part-write-neighbours-end c = search needs
+
+sub-write-neighbours-2 : tie.Need-sub-write-neighbours-2
+sub-write-neighbours-2 c = search needs
+
+part-write-neighbours-start-2 : tie.Need-part-write-neighbours-start-2
+part-write-neighbours-start-2 c = search needs
+
+part-write-neighbours-end-2 : tie.Need-part-write-neighbours-end-2
+part-write-neighbours-end-2 c = search needs
+
+write-neighbours-requires : tie.Need-write-neighbours-requires
+write-neighbours-requires c κs =
+    let a = c .before .before .before .before .before .before .before .before .before .before .before .before .before .before .args in
+    (right-lengths 256 (a .asked .now) (slice 8 32 (a .p .now)) (c .before .before .before .before .before .before .before .before .before .before .before .before .before .before .pre .1), (form-rest (a .p .now) (c .before .before .before .before .before .before .before .before .before .before .before .before .before .before .pre .0 .0) (c .before .before .before .before .before .before .before .before .before .before .before .before .before .before .pre .0 .1), form-none (a .p .now)))
+
+same-length : tie.Need-same-length
+same-length c = search needs
+
+returns-2 : tie.Need-returns-2
+returns-2 c =
+    let a = c .before .before .before .before .before .before .before .before .before .before .before .before .before .before .before .before .before .args in
+    writes-same (one-left (a .asked .now) (leaf (a .key1 .now) (a .value1 .now)) (leaf (a .key2 .now) (a .value2 .now)) (length (a .room .now)) (a .p .now) (c .before .before .before .before .before .before .before .before .before .before .before .before .before .before .before .before .before .pre .0 .0) (c .before .before .before .before .before .before .before .before .before .before .before .before .before .before .before .before .before .pre .1) (sym (flags-read (c .before .before .before .before .before .before .before .before .before .before .before .before .before .before .before .before .before .args .p .now) (c .before .before .before .before .before .before .before .get-u16 .ensures)) ∙ c .before .before .before .before .before .before .if2 .taken) (sym (c .before .before .before .before .before .before .before .before .before .unlent .ensures) ∙ not-false _ (c .before .before .before .before .before .before .before .before .if1 .left))) (c .before .before .write-neighbours .ensures)
+
+sub-write-neighbours-3 : tie.Need-sub-write-neighbours-3
+sub-write-neighbours-3 c = search needs
+
+part-write-neighbours-start-3 : tie.Need-part-write-neighbours-start-3
+part-write-neighbours-start-3 c = search needs
+
+part-write-neighbours-end-3 : tie.Need-part-write-neighbours-end-3
+part-write-neighbours-end-3 c = search needs
+
+sub-write-neighbours-4 : tie.Need-sub-write-neighbours-4
+sub-write-neighbours-4 c =
+    omega (arith, absence-head (c .before .before .before .before .before .before .before .before .before .before .before .before .args .p .now) (c .before .before .before .before .before .before .before .before .before .before .before .before .pre .0 .0))
+
+part-write-neighbours-start-4 : tie.Need-part-write-neighbours-start-4
+part-write-neighbours-start-4 c =
+    omega (arith, absence-head (c .before .before .before .before .before .before .before .before .before .before .before .before .args .p .now) (c .before .before .before .before .before .before .before .before .before .before .before .before .pre .0 .0))
+
+part-write-neighbours-end-4 : tie.Need-part-write-neighbours-end-4
+part-write-neighbours-end-4 c = search needs
+
+write-neighbours-requires-2 : tie.Need-write-neighbours-requires-2
+write-neighbours-requires-2 c κs =
+    let a = c .before .before .before .before .before .before .before .before .before .before .before .before .before .before .args in
+    (right-lengths 256 (a .asked .now) (slice 8 32 (a .p .now)) (c .before .before .before .before .before .before .before .before .before .before .before .before .before .before .pre .1), (form-none (a .p .now), form-rest (a .p .now) (c .before .before .before .before .before .before .before .before .before .before .before .before .before .before .pre .0 .0) (c .before .before .before .before .before .before .before .before .before .before .before .before .before .before .pre .0 .1)))
+
+same-length-2 : tie.Need-same-length-2
+same-length-2 c = search needs
+
+returns-3 : tie.Need-returns-3
+returns-3 c =
+    let a = c .before .before .before .before .before .before .before .before .before .before .before .before .before .before .before .before .before .args in
+    let f = flags-are-2 (a .p .now) (c .before .before .before .before .before .before .before .before .before .before .before .before .before .before .before .before .before .pre .0 .0) (c .before .before .before .before .before .before .before .before .before .before .before .before .before .before .before .before .before .pre .0 .1) (λ z. c .before .before .before .before .before .before .if2 .left (flags-read (c .before .before .before .before .before .before .before .before .before .before .before .before .before .before .before .before .before .args .p .now) (c .before .before .before .before .before .before .before .get-u16 .ensures) ∙ z)) in
+    writes-same (one-right (a .asked .now) (leaf (a .key1 .now) (a .value1 .now)) (leaf (a .key2 .now) (a .value2 .now)) (length (a .room .now)) (a .p .now) (c .before .before .before .before .before .before .before .before .before .before .before .before .before .before .before .before .before .pre .0 .0) (c .before .before .before .before .before .before .before .before .before .before .before .before .before .before .before .before .before .pre .1) f (sym (c .before .before .before .before .before .before .before .before .before .unlent .ensures) ∙ not-false _ (c .before .before .before .before .before .before .before .before .if1 .left))) (c .before .before .write-neighbours2 .ensures)
+
+pub write-one-spec : {M : Type 1} → statement M
+write-one-spec =
+    tie.close
+    (tie.spec
+    unlent-requires
+    returns
+    get-u16-requires
+    sub-write-neighbours
+    part-write-neighbours-start
+    part-write-neighbours-end
+    sub-write-neighbours-2
+    part-write-neighbours-start-2
+    part-write-neighbours-end-2
+    write-neighbours-requires
+    same-length
+    returns-2
+    sub-write-neighbours-3
+    part-write-neighbours-start-3
+    part-write-neighbours-end-3
+    sub-write-neighbours-4
+    part-write-neighbours-start-4
+    part-write-neighbours-end-4
+    write-neighbours-requires-2
+    same-length-2
+    returns-3)
