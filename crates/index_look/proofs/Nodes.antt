@@ -9,10 +9,11 @@ use lib.ListN.{length, getD}
 use lib.Dec.{ltb, eqb}
 use borrow.Author.Tests.{ltb-true, ltb-false, lt-ltb, eq-eqb, ne-eqb}
 use Rattle.terms.specs.declared.Form.the-variants.{Counted as counted}
-use Rattle.terms.specs.Bits.{Bytes, Byte, All, Place, pack, before}
+use Rattle.terms.specs.Bits.{Bytes, Byte, All, Place, pack, before, sameBytes}
 use Rattle.terms.specs.Records.{Body, leafBody, innerBody, Record, Slot, free, used, spoiled}
 use Rattle.terms.specs.Form.{placeLimit}
-use Rattle.terms.proofs.Tests.{is-false}
+use Rattle.terms.proofs.Tests.{is-false, is-true, bytes-same}
+use Rattle.terms.proofs.Order.{before-total}
 use Rattle.meaning.specs.Sound.{At}
 use Rattle.indexed.specs.Index.{placeBefore, nodeBefore}
 use Rattle.indexed.proofs.Before.{place-itself, before-cases, by-place, by-version, node-once}
@@ -83,6 +84,14 @@ module _ {s : Bytes} {i j : ℕ} (mine : Has counted s i) (its : Has counted s j
       sym (node-once (r .version) (q .version) (r .place) (q .place)
       (by-place (r .version) (q .version) (r .place) (q .place)
       (bytes-before (r .place) (q .place) (short its b r d) (short mine b q a) (sym (ap₂ before (its-bits its b r d) (its-bits mine b q a)) ∙ e))))
+
+  -- of different bits the lower ones stand before
+  pub by-order : sameBytes (bitsIn (slotIn counted i s)) (bitsIn (slotIn counted j s)) ≡ false → (t : Bool) →
+      t ≡ before (bitsIn (slotIn counted i s)) (bitsIn (slotIn counted j s)) → Told s i j t
+  by-order n true e = by-bits (sym e)
+  by-order n false e =
+      not-by-bits (is-true _ (λ f.
+      true≢false (sym (bytes-same (bitsIn (slotIn counted i s))) ∙ (ap (sameBytes (bitsIn (slotIn counted i s))) (before-total (bitsIn (slotIn counted i s)) (bitsIn (slotIn counted j s)) (sym e) f) ∙ n))))
 
   module _ {c d : ℕ} (ci : c ≡ countIn (slotIn counted i s)) (di : d ≡ countIn (slotIn counted j s)) where
     pub by-count : (c ≡ d → ⊥) → ToldThere s i j (ltb c d)

@@ -1,4 +1,6 @@
 // Whether a table is the right one of a sound store, document 02, request 2026-05: one look at each slot and at each entry.
+use hash::hash_at;
+use hash::same_hash;
 use place::before;
 use slots::bits_of;
 use store::count_at;
@@ -37,20 +39,18 @@ fn ahead_there(store: &[u8], i: usize, j: usize) -> bool
     version_at(Form::Counted, store, i) < version_at(Form::Counted, store, j)
 }
 
-// Whether the record of one slot stands before that of another: by the bits, then by the bit count, then by the version.
+// Whether the record of one slot stands before that of another: by the bits, then by the bit count, then by the version. A node and its left child have the same
+// bits, so whether they are the same is asked first, eight bytes at a time.
 pub fn ahead(store: &[u8], i: usize, j: usize) -> bool
     requires { ⌜ Has Form.Counted (now store) i × Has Form.Counted (now store) j ⌝ }
     ensures { λ r. ⌜ Told (now (store .entry)) i j r ⌝ }
 {
     let own = bits_of(slot_of(Form::Counted, store, i));
     let its = bits_of(slot_of(Form::Counted, store, j));
-    if before(own, its) {
-        return true;
+    if same_hash(hash_at(own, 0), hash_at(its, 0)) {
+        return ahead_there(store, i, j);
     }
-    if before(its, own) {
-        return false;
-    }
-    ahead_there(store, i, j)
+    before(own, its)
 }
 
 // Whether slot i of a sound store holds a record.

@@ -142,6 +142,13 @@ module _ {s : Bytes} {i : ℕ} (has : Has counted s i) (b : All Byte s) (v : ℕ
         pub meeting : versionIn x ≡ v → Says Meets
         meeting e = says-of Meets form (λ r u. ap lookSays (met v q r (sym (version-is counted x long whole r u) ∙ e) (its-place r u)))
 
+  -- greater bits are too great, in form or not
+  pub bits-above : before (p .bits) (bitsIn x) ≡ true → Says Great
+  bits-above e = either (isUsed (slotOf x)) refl where
+    either : (f : Bool) → isUsed (slotOf x) ≡ f → Says Great
+    either true u = bits-great u e
+    either false u = unformed u
+
 -- an entry beyond the slots names none
 pub beyond : (look : Record → Look) (s : List Slot) (e : ℕ) → length s ≤ e → Great ≡ lookSays (lookAt look (named s e))
 unfolding named

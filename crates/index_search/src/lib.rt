@@ -39,22 +39,23 @@ fn entry_at(table: &[u32], k: usize, n: usize) -> usize
     table[k] as usize
 }
 
-// How slot i stands to a version and place: the bits first, then the bit count, then the version.
+// How slot i stands to a version and place: the bits first, then the bit count, then the version. Greater bits are too great in form or not, so half of the
+// looks need not ask whether the slot is in form.
 fn look_node(store: &[u8], i: usize, version: u32, place: Place) -> Look
     requires { ⌜ Has Form.Counted (now store) i × Proper place ⌝ }
     ensures { λ r. ⌜ r ≡ lookSays (lookAt (nodeLook version (placeOf place)) (inForm (slotNo Form.Counted i (now (store .entry))))) ⌝ }
 {
     let slot = slot_of(Form::Counted, store, i);
+    let bits = place.bits;
+    let count = place.count;
+    if before(&bits, bits_of(slot)) {
+        return Look::Great;
+    }
     if !holds_record(slot) {
         return Look::Great;
     }
-    let bits = place.bits;
-    let count = place.count;
     if before(bits_of(slot), &bits) {
         return Look::Small;
-    }
-    if before(&bits, bits_of(slot)) {
-        return Look::Great;
     }
     let its = count_at(Form::Counted, store, i) as usize;
     if its < count {

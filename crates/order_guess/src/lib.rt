@@ -49,24 +49,32 @@ fn in_form(store: &[u8], n: usize, table: &mut [u16; 16384], many: usize) -> usi
 }
 
 // A guess at the table: the slots in form by bit count, bits, version and number, and how many there are.
-pub fn guess_order(store: &[u8], table: &mut [u16; 16384]) -> usize
+fn guess_order(store: &[u8], table: &mut [u16; 16384], spare: &mut [u16; 16384]) -> usize
     requires { ⌜ sizeRight Form.Counted (length (now store)) ≡ true ⌝ }
     ensures { λ r. ⌜ r ≤ 16384 ⌝ }
 {
     let n = slot_count(Form::Counted, store);
-    let mut spare = [0u16; 16384];
-    let many = sort(Form::Counted, store, n, table, &mut spare);
+    let many = sort(Form::Counted, store, n, table, spare);
     in_form(store, n, table, many)
 }
 
-// Makes a table to find by, and says how many entries it has: none where the guess wasn't right.
+// Makes a table to find by, and says how many entries it has: none where the guess wasn't right. The spare room is for the work.
+pub fn guide_with(store: &[u8], table: &mut [u16; 16384], spare: &mut [u16; 16384]) -> usize
+    requires { ⌜ sizeRight Form.Counted (length (now store)) ≡ true ⌝ }
+    ensures { λ r. ⌜ Guide (storeOf (now (store .entry)) .slots) (now (table .exit)) r ⌝ }
+{
+    let many = guess_order(store, table, spare);
+    if !ordered(store, table, many, spare) {
+        return 0;
+    }
+    many
+}
+
+// The same with room of its own for the work.
 pub fn guide(store: &[u8], table: &mut [u16; 16384]) -> usize
     requires { ⌜ sizeRight Form.Counted (length (now store)) ≡ true ⌝ }
     ensures { λ r. ⌜ Guide (storeOf (now (store .entry)) .slots) (now (table .exit)) r ⌝ }
 {
-    let many = guess_order(store, table);
-    if !ordered(store, table, many) {
-        return 0;
-    }
-    many
+    let mut spare = [0u16; 16384];
+    guide_with(store, table, &mut spare)
 }

@@ -150,15 +150,14 @@ fn all_named(store: &[u8], table: &[u16; 16384], many: usize, ranks: &[u16; 1638
     true
 }
 
-// Whether the first `many` entries of a table name the slots in form and no other, in their order.
-pub fn ordered(store: &[u8], table: &[u16; 16384], many: usize) -> bool
+// Whether the first `many` entries of a table name the slots in form and no other, in their order; the spare room is for the slots' ranks.
+pub fn ordered(store: &[u8], table: &[u16; 16384], many: usize, spare: &mut [u16; 16384]) -> bool
     requires { ⌜ (sizeRight Form.Counted (length (now store)) ≡ true) × (many ≤ 16384) ⌝ }
     ensures { λ r. ⌜ Passed r (Ordered (storeOf (now (store .entry)) .slots) (now (table .entry)) many) ⌝ }
 {
     if !ascending(store, table, many) {
         return false;
     }
-    let mut ranks = [0u16; 16384];
-    rank(table, many, &mut ranks);
-    all_named(store, table, many, &ranks)
+    rank(table, many, spare);
+    all_named(store, table, many, spare)
 }

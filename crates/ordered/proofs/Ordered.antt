@@ -16,7 +16,7 @@ use Rattle.terms.proofs.Places.{place-packed, length-pack}
 use Rattle.terms.proofs.Tests.{is-false, place-same}
 use Rattle.meaning.specs.Store.{isNode, lowest, find}
 use Rattle.meaning.proofs.Finding.{isNode-eq, free-used, spoiled-used, used-eq, Lowest, miss, hit, lowest-is}
-use Rattle.ordered.specs.Ordered.{nodeKey, slotKey, keyNo, InForm, Ahead, Named, Ordered, Between}
+use Rattle.ordered.specs.Ordered.{nodeKey, slotKey, keyNo, InForm, Ahead, Named, Ordered, Between, Leads}
 
 -- The lowest record that passes a test, by a slot below which none does.
 pub lowest-at : (test : Record → Bool) (s : List Slot) (i : ℕ) (r : Record) → getD s i free ≡ used r → test r ≡ true →
@@ -189,3 +189,27 @@ module _ {s : List Slot} {t : List ℕ} {n : ℕ} (o : Ordered s t n) where
             go true f = let l = ltb-true lo k f in after (omega arith) (later lo k l inside)
             go false f =
                 let g : k ≡ lo = omega (arith, ltb-false lo k f, from) in other (omega arith) (subst (λ z. keyNo s (getD t z 0) ≡ nodeKey v p) g same)
+
+-- The first entry of its node leads: where the entry before it, if there is one, has another node that stands before.
+module _ {s : List Slot} {t : List ℕ} {n : ℕ} (o : Ordered s t n) (k : ℕ) (inside : k < n) where
+  abbrev Own : Record → Bytes
+  Own r = nodeKey (r .version) (r .place)
+
+  not-own : (r : Record) → getD s (getD t k 0) free ≡ used r → before (keyNo s (getD t k 0)) (Own r) ≡ false
+  not-own r e = is-false _ (λ h. before-irrefl (Own r) (subst (λ z. before z (Own r) ≡ true) (key-of s (getD t k 0) r e) h))
+
+  leads-from : (r : Record) → getD s (getD t k 0) free ≡ used r → Between s t n (Own r) k n → find (r .version) (r .place) s ≡ some r
+  unfolding isNode
+  leads-from r e w =
+      first-found o (r .version) (r .place) (between-below o (Own r) w (omega arith) inside (not-own r e)) (omega arith) r e
+      (rw (eq-eqb (r .version) (r .version) refl) (place-same (r .place)))
+
+  pub leads-first : k ≡ 0 → Leads s (getD t k 0)
+  leads-first z r e = leads-from r e (subst (λ m. Between s t n (Own r) m n) (sym z) (between-start o (Own r)))
+
+  pub leads-after : (1 ≤ k) → before (keyNo s (getD t (k - 1) 0)) (keyNo s (getD t k 0)) ≡ true → Leads s (getD t k 0)
+  leads-after l h r e =
+      leads-from r e
+      (subst (λ m. Between s t n (Own r) m n) (omega arith)
+      (between-above o (Own r) {m = k - 1} (between-start o (Own r)) (omega arith) (omega arith)
+      (subst (λ z. before (keyNo s (getD t (k - 1) 0)) z ≡ true) (key-of s (getD t k 0) r e) h)))

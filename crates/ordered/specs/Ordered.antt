@@ -1,13 +1,15 @@
 -- A table that names the slots in form of a store, each once, in the order of their nodes; for every store, sound or not. Assumes nothing.
-use Prim.Native.Nat.{ℕ, suc, _<_, _≤_}
+use Prim.Native.Nat.{ℕ, suc, _-_, _*_, _<_, _≤_}
 use mathlib.Core.Path.{_≡_}
 use mathlib.Core.Logic.{_⊎_}
 use mathlib.Core.Bool.{true, false}
 use mathlib.Core.List.{List, [], _∷_, _++_}
+use mathlib.Core.Option.{some}
 use lib.ListN.{length, getD}
 use Rattle.terms.specs.Bits.{Bytes, Place, pack, before}
 use Rattle.terms.specs.Records.{Record, Slot, free, used, spoiled}
 use Rattle.terms.specs.Form.{mostSlots}
+use Rattle.meaning.specs.Store.{find}
 
 -- The key of a node: the bit count of its place, the bytes of its place, its version.
 unfoldable pub nodeKey : ℕ → Place → Bytes
@@ -55,3 +57,15 @@ pub record Between (s : List Slot) (t : List ℕ) (n : ℕ) (key : Bytes) (lo hi
   pub straight : lo ≤ hi
   pub below : (k : ℕ) → k < lo → before (keyNo s (getD t k 0)) key ≡ true
   pub above : (k : ℕ) → hi ≤ k → k < n → before (keyNo s (getD t k 0)) key ≡ false
+
+-- Where slot i holds a record, a scan for its node finds that record: no lower slot has the node.
+abbrev pub Leads : List Slot → ℕ → Type 0
+Leads s i = (r : Record) → getD s i free ≡ used r → find (r .version) (r .place) s ≡ some r
+
+-- An entry of a table of slots, each one higher, names a slot that leads, or, where it is 0, none.
+abbrev pub LeadsIf : List Slot → ℕ → Type 0
+LeadsIf s e = 1 ≤ e → Leads s (e - 1)
+
+-- So does each entry of a table of the slots' children, two for each slot of the largest store.
+abbrev pub Leading : List Slot → List ℕ → Type 0
+Leading s t = (m : ℕ) → m < 2 * mostSlots → LeadsIf s (getD t m 0)

@@ -4,21 +4,24 @@ use native.Mathlib.Omega.{arith}
 use native.Mathlib.Nat.{zero-add}
 use mathlib.Core.Path.{_≡_, refl, ap, sym, _∙_, fun-ext}
 use mathlib.Core.Bool.{Bool, true, false, cond}
-use mathlib.Core.List.{List, [], _++_}
+use mathlib.Core.List.{List, [], _∷_, _++_}
 use lib.ListN.{length, take, drop}
 use borrow.Author.Tests.{lt-ltb, le-ltb}
 use Rattle.terms.specs.declared.Form.the-variants.{Counted as counted}
 use Rattle.terms.specs.Bits.{Bytes}
-use Rattle.terms.specs.Records.{Proof}
+use Rattle.terms.specs.Records.{Proof, Store}
 use Rattle.meaning.specs.Calls.{Answer, refused, accepted, isKept}
 use Rattle.meaning.specs.Sight.{scan}
 use Rattle.meaning.specs.Proving.{proofBy, proof}
+use Rattle.meaning.proofs.Sights.{node-sighted}
 use Rattle.indexed.specs.Index.{byTable}
-use Rattle.indexed.proofs.Scanned.{without-table}
+use Rattle.indexed.proofs.Scanned.{node-without-table, without-table}
 use Rattle.fields.specs.Written.{written}
 use Rattle.fields.proofs.Written.{part-written}
 use Rattle.layout.specs.Headers.{sizeRight, headerOf}
 use Rattle.layout.specs.Stores.{storeOf}
+use Rattle.ordered.specs.Ordered.{Leading}
+use Rattle.read_near.specs.Near.{Led}
 use Rattle.read_open.specs.Opening.{opened, openedSays}
 use Rattle.read_open.specs.Headed.{byHeader, asMany}
 use Rattle.read_open.specs.declared.Opened as declared-opened
@@ -38,7 +41,7 @@ pub gives-refusal : {a : Answer (List Proof)} (n : ℕ) (room : Bytes) → a ≡
 unfolding provedSays
 gives-refusal n room e = record { answer = sym (ap togetherLength e); bytes = sym (ap (λ a. roomAfter a room) e) }
 
-gives-as : {a b : Answer (List Proof)} {room after : Bytes} {r : declared.Proved} → a ≡ b → Gives a room after r → Gives b room after r
+pub gives-as : {a b : Answer (List Proof)} {room after : Bytes} {r : declared.Proved} → a ≡ b → Gives a room after r → Gives b room after r
 gives-as {room = room} e g = record { answer = g .answer ∙ ap togetherLength e; bytes = g .bytes ∙ ap (λ a. roomAfter a room) e }
 
 -- what is left of the room whose front was lent and came back as y
@@ -57,6 +60,12 @@ measured-proofs (accepted ps) len e = let z : lengthTogether ps ≡ len = cc in 
 measured-refusal : (a : Answer (List Proof)) (n : ℕ) → refused n ≡ togetherLength a → a ≡ refused n
 measured-refusal (refused m) n e = let z : m ≡ n = cc in ap refused z
 measured-refusal (accepted ps) n e = let z : _≡_ {A = ℕ} 0 1 = cc in absurd (omega arith)
+
+-- the first refusal
+pub single-refused : {m : declared.Proved} (a : Answer (List Proof)) (room : Bytes) (n : ℕ) → provedSays m ≡ togetherLength a → m ≡ Refused n →
+    Gives (fittedTogether (length room) a) room room (Refused n)
+unfolding provedSays
+single-refused a room n g h = gives-refusal n room (ap (fittedTogether (length room)) (measured-refusal a n (sym (ap provedSays h) ∙ g)))
 
 module _ (a : Answer (List Proof)) (len : ℕ) (room : Bytes) (e : togetherLength a ≡ accepted len) where
   -- 9
@@ -116,13 +125,6 @@ module _ {b : Bool} (s : Bytes) (table : List ℕ) (v : ℕ) (ks room : Bytes) (
     in-kept : paletteAnswerBy s table v ks (length room) ≡ fittedTogether (length room) (plannedIn s table v ks)
     in-kept = opened-first ∙ opening.rest-decides (fittedTogether (length room) (plannedIn s table v ks)) s v (sym (ap openedSays f) ∙ says)
 
-    pub single-refused : {m : declared.Proved} (n : ℕ) → provedSays m ≡ togetherLength (plannedIn s table v ks) → m ≡ Refused n →
-        Gives (paletteAnswerBy s table v ks (length room)) room room (Refused n)
-    unfolding provedSays
-    single-refused n g h =
-        gives-refusal n room
-        (in-kept ∙ ap (fittedTogether (length room)) (measured-refusal (plannedIn s table v ks) n (sym (ap provedSays h) ∙ g)))
-
     pub all-given : {after : Bytes} {r : declared.Proved} → Gives (fittedTogether (length room) (plannedIn s table v ks)) room after r →
         Gives (paletteAnswerBy s table v ks (length room)) room after r
     all-given g = gives-as (sym in-kept) g
@@ -162,3 +164,13 @@ module _ (s : Bytes) (table : List ℕ) (v : ℕ) (ks : Bytes) (room : ℕ) wher
   pub palette-torn : wholeKeys ks ≡ false → refused 12 ≡ paletteIndexed s table v ks room
   unfolding paletteIndexed
   palette-torn f = rw f
+
+-- a table of which the length is 0
+pub without-entries : (t : List ℕ) → length t ≡ 0 → t ≡ []
+without-entries [] e = refl
+without-entries (x ∷ t) e = absurd (omega arith)
+
+-- Guesses of children that each lead are what a scan finds.
+pub led-own : (st : Store) (kids : List ℕ) → Leading (st .slots) kids → Led st [] kids
+led-own st kids leading m r l some e =
+    node-without-table st (r .version) (r .place) ∙ node-sighted st (r .version) (r .place) r (leading m l some r e)

@@ -10,15 +10,10 @@ use Rattle.meaning.specs.Calls.{Answer}
 use Rattle.meaning.specs.Answers.{numberOf, toldOf}
 use Rattle.palette_rules.specs.Palette.{lengthTogether}
 use Rattle.palette.specs.Palettes.{paletteAnswer, paletteIndexed, roomAfter}
-use Rattle.palette.specs.Parts.{paletteAnswerBy}
 
 -- The proofs for a list of keys in version v of the store s, into a room.
 abbrev pub palettedInto : Bytes → ℕ → Bytes → Bytes → Answer (List Proof)
 palettedInto s v list room = paletteAnswer s v list (length room)
-
--- The same by a table of any length, within the code: no public promise reaches it.
-abbrev pub palettedBy : Bytes → List ℕ → ℕ → Bytes → Bytes → Answer (List Proof)
-palettedBy s table v list room = paletteAnswerBy s table v list (length room)
 
 -- The length of all together, 4 bytes little-endian; a refused call writes nothing.
 abbrev pub lengthBytes : Answer (List Proof) → Bytes → Bytes

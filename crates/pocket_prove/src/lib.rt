@@ -70,7 +70,7 @@ pub fn pocket_prove(store: &[u8], version: u32, key: &[u8], room: &mut [u8]) -> 
     if let Opened::Refused(n) = opened {
         return Proved::Refused(n as u64);
     }
-    let plan = plan_of(store, &[], version, key);
+    let plan = plan_of(store, &[], &[], version, key);
     if is_outside(plan) {
         return Proved::Refused(OUTSIDE_POCKET);
     }

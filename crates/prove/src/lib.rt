@@ -51,5 +51,5 @@ pub fn prove(store: &[u8], index: &[u32], version: u32, key: &[u8], room: &mut [
     if let Opened::Refused(n) = opened {
         return Proved::Refused(n as u64);
     }
-    give(store, key, plan_of(store, index, version, key), room)
+    give(store, key, plan_of(store, index, &[], version, key), room)
 }

@@ -11,15 +11,10 @@ use Rattle.meaning.specs.Calls.{Answer}
 use Rattle.meaning.specs.Answers.{numberOf, toldOf}
 use Rattle.meaning.specs.Proving.{proofLength}
 use Rattle.prove.specs.Proving.{proveAnswer, proveIndexed, roomAfter}
-use Rattle.prove.specs.Parts.{proveAnswerBy}
 
 -- The proof for key k in version v of the store s, into a room.
 abbrev pub provedInto : Bytes → ℕ → Bytes → Bytes → Answer Proof
 provedInto s v k room = proveAnswer s v k (length room)
-
--- The same by a table of any length, within the code: no public promise reaches it.
-abbrev pub provedBy : Bytes → List ℕ → ℕ → Bytes → Bytes → Answer Proof
-provedBy s table v k room = proveAnswerBy s table v k (length room)
 
 -- The proof's length, 4 bytes little-endian; a refused call writes nothing.
 abbrev pub lengthBytes : Answer Proof → Bytes → Bytes

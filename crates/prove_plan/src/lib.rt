@@ -25,6 +25,7 @@ ghost use Rattle.meaning.specs.Proving.{proveSeen};
 ghost use Rattle.indexed.specs.Index.{byTable};
 ghost use Rattle.layout.specs.Headers.{sizeRight};
 ghost use Rattle.layout.specs.Stores.{storeOf};
+ghost use Rattle.read_near.specs.Near.{Led};
 ghost use Rattle.read_step.specs.declared.Seen.the-variants.{Leaf};
 ghost use Rattle.prove_trails.specs.Searches.{WalkedIn};
 ghost use Rattle.prove_plan.specs.Plans.{Plans};
@@ -93,12 +94,12 @@ fn at_end(walked: Walked, shape: Shape, i: usize, length: usize) -> Plan
 }
 
 // Plans the absence proof of a key where its walk has ended, by both searches.
-fn absent(store: &[u8], index: &[u32], key: &[u8], walked: Walked) -> Plan
-    requires { ⌜ WalkedIn (now store) walked ⌝ }
+fn absent(store: &[u8], index: &[u32], kids: &[u16], key: &[u8], walked: Walked) -> Plan
+    requires { ⌜ WalkedIn (now store) walked × Led (storeOf (now store)) (now index) (now kids) ⌝ }
     ensures { λ r. ⌜ Plans (now (store .entry)) (now (key .entry)) (absentFrom (now (store .entry)) (now (index .entry)) (now (key .entry)) walked) r ⌝ }
 {
-    let first = neighbour(store, index, key, walked, false);
-    let second = neighbour(store, index, key, walked, true);
+    let first = neighbour(store, index, kids, key, walked, false);
+    let second = neighbour(store, index, kids, key, walked, true);
     let left = first.way;
     let right = second.way;
     let shape = absence_shape(left, right);
@@ -112,12 +113,12 @@ fn absent(store: &[u8], index: &[u32], key: &[u8], walked: Walked) -> Plan
 }
 
 // Plans the proof of a key whose walk has ended at the leaf in slot i.
-fn at_leaf(store: &[u8], index: &[u32], key: &[u8], walked: Walked, i: usize) -> Plan
-    requires { ⌜ WalkedIn (now store) walked × (walked .trail .seen ≡ Leaf i) ⌝ }
+fn at_leaf(store: &[u8], index: &[u32], kids: &[u16], key: &[u8], walked: Walked, i: usize) -> Plan
+    requires { ⌜ WalkedIn (now store) walked × (walked .trail .seen ≡ Leaf i) × Led (storeOf (now store)) (now index) (now kids) ⌝ }
     ensures { λ r. ⌜ Plans (now (store .entry)) (now (key .entry)) (provedAt (now (store .entry)) (now (index .entry)) (now (key .entry)) walked i) r ⌝ }
 {
     if !same(key, key_of(slot_of(Form::Counted, store, i))) {
-        return absent(store, index, key, walked);
+        return absent(store, index, kids, key, walked);
     }
     let trail = walked.trail;
     let place = trail.place;
@@ -125,12 +126,12 @@ fn at_leaf(store: &[u8], index: &[u32], key: &[u8], walked: Walked, i: usize) ->
     at_end(walked, Shape::Presence, i, length)
 }
 
-// Plans the proof of a key in a version that is kept, and finds by a table.
-pub fn plan_of(store: &[u8], index: &[u32], version: u32, key: &[u8]) -> Plan
-    requires { ⌜ (sizeRight Form.Counted (length (now store)) ≡ true) × (length (now key) ≡ 32) ⌝ }
+// Plans the proof of a key in a version that is kept, and finds by a table, or by the children that a call has guessed for itself.
+pub fn plan_of(store: &[u8], index: &[u32], kids: &[u16], version: u32, key: &[u8]) -> Plan
+    requires { ⌜ (sizeRight Form.Counted (length (now store)) ≡ true) × (length (now key) ≡ 32) × Led (storeOf (now store)) (now index) (now kids) ⌝ }
     ensures { λ r. ⌜ Plans (now (store .entry)) (now (key .entry)) (proveSeen (now (key .entry)) (seen (byTable (now (index .entry)) (storeOf (now (store .entry)))) version)) r ⌝ }
 {
-    let walked = walk(store, index, version, key);
+    let walked = walk(store, index, kids, version, key);
     let trail = walked.trail;
     let seen = trail.seen;
     match seen {
@@ -138,8 +139,8 @@ pub fn plan_of(store: &[u8], index: &[u32], version: u32, key: &[u8]) -> Plan
             let number = refusal(trouble);
             at_end(walked, Shape::Refused(number), 0, 0)
         }
-        Seen::Leaf(i) => at_leaf(store, index, key, walked, i),
+        Seen::Leaf(i) => at_leaf(store, index, kids, key, walked, i),
         // At a missing child: a walk doesn't end at an inner node.
-        _ => absent(store, index, key, walked),
+        _ => absent(store, index, kids, key, walked),
     }
 }

@@ -6,9 +6,9 @@ use place::key_bit;
 use prove_paths::Path;
 use prove_paths::Sought;
 use prove_paths::Way;
+use read_near::child_near;
 use read_step::Seen;
 use read_step::Trouble;
-use read_step::child;
 use read_step::child_version;
 use read_step::root;
 use slots::key_of;
@@ -21,7 +21,9 @@ ghost use lib.ListN.{length};
 ghost use lib.Dec.{eqb};
 ghost use Rattle.layout.specs.Headers.{sizeRight};
 ghost use Rattle.read_step.specs.Walk.{kidIn};
+ghost use Rattle.read_near.specs.Near.{Led};
 ghost use Rattle.layout.specs.Sizes.{roomOf};
+ghost use Rattle.layout.specs.Stores.{storeOf};
 ghost use Rattle.meaning.specs.Proving.{beyond};
 ghost use Rattle.prove_trails.specs.Trails.{TrailIn, AtInner, Further, Started, forkAfter, ForkIn, forkSays, forkOn, Walks};
 ghost use Rattle.prove_trails.specs.Searches.{soughtOf, Finds, descentSays, WalkedIn, neighbourSays};
@@ -61,8 +63,8 @@ fn start(store: &[u8], index: &[u32], version: u32) -> Trail
 }
 
 // One inner node further, that in slot i, to a side.
-fn further(store: &[u8], index: &[u32], trail: Trail, i: usize, side: bool) -> Trail
-    requires { ⌜ AtInner (now store) trail i ⌝ }
+fn further(store: &[u8], index: &[u32], kids: &[u16], trail: Trail, i: usize, side: bool) -> Trail
+    requires { ⌜ AtInner (now store) trail i × Led (storeOf (now store)) (now index) (now kids) ⌝ }
     ensures { λ r. ⌜ Further (now (store .entry)) (now (index .entry)) trail i side r ⌝ }
 {
     let mut slots = trail.slots;
@@ -70,7 +72,7 @@ fn further(store: &[u8], index: &[u32], trail: Trail, i: usize, side: bool) -> T
     let depth = here.count;
     slots[depth] = i as u16;
     let place = child_place(here, side);
-    let seen = child(store, index, i, side, place);
+    let seen = child_near(store, index, kids, i, side, place);
     Trail { seen, slots, place }
 }
 
@@ -89,8 +91,8 @@ fn deepest(store: &[u8], fork: Fork, place: Place, i: usize, turn: bool, side: b
 }
 
 // Walks by the key's bits from the root of a version to a leaf or a missing child, or until it is stopped.
-pub fn walk(store: &[u8], index: &[u32], version: u32, key: &[u8]) -> Walked
-    requires { ⌜ (sizeRight Form.Counted (length (now store)) ≡ true) × (length (now key) ≡ 32) ⌝ }
+pub fn walk(store: &[u8], index: &[u32], kids: &[u16], version: u32, key: &[u8]) -> Walked
+    requires { ⌜ (sizeRight Form.Counted (length (now store)) ≡ true) × (length (now key) ≡ 32) × Led (storeOf (now store)) (now index) (now kids) ⌝ }
     ensures { λ r. ⌜ Walks (now (store .entry)) (now (index .entry)) version (now (key .entry)) r ⌝ }
 {
     let top = Place::top();
@@ -113,7 +115,7 @@ pub fn walk(store: &[u8], index: &[u32], version: u32, key: &[u8]) -> Walked
         let turn = key_bit(key, depth);
         left = deepest(store, left, place, i, turn, false);
         right = deepest(store, right, place, i, turn, true);
-        trail = further(store, index, trail, i, turn);
+        trail = further(store, index, kids, trail, i, turn);
     }
 }
 
@@ -143,8 +145,8 @@ fn towards(store: &[u8], i: usize, to: bool) -> bool
 }
 
 // Descends from the end of a trail, to a side where it can, until a leaf.
-fn descend(store: &[u8], index: &[u32], trail: Trail, side: bool) -> Sought
-    requires { ⌜ TrailIn (now store) trail ⌝ }
+fn descend(store: &[u8], index: &[u32], kids: &[u16], trail: Trail, side: bool) -> Sought
+    requires { ⌜ TrailIn (now store) trail × Led (storeOf (now store)) (now index) (now kids) ⌝ }
     ensures { λ r. ⌜ Finds (now (store .entry)) (descentSays (now (store .entry)) (now (index .entry)) trail side) r ⌝ }
 {
     let mut here = trail;
@@ -153,7 +155,7 @@ fn descend(store: &[u8], index: &[u32], trail: Trail, side: bool) -> Sought
         match seen {
             Seen::Inner(i) => {
                 let turn = towards(store, i, side);
-                here = further(store, index, here, i, turn);
+                here = further(store, index, kids, here, i, turn);
             }
             Seen::Leaf(i) => return answer(here, Way::Somebody, i),
             Seen::Gap => return answer(here, Way::Lost(Trouble::Lost), 0),
@@ -163,8 +165,15 @@ fn descend(store: &[u8], index: &[u32], trail: Trail, side: bool) -> Sought
 }
 
 // Searches from a fork of a trail, where there is one.
-fn from_fork(store: &[u8], index: &[u32], trail: Trail, fork: Fork, side: bool) -> Sought
-    requires { ⌜ TrailIn (now store) trail × ForkIn (trail .place .count) fork ⌝ }
+fn from_fork(
+    store: &[u8],
+    index: &[u32],
+    kids: &[u16],
+    trail: Trail,
+    fork: Fork,
+    side: bool,
+) -> Sought
+    requires { ⌜ TrailIn (now store) trail × ForkIn (trail .place .count) fork × Led (storeOf (now store)) (now index) (now kids) ⌝ }
     ensures { λ r. ⌜ Finds (now (store .entry)) (forkSays (now (store .entry)) (now (index .entry)) (trail .slots) side fork) r ⌝ }
 {
     let there = fork.there;
@@ -180,8 +189,8 @@ fn from_fork(store: &[u8], index: &[u32], trail: Trail, fork: Fork, side: bool) 
         slots,
         place,
     };
-    let next = further(store, index, back, i, side);
-    descend(store, index, next, !side)
+    let next = further(store, index, kids, back, i, side);
+    descend(store, index, kids, next, !side)
 }
 
 // Whether a key is on a side of another: smaller on the left, greater on the right.
@@ -204,18 +213,25 @@ fn fork_towards(walked: Walked, side: bool) -> Fork
 }
 
 // The neighbour of a key on a side: the leaf at the end of its walk, if it is on that side; else from the fork.
-pub fn neighbour(store: &[u8], index: &[u32], key: &[u8], walked: Walked, side: bool) -> Sought
-    requires { ⌜ WalkedIn (now store) walked ⌝ }
+pub fn neighbour(
+    store: &[u8],
+    index: &[u32],
+    kids: &[u16],
+    key: &[u8],
+    walked: Walked,
+    side: bool,
+) -> Sought
+    requires { ⌜ WalkedIn (now store) walked × Led (storeOf (now store)) (now index) (now kids) ⌝ }
     ensures { λ r. ⌜ Finds (now (store .entry)) (neighbourSays (now (store .entry)) (now (index .entry)) (now (key .entry)) walked side) r ⌝ }
 {
     let trail = walked.trail;
     let fork = fork_towards(walked, side);
     let seen = trail.seen;
     let Seen::Leaf(i) = seen else {
-        return from_fork(store, index, trail, fork, side);
+        return from_fork(store, index, kids, trail, fork, side);
     };
     if beyond(key_of(slot_of(Form::Counted, store, i)), key, side) {
         return answer(trail, Way::Somebody, i);
     }
-    from_fork(store, index, trail, fork, side)
+    from_fork(store, index, kids, trail, fork, side)
 }

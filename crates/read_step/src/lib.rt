@@ -58,7 +58,7 @@ pub enum Seen {
 }
 
 // What is seen at a place whose record was found in slot i, whatever table finds what stands below it.
-fn seen_in(store: &[u8], i: usize, place: Place) -> Seen
+pub fn seen_in(store: &[u8], i: usize, place: Place) -> Seen
     requires { ⌜ SlotHolds (now store) i place ⌝ }
     ensures { λ r. ⌜ SeesIn (now (store .entry)) i (placeOf place) r ⌝ }
 {

@@ -1,5 +1,6 @@
 // Rescue from a damaged store, document 02, request 2026-08.
 use layout::size_right;
+use order_guess::guide;
 use refusal_numbers::NOT_SOUND;
 use refusal_numbers::WRONG_HEADER;
 use refusal_numbers::WRONG_SIZE;
@@ -31,11 +32,13 @@ pub fn rescue(source: &[u8], oldest: u32, latest: u32, target: &mut [u8]) -> Res
     if latest < oldest {
         return Rescued::Refused(WRONG_HEADER);
     }
-    let tested = step(source, latest, 0, 0, 0);
+    let mut table = [0u16; 16384];
+    let many = guide(source, &mut table);
+    let tested = step(source, &table, many, latest, 0, 0, 0);
     let Stepped::Yes { root, lowest } = tested else {
         return Rescued::Refused(NOT_SOUND);
     };
-    let first = fill(source, oldest, latest, root, lowest, target);
+    let first = fill(source, &table, many, oldest, latest, root, lowest, target);
     let counts = count(source, target);
     Rescued::Kept { first, counts }
 }

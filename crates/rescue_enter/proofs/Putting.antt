@@ -13,7 +13,7 @@ use Rattle.terms.specs.Records.{Record, Slot, free, used, Store}
 use Rattle.terms.specs.Form.{RecordForm, top32}
 use Rattle.meaning.specs.Store.{marked}
 use Rattle.meaning.proofs.Finding.{used-eq}
-use Rattle.store_copy.specs.Copied.{withBytes}
+use Rattle.store_put.specs.Copied.{withBytes}
 use Rattle.layout.specs.Sizes.{roomOf}
 use Rattle.layout.specs.Headers.{sizeRight}
 use Rattle.layout.specs.Slots.{slotOf, slotBytes, recordOf, SlotForm}

@@ -5,9 +5,11 @@ use place::Place;
 use rescue_look::kid;
 use rescue_look::lowest;
 use store::slot_of;
-use store_copy::copy_slot;
+use store_put::copy_slot;
 use store_put::put_retired_at;
 use terms::Form;
+ghost use Rattle.layout.specs.Stores.{storeOf};
+ghost use Rattle.ordered.specs.Ordered.{Guide};
 ghost use Rattle.rescue_enter.specs.Enter.{Target, Held, Puts, Entering, Enters};
 
 // Writes the record that was found in the source to its slot of the target, with another retired-since.
@@ -23,15 +25,24 @@ fn put(source: &[u8], found: Found, since: u32, target: &mut [u8])
 }
 
 // Enters the nodes of the tree of version a at a place that the tree of version b lacks.
-pub fn enter(source: &[u8], target: &mut [u8], since: u32, place: Place, a: u32, b: u32)
-    requires { ⌜ Entering (now source) (now target) place ⌝ }
+pub fn enter(
+    source: &[u8],
+    table: &[u16; 16384],
+    many: usize,
+    target: &mut [u8],
+    since: u32,
+    place: Place,
+    a: u32,
+    b: u32,
+)
+    requires { ⌜ Entering (now source) (now target) place × Guide (storeOf (now source) .slots) (now table) many ⌝ }
     ensures { λ _. ⌜ Enters (now (source .entry)) since place a b (now (target .entry)) (now (target .exit)) ⌝ }
 {
     if a == b {
         return;
     }
-    let here = lowest(source, a, place);
-    let there = lowest(source, b, place);
+    let here = lowest(source, table, many, a, place);
+    let there = lowest(source, table, many, b, place);
     let a_left = kid(source, here, false);
     let a_right = kid(source, here, true);
     let b_left = kid(source, there, false);
@@ -41,7 +52,7 @@ pub fn enter(source: &[u8], target: &mut [u8], since: u32, place: Place, a: u32,
         return;
     }
     let left = place.left();
-    enter(source, target, since, left, a_left, b_left);
+    enter(source, table, many, target, since, left, a_left, b_left);
     let right = place.right();
-    enter(source, target, since, right, a_right, b_right);
+    enter(source, table, many, target, since, right, a_right, b_right);
 }

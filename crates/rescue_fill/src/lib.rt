@@ -10,6 +10,8 @@ use rescue_step::step;
 use store::slot_count;
 use terms::Form;
 ghost use mathlib.Core.Path.{_≡_};
+ghost use Rattle.layout.specs.Stores.{storeOf};
+ghost use Rattle.ordered.specs.Ordered.{Guide};
 ghost use Rattle.rescue_fill.specs.Fill.{bounded, Shaped, Fillable, Filled};
 
 // Writes the bounds of the run; answers its first version.
@@ -26,18 +28,20 @@ fn finish(target: &mut [u8], first: u32, latest: u32) -> u32
 // Fills the target with the longest run; answers its first version.
 pub fn fill(
     source: &[u8],
+    table: &[u16; 16384],
+    many: usize,
     oldest: u32,
     latest: u32,
     root: u32,
     lowest: u32,
     target: &mut [u8],
 ) -> u32
-    requires { ⌜ Fillable (now source) oldest latest root lowest (now target) ⌝ }
+    requires { ⌜ Fillable (now source) oldest latest root lowest (now target) × Guide (storeOf (now source) .slots) (now table) many ⌝ }
     ensures { λ r. ⌜ Filled (now (source .entry)) oldest latest r (now (target .exit)) ⌝ }
 {
     let top = Place::top();
     format(target);
-    enter(source, target, 0, top, root, 0);
+    enter(source, table, many, target, 0, top, root, 0);
     let mut b = root;
     let mut low = lowest;
     loop {
@@ -48,11 +52,11 @@ pub fn fill(
         if b < first {
             return finish(target, first, latest);
         }
-        let stepped = step(source, first - 1, first, b, low);
+        let stepped = step(source, table, many, first - 1, first, b, low);
         let Stepped::Yes { root: a, lowest: l } = stepped else {
             return finish(target, first, latest);
         };
-        enter(source, target, first, top, a, b);
+        enter(source, table, many, target, first, top, a, b);
         b = a;
         low = l;
     }

@@ -11,6 +11,8 @@ ghost use lib.ListN.{length};
 ghost use lib.Dec.{eqb};
 ghost use Rattle.place.specs.Place.{Proper};
 ghost use Rattle.layout.specs.Headers.{sizeRight};
+ghost use Rattle.layout.specs.Stores.{storeOf};
+ghost use Rattle.ordered.specs.Ordered.{Guide};
 ghost use Rattle.rescue_rules.specs.Joining.{newer};
 ghost use Rattle.rescue_join.specs.Join.{JoinSays};
 
@@ -41,8 +43,16 @@ pub enum Joined {
 }
 
 // Joins the node of version a at a place, and all below it, to the node of version b in the tree of the version `next`.
-pub fn join(source: &[u8], next: u32, place: Place, a: u32, b: u32) -> Joined
-    requires { ⌜ (sizeRight Form.Counted (length (now source)) ≡ true) × Proper place ⌝ }
+pub fn join(
+    source: &[u8],
+    table: &[u16; 16384],
+    many: usize,
+    next: u32,
+    place: Place,
+    a: u32,
+    b: u32,
+) -> Joined
+    requires { ⌜ (sizeRight Form.Counted (length (now source)) ≡ true) × Proper place × Guide (storeOf (now source) .slots) (now table) many ⌝ }
     ensures { λ r. ⌜ JoinSays (now (source .entry)) next place a b r ⌝ }
 {
     if a == b {
@@ -51,25 +61,25 @@ pub fn join(source: &[u8], next: u32, place: Place, a: u32, b: u32) -> Joined
     if !of_next(b, next) {
         return Joined::Broken;
     }
-    let here = lowest(source, a, place);
-    if !record_right(source, a, place, here) {
+    let here = lowest(source, table, many, a, place);
+    if !record_right(source, table, many, a, place, here) {
         return Joined::Broken;
     }
     if 256 <= place.count {
         return Joined::Fits { lowest: 0 };
     }
-    let there = lowest(source, b, place);
+    let there = lowest(source, table, many, b, place);
     let a_left = kid(source, here, false);
     let a_right = kid(source, here, true);
     let b_left = kid(source, there, false);
     let b_right = kid(source, there, true);
     let left = place.left();
-    let on_left = join(source, next, left, a_left, b_left);
+    let on_left = join(source, table, many, next, left, a_left, b_left);
     let Joined::Fits { lowest: l } = on_left else {
         return Joined::Broken;
     };
     let right = place.right();
-    let on_right = join(source, next, right, a_right, b_right);
+    let on_right = join(source, table, many, next, right, a_right, b_right);
     let Joined::Fits { lowest: r } = on_right else {
         return Joined::Broken;
     };

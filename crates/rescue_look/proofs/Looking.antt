@@ -32,7 +32,8 @@ use Rattle.store.proofs.Slots.{slots-many, slot-is, slot-formed}
 use Rattle.store.proofs.Scans.{Scan, Each, scan-many, scan-slot, scan-inside, each-from, each-passed, each-next}
 use Rattle.lookup.specs.declared.Found as found
 use Rattle.lookup.specs.declared.Found.the-variants.{At, Nothing}
-use Rattle.lookup.specs.Lookup.{isUsed}
+use Rattle.lookup.specs.Lookup.{isUsed, FoundIn}
+use Rattle.order_find.specs.Finds.{NoLower}
 use Rattle.lookup.proofs.Searching.{past}
 use Rattle.check_kin.specs.Kin.{countNode}
 use Rattle.check_kin.proofs.Holding.{other-version, other-count, other-bits, no-record, held}
@@ -327,3 +328,8 @@ module _ (s : Bytes) (v : ℕ) (p : place.Place) {f : found.Found} (w : Sought s
 
         pub right-on : {m o : Bool} {r : place.Place} → m ≡ tiedAt s i left (placeOf l) → m ≡ true → Grown right p r → o ≡ tiedAt s i right (placeOf r) → o ≡ Right
         right-on d n g k = k ∙ ap (tiedAt s i right) (g .place) ∙ sym (sides ∙ rw (sym d ∙ n))
+
+-- what is found by a table is the lowest slot
+pub as-lowest : (s : List Slot) (v : ℕ) (p : Place) (f : found.Found) → FoundIn s v p f → NoLower s v p f → LowestIn s v p f
+as-lowest s v p (At i) w l = (w .0, (w .1 .0, record { at = w .1 .1; found = w .1 .2; lowest = l }))
+as-lowest s v p Nothing w l = w

@@ -5,6 +5,7 @@ use hash::hash_at;
 use hash::same_hash;
 use lookup::Found;
 use lookup::holds_record;
+use order_find::find_by;
 use place::Place;
 use place::begins;
 use place::same;
@@ -28,6 +29,7 @@ ghost use Rattle.nodehash.specs.Node.{leafHash, innerHash};
 ghost use Rattle.place.specs.Place.{placeOf, Proper};
 ghost use Rattle.layout.specs.Headers.{sizeRight};
 ghost use Rattle.layout.specs.Stores.{storeOf, Has};
+ghost use Rattle.ordered.specs.Ordered.{Guide};
 ghost use Rattle.rescue_rules.specs.Joining.{recordRight};
 ghost use Rattle.rescue_look.specs.Look.{StandsSay, LowestIn, Sought, Inside, KidSays, WeighsSay, tiedAt};
 
@@ -50,8 +52,8 @@ fn stands_at(source: &[u8], i: usize, place: Place) -> bool
     true
 }
 
-// The lowest slot that holds the node (version, place); version 0 is no node.
-pub fn lowest(source: &[u8], version: u32, place: Place) -> Found
+// The lowest slot that holds the node (version, place), by a scan; version 0 is no node.
+fn scanned(source: &[u8], version: u32, place: Place) -> Found
     requires { ⌜ (sizeRight Form.Counted (length (now source)) ≡ true) × Proper place ⌝ }
     ensures { λ r. ⌜ LowestIn (storeOf (now (source .entry)) .slots) version (placeOf place) r ⌝ }
 {
@@ -73,6 +75,21 @@ pub fn lowest(source: &[u8], version: u32, place: Place) -> Found
         }
         i += 1;
     }
+}
+
+// The same by a table to find by, or by a scan where it has no entries.
+pub fn lowest(source: &[u8], table: &[u16; 16384], many: usize, version: u32, place: Place) -> Found
+    requires { ⌜ (sizeRight Form.Counted (length (now source)) ≡ true) × Proper place × Guide (storeOf (now source) .slots) (now table) many ⌝ }
+    ensures { λ r. ⌜ LowestIn (storeOf (now (source .entry)) .slots) version (placeOf place) r ⌝ }
+{
+    if many == 0 {
+        return scanned(source, version, place);
+    }
+    // The scan tells at once that version 0 is no node, the table by a whole search.
+    if version == 0 {
+        return scanned(source, version, place);
+    }
+    find_by(source, table, many, version, place)
 }
 
 // The version of the child that a record names on a side; 0 where there is no record or no child.
@@ -103,14 +120,21 @@ fn weighs(source: &[u8], i: usize, right: bool, found: Found) -> bool
 
 // Whether the child on a side of the inner record in slot i is missing, or found at its place with the stored hash and no lone leaf,
 // and the count on that side is right.
-fn linked(source: &[u8], i: usize, right: bool, place: Place) -> bool
-    requires { ⌜ Has Form.Counted (now source) i × Proper place ⌝ }
+fn linked(
+    source: &[u8],
+    table: &[u16; 16384],
+    many: usize,
+    i: usize,
+    right: bool,
+    place: Place,
+) -> bool
+    requires { ⌜ Has Form.Counted (now source) i × Proper place × Guide (storeOf (now source) .slots) (now table) many ⌝ }
     ensures { λ r. ⌜ r ≡ tiedAt (now (source .entry)) i right (placeOf place) ⌝ }
 {
     let version = child_version_at(Form::Counted, source, i, right);
     let other = child_version_at(Form::Counted, source, i, !right);
     let hash = hash_at(child_hash(slot_of(Form::Counted, source, i), right), 0);
-    let found = lowest(source, version, place);
+    let found = lowest(source, table, many, version, place);
     if !weighs(source, i, right, found) {
         return false;
     }
@@ -128,8 +152,15 @@ fn linked(source: &[u8], i: usize, right: bool, place: Place) -> bool
 }
 
 // Whether no node was asked for, or it was found and is right: a leaf's key begins with its place, an inner record's children are linked.
-pub fn record_right(source: &[u8], version: u32, place: Place, found: Found) -> bool
-    requires { ⌜ Sought (now source) version place found ⌝ }
+pub fn record_right(
+    source: &[u8],
+    table: &[u16; 16384],
+    many: usize,
+    version: u32,
+    place: Place,
+    found: Found,
+) -> bool
+    requires { ⌜ Sought (now source) version place found × Guide (storeOf (now source) .slots) (now table) many ⌝ }
     ensures { λ r. ⌜ r ≡ recordRight leafHash innerHash (storeOf (now (source .entry)) .slots) version (placeOf place) (find version (placeOf place) (storeOf (now (source .entry)) .slots)) ⌝ }
 {
     let Found::At(i) = found else {
@@ -140,9 +171,9 @@ pub fn record_right(source: &[u8], version: u32, place: Place, found: Found) -> 
         return begins(key_of(slot), place);
     }
     let left = place.left();
-    if !linked(source, i, false, left) {
+    if !linked(source, table, many, i, false, left) {
         return false;
     }
     let right = place.right();
-    linked(source, i, true, right)
+    linked(source, table, many, i, true, right)
 }

@@ -1,6 +1,8 @@
 // The root record of a version in a source of any contents, document 02, requests 2026-08 and 2026-13.
 use lookup::Found;
 use lookup::holds_record;
+use order_find::find_by;
+use place::Place;
 use store::count_at;
 use store::retired_at;
 use store::slot_count;
@@ -14,6 +16,7 @@ ghost use Rattle.local.specs.Test.{byRecord};
 ghost use Rattle.layout.specs.Headers.{sizeRight};
 ghost use Rattle.layout.specs.Stores.{storeOf, slotNo, Has};
 ghost use Rattle.lookup.specs.Lookup.{Located};
+ghost use Rattle.ordered.specs.Ordered.{Guide};
 ghost use Rattle.rescue_rules.specs.Rescue.{newestRoot};
 ghost use Rattle.rescue_rules.specs.Joining.{rootVersion};
 ghost use Rattle.rescue_root.specs.Roots.{rootAbove};
@@ -59,12 +62,28 @@ fn newest_root(source: &[u8], version: u32) -> Found
     }
 }
 
+// The same by a table to find by: a root record of the version itself is the newest. Where there is none, the scan.
+fn newest_by(source: &[u8], table: &[u16; 16384], many: usize, version: u32) -> Found
+    requires { ⌜ (sizeRight Form.Counted (length (now source)) ≡ true) × Guide (storeOf (now source) .slots) (now table) many ⌝ }
+    ensures { λ r. ⌜ Located (storeOf (now (source .entry)) .slots) (newestRoot version (storeOf (now (source .entry)) .slots)) r ⌝ }
+{
+    if many == 0 {
+        return newest_root(source, version);
+    }
+    let top = Place::top();
+    let found = find_by(source, table, many, version, top);
+    if let Found::At(i) = found {
+        return Found::At(i);
+    }
+    newest_root(source, version)
+}
+
 // The version of the root record of a version; 0 where there is none, or where the newest one was retired by then.
-pub fn root_version(source: &[u8], version: u32) -> u32
-    requires { ⌜ sizeRight Form.Counted (length (now source)) ≡ true ⌝ }
+pub fn root_version(source: &[u8], table: &[u16; 16384], many: usize, version: u32) -> u32
+    requires { ⌜ (sizeRight Form.Counted (length (now source)) ≡ true) × Guide (storeOf (now source) .slots) (now table) many ⌝ }
     ensures { λ r. ⌜ r ≡ rootVersion (storeOf (now (source .entry)) .slots) version ⌝ }
 {
-    let newest = newest_root(source, version);
+    let newest = newest_by(source, table, many, version);
     let Found::At(i) = newest else {
         return 0;
     };

@@ -9,6 +9,8 @@ ghost use mathlib.Core.Path.{_≡_};
 ghost use mathlib.Core.Bool.{true};
 ghost use lib.ListN.{length};
 ghost use Rattle.layout.specs.Headers.{sizeRight};
+ghost use Rattle.layout.specs.Stores.{storeOf};
+ghost use Rattle.ordered.specs.Ordered.{Guide};
 ghost use Rattle.rescue_step.specs.Step.{StepSays};
 
 pub enum Stepped {
@@ -18,16 +20,24 @@ pub enum Stepped {
 }
 
 // Whether version v joins the tree of the version `next`, whose root is of version b; b is 0 where there is none.
-pub fn step(source: &[u8], v: u32, next: u32, b: u32, low: u32) -> Stepped
-    requires { ⌜ sizeRight Form.Counted (length (now source)) ≡ true ⌝ }
+pub fn step(
+    source: &[u8],
+    table: &[u16; 16384],
+    many: usize,
+    v: u32,
+    next: u32,
+    b: u32,
+    low: u32,
+) -> Stepped
+    requires { ⌜ (sizeRight Form.Counted (length (now source)) ≡ true) × Guide (storeOf (now source) .slots) (now table) many ⌝ }
     ensures { λ r. ⌜ StepSays (now (source .entry)) v next b low r ⌝ }
 {
-    let a = root_version(source, v);
+    let a = root_version(source, table, many, v);
     if a == 0 {
         return Stepped::No;
     }
     let top = Place::top();
-    let joined = join(source, next, top, a, b);
+    let joined = join(source, table, many, next, top, a, b);
     let Joined::Fits { lowest: l } = joined else {
         return Stepped::No;
     };

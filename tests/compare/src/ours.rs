@@ -1,7 +1,8 @@
 //! The exports of the proved library, as safe Rust. Each answer's array is handed in filled with a mark, between marked edges: a refused call
 //! must leave the array so, and every call the edges. That is looked at here, for every call.
 
-use record::{array, long, number, read, recorded, written};
+use calls::*;
+use record::{array, kept, long, number, read, recorded, table as tabled, written};
 use second::bytes::{b32_at, u32_at};
 use second::forged::{Finding, Message};
 use second::message::Leaf;
@@ -11,202 +12,9 @@ use second::{Bytes32, Refusal, Stopped};
 #[allow(dead_code)] // the benchmarks, which have this file too, write no calls down
 pub mod record;
 
-extern "C" {
-    fn grants_format(store: *mut u8, store_len: usize) -> u32;
-    fn grants_check(store: *const u8, store_len: usize) -> u32;
-    fn grants_apply(store: *mut u8, store_len: usize, number: u32, batch: *const u8, batch_len: usize, answer: *mut [u8; 40]) -> u32;
-    fn grants_prune(store: *mut u8, store_len: usize, version: u32, freed: *mut [u8; 4]) -> u32;
-    fn grants_root(store: *const u8, store_len: usize, version: u32, root: *mut [u8; 32]) -> u64;
-    fn grants_get(store: *const u8, store_len: usize, version: u32, key: *const u8, key_len: usize, found: *mut [u8; 33]) -> u64;
-    fn grants_count(store: *const u8, store_len: usize, version: u32, count: *mut [u8; 8]) -> u64;
-    fn grants_at(store: *const u8, store_len: usize, version: u32, position: u64, grant: *mut [u8; 64]) -> u64;
-    fn grants_prove(
-        store: *const u8,
-        store_len: usize,
-        version: u32,
-        key: *const u8,
-        key_len: usize,
-        room: *mut u8,
-        room_len: usize,
-        length: *mut [u8; 4],
-    ) -> u64;
-    fn grants_palette(
-        store: *const u8,
-        store_len: usize,
-        version: u32,
-        keys: *const u8,
-        keys_len: usize,
-        room: *mut u8,
-        room_len: usize,
-        length: *mut [u8; 4],
-    ) -> u64;
-    fn grants_changes(
-        store: *const u8,
-        store_len: usize,
-        first: u32,
-        second: u32,
-        limit: u32,
-        room: *mut u8,
-        room_len: usize,
-        records: *mut [u8; 4],
-    ) -> u32;
-    fn grants_rescue(
-        source: *const u8,
-        source_len: usize,
-        oldest: u32,
-        latest: u32,
-        target: *mut u8,
-        target_len: usize,
-        answer: *mut [u8; 16],
-    ) -> u32;
-    fn grants_figures(
-        store: *const u8,
-        store_len: usize,
-        first: u32,
-        last: u32,
-        room: *mut u8,
-        room_len: usize,
-        totals: *mut [u8; 8],
-    ) -> u32;
-    fn grants_pocket_prove(
-        store: *const u8,
-        store_len: usize,
-        version: u32,
-        key: *const u8,
-        key_len: usize,
-        room: *mut u8,
-        room_len: usize,
-        length: *mut [u8; 4],
-    ) -> u64;
-    fn grants_pocket_verify(
-        root: *const u8,
-        root_len: usize,
-        key: *const u8,
-        key_len: usize,
-        proof: *const u8,
-        proof_len: usize,
-        found: *mut [u8; 33],
-    ) -> u32;
-    fn grants_finding(
-        store: *const u8,
-        store_len: usize,
-        version: u32,
-        key: *const u8,
-        key_len: usize,
-        proof: *const u8,
-        proof_len: usize,
-        finding: *mut [u8; 131],
-    ) -> u32;
-    fn grants_over(source: *const u8, source_len: usize, target: *mut u8, target_len: usize) -> u32;
-    fn grants_back(source: *const u8, source_len: usize, target: *mut u8, target_len: usize) -> u32;
-    fn grants_verify(
-        root: *const u8,
-        root_len: usize,
-        key: *const u8,
-        key_len: usize,
-        proof: *const u8,
-        proof_len: usize,
-        found: *mut [u8; 33],
-    ) -> u32;
-    fn grants_shelf_verify(
-        root: *const u8,
-        root_len: usize,
-        bits: u32,
-        key: *const u8,
-        key_len: usize,
-        proof: *const u8,
-        proof_len: usize,
-        found: *mut [u8; 33],
-    ) -> u32;
-    fn grants_ics23_write(
-        proof: *const u8,
-        proof_len: usize,
-        asked: *const u8,
-        asked_len: usize,
-        key1: *const u8,
-        key1_len: usize,
-        value1: *const u8,
-        value1_len: usize,
-        key2: *const u8,
-        key2_len: usize,
-        value2: *const u8,
-        value2_len: usize,
-        room: *mut u8,
-        room_len: usize,
-        length: *mut [u8; 4],
-    ) -> u32;
-    fn grants_ics23_read(message: *const u8, message_len: usize, room: *mut u8, room_len: usize, answer: *mut [u8; 44]) -> u32;
-    fn grants_verify_many(
-        root: *const u8,
-        root_len: usize,
-        keys: *const u8,
-        keys_len: usize,
-        proofs: *const u8,
-        proofs_len: usize,
-        answers: *mut u8,
-        answers_len: usize,
-    ) -> u32;
-    fn grants_sha256(bytes: *const u8, len: usize, digest: *mut [u8; 32]) -> u32;
-    fn grants_index(store: *const u8, store_len: usize, index: *mut u32, index_len: usize) -> u32;
-    fn grants_index_check(store: *const u8, store_len: usize, index: *const u32, index_len: usize) -> u32;
-    fn grants_format_indexed(store: *mut u8, store_len: usize, index: *mut u32, index_len: usize) -> u32;
-    fn grants_apply_indexed(
-        store: *mut u8,
-        store_len: usize,
-        index: *mut u32,
-        index_len: usize,
-        number: u32,
-        batch: *const u8,
-        batch_len: usize,
-        answer: *mut [u8; 40],
-    ) -> u32;
-    fn grants_prune_indexed(store: *mut u8, store_len: usize, index: *mut u32, index_len: usize, version: u32, freed: *mut [u8; 4]) -> u32;
-    fn grants_root_indexed(store: *const u8, store_len: usize, index: *const u32, index_len: usize, version: u32, root: *mut [u8; 32]) -> u64;
-    fn grants_get_indexed(
-        store: *const u8,
-        store_len: usize,
-        index: *const u32,
-        index_len: usize,
-        version: u32,
-        key: *const u8,
-        key_len: usize,
-        found: *mut [u8; 33],
-    ) -> u64;
-    fn grants_prove_indexed(
-        store: *const u8,
-        store_len: usize,
-        index: *const u32,
-        index_len: usize,
-        version: u32,
-        key: *const u8,
-        key_len: usize,
-        room: *mut u8,
-        room_len: usize,
-        length: *mut [u8; 4],
-    ) -> u64;
-    fn grants_palette_indexed(
-        store: *const u8,
-        store_len: usize,
-        index: *const u32,
-        index_len: usize,
-        version: u32,
-        keys: *const u8,
-        keys_len: usize,
-        room: *mut u8,
-        room_len: usize,
-        length: *mut [u8; 4],
-    ) -> u64;
-    fn grants_count_indexed(store: *const u8, store_len: usize, index: *const u32, index_len: usize, version: u32, count: *mut [u8; 8]) -> u64;
-    fn grants_at_indexed(
-        store: *const u8,
-        store_len: usize,
-        index: *const u32,
-        index_len: usize,
-        version: u32,
-        position: u64,
-        grant: *mut [u8; 64],
-    ) -> u64;
-}
+#[path = "../../../rust/src/calls.rs"]
+#[allow(dead_code)] // no comparison asks for the version
+mod calls;
 
 const MARK: u8 = 0xA5;
 
@@ -342,8 +150,12 @@ pub fn palette(store: &[u8], version: u32, keys: &[u8], room: &mut [u8]) -> Resu
 /// The number of records, at the front of the room.
 pub fn changes(store: &[u8], first: u32, second: u32, limit: u32, room: &mut [u8]) -> Result<u32, Refusal> {
     let (to, most) = (room.as_mut_ptr(), room.len());
-    answered(|records| unsafe { grants_changes(store.as_ptr(), store.len(), first, second, limit, to, most, records) })
-        .map(u32::from_le_bytes)
+    answered(|records| {
+        recorded("changes", &[read(store), number(first), number(second), number(limit), written(room), array(records)], || unsafe {
+            grants_changes(store.as_ptr(), store.len(), first, second, limit, to, most, records)
+        })
+    })
+    .map(u32::from_le_bytes)
 }
 
 /// The run's first version; records kept as they were, kept with another retired-since, used slots left out. The target is all written, or,
@@ -510,61 +322,92 @@ fn alone(number: u32) -> Result<(), Refusal> {
 }
 
 pub fn index(store: &[u8], table: &mut [u32]) -> Result<(), Refusal> {
-    alone(unsafe { grants_index(store.as_ptr(), store.len(), table.as_mut_ptr(), table.len()) })
+    alone(recorded("index", &[read(store), kept(table)], || unsafe {
+        grants_index(store.as_ptr(), store.len(), table.as_mut_ptr(), table.len())
+    }))
 }
 
 pub fn index_check(store: &[u8], table: &[u32]) -> Result<(), Refusal> {
-    alone(unsafe { grants_index_check(store.as_ptr(), store.len(), table.as_ptr(), table.len()) })
+    alone(recorded("index_check", &[read(store), tabled(table)], || unsafe {
+        grants_index_check(store.as_ptr(), store.len(), table.as_ptr(), table.len())
+    }))
 }
 
 pub fn format_indexed(store: &mut [u8], table: &mut [u32]) -> Result<(), Refusal> {
-    alone(unsafe { grants_format_indexed(store.as_mut_ptr(), store.len(), table.as_mut_ptr(), table.len()) })
+    alone(recorded("format_indexed", &[written(store), kept(table)], || unsafe {
+        grants_format_indexed(store.as_mut_ptr(), store.len(), table.as_mut_ptr(), table.len())
+    }))
 }
 
 pub fn apply_indexed(store: &mut [u8], table: &mut [u32], version: u32, batch: &[u8]) -> Result<(u32, Bytes32, u32), Refusal> {
-    let answer = answered(|a| unsafe {
-        grants_apply_indexed(store.as_mut_ptr(), store.len(), table.as_mut_ptr(), table.len(), version, batch.as_ptr(), batch.len(), a)
+    let answer = answered(|a| {
+        recorded("apply_indexed", &[written(store), kept(table), number(version), read(batch), array(a)], || unsafe {
+            grants_apply_indexed(store.as_mut_ptr(), store.len(), table.as_mut_ptr(), table.len(), version, batch.as_ptr(), batch.len(), a)
+        })
     })?;
     Ok((u32_at(&answer, 0), b32_at(&answer, 4), u32_at(&answer, 36)))
 }
 
 pub fn prune_indexed(store: &mut [u8], table: &mut [u32], version: u32) -> Result<u32, Refusal> {
-    answered(|freed| unsafe { grants_prune_indexed(store.as_mut_ptr(), store.len(), table.as_mut_ptr(), table.len(), version, freed) })
-        .map(u32::from_le_bytes)
+    answered(|freed| {
+        recorded("prune_indexed", &[written(store), kept(table), number(version), array(freed)], || unsafe {
+            grants_prune_indexed(store.as_mut_ptr(), store.len(), table.as_mut_ptr(), table.len(), version, freed)
+        })
+    })
+    .map(u32::from_le_bytes)
 }
 
 pub fn root_indexed(store: &[u8], table: &[u32], version: u32) -> Result<Bytes32, Stopped> {
-    read_so(|root| unsafe { grants_root_indexed(store.as_ptr(), store.len(), table.as_ptr(), table.len(), version, root) })
+    read_so(|root| {
+        recorded("root_indexed", &[read(store), tabled(table), number(version), array(root)], || unsafe {
+            grants_root_indexed(store.as_ptr(), store.len(), table.as_ptr(), table.len(), version, root)
+        })
+    })
 }
 
 pub fn get_indexed(store: &[u8], table: &[u32], version: u32, key: &[u8]) -> Result<Option<Bytes32>, Stopped> {
-    read_so(|found| unsafe {
-        grants_get_indexed(store.as_ptr(), store.len(), table.as_ptr(), table.len(), version, key.as_ptr(), key.len(), found)
+    read_so(|found| {
+        recorded("get_indexed", &[read(store), tabled(table), number(version), read(key), array(found)], || unsafe {
+            grants_get_indexed(store.as_ptr(), store.len(), table.as_ptr(), table.len(), version, key.as_ptr(), key.len(), found)
+        })
     })
     .map(verdict)
 }
 
 pub fn count_indexed(store: &[u8], table: &[u32], version: u32) -> Result<u64, Stopped> {
-    read_so(|count| unsafe { grants_count_indexed(store.as_ptr(), store.len(), table.as_ptr(), table.len(), version, count) }).map(u64::from_le_bytes)
+    read_so(|count| {
+        recorded("count_indexed", &[read(store), tabled(table), number(version), array(count)], || unsafe {
+            grants_count_indexed(store.as_ptr(), store.len(), table.as_ptr(), table.len(), version, count)
+        })
+    })
+    .map(u64::from_le_bytes)
 }
 
 pub fn at_indexed(store: &[u8], table: &[u32], version: u32, position: u64) -> Result<(Bytes32, Bytes32), Stopped> {
-    read_so(|grant| unsafe { grants_at_indexed(store.as_ptr(), store.len(), table.as_ptr(), table.len(), version, position, grant) })
-        .map(|grant: [u8; 64]| (b32_at(&grant, 0), b32_at(&grant, 32)))
+    read_so(|grant| {
+        recorded("at_indexed", &[read(store), tabled(table), number(version), long(position), array(grant)], || unsafe {
+            grants_at_indexed(store.as_ptr(), store.len(), table.as_ptr(), table.len(), version, position, grant)
+        })
+    })
+    .map(|grant: [u8; 64]| (b32_at(&grant, 0), b32_at(&grant, 32)))
 }
 
 pub fn prove_indexed(store: &[u8], table: &[u32], version: u32, key: &[u8], room: &mut [u8]) -> Result<u32, Stopped> {
     let (to, most) = (room.as_mut_ptr(), room.len());
-    read_so(|length| unsafe {
-        grants_prove_indexed(store.as_ptr(), store.len(), table.as_ptr(), table.len(), version, key.as_ptr(), key.len(), to, most, length)
+    read_so(|length| {
+        recorded("prove_indexed", &[read(store), tabled(table), number(version), read(key), written(room), array(length)], || unsafe {
+            grants_prove_indexed(store.as_ptr(), store.len(), table.as_ptr(), table.len(), version, key.as_ptr(), key.len(), to, most, length)
+        })
     })
     .map(u32::from_le_bytes)
 }
 
 pub fn palette_indexed(store: &[u8], table: &[u32], version: u32, keys: &[u8], room: &mut [u8]) -> Result<u32, Stopped> {
     let (to, most) = (room.as_mut_ptr(), room.len());
-    read_so(|length| unsafe {
-        grants_palette_indexed(store.as_ptr(), store.len(), table.as_ptr(), table.len(), version, keys.as_ptr(), keys.len(), to, most, length)
+    read_so(|length| {
+        recorded("palette_indexed", &[read(store), tabled(table), number(version), read(keys), written(room), array(length)], || unsafe {
+            grants_palette_indexed(store.as_ptr(), store.len(), table.as_ptr(), table.len(), version, keys.as_ptr(), keys.len(), to, most, length)
+        })
     })
     .map(u32::from_le_bytes)
 }

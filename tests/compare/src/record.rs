@@ -1,8 +1,9 @@
 //! Every call of the library with the bytes it was lent, before and after, written down so that another build of it can be held to the same.
 //!
 //! A call is its name (a length of one byte first), how many arguments it has (one byte), each argument, and the number that it returned. An
-//! argument is a letter and: `n` a number; `l` a long one; `r` a slice that is read, `w` one that is written, `a` an array that is written: its length, its
-//! bytes before the call, and those after it unless it is read only. Numbers have four bytes, long ones and what was returned eight, little-endian.
+//! argument is a letter and: `n` a number; `l` a long one; `r` a slice that is read, `w` one that is written, `t` a table that is read, `k` one that is kept, `a` an array that is
+//! written: its length (of a table its entries, of four bytes each), its bytes before the call, and those after it unless it is read only. Numbers have four bytes, long ones and what was
+//! returned eight, little-endian.
 
 use std::fs::File;
 use std::io::{BufWriter, Write};
@@ -13,6 +14,7 @@ static TO: OnceLock<Mutex<BufWriter<File>>> = OnceLock::new();
 static APPLIES: AtomicUsize = AtomicUsize::new(0);
 static RESCUES: AtomicUsize = AtomicUsize::new(0);
 static POSITIONS: AtomicUsize = AtomicUsize::new(0);
+static TABLED: AtomicUsize = AtomicUsize::new(0);
 
 pub struct Argument {
     letter: u8,
@@ -36,6 +38,14 @@ pub fn written(slice: &[u8]) -> Argument {
     Argument { letter: b'w', ..read(slice) }
 }
 
+pub fn table(entries: &[u32]) -> Argument {
+    Argument { letter: b't', at: entries.as_ptr() as *const u8, number: entries.len() as u64 }
+}
+
+pub fn kept(entries: &[u32]) -> Argument {
+    Argument { letter: b'k', ..table(entries) }
+}
+
 pub fn array<const N: usize>(at: *const [u8; N]) -> Argument {
     Argument { letter: b'a', at: at as *const u8, number: N as u64 }
 }
@@ -45,7 +55,8 @@ impl Argument {
         if self.at.is_null() {
             return &[];
         }
-        unsafe { std::slice::from_raw_parts(self.at, self.number as usize) }
+        let entry = if matches!(self.letter, b't' | b'k') { 4 } else { 1 };
+        unsafe { std::slice::from_raw_parts(self.at, entry * self.number as usize) }
     }
 }
 
@@ -66,13 +77,16 @@ pub fn end() {
 }
 
 /// The call's answer, written down where that was asked for; of the applies and rescues, which are most of all calls and the longest, and of the reads by
-/// counts, of which there are very many on each store, some.
+/// counts, of which there are very many on each store, some; so of comparisons, and of the reads by a table.
 pub fn recorded<T: Copy + Into<u64>>(name: &str, arguments: &[Argument], call: impl FnOnce() -> T) -> T {
     let Some(to) = TO.get() else { return call() };
     let passed_over = match name {
         "apply" => APPLIES.fetch_add(1, Ordering::Relaxed) % 4 != 0,
         "rescue" => RESCUES.fetch_add(1, Ordering::Relaxed) % 25 != 0,
         "count" | "at" => POSITIONS.fetch_add(1, Ordering::Relaxed) % 11 != 0,
+        "changes" | "root_indexed" | "get_indexed" | "count_indexed" | "at_indexed" | "prove_indexed" => {
+            TABLED.fetch_add(1, Ordering::Relaxed) % 7 != 0
+        }
         _ => false,
     };
     if passed_over {
@@ -88,7 +102,7 @@ pub fn recorded<T: Copy + Into<u64>>(name: &str, arguments: &[Argument], call: i
         let bytes = a.number.to_le_bytes();
         line.extend(if a.letter == b'l' { &bytes[..] } else { &bytes[..4] });
         line.extend(before);
-        if matches!(a.letter, b'w' | b'a') {
+        if matches!(a.letter, b'w' | b'a' | b'k') {
             line.extend(a.bytes());
         }
     }

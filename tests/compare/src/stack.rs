@@ -72,7 +72,7 @@ pub fn of_prove() -> usize {
     most(move || assert_eq!(crate::ours::prove(&s, 1, &key(3), &mut vec![0; 17_080]), Ok(17_080)))
 }
 
-/// A palette's most: two of those.
+/// A palette's most: eight of those.
 #[allow(dead_code)]
 pub fn of_palette() -> usize {
     let key = |last: u8| {
@@ -83,8 +83,9 @@ pub fn of_palette() -> usize {
     let mut s = cases::fresh(600, 0, 0);
     let asks: Vec<u8> = [0, 1, 6, 7].iter().flat_map(|&l| ask_bytes(&Ask { key: key(l), value: Some([1; 32]) })).collect();
     second::apply(&mut s, 1, &asks).unwrap();
-    let list = [key(3), key(4)].concat();
-    most(move || assert_eq!(crate::ours::palette(&s, 1, &list, &mut vec![0; 34_160]), Ok(34_160)))
+    // Eight keys: from there on a palette guesses where all children stand.
+    let list = [key(3), key(4)].concat().repeat(4);
+    most(move || assert_eq!(crate::ours::palette(&s, 1, &list, &mut vec![0; 4 * 34_160]), Ok(4 * 34_160)))
 }
 
 /// The number's, and a position's at 256 bits.

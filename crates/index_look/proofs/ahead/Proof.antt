@@ -2,12 +2,13 @@
 use native.Mathlib.Omega.{arith}
 use mathlib.Core.Path.{_≡_, ap, ap₂, sym, _∙_}
 use borrow.Author.Needs.{needs}
-use Rattle.terms.specs.Bits.{Byte, before}
+use Rattle.terms.specs.Bits.{Byte, before, sameBytes}
 use Rattle.terms.proofs.Lists.{all-of}
-use Rattle.terms.proofs.Order.{before-total}
+use Rattle.terms.proofs.Tests.{same-bytes}
+use Rattle.hash.proofs.Laws.{read-whole}
 use Rattle.layout.specs.Slots.{bitsIn}
 use Rattle.store.proofs.Slots.{slot-within}
-use Rattle.index_look.proofs.Nodes.{by-bits, not-by-bits}
+use Rattle.index_look.proofs.Nodes.{by-order}
 use Rattle.index_look.proofs.ahead.Statement.{statement}
 use Rattle.index_look.proofs.ahead.Tie as tie
 
@@ -23,37 +24,55 @@ slot-of-requires-2 c κs = slot-within (c .before .before .before .pre .1)
 bits-of-requires-2 : tie.Need-bits-of-requires-2
 bits-of-requires-2 c κs = search needs
 
-before-requires : tie.Need-before-requires
-before-requires c κs = search needs
+hash-at-requires : tie.Need-hash-at-requires
+hash-at-requires c κs =
+    let mine = c .before .before in
+    omega (arith, mine .bits-of .ensures .1)
 
-returns : tie.Need-returns
-returns c =
-    let a = c .before .before .before .before .before .before .before in
-    let own = c .before .before .before .before .bits-of .ensures .0 ∙ ap bitsIn (c .before .before .before .before .before .slot-of .ensures .0) in
-    let its = c .before .before .bits-of2 .ensures .0 ∙ ap bitsIn (c .before .before .before .slot-of2 .ensures .0) in
-    by-bits (a .pre .0) (a .pre .1) (all-of Byte (a .args .store .now) 0 (λ i _. omega (arith, c .before .before .before .before .before .before .shared-slice-known .given i)))
-    (sym (c .before .before2 .ensures ∙ ap₂ before own its) ∙ c .if1 .taken)
+hash-at-requires-2 : tie.Need-hash-at-requires-2
+hash-at-requires-2 c κs = omega (arith, c .before .bits-of2 .ensures .1)
 
-before-requires-2 : tie.Need-before-requires-2
-before-requires-2 c κs = search needs
-
-returns-2 : tie.Need-returns-2
-returns-2 c =
-    let a = c .before .before .before .before .before .before .before .before .before in
-    let own = c .before .before .before .before .before .before .bits-of .ensures .0 ∙ ap bitsIn (c .before .before .before .before .before .before .before .slot-of .ensures .0) in
-    let its = c .before .before .before .before .bits-of2 .ensures .0 ∙ ap bitsIn (c .before .before .before .before .before .slot-of2 .ensures .0) in
-    not-by-bits (a .pre .0) (a .pre .1) (all-of Byte (a .args .store .now) 0 (λ i _. omega (arith, c .before .before .before .before .before .before .before .before .shared-slice-known .given i)))
-    (sym (c .before .before3 .ensures ∙ ap₂ before its own) ∙ c .if2 .taken)
+same-hash-requires : tie.Need-same-hash-requires
+same-hash-requires c κs = search needs
 
 ahead-there-requires : tie.Need-ahead-there-requires
 ahead-there-requires c κs = search needs
 
-returns-3 : tie.Need-returns-3
-returns-3 c =
-    let own = c .before .before .before .before .before .before .before .bits-of .ensures .0 ∙ ap bitsIn (c .before .before .before .before .before .before .before .before .slot-of .ensures .0) in
-    let its = c .before .before .before .before .before .bits-of2 .ensures .0 ∙ ap bitsIn (c .before .before .before .before .before .before .slot-of2 .ensures .0) in
-    c .ahead-there .ensures
-    (before-total _ _ (sym (c .before .before .before .before .before2 .ensures ∙ ap₂ before own its) ∙ c .before .before .before .if1 .left) (sym (c .before .before .before3 .ensures ∙ ap₂ before its own) ∙ c .before .if2 .left))
+returns : tie.Need-returns
+returns c =
+    let alike = c .before in
+    let same = alike .before in
+    let second = same .before in
+    let first = second .before in
+    let its = first .before in
+    let there = its .before in
+    let mine = there .before in
+    let slot = mine .before in
+    let own = read-whole (first .hash-at .ensures .1) (mine .bits-of .ensures .1) (mine .bits-of .ensures .0 ∙ ap bitsIn (slot .slot-of .ensures .0)) in
+    let other = read-whole (second .hash-at2 .ensures .1) (its .bits-of2 .ensures .1) (its .bits-of2 .ensures .0 ∙ ap bitsIn (there .slot-of2 .ensures .0)) in
+    c .ahead-there .ensures (same-bytes _ _ (sym (same .same-hash .ensures ∙ ap₂ sameBytes own other) ∙ alike .if1 .taken))
+
+before-requires : tie.Need-before-requires
+before-requires c κs = search needs
+
+returns-2 : tie.Need-returns-2
+returns-2 c =
+    let apart = c .before in
+    let same = apart .before in
+    let second = same .before in
+    let first = second .before in
+    let its = first .before in
+    let there = its .before in
+    let mine = there .before in
+    let slot = mine .before in
+    let known = slot .before in
+    let start = known .before in
+    let bits = mine .bits-of .ensures .0 ∙ ap bitsIn (slot .slot-of .ensures .0) in
+    let others = its .bits-of2 .ensures .0 ∙ ap bitsIn (there .slot-of2 .ensures .0) in
+    let own = read-whole (first .hash-at .ensures .1) (mine .bits-of .ensures .1) bits in
+    let other = read-whole (second .hash-at2 .ensures .1) (its .bits-of2 .ensures .1) others in
+    by-order (start .pre .0) (start .pre .1) (all-of Byte (start .args .store .now) 0 (λ i _. omega (arith, known .shared-slice-known .given i)))
+    (sym (same .same-hash .ensures ∙ ap₂ sameBytes own other) ∙ apart .if1 .left) _ (c .before2 .ensures ∙ ap₂ before bits others)
 
 pub ahead-spec : {M : Type 1} → statement M
 ahead-spec =
@@ -63,9 +82,10 @@ ahead-spec =
     bits-of-requires
     slot-of-requires-2
     bits-of-requires-2
-    before-requires
-    returns
-    before-requires-2
-    returns-2
+    hash-at-requires
+    hash-at-requires-2
+    same-hash-requires
     ahead-there-requires
-    returns-3)
+    returns
+    before-requires
+    returns-2)

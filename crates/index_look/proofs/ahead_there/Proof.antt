@@ -15,9 +15,12 @@ count-at-requires-2 c κs = slot-within (c .before .before .pre .1)
 
 returns : tie.Need-returns
 returns c =
-    let a = c .before .before .before .before in
-    by-count (a .pre .0) (a .pre .1) (all-of Byte (a .args .store .now) 0 (λ i _. omega (arith, c .before .before .before .shared-slice-known .given i)))
-    (c .before .before .count-at .ensures) (c .before .count-at2 .ensures) (c .if1 .taken)
+    let after-count-at2 = c .before in
+    let after-count-at = after-count-at2 .before in
+    let after-shared-slice-known = after-count-at .before in
+    let start = after-shared-slice-known .before in
+    by-count (start .pre .0) (start .pre .1) (all-of Byte (start .args .store .now) 0 (λ i _. omega (arith, after-shared-slice-known .shared-slice-known .given i)))
+    (after-count-at .count-at .ensures) (after-count-at2 .count-at2 .ensures) (c .if1 .taken)
 
 version-at-requires : tie.Need-version-at-requires
 version-at-requires c κs = slot-within (c .before .before .before .before .pre .0)
@@ -27,9 +30,14 @@ version-at-requires-2 c κs = slot-within (c .before .before .before .before .be
 
 returns-2 : tie.Need-returns-2
 returns-2 c =
-    let a = c .before .before .before .before .before .before in
-    by-versions (a .pre .0) (a .pre .1) (all-of Byte (a .args .store .now) 0 (λ i _. omega (arith, c .before .before .before .before .before .shared-slice-known .given i)))
-    (c .before .before .before .before .count-at .ensures) (c .before .before .before .count-at2 .ensures) (c .before .before .if1 .left) (c .before .version-at .ensures) (c .version-at2 .ensures)
+    let after-version-at = c .before in
+    let else1 = after-version-at .before in
+    let after-count-at2 = else1 .before in
+    let after-count-at = after-count-at2 .before in
+    let after-shared-slice-known = after-count-at .before in
+    let start = after-shared-slice-known .before in
+    by-versions (start .pre .0) (start .pre .1) (all-of Byte (start .args .store .now) 0 (λ i _. omega (arith, after-shared-slice-known .shared-slice-known .given i)))
+    (after-count-at .count-at .ensures) (after-count-at2 .count-at2 .ensures) (else1 .if1 .left) (after-version-at .version-at .ensures) (c .version-at2 .ensures)
 
 pub ahead-there-spec : {M : Type 1} → statement M
 ahead-there-spec =

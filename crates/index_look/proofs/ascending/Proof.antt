@@ -16,13 +16,21 @@ abbrev μ-loop : tie.MeasureT-loop
 loop-holds : tie.Need-loop-holds Inv-loop μ-loop
 loop-holds c = (omega arith, λ k l. absurd (omega arith))
 
+-- `A-from-B` is the state A as the later state B has it.
+abbrev start-from-in-loop : tie.In-loop Inv-loop μ-loop → tie.Start Inv-loop μ-loop
+start-from-in-loop c = c .before .before .before .before
+
 follows-requires : tie.Need-follows-requires Inv-loop μ-loop
 follows-requires c κs =
-    let p = c .before .before .before .before .pre in
-    (p .0, p .1, p .2, omega (arith, p .3, c .loop-test .taken), ascends-began (c .before .before .before .before .args .store .now) (c .before .before .before .before .args .table .now) (c .before .loop .k) (c .before .loop .inv .1))
+    let start = start-from-in-loop c in
+    let p = start .pre in
+    (p .0, p .1, p .2, omega (arith, p .3, c .loop-test .taken), ascends-began (start .args .store .now) (start .args .table .now) (c .before .loop .k) (c .before .loop .inv .1))
 
 returns : tie.Need-returns Inv-loop μ-loop
-returns c = λ up. decided-not (c .before .follows .result) (c .if1 .taken) (c .before .follows .ensures) (up (c .before .before .before .loop .k) (c .before .before .loop-test .taken))
+returns c =
+    let after-follows = c .before in
+    let in-loop = after-follows .before in
+    λ up. decided-not (after-follows .follows .result) (c .if1 .taken) (after-follows .follows .ensures) (up (in-loop .before .loop .k) (in-loop .loop-test .taken))
 
 add-k : tie.Need-add-k Inv-loop μ-loop
 add-k c = omega (arith, c .before .before .loop-test .taken)
@@ -32,7 +40,10 @@ loop-less c = omega (arith, c .before .before .loop-test .taken)
 
 loop-again : tie.Need-loop-again Inv-loop μ-loop
 loop-again c =
-    (omega (arith, c .before .before .loop-test .taken), ascends-next (c .before .before .before .before .before .before .args .store .now) (c .before .before .before .before .before .before .args .table .now) (c .before .before .before .loop .k) (c .before .before .before .loop .inv .1) (decided-so (c .before .follows .result) (c .if1 .left) (c .before .follows .ensures)))
+    let after-follows = c .before in
+    let in-loop = after-follows .before in
+    let start = start-from-in-loop in-loop in
+    (omega (arith, in-loop .loop-test .taken), ascends-next (start .args .store .now) (start .args .table .now) (in-loop .before .loop .k) (in-loop .before .loop .inv .1) (decided-so (after-follows .follows .result) (c .if1 .left) (after-follows .follows .ensures)))
 
 returns-2 : tie.Need-returns-2 Inv-loop μ-loop
 returns-2 c =

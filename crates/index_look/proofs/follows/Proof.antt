@@ -21,20 +21,40 @@ shared-slice-read-wide c = search needs
 wide-requires : tie.Need-wide-requires
 wide-requires c κs = search needs
 
+-- `A-from-B` is the state A as the later state B has it.
+abbrev start-from-else1 : tie.Else1 → tie.Start
+start-from-else1 c = c .before .before .before .before .before
+
+abbrev start-from-in-use : tie.After-in-use → tie.Start
+start-from-in-use c = start-from-else1 (c .before)
+
+abbrev start-from-else3 : tie.Else3 → tie.Start
+start-from-else3 c = start-from-in-use (c .before .before)
+
 returns : tie.Need-returns
-returns c = let p = c .before .before .before .before .before .pre in let a = c .before .before .before .before .before .args in follows-beyond (a .store .now) (a .table .now) (p .1) (p .2) (p .3) (c .before .wide .ensures) (c .if1 .taken)
+returns c =
+    let after-wide = c .before in
+    let start = after-wide .before .before .before .before in
+    let p = start .pre in let a = start .args in follows-beyond (a .store .now) (a .table .now) (p .1) (p .2) (p .3) (after-wide .wide .ensures) (c .if1 .taken)
 
 in-use-requires : tie.Need-in-use-requires
 in-use-requires c κs = search needs
 
 returns-2 : tie.Need-returns-2
-returns-2 c = let p = c .before .before .before .before .before .before .before .pre in let a = c .before .before .before .before .before .before .before .args in follows-free (a .store .now) (a .table .now) (p .1) (p .2) (p .3) (c .before .before .before .wide .ensures) (sym (c .before .in-use .ensures) ∙ not-true _ (c .if2 .taken))
+returns-2 c =
+    let after-in-use = c .before in
+    let start = start-from-in-use after-in-use in
+    let p = start .pre in let a = start .args in follows-free (a .store .now) (a .table .now) (p .1) (p .2) (p .3) (after-in-use .before .before .wide .ensures) (sym (after-in-use .in-use .ensures) ∙ not-true _ (c .if2 .taken))
 
 returns-3 : tie.Need-returns-3
 returns-3 c =
-    let p = c .before .before .before .before .before .before .before .before .pre in
-    let a = c .before .before .before .before .before .before .before .before .args in
-    follows-first (a .store .now) (a .table .now) (p .1) (p .2) (p .3) (c .before .before .before .before .wide .ensures) (c .before .before .before .if1 .left) (sym (c .before .before .in-use .ensures) ∙ not-false _ (c .before .if2 .left)) (c .if3 .taken)
+    let else2 = c .before in
+    let after-in-use = else2 .before in
+    let else1 = after-in-use .before in
+    let start = start-from-else1 else1 in
+    let p = start .pre in
+    let a = start .args in
+    follows-first (a .store .now) (a .table .now) (p .1) (p .2) (p .3) (else1 .before .wide .ensures) (else1 .if1 .left) (sym (after-in-use .in-use .ensures) ∙ not-false _ (else2 .if2 .left)) (c .if3 .taken)
 
 sub-wide : tie.Need-sub-wide
 sub-wide c = search needs
@@ -50,15 +70,23 @@ wide-requires-2 c κs = search needs
 
 ahead-requires : tie.Need-ahead-requires
 ahead-requires c κs =
-    let p = c .before .before .before .before .before .before .before .before .before .before .pre in
-    (entry-has (c .before .before .before .before .before .before .before .before .before .before .args .table .now) (p .0) (p .1) (p .2) (p .3) (omega (arith, c .before .before .if3 .left)) (p .4) (c .wide2 .ensures), sound-has (p .0) (omega (arith, p .1, c .before .before .before .before .before .if1 .left)))
+    let else3 = c .before .before in
+    let start = start-from-else3 else3 in
+    let p = start .pre in
+    (entry-has (start .args .table .now) (p .0) (p .1) (p .2) (p .3) (omega (arith, else3 .if3 .left)) (p .4) (c .wide2 .ensures), sound-has (p .0) (omega (arith, p .1, else3 .before .before .before .if1 .left)))
 
 returns-4 : tie.Need-returns-4
 returns-4 c =
-    let p = c .before .before .before .before .before .before .before .before .before .before .before .pre in
-    let a = c .before .before .before .before .before .before .before .before .before .before .before .args in
-    follows-ahead (a .store .now) (a .table .now) (p .1) (p .2) (p .3) (c .before .before .before .before .before .before .before .wide .ensures) (c .before .before .before .before .before .before .if1 .left) (sym (c .before .before .before .before .before .in-use .ensures) ∙ not-false _ (c .before .before .before .before .if2 .left)) (omega (arith, c .before .before .before .if3 .left)) (p .4)
-    (c .before .wide2 .ensures) (c .ahead .result) (c .ahead .ensures)
+    let after-wide2 = c .before in
+    let else3 = after-wide2 .before .before in
+    let else2 = else3 .before in
+    let after-in-use = else2 .before in
+    let else1 = after-in-use .before in
+    let start = start-from-else1 else1 in
+    let p = start .pre in
+    let a = start .args in
+    follows-ahead (a .store .now) (a .table .now) (p .1) (p .2) (p .3) (else1 .before .wide .ensures) (else1 .if1 .left) (sym (after-in-use .in-use .ensures) ∙ not-false _ (else2 .if2 .left)) (omega (arith, else3 .if3 .left)) (p .4)
+    (after-wide2 .wide2 .ensures) (c .ahead .result) (c .ahead .ensures)
 
 pub follows-spec : {M : Type 1} → statement M
 follows-spec =

@@ -27,8 +27,11 @@ wide-requires c κs = search needs
 
 returns : tie.Need-returns Inv-loop μ-loop
 returns c =
-    let p = c .before .before .before .before .before .before .pre in
-    λ all. c .if1 .taken (c .before .wide .ensures ∙ all (c .before .before .before .before .loop .k) (c .before .before .before .before .loop .inv .0) (omega (arith, p .0, c .before .before .before .loop-test .taken)) ∙ p .0)
+    let after-wide = c .before in
+    let in-loop = after-wide .before .before in
+    let at-loop = in-loop .before in
+    let p = at-loop .before .before .pre in
+    λ all. c .if1 .taken (after-wide .wide .ensures ∙ all (at-loop .loop .k) (at-loop .loop .inv .0) (omega (arith, p .0, in-loop .loop-test .taken)) ∙ p .0)
 
 add-k : tie.Need-add-k Inv-loop μ-loop
 add-k c = omega (arith, c .before .before .before .loop-test .taken)
@@ -38,8 +41,11 @@ loop-less c = omega (arith, c .before .before .before .loop-test .taken)
 
 loop-again : tie.Need-loop-again Inv-loop μ-loop
 loop-again c =
-    let p = c .before .before .before .before .before .before .pre in
-    (omega (arith, c .before .before .before .before .loop .inv .0), empty-next (c .before .before .before .before .before .before .args .table .now) (c .before .before .before .before .before .before .args .many) (c .before .before .before .before .loop .k) (c .before .before .before .before .loop .inv .1) (sym (c .before .wide .ensures) ∙ c .if1 .left ∙ sym (p .0)))
+    let after-wide = c .before in
+    let at-loop = after-wide .before .before .before in
+    let start = at-loop .before .before in
+    let p = start .pre in
+    (omega (arith, at-loop .loop .inv .0), empty-next (start .args .table .now) (start .args .many) (at-loop .loop .k) (at-loop .loop .inv .1) (sym (after-wide .wide .ensures) ∙ c .if1 .left ∙ sym (p .0)))
 
 returns-2 : tie.Need-returns-2 Inv-loop μ-loop
 returns-2 c = λ k m l. c .before .loop .inv .1 k m (omega (arith, c .before .before .before .pre .0, c .loop-test .left))

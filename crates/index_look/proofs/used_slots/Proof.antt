@@ -14,6 +14,10 @@ Inv-loop store n many₀ i₀ many i = Counted store n many i
 abbrev μ-loop : tie.MeasureT-loop
 μ-loop store n many₀ i₀ many i = n - i
 
+-- `A-from-B` is the state A as the later state B has it.
+abbrev start-from-in-loop : tie.In-loop Inv-loop μ-loop → tie.Start Inv-loop μ-loop
+start-from-in-loop c = c .before .before .before .before
+
 slot-count-requires : tie.Need-slot-count-requires Inv-loop μ-loop
 slot-count-requires c κs = sound-size (c .before .pre)
 
@@ -21,7 +25,7 @@ loop-holds : tie.Need-loop-holds Inv-loop μ-loop
 loop-holds c = count-start (c .slot-count .ensures)
 
 in-use-requires : tie.Need-in-use-requires Inv-loop μ-loop
-in-use-requires c κs = (c .before .before .before .before .pre, omega (arith, c .before .before .slot-count .ensures, c .loop-test .taken))
+in-use-requires c κs = (start-from-in-loop c .pre, omega (arith, c .before .before .slot-count .ensures, c .loop-test .taken))
 
 add-many : tie.Need-add-many Inv-loop μ-loop
 add-many c = omega (arith, c .before .before .before .loop .inv .few, c .before .before .loop-test .taken)
@@ -34,11 +38,13 @@ loop-less c = omega (arith, c .before .before .loop-test .taken)
 
 loop-again : tie.Need-loop-again Inv-loop μ-loop
 loop-again c =
-    let a = c .before .before .before .before .before .before .args in
-    let Now : ℕ → Type 0 = λ m. Counted (a .store .now) (c .before .before .before .before .slot-count .result) m (c .before .before .before .loop .i + 1) in
+    let after-in-use = c .before in
+    let in-loop = after-in-use .before in
+    let a = start-from-in-loop in-loop .args in
+    let Now : ℕ → Type 0 = λ m. Counted (a .store .now) (in-loop .before .before .slot-count .result) m (in-loop .before .loop .i + 1) in
     ⊎-elim
-    (λ w. subst Now (sym (w .1)) (count-used (c .before .before .before .loop .inv) (c .before .before .loop-test .taken) (sym (c .before .in-use .ensures) ∙ w .0 .taken)))
-    (λ w. subst Now (sym (w .1)) (count-free (c .before .before .before .loop .inv) (c .before .before .loop-test .taken) (sym (c .before .in-use .ensures) ∙ w .0 .left)))
+    (λ w. subst Now (sym (w .1)) (count-used (in-loop .before .loop .inv) (in-loop .loop-test .taken) (sym (after-in-use .in-use .ensures) ∙ w .0 .taken)))
+    (λ w. subst Now (sym (w .1)) (count-free (in-loop .before .loop .inv) (in-loop .loop-test .taken) (sym (after-in-use .in-use .ensures) ∙ w .0 .left)))
     (c .if1 .came)
 
 returns : tie.Need-returns Inv-loop μ-loop

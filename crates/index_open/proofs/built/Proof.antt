@@ -16,15 +16,21 @@ returns : tie.Need-returns
 returns c = not-built (c .if1 .taken) (c .before .opened .ensures)
 
 build-requires : tie.Need-build-requires
-build-requires c κs = (opened-sound (c .before .before .opened .ensures) (c .before .if1 .left), opened-fits (c .before .before .opened .ensures) (c .before .if1 .left))
+build-requires c κs =
+    let else1 = c .before in
+    let after-opened = else1 .before in
+    (opened-sound (after-opened .opened .ensures) (else1 .if1 .left), opened-fits (after-opened .opened .ensures) (else1 .if1 .left))
 
 same-length-2 : tie.Need-same-length-2
 same-length-2 c = search needs
 
 returns-2 : tie.Need-returns-2
 returns-2 c =
-    let a = c .before .before .before .before .before .before .before .before .before .args in
-    built (subst (Opened (a .store .now) (a .table .now)) (c .before .before .before .before .if1 .left) (c .before .before .before .before .before .opened .ensures)) (c .before .before .build .ensures)
+    let after-build = c .before .before in
+    let else1 = after-build .before .before in
+    let after-opened = else1 .before in
+    let a = after-opened .before .before .before .before .args in
+    built (subst (Opened (a .store .now) (a .table .now)) (else1 .if1 .left) (after-opened .opened .ensures)) (after-build .build .ensures)
 
 pub built-spec : {M : Type 1} → statement M
 built-spec =

@@ -25,7 +25,10 @@ returns-2 : tie.Need-returns-2
 returns-2 c = wrong-size (λ h f. c .if2 .taken (f ∙ sym (c .before .slot-count .ensures)))
 
 cast-fill : tie.Need-cast-fill
-cast-fill c = record { fits = omega (arith, c .before .before .slot-count .ensures, size-says _ _ (sym (c .before .before .before .before .before .size-right .ensures) ∙ not-false _ (c .before .before .before .before .if1 .left))) }
+cast-fill c =
+    let after-slot-count = c .before .before in
+    let else1 = after-slot-count .before .before in
+    record { fits = omega (arith, after-slot-count .slot-count .ensures, size-says _ _ (sym (else1 .before .size-right .ensures) ∙ not-false _ (else1 .if1 .left))) }
 
 fill-requires : tie.Need-fill-requires
 fill-requires c κs = search needs
@@ -41,9 +44,15 @@ same-length-3 c = search needs
 
 returns-3 : tie.Need-returns-3
 returns-3 c =
-    let a = c .before .before .before .before .before .before .before .before .before .before .before .before .before .before .before .args in
-    formats-both (a .store .now) (a .table .now) (sym (c .before .before .before .before .before .before .before .before .before .before .before .before .size-right .ensures) ∙ not-false _ (c .before .before .before .before .before .before .before .before .before .before .before .if1 .left)) (c .before .before .before .before .before .before .before .before .before .slot-count .ensures) (c .before .before .before .before .before .before .before .before .if2 .left) (c .before .before .before .before .before .before .fill .ensures)
-    (c .before .before .format .ensures .0) (c .before .before .format .ensures .1)
+    let after-format = c .before .before in
+    let after-fill = after-format .before .before .before .before in
+    let else2 = after-fill .before .before in
+    let after-slot-count = else2 .before in
+    let else1 = after-slot-count .before .before in
+    let after-size-right = else1 .before in
+    let a = after-size-right .before .before .before .args in
+    formats-both (a .store .now) (a .table .now) (sym (after-size-right .size-right .ensures) ∙ not-false _ (else1 .if1 .left)) (after-slot-count .slot-count .ensures) (else2 .if2 .left) (after-fill .fill .ensures)
+    (after-format .format .ensures .0) (after-format .format .ensures .1)
 
 pub formatted-spec : {M : Type 1} → statement M
 formatted-spec =

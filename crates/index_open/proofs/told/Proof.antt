@@ -10,6 +10,10 @@ use Rattle.index_open.proofs.told.Tie as tie
 opened-requires : tie.Need-opened-requires
 opened-requires c κs = search needs
 
+-- `A-from-B` is the state A as the later state B has it.
+abbrev start-from-else1 : tie.Else1 → tie.Start
+start-from-else1 c = c .before .before .before .before
+
 returns : tie.Need-returns
 returns c = not-opened (c .if1 .taken) (c .before .opened .ensures)
 
@@ -18,13 +22,17 @@ is-right-requires c κs = (opened-sound (c .before .opened .ensures) (c .if1 .le
 
 returns-2 : tie.Need-returns-2
 returns-2 c =
-    let a = c .before .before .before .before .before .before .args in
-    not-right (subst (Opened (a .store .now) (a .table .now)) (c .before .before .if1 .left) (c .before .before .before .opened .ensures)) (decided-not (c .before .is-right .result) (c .if2 .taken) (c .before .is-right .ensures))
+    let after-is-right = c .before in
+    let else1 = after-is-right .before in
+    let a = start-from-else1 else1 .args in
+    not-right (subst (Opened (a .store .now) (a .table .now)) (else1 .if1 .left) (else1 .before .opened .ensures)) (decided-not (after-is-right .is-right .result) (c .if2 .taken) (after-is-right .is-right .ensures))
 
 returns-3 : tie.Need-returns-3
 returns-3 c =
-    let a = c .before .before .before .before .before .before .args in
-    is-right (subst (Opened (a .store .now) (a .table .now)) (c .before .before .if1 .left) (c .before .before .before .opened .ensures)) (decided-so (c .before .is-right .result) (c .if2 .left) (c .before .is-right .ensures))
+    let after-is-right = c .before in
+    let else1 = after-is-right .before in
+    let a = start-from-else1 else1 .args in
+    is-right (subst (Opened (a .store .now) (a .table .now)) (else1 .if1 .left) (else1 .before .opened .ensures)) (decided-so (after-is-right .is-right .result) (c .if2 .left) (after-is-right .is-right .ensures))
 
 pub told-spec : {M : Type 1} → statement M
 told-spec =

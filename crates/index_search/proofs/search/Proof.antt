@@ -24,6 +24,16 @@ Inv-loop store table version place root n lo₀ hi₀ lo hi =
 abbrev μ-loop : tie.MeasureT-loop
 μ-loop store table version place root n lo₀ hi₀ lo hi = hi - lo
 
+-- `A-from-B` is the state A as the later state B has it.
+abbrev start-from-at-loop : tie.At-loop Inv-loop μ-loop → tie.Start Inv-loop μ-loop
+start-from-at-loop c = c .before .before .before .before .before
+
+abbrev start-from-loop : tie.After-loop Inv-loop μ-loop → tie.Start Inv-loop μ-loop
+start-from-loop c = start-from-at-loop (c .before)
+
+abbrev start-from-entry-at : tie.After-entry-at Inv-loop μ-loop → tie.Start Inv-loop μ-loop
+start-from-entry-at c = start-from-at-loop (c .before .before)
+
 returns : tie.Need-returns Inv-loop μ-loop
 returns c =
     let a = c .before .before .before .args in
@@ -49,7 +59,7 @@ entry-at-requires c κs = search needs
 
 look-entry-requires : tie.Need-look-entry-requires Inv-loop μ-loop
 look-entry-requires c κs =
-    let start = c .before .before .before .before .before .before .before in
+    let start = start-from-entry-at c in
     (start .pre .0, c .before .before .before .slot-count .ensures, start .pre .1)
 
 enum-told : tie.Need-enum-told Inv-loop μ-loop
@@ -63,16 +73,19 @@ loop-less c = let less = c .before .before .before .before .loop-test .taken in 
 
 loop-again : tie.Need-loop-again Inv-loop μ-loop
 loop-again c =
-    let start = c .before .before .before .before .before .before .before .before .before .before in
-    let a = start .args in
+    let after-look-entry = c .before .before in
+    let after-entry-at = after-look-entry .before in
+    let in-loop = after-entry-at .before in
+    let at-loop = in-loop .before in
+    let a = start-from-at-loop at-loop .args in
     let look = lookFor (a .root) (a .version) (placeOf (a .place)) in
     let s = storeOf (a .store .now) .slots in
-    let inv = c .before .before .before .before .before .loop .inv in
-    let less = c .before .before .before .before .loop-test .taken in
-    let seen = c .before .before .look-entry .ensures in
-    let here = in-middle look (a .table .now) s (c .before .before .before .before .before .loop .lo) (c .before .before .before .before .before .loop .hi) (inv .1) (c .before .before .before .entry-at .ensures) in
+    let inv = at-loop .loop .inv in
+    let less = in-loop .loop-test .taken in
+    let seen = after-look-entry .look-entry .ensures in
+    let here = in-middle look (a .table .now) s (at-loop .loop .lo) (at-loop .loop .hi) (inv .1) (after-entry-at .entry-at .ensures) in
     let above = search-above look (a .table .now) s (inv .0) less (sym here ∙ was-small _ _ seen (c .enum-told .given .1)) in
-    (subst (λ k. Between look (a .table .now) s k (c .before .before .before .before .before .loop .hi)) (omega arith) above, inv .1, inv .2)
+    (subst (λ k. Between look (a .table .now) s k (at-loop .loop .hi)) (omega arith) above, inv .1, inv .2)
 
 enum-told-2 : tie.Need-enum-told-2 Inv-loop μ-loop
 enum-told-2 c = search needs
@@ -82,14 +95,17 @@ loop-less-2 c = let less = c .before .before .before .before .loop-test .taken i
 
 loop-again-2 : tie.Need-loop-again-2 Inv-loop μ-loop
 loop-again-2 c =
-    let start = c .before .before .before .before .before .before .before .before .before .before in
-    let a = start .args in
+    let after-look-entry = c .before .before in
+    let after-entry-at = after-look-entry .before in
+    let in-loop = after-entry-at .before in
+    let at-loop = in-loop .before in
+    let a = start-from-at-loop at-loop .args in
     let look = lookFor (a .root) (a .version) (placeOf (a .place)) in
     let s = storeOf (a .store .now) .slots in
-    let inv = c .before .before .before .before .before .loop .inv in
-    let less = c .before .before .before .before .loop-test .taken in
-    let seen = c .before .before .look-entry .ensures in
-    let here = in-middle look (a .table .now) s (c .before .before .before .before .before .loop .lo) (c .before .before .before .before .before .loop .hi) (inv .1) (c .before .before .before .entry-at .ensures) in
+    let inv = at-loop .loop .inv in
+    let less = in-loop .loop-test .taken in
+    let seen = after-look-entry .look-entry .ensures in
+    let here = in-middle look (a .table .now) s (at-loop .loop .lo) (at-loop .loop .hi) (inv .1) (after-entry-at .entry-at .ensures) in
     (search-below look (a .table .now) s (inv .0) less (sym here ∙ was-great _ _ seen (c .enum-told2 .given .1)), inv .1, inv .2)
 
 enum-told-3 : tie.Need-enum-told-3 Inv-loop μ-loop
@@ -97,21 +113,23 @@ enum-told-3 c = search needs
 
 returns-2 : tie.Need-returns-2 Inv-loop μ-loop
 returns-2 c =
-    let start = c .before .before .before .before .before .before .before .before .before .before in
-    let a = start .args in
+    let after-look-entry = c .before .before in
+    let after-entry-at = after-look-entry .before in
+    let in-loop = after-entry-at .before in
+    let at-loop = in-loop .before in
+    let a = start-from-at-loop at-loop .args in
     let look = lookFor (a .root) (a .version) (placeOf (a .place)) in
     let s = storeOf (a .store .now) .slots in
-    let inv = c .before .before .before .before .before .loop .inv in
-    let less = c .before .before .before .before .loop-test .taken in
-    let seen = c .before .before .look-entry .ensures in
-    let here = in-middle look (a .table .now) s (c .before .before .before .before .before .loop .lo) (c .before .before .before .before .before .loop .hi) (inv .1) (c .before .before .before .entry-at .ensures) in
+    let inv = at-loop .loop .inv in
+    let less = in-loop .loop-test .taken in
+    let seen = after-look-entry .look-entry .ensures in
+    let here = in-middle look (a .table .now) s (at-loop .loop .lo) (at-loop .loop .hi) (inv .1) (after-entry-at .entry-at .ensures) in
     let met = was-met _ _ seen (c .enum-told3 .given .1) in
-    let slot = entry-met look (own-met (a .root) (a .version) (placeOf (a .place))) s (c .before .before .before .entry-at .result) (met .0) (met .1) in
+    let slot = entry-met look (own-met (a .root) (a .version) (placeOf (a .place))) s (after-entry-at .entry-at .result) (met .0) (met .1) in
     (slot .0, (met .0, slot .1, search-met look (a .table .now) s (inv .0) (met .0) less (sym here ∙ met .1)))
 
 returns-3 : tie.Need-returns-3 Inv-loop μ-loop
-returns-3 c =
-    let a = c .before .before .before .before .before .before .args in
+returns-3 c = let a = start-from-loop c .args in
     search-over (lookFor (a .root) (a .version) (placeOf (a .place))) (a .table .now) (storeOf (a .store .now) .slots) (c .before .loop .inv .0) (c .loop-test .left)
 
 pub search-spec : {M : Type 1} → statement M

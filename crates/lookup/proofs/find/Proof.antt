@@ -28,6 +28,22 @@ Inv-slots form store version b count n i₀ i = Slots form store version b count
 abbrev μ-slots : tie.MeasureT-slots
 μ-slots form store version b count n i₀ i = n - i
 
+-- `A-from-B` is the state A as the later state B has it.
+abbrev at-slots-from-slot-start : tie.After-slot-start Inv-loop μ-loop Inv-slots μ-slots → tie.At-slots Inv-loop μ-loop Inv-slots μ-slots
+at-slots-from-slot-start c = c .before .before
+
+abbrev at-slots-from-at-loop : tie.At-loop Inv-loop μ-loop Inv-slots μ-slots → tie.At-slots Inv-loop μ-loop Inv-slots μ-slots
+at-slots-from-at-loop c = at-slots-from-slot-start (c .before .before .before .before .before)
+
+abbrev start-from-at-slots : tie.At-slots Inv-loop μ-loop Inv-slots μ-slots → tie.Start Inv-loop μ-loop Inv-slots μ-slots
+start-from-at-slots c = c .before .before .before .before
+
+abbrev start-from-slot-start : tie.After-slot-start Inv-loop μ-loop Inv-slots μ-slots → tie.Start Inv-loop μ-loop Inv-slots μ-slots
+start-from-slot-start c = start-from-at-slots (c .before .before)
+
+abbrev start-from-at-loop : tie.At-loop Inv-loop μ-loop Inv-slots μ-slots → tie.Start Inv-loop μ-loop Inv-slots μ-slots
+start-from-at-loop c = start-from-slot-start (c .before .before .before .before .before)
+
 slot-count-requires : tie.Need-slot-count-requires Inv-loop μ-loop Inv-slots μ-slots
 slot-count-requires c κs = c .before .before .pre .0
 
@@ -68,11 +84,15 @@ slots-again c =
 
 -- src/lib.rt:51:27
 add-get-u16 : tie.Need-add-get-u16 Inv-loop μ-loop Inv-slots μ-slots
-add-get-u16 c = omega (arith, slot-within (scan-slot (c .before .before .before .before .slots .inv .scan) (c .before .before .before .if1 .left)))
+add-get-u16 c =
+    let else1 = c .before .before .before in
+    omega (arith, slot-within (scan-slot (else1 .before .slots .inv .scan) (else1 .if1 .left)))
 
 -- src/lib.rt:51:12
 get-u16-requires : tie.Need-get-u16-requires Inv-loop μ-loop Inv-slots μ-slots
-get-u16-requires c κs = omega (arith, slot-within (scan-slot (c .before .before .before .before .slots .inv .scan) (c .before .before .before .if1 .left)))
+get-u16-requires c κs =
+    let else1 = c .before .before .before in
+    omega (arith, slot-within (scan-slot (else1 .before .slots .inv .scan) (else1 .if1 .left)))
 
 -- src/lib.rt:51:12
 cast-if3 : tie.Need-cast-if3 Inv-loop μ-loop Inv-slots μ-slots
@@ -95,17 +115,22 @@ slots-again-2 c =
 -- src/lib.rt:56:9
 loop-holds : tie.Need-loop-holds Inv-loop μ-loop Inv-slots μ-slots
 loop-holds c =
-    let d = c .before .before .before .before in
-    let w = slot-within (scan-slot (d .before .before .slots .inv .scan) (d .before .if1 .left)) in
+    let after-get-u16 = c .before in
+    let else2 = after-get-u16 .before in
+    let after-get-u32 = else2 .before in
+    let after-slot-start = after-get-u32 .before in
+    let else1 = after-slot-start .before in
+    let at-slots = else1 .before in
+    let w = slot-within (scan-slot (at-slots .slots .inv .scan) (else1 .if1 .left)) in
     record {
-      slots = d .before .before .slots .inv;
-      inside = d .before .if1 .left;
-      here = d .slot-start .ensures .0;
+      slots = at-slots .slots .inv;
+      inside = else1 .if1 .left;
+      here = after-slot-start .slot-start .ensures .0;
       whole = w;
-      fits = omega (arith, d .slot-start .ensures);
+      fits = omega (arith, after-slot-start .slot-start .ensures);
       within = omega arith;
-      version = sym (c .before .before .before .get-u32 .ensures) ∙ c .before .before .if2 .left;
-      bits = sym (c .before .get-u16 .ensures) ∙ c .if3 .left;
+      version = sym (after-get-u32 .get-u32 .ensures) ∙ else2 .if2 .left;
+      bits = sym (after-get-u16 .get-u16 .ensures) ∙ c .if3 .left;
       same = λ j h. absurd (omega arith);
     }
 
@@ -132,8 +157,9 @@ add-i-3 c = omega arith
 -- src/lib.rt:42:5
 slots-less-3 : tie.Need-slots-less-3 Inv-loop μ-loop Inv-slots μ-slots
 slots-less-3 c =
-    let w = c .before .before .before .loop .inv in
-    omega (arith, w .inside, slot-one (c .before .before .before .before .before .before .before .before .before .before .before .before .before .before .args .form) (c .before .before .before .before .before .before .before .before .before .before .slots .i) (c .before .before .before .loop .i) (sym (c .before .before .before .before .before .before .before .before .slot-start .ensures .0) ∙ w .here))
+    let at-loop = c .before .before .before in
+    let w = at-loop .loop .inv in
+    omega (arith, w .inside, slot-one (start-from-at-loop at-loop .args .form) (at-slots-from-at-loop at-loop .slots .i) (at-loop .loop .i) (sym (at-loop .before .before .before .before .before .slot-start .ensures .0) ∙ w .here))
 
 -- src/lib.rt:42:5
 slots-again-3 : tie.Need-slots-again-3 Inv-loop μ-loop Inv-slots μ-slots
@@ -181,12 +207,17 @@ add-i-4 c = omega arith
 -- src/lib.rt:42:5
 slots-less-4 : tie.Need-slots-less-4 Inv-loop μ-loop Inv-slots μ-slots
 slots-less-4 c =
-    let w = c .before .before .before .before .before .loop .inv in
-    omega (arith, w .inside, slot-one (c .before .before .before .before .before .before .before .before .before .before .before .before .before .before .before .before .args .form) (c .before .before .before .before .before .before .before .before .before .before .before .before .slots .i) (c .before .before .before .before .before .loop .i) (sym (c .before .before .before .before .before .before .before .before .before .before .slot-start .ensures .0) ∙ w .here))
+    let at-loop = c .before .before .before .before .before in
+    let w = at-loop .loop .inv in
+    omega (arith, w .inside, slot-one (start-from-at-loop at-loop .args .form) (at-slots-from-at-loop at-loop .slots .i) (at-loop .loop .i) (sym (at-loop .before .before .before .before .before .slot-start .ensures .0) ∙ w .here))
 
 -- src/lib.rt:42:5
 slots-again-4 : tie.Need-slots-again-4 Inv-loop μ-loop Inv-slots μ-slots
-slots-again-4 c = spoiled-here (c .before .before .before .before .before .loop .inv) (ap (c .before .before .before .before .before .before .before .before .before .before .slot-start .result +_) (c .before .before .before .slot-size .ensures .0)) (sym (c .before .holds-record .ensures) ∙ c .if5 .left)
+slots-again-4 c =
+    let after-holds-record = c .before in
+    let after-slot-size = after-holds-record .before .before in
+    let at-loop = after-slot-size .before .before in
+    spoiled-here (at-loop .loop .inv) (ap (at-loop .before .before .before .before .before .slot-start .result +_) (after-slot-size .slot-size .ensures .0)) (sym (after-holds-record .holds-record .ensures) ∙ c .if5 .left)
 
 -- src/lib.rt:34:1
 returns : tie.Need-returns Inv-loop μ-loop Inv-slots μ-slots
@@ -197,7 +228,11 @@ returns c = none-left (c .before .slots .inv) (c .if1 .taken)
 returns-2 : tie.Need-returns-2 Inv-loop μ-loop Inv-slots μ-slots
 unfolding placeOf
 returns-2 c =
-    found-here (c .before .before .before .before .before .loop .inv) (ap (c .before .before .before .before .before .before .before .before .before .before .slot-start .result +_) (c .before .before .before .slot-size .ensures .0)) (c .before .before .before .before .loop-test .left) (sym (c .before .holds-record .ensures) ∙ c .if5 .taken)
+    let after-holds-record = c .before in
+    let after-slot-size = after-holds-record .before .before in
+    let after-loop = after-slot-size .before in
+    let at-loop = after-loop .before in
+    found-here (at-loop .loop .inv) (ap (at-loop .before .before .before .before .before .slot-start .result +_) (after-slot-size .slot-size .ensures .0)) (after-loop .loop-test .left) (sym (after-holds-record .holds-record .ensures) ∙ c .if5 .taken)
 
 pub find-spec : {M : Type 1} → statement M
 find-spec =

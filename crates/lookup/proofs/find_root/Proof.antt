@@ -13,6 +13,10 @@ Inv-loop form store version n j₀ j = Scan form store (Ahead form store version
 abbrev μ-loop : tie.MeasureT-loop
 μ-loop form store version n j₀ j = n - j
 
+-- `A-from-B` is the state A as the later state B has it.
+abbrev start-from-in-loop : tie.In-loop Inv-loop μ-loop → tie.Start Inv-loop μ-loop
+start-from-in-loop c = c .before .before .before .before
+
 slot-count-requires : tie.Need-slot-count-requires Inv-loop μ-loop
 slot-count-requires c κs = c .before .pre
 
@@ -26,10 +30,9 @@ root-here-requires c κs = scan-slot (c .before .loop .inv) (c .loop-test .taken
 
 returns : tie.Need-returns Inv-loop μ-loop
 returns c =
-    let here = c .before in
-    let inside = here .before in
-    let at = inside .before in
-    root-found (at .before .before .before .args .version) (at .loop .inv) (inside .loop-test .taken) (sym (here .root-here .ensures) ∙ c .if1 .taken)
+    let after-root-here = c .before in
+    let in-loop = after-root-here .before in
+    root-found (start-from-in-loop in-loop .args .version) (in-loop .before .loop .inv) (in-loop .loop-test .taken) (sym (after-root-here .root-here .ensures) ∙ c .if1 .taken)
 
 add-j : tie.Need-add-j Inv-loop μ-loop
 add-j c = omega (arith, c .before .before .before .loop .inv .small)
@@ -39,10 +42,9 @@ loop-less c = omega arith
 
 loop-again : tie.Need-loop-again Inv-loop μ-loop
 loop-again c =
-    let here = c .before in
-    let inside = here .before in
-    let at = inside .before in
-    root-next (at .before .before .before .args .version) (at .loop .inv) (inside .loop-test .taken) (sym (here .root-here .ensures) ∙ c .if1 .left)
+    let after-root-here = c .before in
+    let in-loop = after-root-here .before in
+    root-next (start-from-in-loop in-loop .args .version) (in-loop .before .loop .inv) (in-loop .loop-test .taken) (sym (after-root-here .root-here .ensures) ∙ c .if1 .left)
 
 returns-2 : tie.Need-returns-2 Inv-loop μ-loop
 returns-2 c = root-nowhere (c .before .before .before .before .args .version) (c .before .loop .inv) (c .loop-test .left)

@@ -23,7 +23,10 @@ is-inner-requires c κs = search needs
 
 -- src/lib.rt:17:1
 returns-2 : tie.Need-returns-2
-returns-2 c = c .is-inner .ensures ∙ sym (inner-used _ (c .before .before .before .before .pre .0) (sym (c .before .before .is-leaf .ensures) ∙ c .before .if1 .left))
+returns-2 c =
+    let else1 = c .before in
+    let after-is-leaf = else1 .before in
+    c .is-inner .ensures ∙ sym (inner-used _ (after-is-leaf .before .before .pre .0) (sym (after-is-leaf .is-leaf .ensures) ∙ else1 .if1 .left))
 
 pub holds-record-spec : {M : Type 1} → statement M
 holds-record-spec = tie.close (tie.spec is-leaf-requires returns is-inner-requires returns-2)

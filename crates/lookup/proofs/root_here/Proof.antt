@@ -13,6 +13,13 @@ use Rattle.lookup.proofs.Rooting.{deep, elsewhen, at-top}
 use Rattle.lookup.proofs.root_here.Statement.{statement}
 use Rattle.lookup.proofs.root_here.Tie as tie
 
+-- `A-from-B` is the state A as the later state B has it.
+abbrev start-from-version-at : tie.After-version-at → tie.Start
+start-from-version-at c = c .before .before .before .before
+
+abbrev start-from-covers : tie.After-covers → tie.Start
+start-from-covers c = start-from-version-at (c .before .before)
+
 count-at-requires : tie.Need-count-at-requires
 count-at-requires c κs = slot-within (c .before .pre)
 
@@ -27,7 +34,7 @@ version-at-requires : tie.Need-version-at-requires
 version-at-requires c κs = slot-within (c .before .before .before .pre)
 
 retired-at-requires : tie.Need-retired-at-requires
-retired-at-requires c κs = slot-within (c .before .before .before .before .pre)
+retired-at-requires c κs = slot-within (start-from-version-at c .pre)
 
 covers-requires : tie.Need-covers-requires
 covers-requires c κs = search needs
@@ -45,7 +52,7 @@ returns-2 c =
     ∙ not-true _ (c .if2 .taken))
 
 slot-of-requires : tie.Need-slot-of-requires
-slot-of-requires c κs = slot-within (c .before .before .before .before .before .before .before .pre)
+slot-of-requires c κs = slot-within (start-from-covers (c .before) .pre)
 
 holds-record-requires : tie.Need-holds-record-requires
 holds-record-requires c κs = search needs

@@ -12,14 +12,14 @@ use Rattle.palette.proofs.fill.Statement.{statement}
 use Rattle.palette.proofs.fill.Tie as tie
 
 abbrev Inv-loop : tie.InvT-loop
-Inv-loop part₀ store index version keys start₀ at₀ part start at = Filling (plannedFor store index version) keys (length part₀) part start at
+Inv-loop part₀ store index kids version keys start₀ at₀ part start at = Filling (plannedFor store index version) keys (length part₀) part start at
 
 abbrev μ-loop : tie.MeasureT-loop
-μ-loop part₀ store index version keys start₀ at₀ part start at = length keys - at
+μ-loop part₀ store index kids version keys start₀ at₀ part start at = length keys - at
 
 loop-holds : tie.Need-loop-holds Inv-loop μ-loop
 unfolding plannedIn
-loop-holds c = let start = c .before .before .before .before in filling-starts _ (start .args .keys .now) (start .args .part .now) (start .pre .1) (start .pre .2)
+loop-holds c = let start = c .before .before .before .before .before in filling-starts _ (start .args .keys .now) (start .args .part .now) (start .pre .1) (start .pre .2)
 
 add-end : tie.Need-add-end Inv-loop μ-loop
 add-end c = let w = c .before .loop .inv .left in omega (arith, w .here, w .short, c .loop-test .taken)
@@ -34,7 +34,9 @@ part-key-end : tie.Need-part-key-end Inv-loop μ-loop
 part-key-end c = omega (arith, c .before .loop .inv .left .here, c .loop-test .taken)
 
 plan-of-requires : tie.Need-plan-of-requires Inv-loop μ-loop
-plan-of-requires c κs = (c .before .before .before .before .before .before .before .pre .0, next (c .before .before .loop .inv) (c .before .loop-test .taken) .whole)
+plan-of-requires c κs =
+    let start = c .before .before .before .before .before .before .before .before in
+    (start .pre .0, next (c .before .before .loop .inv) (c .before .loop-test .taken) .whole, start .pre .3)
 
 add-next : tie.Need-add-next Inv-loop μ-loop
 add-next c =

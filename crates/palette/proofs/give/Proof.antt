@@ -7,7 +7,7 @@ use Rattle.palette.proofs.give.Tie as tie
 
 returns : tie.Need-returns
 returns c =
-    let start = c .before .before .before .before .before in
+    let start = c .before .before .before .before .before .before in
     let a = start .args in
     no-room (plannedIn (a .store .now) (a .index .now) (a .version) (a .keys .now)) (a .len) (start .args .room .now) (start .pre .2) (c .if1 .taken)
 
@@ -22,9 +22,9 @@ part-fill-end c = search needs
 
 fill-requires : tie.Need-fill-requires
 fill-requires c κs =
-    let start = c .before .before .before .before .before .before in
+    let start = c .before .before .before .before .before .before .before in
     let a = start .args in
-    (start .pre .0, start .pre .1, front-long (plannedIn (a .store .now) (a .index .now) (a .version) (a .keys .now)) (a .len) (start .args .room .now) (start .pre .2) (c .before .if1 .left))
+    (start .pre .0, start .pre .1, front-long (plannedIn (a .store .now) (a .index .now) (a .version) (a .keys .now)) (a .len) (start .args .room .now) (start .pre .2) (c .before .if1 .left), start .pre .3)
 
 same-length : tie.Need-same-length
 same-length c = search needs
@@ -32,7 +32,7 @@ same-length c = search needs
 returns-2 : tie.Need-returns-2
 returns-2 c =
     let d = c .before .before .before .before in
-    let start = d .before .before .before .before .before in
+    let start = d .before .before .before .before .before .before in
     let a = start .args in
     with-room (plannedIn (a .store .now) (a .index .now) (a .version) (a .keys .now)) (a .len) (start .args .room .now) (start .pre .2) _ (d .if1 .left) (c .before .before .fill .kept .0) (c .before .before .fill .ensures)
 

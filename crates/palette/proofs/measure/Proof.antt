@@ -12,13 +12,13 @@ use Rattle.palette.proofs.measure.Statement.{statement}
 use Rattle.palette.proofs.measure.Tie as tie
 
 abbrev Inv-loop : tie.InvT-loop
-Inv-loop store index version keys total₀ at₀ total at = Measuring (plannedFor store index version) keys total at
+Inv-loop store index kids version keys total₀ at₀ total at = Measuring (plannedFor store index version) keys total at
 
 abbrev μ-loop : tie.MeasureT-loop
-μ-loop store index version keys total₀ at₀ total at = length keys - at
+μ-loop store index kids version keys total₀ at₀ total at = length keys - at
 
 loop-holds : tie.Need-loop-holds Inv-loop μ-loop
-loop-holds c = let start = c .before .before .before in measuring-starts _ (start .args .keys .now) (start .pre .1)
+loop-holds c = let start = c .before .before .before .before in measuring-starts _ (start .args .keys .now) (start .pre .1)
 
 add-end : tie.Need-add-end Inv-loop μ-loop
 add-end c = let w = c .before .loop .inv .left in omega (arith, w .here, w .short, c .loop-test .taken)
@@ -33,7 +33,9 @@ part-plan-of-end : tie.Need-part-plan-of-end Inv-loop μ-loop
 part-plan-of-end c = omega (arith, c .before .loop .inv .left .here, c .loop-test .taken)
 
 plan-of-requires : tie.Need-plan-of-requires Inv-loop μ-loop
-plan-of-requires c κs = (c .before .before .before .before .before .before .pre .0, its-turn (c .before .before .loop .inv) (c .before .loop-test .taken) .whole)
+plan-of-requires c κs =
+    let start = c .before .before .before .before .before .before .before in
+    (start .pre .0, its-turn (c .before .before .loop .inv) (c .before .loop-test .taken) .whole, start .pre .2)
 
 enum-known-shape : tie.Need-enum-known-shape Inv-loop μ-loop
 enum-known-shape c = search needs
@@ -49,7 +51,7 @@ add-total : tie.Need-add-total Inv-loop μ-loop
 add-total c =
     let planned = c .before .before .plan-of in
     let turn = c .before .before .before .before in
-    let a = turn .before .before .before .before .before .args in
+    let a = turn .before .before .before .before .before .before .args in
     let p = not-refused (a .store .now) (keyAt (a .keys .now) (turn .before .loop .at)) (planned .result) (planned .ensures .within) (c .before .match .keys2) in
     let w = turn .before .loop .inv in
     omega (arith, p .few, w .few, w .left .here, w .left .short, turn .loop-test .taken)
@@ -64,8 +66,8 @@ loop-again c =
     let p = not-refused _ _ (planned .result) (planned .ensures .within) (c .before .match .keys2) in
     measuring-next (turn .before .loop .inv) (turn .loop-test .taken) (p .proof) (sym (planned .ensures .says) ∙ p .says) (p .long) (p .few)
 
-cast-t16 : tie.Need-cast-t16 Inv-loop μ-loop
-cast-t16 c = let w = c .before .loop .inv in omega (arith, w .few, w .left .here, w .left .short)
+cast-t17 : tie.Need-cast-t17 Inv-loop μ-loop
+cast-t17 c = let w = c .before .loop .inv in omega (arith, w .few, w .left .here, w .left .short)
 
 returns-2 : tie.Need-returns-2 Inv-loop μ-loop
 unfolding provedSays plannedIn
@@ -88,5 +90,5 @@ measure-spec =
     add-total
     loop-less
     loop-again
-    cast-t16
+    cast-t17
     returns-2)

@@ -1,12 +1,15 @@
 -- `pocket_prove::pocket_prove` meets its contract: the key's length, what is tested first, the profile, then the proof. Assumes nothing.
 use mathlib.Core.Path.{sym, _∙_}
 use Rattle.pocket_prove.proofs.Answering.{wrong-key, first-refused, kept-size, outside-refused, inside-given}
+use mathlib.Core.List.{[]}
+use Rattle.layout.specs.Stores.{storeOf}
+use Rattle.read_near.proofs.Near.{led-none}
 use borrow.Author.Needs.{needs}
 use Rattle.pocket_prove.proofs.pocket_prove.Statement.{statement}
 use Rattle.pocket_prove.proofs.pocket_prove.Tie as tie
 
-cast-t11 : tie.Need-cast-t11
-cast-t11 c = search needs
+cast-t12 : tie.Need-cast-t12
+cast-t12 c = search needs
 
 returns : tie.Need-returns
 returns c = let a = c .before .before .before .before .args in wrong-key (a .store .now) (a .version) (a .key .now) (a .room .now) (c .if1 .taken)
@@ -17,8 +20,8 @@ open-requires c κs = search needs
 enum-known-opened : tie.Need-enum-known-opened
 enum-known-opened c = search needs
 
-cast-t12 : tie.Need-cast-t12
-cast-t12 c = search needs
+cast-t13 : tie.Need-cast-t13
+cast-t13 c = search needs
 
 returns-2 : tie.Need-returns-2
 returns-2 c =
@@ -32,11 +35,14 @@ enum-told c = search needs
 slice-aggregate-plan-of : tie.Need-slice-aggregate-plan-of
 slice-aggregate-plan-of c = search needs
 
+slice-aggregate-plan-of-2 : tie.Need-slice-aggregate-plan-of-2
+slice-aggregate-plan-of-2 c = search needs
+
 plan-of-requires : tie.Need-plan-of-requires
 plan-of-requires c κs =
-    let o = c .before .before .before in
+    let o = c .before .before .before .before in
     let a = o .before .before .before .before .before .args in
-    (kept-size (a .store .now) (a .version) (o .«open» .ensures) (c .before .enum-told .given .1), o .before .if1 .left)
+    (kept-size (a .store .now) (a .version) (o .«open» .ensures) (c .before .before .enum-told .given .1), o .before .if1 .left, led-none (storeOf (a .store .now)) [])
 
 is-outside-requires : tie.Need-is-outside-requires
 is-outside-requires c κs = search needs
@@ -45,9 +51,9 @@ returns-3 : tie.Need-returns-3
 returns-3 c =
     let u = c .before in
     let p = u .before in
-    let o = p .before .before .before .before in
+    let o = p .before .before .before .before .before in
     let a = o .before .before .before .before .before .args in
-    outside-refused (a .store .now) (a .version) (a .key .now) (a .room .now) (o .before .if1 .left) (o .«open» .ensures) (p .before .before .enum-told .given .1) (p .plan-of .ensures)
+    outside-refused (a .store .now) (a .version) (a .key .now) (a .room .now) (o .before .if1 .left) (o .«open» .ensures) (p .before .before .before .enum-told .given .1) (p .plan-of .ensures)
     (sym (u .is-outside .ensures) ∙ c .if2 .taken)
 
 give-requires : tie.Need-give-requires
@@ -61,23 +67,24 @@ returns-4 c =
     let e = c .before .before .before .before in
     let u = e .before in
     let p = u .before in
-    let o = p .before .before .before .before in
+    let o = p .before .before .before .before .before in
     let a = o .before .before .before .before .before .args in
-    inside-given (a .store .now) (a .version) (a .key .now) (a .room .now) (o .before .if1 .left) (o .«open» .ensures) (p .before .before .enum-told .given .1) (p .plan-of .ensures)
+    inside-given (a .store .now) (a .version) (a .key .now) (a .room .now) (o .before .if1 .left) (o .«open» .ensures) (p .before .before .before .enum-told .given .1) (p .plan-of .ensures)
     (sym (u .is-outside .ensures) ∙ e .if2 .left) (c .before .before .give .ensures)
 
 pub pocket-prove-spec : {M : Type 1} → statement M
 pocket-prove-spec =
     tie.close
     (tie.spec
-    cast-t11
+    cast-t12
     returns
     open-requires
     enum-known-opened
-    cast-t12
+    cast-t13
     returns-2
     enum-told
     slice-aggregate-plan-of
+    slice-aggregate-plan-of-2
     plan-of-requires
     is-outside-requires
     returns-3

@@ -1,5 +1,7 @@
 -- `prove::prove` meets its contract: the key's length, what is tested first, then the proof. Assumes nothing.
 use Rattle.prove.proofs.Answering.{wrong-key, first-refused, kept-size, kept-proved}
+use Rattle.layout.specs.Stores.{storeOf}
+use Rattle.read_near.proofs.Near.{led-none}
 use borrow.Author.Needs.{needs}
 use Rattle.prove.proofs.prove.Statement.{statement}
 use Rattle.prove.proofs.prove.Tie as tie
@@ -22,11 +24,14 @@ returns-2 c =
 enum-told : tie.Need-enum-told
 enum-told c = search needs
 
+slice-aggregate-plan-of : tie.Need-slice-aggregate-plan-of
+slice-aggregate-plan-of c = search needs
+
 plan-of-requires : tie.Need-plan-of-requires
 plan-of-requires c κs =
-    let o = c .before .before in
+    let o = c .before .before .before in
     let a = o .before .before .before .before .before .before .args in
-    (kept-size (a .store .now) (a .version) (o .«open» .ensures) (c .enum-told .given .1), o .before .if1 .left)
+    (kept-size (a .store .now) (a .version) (o .«open» .ensures) (c .before .enum-told .given .1), o .before .if1 .left, led-none (storeOf (a .store .now)) (a .index .now))
 
 give-requires : tie.Need-give-requires
 give-requires c κs = search needs
@@ -37,27 +42,28 @@ same-length c = search needs
 returns-3 : tie.Need-returns-3
 returns-3 c =
     let p = c .before .before .before .before in
-    let o = p .before .before .before in
+    let o = p .before .before .before .before in
     let a = o .before .before .before .before .before .before .args in
-    kept-proved (a .store .now) (a .index .now) (a .version) (a .key .now) (a .room .now) (o .before .if1 .left) (o .«open» .ensures) (p .before .enum-told .given .1) (p .plan-of .ensures) (c .before .before .give .ensures)
-
-cast-t10 : tie.Need-cast-t10
-cast-t10 c = search needs
+    kept-proved (a .store .now) (a .index .now) (a .version) (a .key .now) (a .room .now) (o .before .if1 .left) (o .«open» .ensures) (p .before .before .enum-told .given .1) (p .plan-of .ensures) (c .before .before .give .ensures)
 
 cast-t11 : tie.Need-cast-t11
 cast-t11 c = search needs
+
+cast-t12 : tie.Need-cast-t12
+cast-t12 c = search needs
 
 pub prove-spec : {M : Type 1} → statement M
 prove-spec =
     tie.close
     (tie.spec
-    cast-t10
+    cast-t11
     returns
     open-requires
     enum-known-opened
-    cast-t11
+    cast-t12
     returns-2
     enum-told
+    slice-aggregate-plan-of
     plan-of-requires
     give-requires
     same-length

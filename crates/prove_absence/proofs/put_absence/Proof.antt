@@ -16,17 +16,28 @@ flag-requires c κs = search needs
 flag-requires-2 : tie.Need-flag-requires-2
 flag-requires-2 c κs = search needs
 
+-- `A-from-B` is the state A as the later state B has it.
+abbrev start-from-flag2 : tie.After-flag2 → tie.Start
+start-from-flag2 c = c .before .before .before .before .before
+
+abbrev start-from-neighbour-length : tie.After-neighbour-length → tie.Start
+start-from-neighbour-length c = start-from-flag2 (c .before)
+
 add-flags : tie.Need-add-flags
-add-flags c = let a = c .before .before .before .before .before .args in omega (arith, flag-most (a .left) 1, flag-most (a .right) 2, c .flag2 .ensures, c .before .flag .ensures)
+add-flags c = let a = start-from-flag2 c .args in omega (arith, flag-most (a .left) 1, flag-most (a .right) 2, c .flag2 .ensures, c .before .flag .ensures)
 
 neighbour-length-requires : tie.Need-neighbour-length-requires
-neighbour-length-requires c κs = let a = c .before .before .before .before .before in neighbour-count (a .args .store .now) (a .args .left) (a .pre .0 .0)
+neighbour-length-requires c κs =
+    let start = start-from-flag2 c in
+    neighbour-count (start .args .store .now) (start .args .left) (start .pre .0 .0)
 
 add-middle : tie.Need-add-middle
 add-middle c = search needs
 
 cast-put-u32 : tie.Need-cast-put-u32
-cast-put-u32 c = let a = c .before .before .before .before .before .before .before in omega (arith, room-most _ (a .args .left) (a .pre .0 .0), room-most _ (a .args .right) (a .pre .0 .1), a .pre .2)
+cast-put-u32 c =
+    let start = start-from-neighbour-length (c .before) in
+    omega (arith, room-most _ (start .args .left) (start .pre .0 .0), room-most _ (start .args .right) (start .pre .0 .1), start .pre .2)
 
 put-u32-requires : tie.Need-put-u32-requires
 put-u32-requires c κs = search needs
@@ -60,14 +71,19 @@ part-put-neighbour-end c = search needs
 
 put-neighbour-requires : tie.Need-put-neighbour-requires
 put-neighbour-requires c κs =
-    let start = c .before .before .before .before .before .before .before .before .before .before .before .before .before .before .before .before .before .before .before .before .before .before .before in
-    let e = c .before .before .before .before .before .before .before .before .before .before .before .before .before .before .before .before .before .neighbour-length .ensures in
-    let k = c .before .before .before .before .before .before .before .put-u162 .kept .0 ∙ c .before .before .before .before .before .before .before .before .before .before .before .put-u16 .kept .0 ∙ c .before .before .before .before .before .before .before .before .before .before .before .before .before .before .before .put-u32 .kept .0 in
-    let x = given 8 40 (c .before .before .before .before .before .before .before .put-u162 .last .0) (c .before .before .before .copy .last .0) in
+    let after-copy = c .before .before .before in
+    let after-put-u162 = after-copy .before .before .before .before in
+    let after-put-u16 = after-put-u162 .before .before .before .before in
+    let after-put-u32 = after-put-u16 .before .before .before .before in
+    let after-neighbour-length = after-put-u32 .before .before in
+    let start = start-from-neighbour-length after-neighbour-length in
+    let e = after-neighbour-length .neighbour-length .ensures in
+    let k = after-put-u162 .put-u162 .kept .0 ∙ after-put-u16 .put-u16 .kept .0 ∙ after-put-u32 .put-u32 .kept .0 in
+    let x = given 8 40 (after-put-u162 .put-u162 .last .0) (after-copy .copy .last .0) in
     let l : length x ≡ length (start .args .part .now) =
-    given-long 8 40 (c .before .before .before .before .before .before .before .put-u162 .last .0) (c .before .before .before .copy .last .0) (omega arith) (omega (arith, k, start .pre .2)) (c .before .before .before .copy .kept .0) ∙ k
+    given-long 8 40 (after-put-u162 .put-u162 .last .0) (after-copy .copy .last .0) (omega arith) (omega (arith, k, start .pre .2)) (after-copy .copy .kept .0) ∙ k
     in
-    (start .pre .0 .0, part-room 40 (40 + c .before .before .before .before .before .before .before .before .before .before .before .before .before .before .before .before .before .neighbour-length .result) (roomFor (start .args .left)) x (ap (40 +_) (sym e)) (omega (arith, l, e, start .pre .2)))
+    (start .pre .0 .0, part-room 40 (40 + after-neighbour-length .neighbour-length .result) (roomFor (start .args .left)) x (ap (40 +_) (sym e)) (omega (arith, l, e, start .pre .2)))
 
 sub-put-neighbour-2 : tie.Need-sub-put-neighbour-2
 sub-put-neighbour-2 c = search needs
@@ -80,17 +96,23 @@ part-put-neighbour-end-2 c = search needs
 
 put-neighbour-requires-2 : tie.Need-put-neighbour-requires-2
 put-neighbour-requires-2 c κs =
-    let start = c .before .before .before .before .before .before .before .before .before .before .before .before .before .before .before .before .before .before .before .before .before .before .before .before .before .before .before in
-    let e = c .before .before .before .before .before .before .before .before .before .before .before .before .before .before .before .before .before .before .before .before .before .neighbour-length .ensures in
-    let k = c .before .before .before .before .before .before .before .before .before .before .before .put-u162 .kept .0 ∙ c .before .before .before .before .before .before .before .before .before .before .before .before .before .before .before .put-u16 .kept .0 ∙ c .before .before .before .before .before .before .before .before .before .before .before .before .before .before .before .before .before .before .before .put-u32 .kept .0 in
-    let x = given 8 40 (c .before .before .before .before .before .before .before .before .before .before .before .put-u162 .last .0) (c .before .before .before .before .before .before .before .copy .last .0) in
+    let after-put-neighbour = c .before .before .before in
+    let after-copy = after-put-neighbour .before .before .before .before in
+    let after-put-u162 = after-copy .before .before .before .before in
+    let after-put-u16 = after-put-u162 .before .before .before .before in
+    let after-put-u32 = after-put-u16 .before .before .before .before in
+    let after-neighbour-length = after-put-u32 .before .before in
+    let start = start-from-neighbour-length after-neighbour-length in
+    let e = after-neighbour-length .neighbour-length .ensures in
+    let k = after-put-u162 .put-u162 .kept .0 ∙ after-put-u16 .put-u16 .kept .0 ∙ after-put-u32 .put-u32 .kept .0 in
+    let x = given 8 40 (after-put-u162 .put-u162 .last .0) (after-copy .copy .last .0) in
     let l : length x ≡ length (start .args .part .now) =
-    given-long 8 40 (c .before .before .before .before .before .before .before .before .before .before .before .put-u162 .last .0) (c .before .before .before .before .before .before .before .copy .last .0) (omega arith) (omega (arith, k, start .pre .2)) (c .before .before .before .before .before .before .before .copy .kept .0) ∙ k
+    given-long 8 40 (after-put-u162 .put-u162 .last .0) (after-copy .copy .last .0) (omega arith) (omega (arith, k, start .pre .2)) (after-copy .copy .kept .0) ∙ k
     in
-    let m = 40 + c .before .before .before .before .before .before .before .before .before .before .before .before .before .before .before .before .before .before .before .before .before .neighbour-length .result in
-    let z = given 40 m x (c .before .before .before .put-neighbour .last .0) in
+    let m = 40 + after-neighbour-length .neighbour-length .result in
+    let z = given 40 m x (after-put-neighbour .put-neighbour .last .0) in
     let n : length z ≡ length (start .args .part .now) =
-    given-long 40 m x (c .before .before .before .put-neighbour .last .0) (omega arith) (omega (arith, l, e, start .pre .2)) (c .before .before .before .put-neighbour .kept .0) ∙ l
+    given-long 40 m x (after-put-neighbour .put-neighbour .last .0) (omega arith) (omega (arith, l, e, start .pre .2)) (after-put-neighbour .put-neighbour .kept .0) ∙ l
     in
     (start .pre .0 .1, part-room m (length (start .args .part .now)) (roomFor (start .args .right)) z (omega (arith, e, start .pre .2)) (omega (arith, n)))
 
@@ -99,11 +121,19 @@ same-length c = search needs
 
 returns : tie.Need-returns
 returns c =
-    let start = c .before .before .before .before .before .before .before .before .before .before .before .before .before .before .before .before .before .before .before .before .before .before .before .before .before .before .before .before .before .before in
+    let after-put-neighbour2 = c .before .before in
+    let after-put-neighbour = after-put-neighbour2 .before .before .before .before in
+    let after-copy = after-put-neighbour .before .before .before .before in
+    let after-put-u162 = after-copy .before .before .before .before in
+    let after-put-u16 = after-put-u162 .before .before .before .before in
+    let after-put-u32 = after-put-u16 .before .before .before .before in
+    let after-neighbour-length = after-put-u32 .before .before in
+    let after-flag2 = after-neighbour-length .before in
+    let start = start-from-flag2 after-flag2 in
     let a = start .args in
     absence-put (a .store .now) (a .left) (a .right) (a .key .now) (a .part .now) (start .pre .0 .0) (start .pre .0 .1) (start .pre .2) (start .pre .1)
-    (ap₂ _+_ (c .before .before .before .before .before .before .before .before .before .before .before .before .before .before .before .before .before .before .before .before .before .before .before .before .before .before .flag .ensures) (c .before .before .before .before .before .before .before .before .before .before .before .before .before .before .before .before .before .before .before .before .before .before .before .before .before .flag2 .ensures)) (ap (40 +_) (c .before .before .before .before .before .before .before .before .before .before .before .before .before .before .before .before .before .before .before .before .before .before .before .before .neighbour-length .ensures)) (c .before .before .before .before .before .before .before .before .before .before .before .before .before .before .before .before .before .before .before .before .before .before .put-u32 .ensures) (c .before .before .before .before .before .before .before .before .before .before .before .before .before .before .before .before .before .before .put-u16 .ensures) (c .before .before .before .before .before .before .before .before .before .before .before .before .before .before .put-u162 .ensures)
-    (c .before .before .before .before .before .before .before .before .before .before .copy .ensures) (c .before .before .before .before .before .before .put-neighbour .ensures) (c .before .before .put-neighbour2 .ensures)
+    (ap₂ _+_ (after-flag2 .before .flag .ensures) (after-flag2 .flag2 .ensures)) (ap (40 +_) (after-neighbour-length .neighbour-length .ensures)) (after-put-u32 .put-u32 .ensures) (after-put-u16 .put-u16 .ensures) (after-put-u162 .put-u162 .ensures)
+    (after-copy .copy .ensures) (after-put-neighbour .put-neighbour .ensures) (after-put-neighbour2 .put-neighbour2 .ensures)
 
 pub put-absence-spec : {M : Type 1} → statement M
 put-absence-spec =

@@ -11,9 +11,19 @@ use Rattle.prove_absence.proofs.put_neighbour.Tie as tie
 enum-told : tie.Need-enum-told
 enum-told c = search needs
 
+-- `A-from-B` is the state A as the later state B has it.
+abbrev start-from-enum-told : tie.After-enum-told → tie.Start
+start-from-enum-told c = c .before .before .before .before .before
+
+abbrev start-from-put-presence : tie.After-put-presence → tie.Start
+start-from-put-presence c = start-from-enum-told (c .before .before)
+
 put-presence-requires : tie.Need-put-presence-requires
 unfolding roomFor
-put-presence-requires c κs = let a = c .before .before .before .before .before .before in somebody-in (a .args .store .now) (a .args .part .now) (a .args .n .path) (c .before .enum-told .given .1) (a .pre .0) (a .pre .1)
+put-presence-requires c κs =
+    let after-enum-told = c .before in
+    let start = after-enum-told .before .before .before .before .before in
+    somebody-in (start .args .store .now) (start .args .part .now) (start .args .n .path) (after-enum-told .enum-told .given .1) (start .pre .0) (start .pre .1)
 
 enum-told-2 : tie.Need-enum-told-2
 enum-told-2 c = search needs
@@ -26,7 +36,9 @@ same-length c = search needs
 
 returns : tie.Need-returns
 unfolding neighbourAt
-returns c = let a = c .before .before .before .before .before .before .before .before .before .args in c .before .before .put-presence .ensures ∙ ap (λ w. neighbourBytes (found (wayAt (a .store .now) w (a .n .path)))) (sym (c .before .before .before .before .enum-told .given .1))
+returns c =
+    let after-put-presence = c .before .before in
+    let a = start-from-put-presence after-put-presence .args in after-put-presence .put-presence .ensures ∙ ap (λ w. neighbourBytes (found (wayAt (a .store .now) w (a .n .path)))) (sym (after-put-presence .before .before .enum-told .given .1))
 
 returns-2 : tie.Need-returns-2
 unfolding neighbourAt roomFor

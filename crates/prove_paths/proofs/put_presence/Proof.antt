@@ -55,12 +55,25 @@ put-steps-requires c κs = search needs
 same-length : tie.Need-same-length
 same-length c = search needs
 
+-- `A-from-B` is the state A as the later state B has it.
+abbrev start-from-put-u32 : tie.After-put-u32 → tie.Start
+start-from-put-u32 c = c .before .before .before .before .before .before
+
+abbrev start-from-put-u16 : tie.After-put-u16 → tie.Start
+start-from-put-u16 c = start-from-put-u32 (c .before .before .before .before)
+
 returns : tie.Need-returns
 returns c =
-    let start = c .before .before .before .before .before .before .before .before .before .before .before .before .before .before .before .before .before .before .before .before .before .before .before .before .before .before in
+    let after-put-steps = c .before .before in
+    let after-copy = after-put-steps .before .before .before .before in
+    let after-grant-of = after-copy .before in
+    let after-slot-of = after-grant-of .before in
+    let after-put-u162 = after-slot-of .before .before .before .before in
+    let after-put-u16 = after-put-u162 .before .before .before .before in
+    let start = start-from-put-u16 after-put-u16 in
     let a = start .args in
-    presence-put (a .store .now) (a .path) (a .part .now) (start .pre .0) (start .pre .1) (c .before .before .before .before .before .before .before .before .before .before .before .before .before .before .before .before .before .before .before .before .put-u32 .ensures) (c .before .before .before .before .before .before .before .before .before .before .before .before .before .before .before .before .put-u16 .ensures) (c .before .before .before .before .before .before .before .before .before .before .before .before .put-u162 .ensures)
-    (c .before .before .before .before .before .before .before .before .slot-of .ensures .0) (c .before .before .before .before .before .before .before .grant-of .ensures .0) (c .before .before .before .before .before .before .copy .ensures) (c .before .before .put-steps .ensures)
+    presence-put (a .store .now) (a .path) (a .part .now) (start .pre .0) (start .pre .1) (after-put-u16 .before .before .before .before .put-u32 .ensures) (after-put-u16 .put-u16 .ensures) (after-put-u162 .put-u162 .ensures)
+    (after-slot-of .slot-of .ensures .0) (after-grant-of .grant-of .ensures .0) (after-copy .copy .ensures) (after-put-steps .put-steps .ensures)
 
 pub put-presence-spec : {M : Type 1} → statement M
 put-presence-spec =

@@ -33,8 +33,12 @@ same-length c = search needs
 
 returns : tie.Need-returns
 returns c =
-    let a = c .before .before .before .before .before .before .before .before .before .args in
-    step-put (a .part .now) (a .store .now) (a .i) (a .side) (c .before .before .before .before .before .before .before .before .before .pre .0) (c .digit .ensures) (c .before .before .before .before .before .slot-of .ensures .0) (c .before .before .before .before .child-hash .ensures .0) (c .before .before .before .copy .ensures)
+    let after-copy = c .before .before .before in
+    let after-child-hash = after-copy .before in
+    let after-slot-of = after-child-hash .before in
+    let start = after-slot-of .before .before .before .before in
+    let a = start .args in
+    step-put (a .part .now) (a .store .now) (a .i) (a .side) (start .pre .0) (c .digit .ensures) (after-slot-of .slot-of .ensures .0) (after-child-hash .child-hash .ensures .0) (after-copy .copy .ensures)
 
 pub put-step-spec : {M : Type 1} → statement M
 put-step-spec =

@@ -17,6 +17,13 @@ Inv-loop part₀ store slots bits depth₀ start₀ part depth start = Steps sto
 abbrev μ-loop : tie.MeasureT-loop
 μ-loop part₀ store slots bits depth₀ start₀ part depth start = depth
 
+-- `A-from-B` is the state A as the later state B has it.
+abbrev at-loop-from-key-bit : tie.After-key-bit Inv-loop μ-loop → tie.At-loop Inv-loop μ-loop
+at-loop-from-key-bit c = c .before .before .before .before
+
+abbrev start-from-at-loop : tie.At-loop Inv-loop μ-loop → tie.Start Inv-loop μ-loop
+start-from-at-loop c = c .before .before .before .before .before .before
+
 loop-holds : tie.Need-loop-holds Inv-loop μ-loop
 loop-holds c = steps-start _ _ _ _ _ (c .before .before .before .before .before .pre .1)
 
@@ -24,16 +31,18 @@ sub-depth : tie.Need-sub-depth Inv-loop μ-loop
 sub-depth c = omega arith
 
 add-end : tie.Need-add-end Inv-loop μ-loop
-add-end c = omega (arith, c .before .loop .inv, c .before .before .before .before .before .before .before .pre .0 .proper .short)
+add-end c = omega (arith, c .before .loop .inv, start-from-at-loop (c .before) .pre .0 .proper .short)
 
 mul-i : tie.Need-mul-i Inv-loop μ-loop
 mul-i c = omega arith
 
 array-read-i : tie.Need-array-read-i Inv-loop μ-loop
-array-read-i c = omega (arith, c .before .loop .inv, c .before .before .before .before .before .before .before .pre .0 .proper .short)
+array-read-i c = omega (arith, c .before .loop .inv, start-from-at-loop (c .before) .pre .0 .proper .short)
 
 cast-i : tie.Need-cast-i Inv-loop μ-loop
-cast-i c = let k = c .before .loop .inv .within in omega (arith, c .before .before .before .before .before .before .before .pre .0 .above (c .before .loop .depth - 1) (omega arith))
+cast-i c =
+    let at-loop = c .before in
+    let k = at-loop .loop .inv .within in omega (arith, start-from-at-loop at-loop .pre .0 .above (at-loop .loop .depth - 1) (omega arith))
 
 sub-put-step : tie.Need-sub-put-step Inv-loop μ-loop
 sub-put-step c = omega arith
@@ -49,24 +58,29 @@ slice-aggregate-key-bit c = search needs
 
 key-bit-requires : tie.Need-key-bit-requires Inv-loop μ-loop
 key-bit-requires c κs =
-    let start = c .before .before .before .before .before .before .before .before .before in omega (arith, proper-whole (start .args .path .place) (start .pre .0 .proper), start .pre .0 .proper .short, c .before .before .before .loop .inv .within)
+    let at-loop = c .before .before .before in
+    let start = start-from-at-loop at-loop in
+    omega (arith, proper-whole (start .args .path .place) (start .pre .0 .proper), start .pre .0 .proper .short, at-loop .loop .inv .within)
 
 put-step-requires : tie.Need-put-step-requires Inv-loop μ-loop
 put-step-requires c κs =
-    let w = c .before .before .before .before .loop .inv in
-    (simp (length-take, length-drop) (omega (arith, w)), c .before .before .before .before .before .before .before .before .before .before .pre .0 .above (c .before .before .before .before .loop .depth - 1) (omega (arith, w .within)))
+    let at-loop = at-loop-from-key-bit c in
+    let w = at-loop .loop .inv in
+    (simp (length-take, length-drop) (omega (arith, w)), start-from-at-loop at-loop .pre .0 .above (at-loop .loop .depth - 1) (omega (arith, w .within)))
 
 loop-less : tie.Need-loop-less Inv-loop μ-loop
 loop-less c = omega arith
 
 loop-again : tie.Need-loop-again Inv-loop μ-loop
 loop-again c =
-    let w = c .before .before .before .before .before .before .before in
-    steps-next (w .loop .depth) (c .before .before .put-step .last .0) (w .loop .inv) (c .before .before .before .before .before .before .loop-test .taken)
-    (c .before .before .put-step .kept .0 ∙ simp (length-take, length-drop) (omega (arith, w .loop .inv))) (c .before .before .before .key-bit .ensures) (c .before .before .put-step .ensures)
+    let after-put-step = c .before .before in
+    let after-key-bit = after-put-step .before in
+    let at-loop = at-loop-from-key-bit after-key-bit in
+    steps-next (at-loop .loop .depth) (after-put-step .put-step .last .0) (at-loop .loop .inv) (after-key-bit .before .before .before .loop-test .taken)
+    (after-put-step .put-step .kept .0 ∙ simp (length-take, length-drop) (omega (arith, at-loop .loop .inv))) (after-key-bit .key-bit .ensures) (after-put-step .put-step .ensures)
 
 same-length : tie.Need-same-length Inv-loop μ-loop
-same-length c = c .before .loop .inv .long ∙ sym (c .before .before .before .before .before .before .before .pre .1)
+same-length c = c .before .loop .inv .long ∙ sym (start-from-at-loop (c .before) .pre .1)
 
 returns : tie.Need-returns Inv-loop μ-loop
 unfolding pathSteps placeOf

@@ -7,7 +7,7 @@ use Rattle.prove_plan.proofs.at_leaf.Statement.{statement}
 use Rattle.prove_plan.proofs.at_leaf.Tie as tie
 
 slot-of-requires : tie.Need-slot-of-requires
-slot-of-requires c κs = let a = c .before .before .before in leaf-fits (a .args .store .now) (a .args .walked .trail) (a .args .i) (a .pre .0 .trail) (a .pre .1)
+slot-of-requires c κs = let a = c .before .before .before .before in leaf-fits (a .args .store .now) (a .args .walked .trail) (a .args .i) (a .pre .0 .trail) (a .pre .1)
 
 key-of-requires : tie.Need-key-of-requires
 key-of-requires c κs = search needs
@@ -21,7 +21,7 @@ absent-requires c κs = search needs
 returns : tie.Need-returns
 returns c =
     let k = c .before .before .before in
-    let a = k .before .before .before .before .before .args in
+    let a = k .before .before .before .before .before .before .args in
     another-key (a .store .now) (a .index .now) (a .key .now) (a .walked) (a .i) (k .before .slot-of .ensures .0) (k .key-of .ensures .0) (c .before .before .same .ensures)
     (not-true _ (c .before .if1 .taken)) (c .absent .ensures)
 
@@ -37,7 +37,7 @@ at-end-requires c κs = search needs
 returns-2 : tie.Need-returns-2
 returns-2 c =
     let k = c .before .before .before .before .before .before in
-    let start = k .before .before .before .before .before in
+    let start = k .before .before .before .before .before .before in
     let a = start .args in
     its-key (a .store .now) (a .index .now) (a .key .now) (a .walked) (a .i) (k .before .slot-of .ensures .0) (k .key-of .ensures .0) (c .before .before .before .before .before .same .ensures)
     (not-false _ (c .before .before .before .before .if1 .left)) (start .pre .0 .trail) (start .pre .1) (c .at-end .ensures)

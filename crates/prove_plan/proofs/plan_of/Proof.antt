@@ -28,20 +28,20 @@ absent-requires c κs = search needs
 returns : tie.Need-returns
 returns c =
     let w = c .before .before .before .before .before .before in
-    let a = w .before .before .before .before .args in
+    let a = w .before .before .before .before .before .args in
     ends-lost (a .store .now) (a .index .now) (a .version) (a .key .now) (w .walk .result) (w .walk .ensures) _ (c .before .before .before .seen .given .1)
     (c .before .refusal .ensures) (c .at-end .ensures)
 
 returns-2 : tie.Need-returns-2
 returns-2 c =
     let w = c .before .before .before .before .before in
-    let a = w .before .before .before .before .args in
+    let a = w .before .before .before .before .before .args in
     ends-at-leaf (a .store .now) (a .index .now) (a .version) (a .key .now) (w .walk .result) (w .walk .ensures) _ (c .before .before .seen2 .given .1) (c .at-leaf .ensures)
 
 returns-3 : tie.Need-returns-3
 returns-3 c =
     let w = c .before .before .before in
-    let a = w .before .before .before .before .args in
+    let a = w .before .before .before .before .before .args in
     ends-at-gap (a .store .now) (a .index .now) (a .version) (a .key .now) (w .walk .result) (w .walk .ensures) (c .before .match .keys3) (c .absent .ensures)
 
 pub plan-of-spec : {M : Type 1} → statement M

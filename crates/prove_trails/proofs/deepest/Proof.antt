@@ -18,8 +18,10 @@ returns-2 c =
 
 returns-3 : tie.Need-returns-3
 returns-3 c =
-    let a = c .before .before .before .before .args in
-    fork-new (a .store .now) (a .i) (a .place) (a .fork) (a .turn) (a .side) (c .before .before .if1 .left) (λ e. c .if2 .left (c .before .child-version .ensures ∙ e))
+    let after-child-version = c .before in
+    let else1 = after-child-version .before in
+    let a = else1 .before .before .args in
+    fork-new (a .store .now) (a .i) (a .place) (a .fork) (a .turn) (a .side) (else1 .if1 .left) (λ e. c .if2 .left (after-child-version .child-version .ensures ∙ e))
 
 pub deepest-spec : {M : Type 1} → statement M
 deepest-spec = tie.close (tie.spec returns child-version-requires returns-2 returns-3)

@@ -11,13 +11,23 @@ use Rattle.prove_trails.proofs.descend.Statement.{statement}
 use Rattle.prove_trails.proofs.descend.Tie as tie
 
 abbrev Inv-loop : tie.InvT-loop
-Inv-loop store index side here₀ here = Descent store index side here₀ here
+Inv-loop store index kids side here₀ here = Descent store index side here₀ here
 
 abbrev μ-loop : tie.MeasureT-loop
-μ-loop store index side here₀ here = 256 - here .place .count
+μ-loop store index kids side here₀ here = 256 - here .place .count
+
+-- `A-from-B` is the state A as the later state B has it.
+abbrev at-loop-from-further : tie.After-further Inv-loop μ-loop → tie.At-loop Inv-loop μ-loop
+at-loop-from-further c = c .before .before .before .before .before
+
+abbrev start-from-at-loop : tie.At-loop Inv-loop μ-loop → tie.Start Inv-loop μ-loop
+start-from-at-loop c = c .before .before .before .before
+
+abbrev start-from-seen : tie.After-seen Inv-loop μ-loop → tie.Start Inv-loop μ-loop
+start-from-seen c = start-from-at-loop (c .before .before)
 
 loop-holds : tie.Need-loop-holds Inv-loop μ-loop
-loop-holds c = descent-start _ _ _ _ (c .before .before .pre)
+loop-holds c = descent-start _ _ _ _ (c .before .before .before .pre .0)
 
 enum-known-seen : tie.Need-enum-known-seen Inv-loop μ-loop
 enum-known-seen c = search needs
@@ -26,13 +36,15 @@ towards-requires : tie.Need-towards-requires Inv-loop μ-loop
 towards-requires c κs = let a = at-inner (c .before .before .before .loop .inv .trail) (c .before .seen .given .1) in (a .size, a .inside)
 
 further-requires : tie.Need-further-requires Inv-loop μ-loop
-further-requires c κs = at-inner (c .before .before .before .before .loop .inv .trail) (c .before .before .seen .given .1)
+further-requires c κs =
+    let after-seen = c .before .before in
+    (at-inner (after-seen .before .before .loop .inv .trail) (after-seen .seen .given .1), start-from-seen after-seen .pre .1)
 
 loop-less : tie.Need-loop-less Inv-loop μ-loop
-loop-less c = let a = at-inner (c .before .before .before .before .before .loop .inv .trail) (c .before .before .before .seen .given .1) in omega (arith, a .short, c .further .ensures .place .count)
+loop-less c = let a = at-inner (at-loop-from-further c .loop .inv .trail) (c .before .before .before .seen .given .1) in omega (arith, a .short, c .further .ensures .place .count)
 
 loop-again : tie.Need-loop-again Inv-loop μ-loop
-loop-again c = descent-next (c .before .before .before .before .before .loop .inv) _ _ (c .before .before .before .seen .given .1) (c .before .towards .ensures) (c .further .ensures)
+loop-again c = descent-next (at-loop-from-further c .loop .inv) _ _ (c .before .before .before .seen .given .1) (c .before .towards .ensures) (c .further .ensures)
 
 enum-known-seen-2 : tie.Need-enum-known-seen-2 Inv-loop μ-loop
 enum-known-seen-2 c = search needs

@@ -10,16 +10,32 @@ fork-towards-requires c κs = search needs
 enum-known-seen : tie.Need-enum-known-seen
 enum-known-seen c = search needs
 
+-- `A-from-B` is the state A as the later state B has it.
+abbrev start-from-fork-towards : tie.After-fork-towards → tie.Start
+start-from-fork-towards c = c .before .before .before .before .before .before
+
+abbrev start-from-from-fork : tie.After-from-fork → tie.Start
+start-from-from-fork c = start-from-fork-towards (c .before .before)
+
+abbrev start-from-seen : tie.After-seen → tie.Start
+start-from-seen c = start-from-fork-towards (c .before .before)
+
+abbrev start-from-slot-of : tie.After-slot-of → tie.Start
+start-from-slot-of c = start-from-seen (c .before .before)
+
 from-fork-requires : tie.Need-from-fork-requires
-from-fork-requires c κs = let a = c .before .before .before .before .before .before in fork-within _ (a .args .walked) (a .args .side) (a .pre) (c .before .fork-towards .ensures)
+from-fork-requires c κs =
+    let start = start-from-fork-towards (c .before) in
+    let f = fork-within _ (start .args .walked) (start .args .side) (start .pre .0) (c .before .fork-towards .ensures) in (f .0, f .1, start .pre .1)
 
 returns : tie.Need-returns
-returns c =
-    let a = c .before .before .before .before .before .before .before .args in
+returns c = let a = start-from-from-fork c .args in
     end-elsewhere (a .store .now) (a .index .now) (a .key .now) (a .walked) (a .side) (c .before .match .keys2) (c .before .before .fork-towards .ensures) (c .from-fork .ensures)
 
 slot-of-requires : tie.Need-slot-of-requires
-slot-of-requires c κs = let a = c .before .before .before .before .before .before .before .before in leaf-fits (a .args .store .now) (a .args .walked .trail) _ (a .pre .trail) (c .before .seen .given .1)
+slot-of-requires c κs =
+    let start = start-from-seen (c .before) in
+    leaf-fits (start .args .store .now) (start .args .walked .trail) _ (start .pre .0 .trail) (c .before .seen .given .1)
 
 key-of-requires : tie.Need-key-of-requires
 key-of-requires c κs = search needs
@@ -32,16 +48,29 @@ answer-requires c κs = search needs
 
 returns-2 : tie.Need-returns-2
 returns-2 c =
-    let a = c .before .before .before .before .before .before .before .before .before .before .before .before .before .args in
-    end-beyond (a .store .now) (a .index .now) (a .key .now) (a .walked) (a .side) _ (c .before .before .before .before .before .before .seen .given .1) (c .before .before .before .before .slot-of .ensures .0) (c .before .before .before .key-of .ensures .0) (c .before .before .beyond .ensures) (c .before .if1 .taken) (c .before .before .before .before .before .before .before .before .before .before .before .before .before .pre .trail) (c .answer .ensures)
+    let then1 = c .before in
+    let after-beyond = then1 .before in
+    let after-key-of = after-beyond .before in
+    let after-slot-of = after-key-of .before in
+    let start = start-from-slot-of after-slot-of in
+    let a = start .args in
+    end-beyond (a .store .now) (a .index .now) (a .key .now) (a .walked) (a .side) _ (after-slot-of .before .before .seen .given .1) (after-slot-of .slot-of .ensures .0) (after-key-of .key-of .ensures .0) (after-beyond .beyond .ensures) (then1 .if1 .taken) (start .pre .0 .trail) (c .answer .ensures)
 
 from-fork-requires-2 : tie.Need-from-fork-requires-2
-from-fork-requires-2 c κs = let a = c .before .before .before .before .before .before .before .before .before .before .before .before in fork-within _ (a .args .walked) (a .args .side) (a .pre) (c .before .before .before .before .before .before .before .fork-towards .ensures)
+from-fork-requires-2 c κs =
+    let after-fork-towards = c .before .before .before .before .before .before .before in
+    let start = start-from-fork-towards after-fork-towards in
+    let f = fork-within _ (start .args .walked) (start .args .side) (start .pre .0) (after-fork-towards .fork-towards .ensures) in (f .0, f .1, start .pre .1)
 
 returns-3 : tie.Need-returns-3
 returns-3 c =
-    let a = c .before .before .before .before .before .before .before .before .before .before .before .before .before .args in
-    end-before (a .store .now) (a .index .now) (a .key .now) (a .walked) (a .side) _ (c .before .before .before .before .before .before .seen .given .1) (c .before .before .before .before .slot-of .ensures .0) (c .before .before .before .key-of .ensures .0) (c .before .before .beyond .ensures) (c .before .if1 .left) (c .before .before .before .before .before .before .before .before .fork-towards .ensures) (c .from-fork2 .ensures)
+    let else1 = c .before in
+    let after-beyond = else1 .before in
+    let after-key-of = after-beyond .before in
+    let after-slot-of = after-key-of .before in
+    let after-seen = after-slot-of .before .before in
+    let a = start-from-seen after-seen .args in
+    end-before (a .store .now) (a .index .now) (a .key .now) (a .walked) (a .side) _ (after-seen .seen .given .1) (after-slot-of .slot-of .ensures .0) (after-key-of .key-of .ensures .0) (after-beyond .beyond .ensures) (else1 .if1 .left) (after-seen .before .before .fork-towards .ensures) (c .from-fork2 .ensures)
 
 pub neighbour-spec : {M : Type 1} → statement M
 neighbour-spec =

@@ -12,7 +12,10 @@ top-requires : tie.Need-top-requires
 top-requires c κs = search needs
 
 returns : tie.Need-returns
-returns c = started (c .before .before .before .before .args .store .now) (c .before .before .before .before .args .index .now) (c .before .before .before .before .args .version) _ _ _ (c .before .before .before .before .pre) refl (c .top .ensures) (c .before .root .ensures)
+returns c =
+    let after-root = c .before in
+    let start = after-root .before .before .before in
+    started (start .args .store .now) (start .args .index .now) (start .args .version) _ _ _ (start .pre) refl (c .top .ensures) (after-root .root .ensures)
 
 pub start-spec : {M : Type 1} → statement M
 start-spec = tie.close (tie.spec root-requires top-requires returns)

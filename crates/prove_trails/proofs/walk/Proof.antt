@@ -9,10 +9,10 @@ use Rattle.prove_trails.proofs.walk.Statement.{statement}
 use Rattle.prove_trails.proofs.walk.Tie as tie
 
 abbrev Inv-loop : tie.InvT-loop
-Inv-loop store index version key trail₀ left₀ right₀ trail left right = Walking store index version key trail left right
+Inv-loop store index kids version key trail₀ left₀ right₀ trail left right = Walking store index version key trail left right
 
 abbrev μ-loop : tie.MeasureT-loop
-μ-loop store index version key trail₀ left₀ right₀ trail left right = 256 - trail .place .count
+μ-loop store index kids version key trail₀ left₀ right₀ trail left right = 256 - trail .place .count
 
 top-requires : tie.Need-top-requires Inv-loop μ-loop
 top-requires c κs = search needs
@@ -20,8 +20,35 @@ top-requires c κs = search needs
 start-requires : tie.Need-start-requires Inv-loop μ-loop
 start-requires c κs = search needs
 
+-- `A-from-B` is the state A as the later state B has it.
+abbrev seen-from-key-bit : tie.After-key-bit Inv-loop μ-loop → tie.After-seen Inv-loop μ-loop
+seen-from-key-bit c = c .before .before .before
+
+abbrev seen-from-further : tie.After-further Inv-loop μ-loop → tie.After-seen Inv-loop μ-loop
+seen-from-further c = seen-from-key-bit (c .before .before .before)
+
+abbrev at-loop-from-key-bit : tie.After-key-bit Inv-loop μ-loop → tie.At-loop Inv-loop μ-loop
+at-loop-from-key-bit c = c .before .before .before .before .before
+
+abbrev at-loop-from-further : tie.After-further Inv-loop μ-loop → tie.At-loop Inv-loop μ-loop
+at-loop-from-further c = at-loop-from-key-bit (c .before .before .before)
+
+abbrev start-from-top : tie.After-top Inv-loop μ-loop → tie.Start Inv-loop μ-loop
+start-from-top c = c .before .before .before .before .before
+
+abbrev start-from-start : tie.After-start Inv-loop μ-loop → tie.Start Inv-loop μ-loop
+start-from-start c = start-from-top (c .before)
+
+abbrev start-from-at-loop : tie.At-loop Inv-loop μ-loop → tie.Start Inv-loop μ-loop
+start-from-at-loop c = c .before .before .before .before .before .before .before
+
+abbrev start-from-seen : tie.After-seen Inv-loop μ-loop → tie.Start Inv-loop μ-loop
+start-from-seen c = start-from-at-loop (c .before .before)
+
 loop-holds : tie.Need-loop-holds Inv-loop μ-loop
-loop-holds c = walking-start (c .before .before .before .before .before .args .store .now) (c .before .before .before .before .before .args .index .now) (c .before .before .before .before .before .args .version) (c .before .before .before .before .before .args .key .now) _ _ (c .start .ensures) (c .before .top .ensures .proper)
+loop-holds c =
+    let start = start-from-start c in
+    walking-start (start .args .store .now) (start .args .index .now) (start .args .version) (start .args .key .now) _ _ (c .start .ensures) (c .before .top .ensures .proper)
 
 enum-known-seen : tie.Need-enum-known-seen Inv-loop μ-loop
 enum-known-seen c = search needs
@@ -30,22 +57,35 @@ returns : tie.Need-returns Inv-loop μ-loop
 returns c = walk-ended _ _ _ (c .before .loop .inv) (c .match .keys2)
 
 key-bit-requires : tie.Need-key-bit-requires Inv-loop μ-loop
-key-bit-requires c κs = let a = at-inner (c .before .before .before .before .loop .inv .trail) (c .before .before .seen .given .1) in omega (arith, a .short, c .before .before .before .before .before .before .before .before .before .before .pre .1)
+key-bit-requires c κs =
+    let after-seen = c .before .before in
+    let a = at-inner (after-seen .before .before .loop .inv .trail) (after-seen .seen .given .1) in omega (arith, a .short, start-from-seen after-seen .pre .1)
 
 deepest-requires : tie.Need-deepest-requires Inv-loop μ-loop
-deepest-requires c κs = let a = at-inner (c .before .before .before .before .before .loop .inv .trail) (c .before .before .before .seen .given .1) in (a .size, a .inside)
+deepest-requires c κs =
+    let after-seen = c .before .before .before in
+    let a = at-inner (after-seen .before .before .loop .inv .trail) (after-seen .seen .given .1) in (a .size, a .inside)
 
 deepest-requires-2 : tie.Need-deepest-requires-2 Inv-loop μ-loop
-deepest-requires-2 c κs = let a = at-inner (c .before .before .before .before .before .before .loop .inv .trail) (c .before .before .before .before .seen .given .1) in (a .size, a .inside)
+deepest-requires-2 c κs =
+    let after-seen = c .before .before .before .before in
+    let a = at-inner (after-seen .before .before .loop .inv .trail) (after-seen .seen .given .1) in (a .size, a .inside)
 
 further-requires : tie.Need-further-requires Inv-loop μ-loop
-further-requires c κs = at-inner (c .before .before .before .before .before .before .before .loop .inv .trail) (c .before .before .before .before .before .seen .given .1)
+further-requires c κs =
+    let after-seen = c .before .before .before .before .before in
+    (at-inner (after-seen .before .before .loop .inv .trail) (after-seen .seen .given .1), start-from-seen after-seen .pre .2)
 
 loop-less : tie.Need-loop-less Inv-loop μ-loop
-loop-less c = let a = at-inner (c .before .before .before .before .before .before .before .before .loop .inv .trail) (c .before .before .before .before .before .before .seen .given .1) in omega (arith, a .short, c .further .ensures .place .count)
+loop-less c = let a = at-inner (at-loop-from-further c .loop .inv .trail) (seen-from-further c .seen .given .1) in omega (arith, a .short, c .further .ensures .place .count)
 
 loop-again : tie.Need-loop-again Inv-loop μ-loop
-loop-again c = walking-next _ _ _ _ (c .before .before .before .before .before .before .before .before .loop .inv) (c .before .before .before .before .before .before .seen .given .1) (c .before .before .before .key-bit .ensures) (c .before .before .deepest .ensures) (c .before .deepest2 .ensures) (c .further .ensures)
+loop-again c =
+    let after-deepest2 = c .before in
+    let after-deepest = after-deepest2 .before in
+    let after-key-bit = after-deepest .before in
+    let after-seen = after-key-bit .before .before .before in
+    walking-next _ _ _ _ (after-seen .before .before .loop .inv) (after-seen .seen .given .1) (after-key-bit .key-bit .ensures) (after-deepest .deepest .ensures) (after-deepest2 .deepest2 .ensures) (c .further .ensures)
 
 pub walk-spec : {M : Type 1} → statement M
 walk-spec =

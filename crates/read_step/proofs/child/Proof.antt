@@ -15,6 +15,13 @@ use Rattle.read_step.proofs.child.Tie as tie
 child-version-requires : tie.Need-child-version-requires
 child-version-requires c κs = search needs
 
+-- `A-from-B` is the state A as the later state B has it.
+abbrev start-from-else1 : tie.Else1 → tie.Start
+start-from-else1 c = c .before .before .before .before
+
+abbrev start-from-look-by : tie.After-look-by → tie.Start
+start-from-look-by c = start-from-else1 (c .before)
+
 returns : tie.Need-returns
 returns c =
     let a = c .before .before .before .before .args in
@@ -29,13 +36,14 @@ enum-known-sight c = search needs
 
 seen-in-requires : tie.Need-seen-in-requires
 seen-in-requires c κs =
-    let version = c .before .before .before .before .before in
-    let start = version .before .before .before in
+    let after-sight = c .before in
+    let after-look-by = after-sight .before .before in
+    let start = start-from-look-by after-look-by in
     let s = start .args .store .now in
     let table = start .args .index .now in
-    let b = all-of Byte s 0 (λ i _. omega (arith, version .before .before .shared-slice-known .given i)) in
+    let b = all-of Byte s 0 (λ i _. omega (arith, after-look-by .before .before .before .before .shared-slice-known .given i)) in
     holds-found s (start .pre .size) b (start .args .place) (start .pre .proper)
-    (node-placed s table (version .child-version .result) (start .args .place)) (c .before .before .before .look-by .ensures) (c .before .sight .given .1)
+    (node-placed s table (after-look-by .before .before .child-version .result) (start .args .place)) (after-look-by .look-by .ensures) (after-sight .sight .given .1)
 
 enum-told : tie.Need-enum-told
 enum-told c = search needs
@@ -45,49 +53,58 @@ enum-known-sight-2 c = search needs
 
 cast-slot : tie.Need-cast-slot
 cast-slot c =
-    let start = c .before .before .before .before .before .before .before .before in
+    let after-sight2 = c .before in
+    let after-look-by = after-sight2 .before .before in
+    let start = start-from-look-by after-look-by in
     let s = start .args .store .now in
     let table = start .args .index .now in
     omega (
       arith,
-      spoilt-small s (nodeBy table (storeOf s) (c .before .before .before .before .before .child-version .result) (placeOf (start .args .place)))
-          (c .before .before .before .look-by .ensures) (c .before .sight2 .given .1) (start .pre .size),
+      spoilt-small s (nodeBy table (storeOf s) (after-look-by .before .before .child-version .result) (placeOf (start .args .place)))
+          (after-look-by .look-by .ensures) (after-sight2 .sight2 .given .1) (start .pre .size),
     )
 
 returns-2 : tie.Need-returns-2
 returns-2 c =
-    let version = c .before .before .before .before .before .before in
-    let start = version .before .before .before in
+    let after-sight = c .before .before in
+    let after-look-by = after-sight .before .before in
+    let else1 = after-look-by .before in
+    let after-child-version = else1 .before in
+    let after-shared-slice-known = after-child-version .before .before in
+    let start = after-shared-slice-known .before in
     let s = start .args .store .now in
     let table = start .args .index .now in
-    let b = all-of Byte s 0 (λ i _. omega (arith, version .before .before .shared-slice-known .given i)) in
+    let b = all-of Byte s 0 (λ i _. omega (arith, after-shared-slice-known .shared-slice-known .given i)) in
     let p = placeOf (start .args .place) in
     child-sees s (start .pre .size) b (start .args .place) (start .pre .proper)
-    (node-placed s table (version .child-version .result) (start .args .place)) (c .before .before .before .before .look-by .ensures) (c .before .before .sight .given .1)
-    table (kidIn (start .args .i) s (start .args .right)) (ap (λ v. nodeBy table (storeOf s) v p) (sym (version .child-version .ensures)))
-    (omega (arith, version .child-version .ensures, c .before .before .before .before .before .if1 .left)) (c .seen-in .result) (c .seen-in .ensures table)
+    (node-placed s table (after-child-version .child-version .result) (start .args .place)) (after-look-by .look-by .ensures) (after-sight .sight .given .1)
+    table (kidIn (start .args .i) s (start .args .right)) (ap (λ v. nodeBy table (storeOf s) v p) (sym (after-child-version .child-version .ensures)))
+    (omega (arith, after-child-version .child-version .ensures, else1 .if1 .left)) (c .seen-in .result) (c .seen-in .ensures table)
 
 returns-3 : tie.Need-returns-3
 returns-3 c =
-    let version = c .before .before .before .before in
-    let start = version .before .before .before in
+    let after-look-by = c .before .before in
+    let else1 = after-look-by .before in
+    let start = start-from-else1 else1 in
     let s = start .args .store .now in
     let table = start .args .index .now in
     let p = placeOf (start .args .place) in
-    child-nothing s (nodeBy table (storeOf s) (version .child-version .result) p) (c .before .before .look-by .ensures) (c .enum-told .given .1) table p
-    (kidIn (start .args .i) s (start .args .right)) (ap (λ v. nodeBy table (storeOf s) v p) (sym (version .child-version .ensures)))
-    (omega (arith, version .child-version .ensures, c .before .before .before .if1 .left))
+    child-nothing s (nodeBy table (storeOf s) (else1 .before .child-version .result) p) (after-look-by .look-by .ensures) (c .enum-told .given .1) table p
+    (kidIn (start .args .i) s (start .args .right)) (ap (λ v. nodeBy table (storeOf s) v p) (sym (else1 .before .child-version .ensures)))
+    (omega (arith, else1 .before .child-version .ensures, else1 .if1 .left))
 
 returns-4 : tie.Need-returns-4
 returns-4 c =
-    let version = c .before .before .before .before .before in
-    let start = version .before .before .before in
+    let after-sight2 = c .before in
+    let after-look-by = after-sight2 .before .before in
+    let else1 = after-look-by .before in
+    let start = start-from-else1 else1 in
     let s = start .args .store .now in
     let table = start .args .index .now in
     let p = placeOf (start .args .place) in
-    child-spoilt s (nodeBy table (storeOf s) (version .child-version .result) p) (c .before .before .before .look-by .ensures) (c .before .sight2 .given .1) table p
-    (kidIn (start .args .i) s (start .args .right)) (ap (λ v. nodeBy table (storeOf s) v p) (sym (version .child-version .ensures)))
-    (omega (arith, version .child-version .ensures, c .before .before .before .before .if1 .left))
+    child-spoilt s (nodeBy table (storeOf s) (else1 .before .child-version .result) p) (after-look-by .look-by .ensures) (after-sight2 .sight2 .given .1) table p
+    (kidIn (start .args .i) s (start .args .right)) (ap (λ v. nodeBy table (storeOf s) v p) (sym (else1 .before .child-version .ensures)))
+    (omega (arith, else1 .before .child-version .ensures, else1 .if1 .left))
 
 pub child-spec : {M : Type 1} → statement M
 child-spec =

@@ -19,15 +19,28 @@ look-root-by-requires c κs = search needs
 enum-known-sight : tie.Need-enum-known-sight
 enum-known-sight c = search needs
 
+-- `A-from-B` is the state A as the later state B has it.
+abbrev start-from-shared-slice-known : tie.After-shared-slice-known → tie.Start
+start-from-shared-slice-known c = c .before
+
+abbrev start-from-sight2 : tie.After-sight2 → tie.Start
+start-from-sight2 c = start-from-shared-slice-known (c .before .before .before .before .before)
+
+abbrev start-from-enum-told : tie.After-enum-told → tie.Start
+start-from-enum-told c = start-from-shared-slice-known (c .before .before .before .before .before)
+
 seen-in-requires : tie.Need-seen-in-requires
 seen-in-requires c κs =
-    let top = c .before .before .before .before in
-    let start = top .before .before .before in
+    let after-sight = c .before in
+    let after-look-root-by = after-sight .before .before in
+    let after-top = after-look-root-by .before in
+    let after-shared-slice-known = after-top .before .before in
+    let start = after-shared-slice-known .before in
     let s = start .args .store .now in
     let table = start .args .index .now in
-    let b = all-of Byte s 0 (λ i _. omega (arith, top .before .before .shared-slice-known .given i)) in
-    holds-found s (start .pre) b (top .top .result) (top .top .ensures .proper)
-    (root-placed s table (start .args .version) (top .top .result) (top .top .ensures .place)) (c .before .before .before .look-root-by .ensures) (c .before .sight .given .1)
+    let b = all-of Byte s 0 (λ i _. omega (arith, after-shared-slice-known .shared-slice-known .given i)) in
+    holds-found s (start .pre) b (after-top .top .result) (after-top .top .ensures .proper)
+    (root-placed s table (start .args .version) (after-top .top .result) (after-top .top .ensures .place)) (after-look-root-by .look-root-by .ensures) (after-sight .sight .given .1)
 
 enum-told : tie.Need-enum-told
 enum-told c = search needs
@@ -37,29 +50,33 @@ enum-known-sight-2 c = search needs
 
 cast-slot : tie.Need-cast-slot
 cast-slot c =
-    let start = c .before .before .before .before .before .before .before in
+    let after-sight2 = c .before in
+    let start = start-from-sight2 after-sight2 in
     let s = start .args .store .now in
     let table = start .args .index .now in
     omega (
       arith,
-      spoilt-small s (rootBy table (storeOf s) (start .args .version)) (c .before .before .before .look-root-by .ensures) (c .before .sight2 .given .1)
+      spoilt-small s (rootBy table (storeOf s) (start .args .version)) (after-sight2 .before .before .look-root-by .ensures) (after-sight2 .sight2 .given .1)
           (start .pre),
     )
 
 returns : tie.Need-returns
 returns c =
-    let top = c .before .before .before .before .before in
-    let start = top .before .before .before in
+    let after-sight = c .before .before in
+    let after-look-root-by = after-sight .before .before in
+    let after-top = after-look-root-by .before in
+    let after-shared-slice-known = after-top .before .before in
+    let start = after-shared-slice-known .before in
     let s = start .args .store .now in
     let table = start .args .index .now in
-    let b = all-of Byte s 0 (λ i _. omega (arith, top .before .before .shared-slice-known .given i)) in
-    root-sees s (start .pre) b (top .top .result) (top .top .ensures .proper)
-    (root-placed s table (start .args .version) (top .top .result) (top .top .ensures .place)) (c .before .before .before .before .look-root-by .ensures) (c .before .before .sight .given .1)
-    table (start .args .version) refl (top .top .ensures .place) (c .seen-in .result) (c .seen-in .ensures table)
+    let b = all-of Byte s 0 (λ i _. omega (arith, after-shared-slice-known .shared-slice-known .given i)) in
+    root-sees s (start .pre) b (after-top .top .result) (after-top .top .ensures .proper)
+    (root-placed s table (start .args .version) (after-top .top .result) (after-top .top .ensures .place)) (after-look-root-by .look-root-by .ensures) (after-sight .sight .given .1)
+    table (start .args .version) refl (after-top .top .ensures .place) (c .seen-in .result) (c .seen-in .ensures table)
 
 returns-2 : tie.Need-returns-2
 returns-2 c =
-    let start = c .before .before .before .before .before .before in
+    let start = start-from-enum-told c in
     let s = start .args .store .now in
     let table = start .args .index .now in
     let v = start .args .version in
@@ -67,11 +84,12 @@ returns-2 c =
 
 returns-3 : tie.Need-returns-3
 returns-3 c =
-    let start = c .before .before .before .before .before .before .before in
+    let after-sight2 = c .before in
+    let start = start-from-sight2 after-sight2 in
     let s = start .args .store .now in
     let table = start .args .index .now in
     let v = start .args .version in
-    root-spoilt s (rootBy table (storeOf s) v) (c .before .before .before .look-root-by .ensures) (c .before .sight2 .given .1) table v refl
+    root-spoilt s (rootBy table (storeOf s) v) (after-sight2 .before .before .look-root-by .ensures) (after-sight2 .sight2 .given .1) table v refl
 
 pub root-spec : {M : Type 1} → statement M
 root-spec =

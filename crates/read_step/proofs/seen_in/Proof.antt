@@ -6,6 +6,10 @@ use borrow.Author.Needs.{needs}
 use Rattle.read_step.proofs.seen_in.Statement.{statement}
 use Rattle.read_step.proofs.seen_in.Tie as tie
 
+-- `A-from-B` is the state A as the later state B has it.
+abbrev start-from-else1 : tie.Else1 → tie.Start
+start-from-else1 c = c .before .before .before .before
+
 slot-of-requires : tie.Need-slot-of-requires
 slot-of-requires c κs =
     let a = c .before .args in
@@ -30,17 +34,19 @@ begins-requires c κs =
 
 returns-2 : tie.Need-returns-2
 returns-2 c =
-    let e = c .before .before .before in
-    let d = e .before .before in
-    leaf-lost (d .before .before .pre) (d .slot-of .ensures .0) (e .before .is-leaf .ensures) (not-false _ (e .if1 .left))
-    (c .before .before .key-of .ensures .0) (c .before .begins .ensures) (not-true _ (c .if2 .taken))
+    let after-begins = c .before in
+    let after-key-of = after-begins .before in
+    let else1 = after-key-of .before in
+    leaf-lost (start-from-else1 else1 .pre) (else1 .before .before .slot-of .ensures .0) (else1 .before .is-leaf .ensures) (not-false _ (else1 .if1 .left))
+    (after-key-of .key-of .ensures .0) (after-begins .begins .ensures) (not-true _ (c .if2 .taken))
 
 returns-3 : tie.Need-returns-3
 returns-3 c =
-    let e = c .before .before .before in
-    let d = e .before .before in
-    leaf-seen (d .before .before .pre) (d .slot-of .ensures .0) (e .before .is-leaf .ensures) (not-false _ (e .if1 .left))
-    (c .before .before .key-of .ensures .0) (c .before .begins .ensures) (not-false _ (c .if2 .left))
+    let after-begins = c .before in
+    let after-key-of = after-begins .before in
+    let else1 = after-key-of .before in
+    leaf-seen (start-from-else1 else1 .pre) (else1 .before .before .slot-of .ensures .0) (else1 .before .is-leaf .ensures) (not-false _ (else1 .if1 .left))
+    (after-key-of .key-of .ensures .0) (after-begins .begins .ensures) (not-false _ (c .if2 .left))
 
 pub seen-in-spec : {M : Type 1} → statement M
 seen-in-spec =

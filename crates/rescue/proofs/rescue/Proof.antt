@@ -29,9 +29,13 @@ returns-3 c =
     let d = (c .before .before .before .before .before .before) in
     disordered (d .args .oldest) (d .args .latest) (d .args .source .now) (d .args .target .now) (sym ((c .before .before .before) .size-right .ensures) ∙ not-false _ ((c .before .before) .if1 .left)) ((c .before) .if2 .left) (c .if3 .taken)
 
+guide-requires : tie.Need-guide-requires
+guide-requires c κs =
+    sym ((c .before .before .before .before) .size-right .ensures) ∙ not-false _ ((c .before .before .before) .if1 .left)
+
 step-requires : tie.Need-step-requires
 step-requires c κs =
-    sym ((c .before .before .before) .size-right .ensures) ∙ not-false _ ((c .before .before) .if1 .left)
+    (sym ((c .before .before .before .before .before .before) .size-right .ensures) ∙ not-false _ ((c .before .before .before .before .before) .if1 .left), (c .before) .guide .ensures)
 
 enum-known-tested : tie.Need-enum-known-tested
 enum-known-tested c =
@@ -43,22 +47,23 @@ enum-told c =
 
 returns-4 : tie.Need-returns-4
 returns-4 c =
-    let d = (c .before .before .before .before .before .before .before .before .before) in
+    let d = (c .before .before .before .before .before .before .before .before .before .before .before .before) in
     let s = d .args .source .now in
-    no-run (d .args .oldest) (d .args .latest) s (d .args .target .now) (sym ((c .before .before .before .before .before .before) .size-right .ensures) ∙ not-false _ ((c .before .before .before .before .before) .if1 .left)) ((c .before .before .before .before) .if2 .left) ((c .before .before .before) .if3 .left)
-    (all-of Byte s 0 (λ i _. omega (arith, (c .before .before .before .before .before .before .before .before) .shared-slice-known .given i))) (omega arith) (subst (StepSays s (d .args .latest) 0 0 0) (c .enum-told .given .1) ((c .before .before) .step .ensures))
+    no-run (d .args .oldest) (d .args .latest) s (d .args .target .now) (sym ((c .before .before .before .before .before .before .before .before .before) .size-right .ensures) ∙ not-false _ ((c .before .before .before .before .before .before .before .before) .if1 .left)) ((c .before .before .before .before .before .before .before) .if2 .left) ((c .before .before .before .before .before .before) .if3 .left)
+    (all-of Byte s 0 (λ i _. omega (arith, (c .before .before .before .before .before .before .before .before .before .before .before) .shared-slice-known .given i))) (omega arith) (subst (StepSays s (d .args .latest) 0 0 0) (c .enum-told .given .1) ((c .before .before) .step .ensures))
 
 fill-requires : tie.Need-fill-requires
 fill-requires c κs =
-    let d = (c .before .before .before .before .before .before .before .before .before .before .before) in
-    let s = d .args .source .now in
-    fillable (d .args .oldest) (d .args .latest) s (d .args .target .now) (sym ((c .before .before .before .before .before .before .before .before) .size-right .ensures) ∙ not-false _ ((c .before .before .before .before .before .before .before) .if1 .left)) ((c .before .before .before .before .before .before) .if2 .left) ((c .before .before .before .before .before) .if3 .left)
-    (subst (StepSays s (d .args .latest) 0 0 0) ((c .before .before) .tested .given .1) ((c .before .before .before .before) .step .ensures))
+    let d = (c .before .before .before .before .before .before .before .before .before .before .before .before .before .before .before) in
+    let s = d .args .source .now in (
+      fillable (d .args .oldest) (d .args .latest) s (d .args .target .now) (sym ((c .before .before .before .before .before .before .before .before .before .before .before .before) .size-right .ensures) ∙ not-false _ ((c .before .before .before .before .before .before .before .before .before .before .before) .if1 .left)) ((c .before .before .before .before .before .before .before .before .before .before) .if2 .left) ((c .before .before .before .before .before .before .before .before .before) .if3 .left)
+          (subst (StepSays s (d .args .latest) 0 0 0) ((c .before .before .before) .tested .given .1) ((c .before .before .before .before .before) .step .ensures)),
+      (c .before .before .before .before .before .before .before) .guide .ensures,
+    )
 
 count-requires : tie.Need-count-requires
 count-requires c κs =
-    let d = (c .before .before .before .before .before .before .before .before .before .before .before .before .before .before .before) in
-    record { size = sym ((c .before .before .before .before .before .before .before .before .before .before .before .before) .size-right .ensures) ∙ not-false _ ((c .before .before .before .before .before .before .before .before .before .before .before) .if1 .left); equal = (c .before .before .before) .fill .kept .1 .1 .1 .1 .1 .0 ∙ (c .before .before .before .before .before .before .before .before .before .before) .if2 .left }
+    record { size = sym ((c .before .before .before .before .before .before .before .before .before .before .before .before .before .before .before .before) .size-right .ensures) ∙ not-false _ ((c .before .before .before .before .before .before .before .before .before .before .before .before .before .before .before) .if1 .left); equal = (c .before .before .before) .fill .kept .1 .1 .1 .1 .1 .1 .1 .0 ∙ (c .before .before .before .before .before .before .before .before .before .before .before .before .before .before) .if2 .left }
 
 same-length : tie.Need-same-length
 same-length c =
@@ -66,8 +71,8 @@ same-length c =
 
 returns-5 : tie.Need-returns-5
 returns-5 c =
-    let d = (c .before .before .before .before .before .before .before .before .before .before .before .before .before .before .before .before) in
-    kept (d .args .oldest) (d .args .latest) (d .args .source .now) (d .args .target .now) (sym ((c .before .before .before .before .before .before .before .before .before .before .before .before .before) .size-right .ensures) ∙ not-false _ ((c .before .before .before .before .before .before .before .before .before .before .before .before) .if1 .left)) ((c .before .before .before .before .before .before .before .before .before .before .before) .if2 .left) ((c .before .before .before .before .before .before .before .before .before .before) .if3 .left)
+    let d = (c .before .before .before .before .before .before .before .before .before .before .before .before .before .before .before .before .before .before .before .before) in
+    kept (d .args .oldest) (d .args .latest) (d .args .source .now) (d .args .target .now) (sym ((c .before .before .before .before .before .before .before .before .before .before .before .before .before .before .before .before .before) .size-right .ensures) ∙ not-false _ ((c .before .before .before .before .before .before .before .before .before .before .before .before .before .before .before .before) .if1 .left)) ((c .before .before .before .before .before .before .before .before .before .before .before .before .before .before .before) .if2 .left) ((c .before .before .before .before .before .before .before .before .before .before .before .before .before .before) .if3 .left)
     ((c .before .before .before .before) .fill .ensures) (c .count .ensures)
 
 pub rescue-spec : {M : Type 1} → statement M
@@ -78,6 +83,7 @@ rescue-spec =
     returns
     returns-2
     returns-3
+    guide-requires
     step-requires
     enum-known-tested
     enum-told

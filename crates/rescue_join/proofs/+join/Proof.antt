@@ -25,14 +25,14 @@ use Rattle.place.proofs.Place.right.Reads as right-reads
 use Rattle.rescue_join.proofs.+join.{statement}
 use Rattle.rescue_join.proofs.+join.Tie.{close}
 
-abbrev μ-join : Measures 1 join-kinds.ps ℕ
-μ-join κs a = 256 - a .1 .1 .0 .count
+abbrev μ-join : Measures 2 join-kinds.ps ℕ
+μ-join κs a = 256 - a .1 .1 .1 .1 .0 .count
 
-abbrev join-at : ℕ → In 1 join-kinds.ps
-join-at t = and 1 join-kinds.ps (is 1 join-kinds.ps μ-join t) join.Pre
+abbrev join-at : ℕ → In 2 join-kinds.ps
+join-at t = and 2 join-kinds.ps (is 2 join-kinds.ps μ-join t) join.Pre
 
-abbrev join-below : ℕ → In 1 join-kinds.ps
-join-below t = and 1 join-kinds.ps (falls 1 join-kinds.ps _<_ μ-join t) join.Pre
+abbrev join-below : ℕ → In 2 join-kinds.ps
+join-below t = and 2 join-kinds.ps (falls 2 join-kinds.ps _<_ μ-join t) join.Pre
 
 abbrev join-calls : ℕ → join-lts.Claims
 join-calls t = (
@@ -77,7 +77,7 @@ join-lowest-requires t c κs =
 join-record-right-requires : (t : ℕ) → join-lts.Need-record-right-requires (join-calls t) (join-at t) join.Post
 join-record-right-requires t c κs =
     let d = (c .before .before .before .before .before) in
-    record { size = d .pre .1 .0; proper = d .pre .1 .1; lowest = c .lowest .ensures }
+    (record { size = d .pre .1 .0; proper = d .pre .1 .1; lowest = c .lowest .ensures }, d .pre .1 .2)
 
 join-returns-3 : (t : ℕ) → join-lts.Need-returns-3 (join-calls t) (join-at t) join.Post
 join-returns-3 t c =
@@ -122,7 +122,7 @@ join-left-requires t c κs =
 join-join-requires : (t : ℕ) → join-lts.Need-join-requires (join-calls t) (join-at t) join.Post
 join-join-requires t c κs =
     let d = (c .before .before .before .before .before .before .before .before .before .before .before .before .before .before .before) in
-    (omega (arith, d .pre .0, c .left .ensures .count, (c .before .before .before .before .before .before) .if4 .left), (d .pre .1 .0, c .left .ensures .proper))
+    (omega (arith, d .pre .0, c .left .ensures .count, (c .before .before .before .before .before .before) .if4 .left), (d .pre .1 .0, c .left .ensures .proper, d .pre .1 .2))
 
 join-enum-known-on-left : (t : ℕ) → join-lts.Need-enum-known-on-left (join-calls t) (join-at t) join.Post
 join-enum-known-on-left t c =
@@ -149,7 +149,7 @@ join-right-requires t c κs =
 join-join-requires-2 : (t : ℕ) → join-lts.Need-join-requires-2 (join-calls t) (join-at t) join.Post
 join-join-requires-2 t c κs =
     let d = (c .before .before .before .before .before .before .before .before .before .before .before .before .before .before .before .before .before .before .before .before) in
-    (omega (arith, d .pre .0, c .right .ensures .count, (c .before .before .before .before .before .before .before .before .before .before .before) .if4 .left), (d .pre .1 .0, c .right .ensures .proper))
+    (omega (arith, d .pre .0, c .right .ensures .count, (c .before .before .before .before .before .before .before .before .before .before .before) .if4 .left), (d .pre .1 .0, c .right .ensures .proper, d .pre .1 .2))
 
 join-enum-known-on-right : (t : ℕ) → join-lts.Need-enum-known-on-right (join-calls t) (join-at t) join.Post
 join-enum-known-on-right t c =

@@ -27,7 +27,7 @@ hash-at-requires : tie.Need-hash-at-requires
 hash-at-requires c κs = omega (arith, c .child-hash .ensures .1)
 
 lowest-requires : tie.Need-lowest-requires
-lowest-requires c κs = let d = c .before .before .before .before .before .before in (d .pre .0 .size, d .pre .1)
+lowest-requires c κs = let d = c .before .before .before .before .before .before in (d .pre .0 .size, d .pre .1, d .pre .2)
 
 weighs-requires : tie.Need-weighs-requires
 weighs-requires c κs =

@@ -8,8 +8,8 @@ use borrow.Author.Needs.{needs}
 use Rattle.rescue_root.proofs.root_version.Statement.{statement}
 use Rattle.rescue_root.proofs.root_version.Tie as tie
 
-newest-root-requires : tie.Need-newest-root-requires
-newest-root-requires c κs = c .before .pre
+newest-by-requires : tie.Need-newest-by-requires
+newest-by-requires c κs = c .before .pre
 
 enum-known-newest : tie.Need-enum-known-newest
 enum-known-newest c = search needs
@@ -22,7 +22,7 @@ returns c =
     let e = c .before .before .before in
     let d = e .before in
     let s = d .args .source .now in
-    root-none s (d .args .version) (d .pre) (all-of Byte s 0 (λ i _. omega (arith, e .shared-slice-known .given i))) (c .before .before .newest-root .ensures) (c .enum-told .given .1)
+    root-none s (d .args .version) (d .pre .0) (all-of Byte s 0 (λ i _. omega (arith, e .shared-slice-known .given i))) (c .before .before .newest-by .ensures) (c .enum-told .given .1)
 
 retired-at-requires : tie.Need-retired-at-requires
 retired-at-requires c κs =
@@ -30,7 +30,7 @@ retired-at-requires c κs =
     let e = c3 .before in
     let d = e .before in
     let s = d .args .source .now in
-    slot-within (root-has s (d .args .version) (d .pre) (all-of Byte s 0 (λ i _. omega (arith, e .shared-slice-known .given i))) (c3 .newest-root .ensures) (c .before .newest .given .1))
+    slot-within (root-has s (d .args .version) (d .pre .0) (all-of Byte s 0 (λ i _. omega (arith, e .shared-slice-known .given i))) (c3 .newest-by .ensures) (c .before .newest .given .1))
 
 version-at-requires : tie.Need-version-at-requires
 version-at-requires c κs =
@@ -38,7 +38,7 @@ version-at-requires c κs =
     let e = c4 .before in
     let d = e .before in
     let s = d .args .source .now in
-    slot-within (root-has s (d .args .version) (d .pre) (all-of Byte s 0 (λ i _. omega (arith, e .shared-slice-known .given i))) (c4 .newest-root .ensures) (c .before .before .newest .given .1))
+    slot-within (root-has s (d .args .version) (d .pre .0) (all-of Byte s 0 (λ i _. omega (arith, e .shared-slice-known .given i))) (c4 .newest-by .ensures) (c .before .before .newest .given .1))
 
 returns-2 : tie.Need-returns-2
 returns-2 c =
@@ -48,7 +48,7 @@ returns-2 c =
     let e = c6 .before in
     let d = e .before in
     let s = d .args .source .now in
-    root-unretired s (d .args .version) (d .pre) (all-of Byte s 0 (λ i _. omega (arith, e .shared-slice-known .given i))) (c6 .newest-root .ensures) (c4 .newest .given .1)
+    root-unretired s (d .args .version) (d .pre .0) (all-of Byte s 0 (λ i _. omega (arith, e .shared-slice-known .given i))) (c6 .newest-by .ensures) (c4 .newest .given .1)
     (c .before .version-at .ensures) (c2 .retired-at .ensures) (c .if1 .taken)
 
 returns-3 : tie.Need-returns-3
@@ -59,7 +59,7 @@ returns-3 c =
     let e = c7 .before in
     let d = e .before in
     let s = d .args .source .now in
-    root-retired s (d .args .version) (d .pre) (all-of Byte s 0 (λ i _. omega (arith, e .shared-slice-known .given i))) (c7 .newest-root .ensures) (c5 .newest .given .1)
+    root-retired s (d .args .version) (d .pre .0) (all-of Byte s 0 (λ i _. omega (arith, e .shared-slice-known .given i))) (c7 .newest-by .ensures) (c5 .newest .given .1)
     (c .before .before .version-at .ensures) (c3 .retired-at .ensures) (c .before .if1 .left) (c .if2 .taken)
 
 returns-4 : tie.Need-returns-4
@@ -70,10 +70,10 @@ returns-4 c =
     let e = c7 .before in
     let d = e .before in
     let s = d .args .source .now in
-    root-later s (d .args .version) (d .pre) (all-of Byte s 0 (λ i _. omega (arith, e .shared-slice-known .given i))) (c7 .newest-root .ensures) (c5 .newest .given .1)
+    root-later s (d .args .version) (d .pre .0) (all-of Byte s 0 (λ i _. omega (arith, e .shared-slice-known .given i))) (c7 .newest-by .ensures) (c5 .newest .given .1)
     (c .before .before .version-at .ensures) (c3 .retired-at .ensures) (c .if2 .left)
 
 pub root-version-spec : {M : Type 1} → statement M
 root-version-spec =
     tie.close
-    (tie.spec newest-root-requires enum-known-newest enum-told returns retired-at-requires version-at-requires returns-2 returns-3 returns-4)
+    (tie.spec newest-by-requires enum-known-newest enum-told returns retired-at-requires version-at-requires returns-2 returns-3 returns-4)

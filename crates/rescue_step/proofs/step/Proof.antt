@@ -20,7 +20,7 @@ top-requires c κs =
 
 join-requires : tie.Need-join-requires
 join-requires c κs =
-    ((c .before .before .before .before) .pre, c .top .ensures .proper)
+    ((c .before .before .before .before) .pre .0, c .top .ensures .proper, (c .before .before .before .before) .pre .1)
 
 enum-known-joined : tie.Need-enum-known-joined
 enum-known-joined c =

@@ -16,6 +16,10 @@ Inv-loop store version place n i₀ i = Scan counted store (Ahead (agrees versio
 abbrev μ-loop : tie.MeasureT-loop
 μ-loop store version place n i₀ i = n - i
 
+-- `A-from-B` is the state A as the later state B has it.
+abbrev start-from-in-loop : tie.In-loop Inv-loop μ-loop → tie.Start Inv-loop μ-loop
+start-from-in-loop c = c .before .before .before .before
+
 slot-count-requires : tie.Need-slot-count-requires Inv-loop μ-loop
 slot-count-requires c κs = c .before .pre .0
 
@@ -23,12 +27,14 @@ loop-holds : tie.Need-loop-holds Inv-loop μ-loop
 loop-holds c = let a = c .before .before in spoilt-start (agrees (a .args .version) (placeOf (a .args .place))) (a .args .store .now) (a .pre .0) (c .slot-count .ensures)
 
 node-spoilt-requires : tie.Need-node-spoilt-requires Inv-loop μ-loop
-node-spoilt-requires c κs = (scan-slot (c .before .loop .inv) (c .loop-test .taken), c .before .before .before .before .pre .1)
+node-spoilt-requires c κs = (scan-slot (c .before .loop .inv) (c .loop-test .taken), start-from-in-loop c .pre .1)
 
 returns : tie.Need-returns Inv-loop μ-loop
 returns c =
-    let a = c .before .before .before .before .before .before in
-    spoilt-found (agrees (a .args .version) (placeOf (a .args .place))) (c .before .before .before .loop .inv) (c .before .before .loop-test .taken) (sym (c .before .node-spoilt .ensures) ∙ c .if1 .taken)
+    let after-node-spoilt = c .before in
+    let in-loop = after-node-spoilt .before in
+    let start = start-from-in-loop in-loop in
+    spoilt-found (agrees (start .args .version) (placeOf (start .args .place))) (in-loop .before .loop .inv) (in-loop .loop-test .taken) (sym (after-node-spoilt .node-spoilt .ensures) ∙ c .if1 .taken)
 
 add-i : tie.Need-add-i Inv-loop μ-loop
 add-i c = omega (arith, c .before .before .before .loop .inv .small)
@@ -38,8 +44,10 @@ loop-less c = omega arith
 
 loop-again : tie.Need-loop-again Inv-loop μ-loop
 loop-again c =
-    let a = c .before .before .before .before .before .before in
-    spoilt-next (agrees (a .args .version) (placeOf (a .args .place))) (c .before .before .before .loop .inv) (c .before .before .loop-test .taken) (sym (c .before .node-spoilt .ensures) ∙ c .if1 .left)
+    let after-node-spoilt = c .before in
+    let in-loop = after-node-spoilt .before in
+    let start = start-from-in-loop in-loop in
+    spoilt-next (agrees (start .args .version) (placeOf (start .args .place))) (in-loop .before .loop .inv) (in-loop .loop-test .taken) (sym (after-node-spoilt .node-spoilt .ensures) ∙ c .if1 .left)
 
 returns-2 : tie.Need-returns-2 Inv-loop μ-loop
 returns-2 c = let a = c .before .before .before .before in spoilt-nowhere (agrees (a .args .version) (placeOf (a .args .place))) (c .before .loop .inv) (c .loop-test .left)

@@ -15,6 +15,10 @@ Inv-loop store version n j₀ j = Scan counted store (Ahead (agreesRoot version)
 abbrev μ-loop : tie.MeasureT-loop
 μ-loop store version n j₀ j = n - j
 
+-- `A-from-B` is the state A as the later state B has it.
+abbrev start-from-in-loop : tie.In-loop Inv-loop μ-loop → tie.Start Inv-loop μ-loop
+start-from-in-loop c = c .before .before .before .before
+
 slot-count-requires : tie.Need-slot-count-requires Inv-loop μ-loop
 slot-count-requires c κs = c .before .pre
 
@@ -26,8 +30,9 @@ root-spoilt-requires c κs = scan-slot (c .before .loop .inv) (c .loop-test .tak
 
 returns : tie.Need-returns Inv-loop μ-loop
 returns c =
-    let a = c .before .before .before .before .before .before in
-    spoilt-found (agreesRoot (a .args .version)) (c .before .before .before .loop .inv) (c .before .before .loop-test .taken) (sym (c .before .root-spoilt .ensures) ∙ c .if1 .taken)
+    let after-root-spoilt = c .before in
+    let in-loop = after-root-spoilt .before in
+    spoilt-found (agreesRoot (start-from-in-loop in-loop .args .version)) (in-loop .before .loop .inv) (in-loop .loop-test .taken) (sym (after-root-spoilt .root-spoilt .ensures) ∙ c .if1 .taken)
 
 add-j : tie.Need-add-j Inv-loop μ-loop
 add-j c = omega (arith, c .before .before .before .loop .inv .small)
@@ -37,8 +42,9 @@ loop-less c = omega arith
 
 loop-again : tie.Need-loop-again Inv-loop μ-loop
 loop-again c =
-    let a = c .before .before .before .before .before .before in
-    spoilt-next (agreesRoot (a .args .version)) (c .before .before .before .loop .inv) (c .before .before .loop-test .taken) (sym (c .before .root-spoilt .ensures) ∙ c .if1 .left)
+    let after-root-spoilt = c .before in
+    let in-loop = after-root-spoilt .before in
+    spoilt-next (agreesRoot (start-from-in-loop in-loop .args .version)) (in-loop .before .loop .inv) (in-loop .loop-test .taken) (sym (after-root-spoilt .root-spoilt .ensures) ∙ c .if1 .left)
 
 returns-2 : tie.Need-returns-2 Inv-loop μ-loop
 returns-2 c = let a = c .before .before .before .before in spoilt-nowhere (agreesRoot (a .args .version)) (c .before .loop .inv) (c .loop-test .left)

@@ -14,12 +14,18 @@ find-requires c κs = search needs
 enum-known-found : tie.Need-enum-known-found
 enum-known-found c = search needs
 
+-- `A-from-B` is the state A as the later state B has it.
+abbrev start-from-enum-told : tie.After-enum-told → tie.Start
+start-from-enum-told c = c .before .before .before .before
+
 returns : tie.Need-returns
 unfolding nodeSight
 returns c =
-    let a = c .before .before .before .before .before in
-    let st = storeOf (a .args .store .now) in
-    matched (st .slots) (find (a .args .version) (placeOf (a .args .place)) (st .slots)) (agrees (a .args .version) (placeOf (a .args .place))) (c .before .before .before .find .ensures) (c .before .found .given .1)
+    let after-found = c .before in
+    let after-find = after-found .before .before in
+    let start = after-find .before .before in
+    let st = storeOf (start .args .store .now) in
+    matched (st .slots) (find (start .args .version) (placeOf (start .args .place)) (st .slots)) (agrees (start .args .version) (placeOf (start .args .place))) (after-find .find .ensures) (after-found .found .given .1)
 
 enum-told : tie.Need-enum-told
 enum-told c = search needs
@@ -33,9 +39,12 @@ enum-known-spoilt c = search needs
 returns-2 : tie.Need-returns-2
 unfolding nodeSight
 returns-2 c =
-    let a = c .before .before .before .before .before .before .before .before in
-    let st = storeOf (a .args .store .now) in
-    spoilt-sighted (st .slots) (find (a .args .version) (placeOf (a .args .place)) (st .slots)) (agrees (a .args .version) (placeOf (a .args .place))) (c .before .before .before .before .before .before .find .ensures) (c .before .before .before .before .enum-told .given .1) (c .before .before .before .find-spoilt .ensures) (c .before .spoilt .given .1)
+    let after-spoilt = c .before in
+    let after-find-spoilt = after-spoilt .before .before in
+    let after-enum-told = after-find-spoilt .before in
+    let start = start-from-enum-told after-enum-told in
+    let st = storeOf (start .args .store .now) in
+    spoilt-sighted (st .slots) (find (start .args .version) (placeOf (start .args .place)) (st .slots)) (agrees (start .args .version) (placeOf (start .args .place))) (after-enum-told .before .before .find .ensures) (after-enum-told .enum-told .given .1) (after-find-spoilt .find-spoilt .ensures) (after-spoilt .spoilt .given .1)
 
 enum-told-2 : tie.Need-enum-told-2
 enum-told-2 c = search needs
@@ -43,9 +52,11 @@ enum-told-2 c = search needs
 returns-3 : tie.Need-returns-3
 unfolding nodeSight
 returns-3 c =
-    let a = c .before .before .before .before .before .before .before in
-    let st = storeOf (a .args .store .now) in
-    nothing-sighted (st .slots) (find (a .args .version) (placeOf (a .args .place)) (st .slots)) (agrees (a .args .version) (placeOf (a .args .place))) (c .before .before .before .before .before .find .ensures) (c .before .before .before .enum-told .given .1) (c .before .before .find-spoilt .ensures) (c .enum-told2 .given .1)
+    let after-find-spoilt = c .before .before in
+    let after-enum-told = after-find-spoilt .before in
+    let start = start-from-enum-told after-enum-told in
+    let st = storeOf (start .args .store .now) in
+    nothing-sighted (st .slots) (find (start .args .version) (placeOf (start .args .place)) (st .slots)) (agrees (start .args .version) (placeOf (start .args .place))) (after-enum-told .before .before .find .ensures) (after-enum-told .enum-told .given .1) (after-find-spoilt .find-spoilt .ensures) (c .enum-told2 .given .1)
 
 pub look-spec : {M : Type 1} → statement M
 look-spec =

@@ -14,12 +14,18 @@ find-root-requires c κs = search needs
 enum-known-found : tie.Need-enum-known-found
 enum-known-found c = search needs
 
+-- `A-from-B` is the state A as the later state B has it.
+abbrev start-from-enum-told : tie.After-enum-told → tie.Start
+start-from-enum-told c = c .before .before .before .before
+
 returns : tie.Need-returns
 unfolding rootSight
 returns c =
-    let a = c .before .before .before .before .before in
-    let st = storeOf (a .args .store .now) in
-    matched (st .slots) (rootOf st (a .args .version)) (agreesRoot (a .args .version)) (c .before .before .before .find-root .ensures) (c .before .found .given .1)
+    let after-found = c .before in
+    let after-find-root = after-found .before .before in
+    let start = after-find-root .before .before in
+    let st = storeOf (start .args .store .now) in
+    matched (st .slots) (rootOf st (start .args .version)) (agreesRoot (start .args .version)) (after-find-root .find-root .ensures) (after-found .found .given .1)
 
 enum-told : tie.Need-enum-told
 enum-told c = search needs
@@ -33,9 +39,12 @@ enum-known-spoilt c = search needs
 returns-2 : tie.Need-returns-2
 unfolding rootSight
 returns-2 c =
-    let a = c .before .before .before .before .before .before .before .before in
-    let st = storeOf (a .args .store .now) in
-    spoilt-sighted (st .slots) (rootOf st (a .args .version)) (agreesRoot (a .args .version)) (c .before .before .before .before .before .before .find-root .ensures) (c .before .before .before .before .enum-told .given .1) (c .before .before .before .find-spoilt-root .ensures) (c .before .spoilt .given .1)
+    let after-spoilt = c .before in
+    let after-find-spoilt-root = after-spoilt .before .before in
+    let after-enum-told = after-find-spoilt-root .before in
+    let start = start-from-enum-told after-enum-told in
+    let st = storeOf (start .args .store .now) in
+    spoilt-sighted (st .slots) (rootOf st (start .args .version)) (agreesRoot (start .args .version)) (after-enum-told .before .before .find-root .ensures) (after-enum-told .enum-told .given .1) (after-find-spoilt-root .find-spoilt-root .ensures) (after-spoilt .spoilt .given .1)
 
 enum-told-2 : tie.Need-enum-told-2
 enum-told-2 c = search needs
@@ -43,9 +52,11 @@ enum-told-2 c = search needs
 returns-3 : tie.Need-returns-3
 unfolding rootSight
 returns-3 c =
-    let a = c .before .before .before .before .before .before .before in
-    let st = storeOf (a .args .store .now) in
-    nothing-sighted (st .slots) (rootOf st (a .args .version)) (agreesRoot (a .args .version)) (c .before .before .before .before .before .find-root .ensures) (c .before .before .before .enum-told .given .1) (c .before .before .find-spoilt-root .ensures) (c .enum-told2 .given .1)
+    let after-find-spoilt-root = c .before .before in
+    let after-enum-told = after-find-spoilt-root .before in
+    let start = start-from-enum-told after-enum-told in
+    let st = storeOf (start .args .store .now) in
+    nothing-sighted (st .slots) (rootOf st (start .args .version)) (agreesRoot (start .args .version)) (after-enum-told .before .before .find-root .ensures) (after-enum-told .enum-told .given .1) (after-find-spoilt-root .find-spoilt-root .ensures) (c .enum-told2 .given .1)
 
 pub look-root-spec : {M : Type 1} → statement M
 look-root-spec =

@@ -12,6 +12,10 @@ use borrow.Author.Needs.{needs}
 use Rattle.sights.proofs.node_spoilt.Statement.{statement}
 use Rattle.sights.proofs.node_spoilt.Tie as tie
 
+-- `A-from-B` is the state A as the later state B has it.
+abbrev start-from-count-at : tie.After-count-at → tie.Start
+start-from-count-at c = c .before .before .before .before .before
+
 version-at-requires : tie.Need-version-at-requires
 version-at-requires c κs = slot-within (c .before .pre .0)
 
@@ -36,7 +40,7 @@ returns-2 c =
     (λ e. c .if2 .taken (c .before .count-at .ensures ∙ e)))
 
 slot-of-requires : tie.Need-slot-of-requires
-slot-of-requires c κs = slot-within (c .before .before .before .before .before .before .pre .0)
+slot-of-requires c κs = slot-within (start-from-count-at (c .before) .pre .0)
 
 bits-of-requires : tie.Need-bits-of-requires
 bits-of-requires c κs = search needs
@@ -49,14 +53,16 @@ same-requires c κs = search needs
 
 returns-3 : tie.Need-returns-3
 returns-3 c =
-    let slot = c .before .before .before .before in
-    let count = slot .before in
-    let version = count .before .before .before in
-    let start = version .before .before .before in
+    let after-same = c .before in
+    let after-bits-of = after-same .before .before in
+    let after-slot-of = after-bits-of .before in
+    let else2 = after-slot-of .before in
+    let after-count-at = else2 .before in
+    let start = start-from-count-at after-count-at in
     apart (start .pre .0) (agrees (start .args .version) (placeOf (start .args .place)))
-    (by-bits (start .args .version) (start .args .place) (start .pre .1) _ (sym (version .before .version-at .ensures) ∙ version .if1 .left)
-    (sym (count .before .count-at .ensures) ∙ count .if2 .left)
-    (c .before .same .ensures ∙ ap (λ y. sameBytes y (start .args .place .bits)) (c .before .before .before .bits-of .ensures .0 ∙ ap bitsIn (slot .slot-of .ensures .0)))
+    (by-bits (start .args .version) (start .args .place) (start .pre .1) _ (sym (after-count-at .before .before .before .version-at .ensures) ∙ after-count-at .before .before .if1 .left)
+    (sym (after-count-at .count-at .ensures) ∙ else2 .if2 .left)
+    (after-same .same .ensures ∙ ap (λ y. sameBytes y (start .args .place .bits)) (after-bits-of .bits-of .ensures .0 ∙ ap bitsIn (after-slot-of .slot-of .ensures .0)))
     ∙ not-true _ (c .if3 .taken))
 
 is-spoilt-requires : tie.Need-is-spoilt-requires
@@ -64,18 +70,20 @@ is-spoilt-requires c κs = search needs
 
 returns-4 : tie.Need-returns-4
 returns-4 c =
-    let bits = c .before in
-    let slot = bits .before .before .before .before in
-    let count = slot .before in
-    let version = count .before .before .before in
-    let start = version .before .before .before in
+    let else3 = c .before in
+    let after-same = else3 .before in
+    let after-bits-of = after-same .before .before in
+    let after-slot-of = after-bits-of .before in
+    let else2 = after-slot-of .before in
+    let after-count-at = else2 .before in
+    let start = start-from-count-at after-count-at in
     c .is-spoilt .ensures
-    ∙ ap (λ y. isSpoilt (slotOf y)) (slot .slot-of .ensures .0)
+    ∙ ap (λ y. isSpoilt (slotOf y)) (after-slot-of .slot-of .ensures .0)
     ∙ agreed (start .pre .0) (agrees (start .args .version) (placeOf (start .args .place)))
-    (by-bits (start .args .version) (start .args .place) (start .pre .1) _ (sym (version .before .version-at .ensures) ∙ version .if1 .left)
-    (sym (count .before .count-at .ensures) ∙ count .if2 .left)
-    (bits .before .same .ensures ∙ ap (λ y. sameBytes y (start .args .place .bits)) (bits .before .before .before .bits-of .ensures .0 ∙ ap bitsIn (slot .slot-of .ensures .0)))
-    ∙ not-false _ (bits .if3 .left))
+    (by-bits (start .args .version) (start .args .place) (start .pre .1) _ (sym (after-count-at .before .before .before .version-at .ensures) ∙ after-count-at .before .before .if1 .left)
+    (sym (after-count-at .count-at .ensures) ∙ else2 .if2 .left)
+    (after-same .same .ensures ∙ ap (λ y. sameBytes y (start .args .place .bits)) (after-bits-of .bits-of .ensures .0 ∙ ap bitsIn (after-slot-of .slot-of .ensures .0)))
+    ∙ not-false _ (else3 .if3 .left))
 
 pub node-spoilt-spec : {M : Type 1} → statement M
 node-spoilt-spec =

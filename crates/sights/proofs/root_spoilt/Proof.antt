@@ -13,6 +13,13 @@ use borrow.Author.Needs.{needs}
 use Rattle.sights.proofs.root_spoilt.Statement.{statement}
 use Rattle.sights.proofs.root_spoilt.Tie as tie
 
+-- `A-from-B` is the state A as the later state B has it.
+abbrev start-from-version-at : tie.After-version-at → tie.Start
+start-from-version-at c = c .before .before .before .before
+
+abbrev start-from-covers : tie.After-covers → tie.Start
+start-from-covers c = start-from-version-at (c .before .before)
+
 count-at-requires : tie.Need-count-at-requires
 count-at-requires c κs = slot-within (c .before .pre)
 
@@ -25,22 +32,24 @@ version-at-requires : tie.Need-version-at-requires
 version-at-requires c κs = slot-within (c .before .before .before .pre)
 
 retired-at-requires : tie.Need-retired-at-requires
-retired-at-requires c κs = slot-within (c .before .before .before .before .pre)
+retired-at-requires c κs = slot-within (start-from-version-at c .pre)
 
 covers-requires : tie.Need-covers-requires
 covers-requires c κs = search needs
 
 returns-2 : tie.Need-returns-2
 returns-2 c =
-    let count = c .before .before .before .before in
-    let start = count .before .before .before in
+    let after-covers = c .before in
+    let after-retired-at = after-covers .before in
+    let after-version-at = after-retired-at .before in
+    let start = start-from-version-at after-version-at in
     apart (start .pre) (agreesRoot (start .args .version))
-    (elsewhen (start .args .version) _ (sym (count .before .count-at .ensures) ∙ count .if1 .left)
-    (sym (c .before .covers .ensures ∙ ap₂ (λ a b. covers a b (start .args .version)) (c .before .before .before .version-at .ensures) (c .before .before .retired-at .ensures))
+    (elsewhen (start .args .version) _ (sym (after-version-at .before .before .count-at .ensures) ∙ after-version-at .before .if1 .left)
+    (sym (after-covers .covers .ensures ∙ ap₂ (λ a b. covers a b (start .args .version)) (after-version-at .version-at .ensures) (after-retired-at .retired-at .ensures))
     ∙ not-true _ (c .if2 .taken)))
 
 slot-of-requires : tie.Need-slot-of-requires
-slot-of-requires c κs = slot-within (c .before .before .before .before .before .before .before .pre)
+slot-of-requires c κs = slot-within (start-from-covers (c .before) .pre)
 
 bits-of-requires : tie.Need-bits-of-requires
 bits-of-requires c κs = search needs
@@ -50,15 +59,19 @@ all-zero-requires c κs = search needs
 
 returns-3 : tie.Need-returns-3
 returns-3 c =
-    let slot = c .before .before .before in
-    let life = slot .before in
-    let count = life .before .before .before .before in
-    let start = count .before .before .before in
+    let after-all-zero = c .before in
+    let after-bits-of = after-all-zero .before in
+    let after-slot-of = after-bits-of .before in
+    let else2 = after-slot-of .before in
+    let after-covers = else2 .before in
+    let after-retired-at = after-covers .before in
+    let after-version-at = after-retired-at .before in
+    let start = start-from-version-at after-version-at in
     apart (start .pre) (agreesRoot (start .args .version))
-    (by-zeros (start .args .version) _ (sym (count .before .count-at .ensures) ∙ count .if1 .left)
-    (sym (life .before .covers .ensures ∙ ap₂ (λ a b. covers a b (start .args .version)) (life .before .before .before .version-at .ensures) (life .before .before .retired-at .ensures))
-    ∙ not-false _ (life .if2 .left))
-    (c .before .all-zero .ensures ∙ ap allZero (c .before .before .bits-of .ensures .0 ∙ ap bitsIn (slot .slot-of .ensures .0)))
+    (by-zeros (start .args .version) _ (sym (after-version-at .before .before .count-at .ensures) ∙ after-version-at .before .if1 .left)
+    (sym (after-covers .covers .ensures ∙ ap₂ (λ a b. covers a b (start .args .version)) (after-version-at .version-at .ensures) (after-retired-at .retired-at .ensures))
+    ∙ not-false _ (else2 .if2 .left))
+    (after-all-zero .all-zero .ensures ∙ ap allZero (after-bits-of .bits-of .ensures .0 ∙ ap bitsIn (after-slot-of .slot-of .ensures .0)))
     ∙ not-true _ (c .if3 .taken))
 
 is-spoilt-requires : tie.Need-is-spoilt-requires
@@ -66,19 +79,23 @@ is-spoilt-requires c κs = search needs
 
 returns-4 : tie.Need-returns-4
 returns-4 c =
-    let bits = c .before in
-    let slot = bits .before .before .before in
-    let life = slot .before in
-    let count = life .before .before .before .before in
-    let start = count .before .before .before in
+    let else3 = c .before in
+    let after-all-zero = else3 .before in
+    let after-bits-of = after-all-zero .before in
+    let after-slot-of = after-bits-of .before in
+    let else2 = after-slot-of .before in
+    let after-covers = else2 .before in
+    let after-retired-at = after-covers .before in
+    let after-version-at = after-retired-at .before in
+    let start = start-from-version-at after-version-at in
     c .is-spoilt .ensures
-    ∙ ap (λ y. isSpoilt (slotOf y)) (slot .slot-of .ensures .0)
+    ∙ ap (λ y. isSpoilt (slotOf y)) (after-slot-of .slot-of .ensures .0)
     ∙ agreed (start .pre) (agreesRoot (start .args .version))
-    (by-zeros (start .args .version) _ (sym (count .before .count-at .ensures) ∙ count .if1 .left)
-    (sym (life .before .covers .ensures ∙ ap₂ (λ a b. covers a b (start .args .version)) (life .before .before .before .version-at .ensures) (life .before .before .retired-at .ensures))
-    ∙ not-false _ (life .if2 .left))
-    (bits .before .all-zero .ensures ∙ ap allZero (bits .before .before .bits-of .ensures .0 ∙ ap bitsIn (slot .slot-of .ensures .0)))
-    ∙ not-false _ (bits .if3 .left))
+    (by-zeros (start .args .version) _ (sym (after-version-at .before .before .count-at .ensures) ∙ after-version-at .before .if1 .left)
+    (sym (after-covers .covers .ensures ∙ ap₂ (λ a b. covers a b (start .args .version)) (after-version-at .version-at .ensures) (after-retired-at .retired-at .ensures))
+    ∙ not-false _ (else2 .if2 .left))
+    (after-all-zero .all-zero .ensures ∙ ap allZero (after-bits-of .bits-of .ensures .0 ∙ ap bitsIn (after-slot-of .slot-of .ensures .0)))
+    ∙ not-false _ (else3 .if3 .left))
 
 pub root-spoilt-spec : {M : Type 1} → statement M
 root-spoilt-spec =

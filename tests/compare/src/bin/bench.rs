@@ -3,13 +3,17 @@
 //! `changes` the comparisons alone, with `gaps` the publishings under numbers with gaps, with `beside-check` apply and prune beside check, with
 //! `missing` the reads that miss a record, with `rescue` the rescues, with `moves` the moves over and back, with `positions` the numbers of grants and
 //! the grants by position, with `tables` the calls by a table, with `figures` the figures of a range, with `finding` what is found of a true proof, with
-//! `messages` ICS 23's messages.
+//! `messages` ICS 23's messages, with `slow` palettes, rescues and comparisons of stores made to be slow.
 
 #[path = "../cases.rs"]
 #[allow(dead_code)]
 mod cases;
+#[path = "../../../common/bars.rs"]
+mod bars;
 #[path = "../ours.rs"]
 mod ours;
+#[path = "../slow.rs"]
+mod slow;
 #[path = "../stack.rs"]
 mod stack;
 
@@ -186,24 +190,14 @@ fn beside_check(random: &mut Random) {
     for (what, s, key) in stores {
         let latest = second::bytes::store(&s).unwrap().latest;
         let b = ask_bytes(&Ask { key, value: Some(random.hash()) });
-        let best = |call: &dyn Fn(&mut [u8])| {
+        // Each call has a copy of the store, made before the time starts.
+        let once = |call: &dyn Fn(&mut [u8])| {
             let mut t = s.clone();
-            let mut once = || {
-                t.copy_from_slice(&s);
-                milliseconds(&mut || call(&mut t))
-            };
-            (0..40).map(|_| once()).fold(f64::MAX, f64::min)
+            bars::milliseconds(&mut || call(&mut t))
         };
-        let check = best(&|t| assert_eq!(ours::check(t), Ok(())));
-        let apply = best(&|t| assert!(ours::apply(t, latest + 1, &b).is_ok()));
-        let prune = best(&|t| assert!(ours::prune(t, latest).is_ok()));
-        for (name, time) in [("apply-1-record", apply), ("prune", prune)] {
-            println!("bar {name}-{what}-beside-check {:.2} bar 1.2 ({time:.3}ms, check {check:.3}ms)", time / check);
-            if time > 1.2 * check {
-                println!("bench: {name} takes more than 1.2 times check");
-                std::process::exit(1);
-            }
-        }
+        let check = || once(&|t| assert_eq!(ours::check(t), Ok(())));
+        bars::beside(&format!("apply-1-record-{what}-beside-check"), 40, 1.2, || once(&|t| assert!(ours::apply(t, latest + 1, &b).is_ok())), check);
+        bars::beside(&format!("prune-{what}-beside-check"), 40, 1.2, || once(&|t| assert!(ours::prune(t, latest).is_ok())), check);
     }
 }
 
@@ -361,7 +355,6 @@ fn positions(random: &mut Random) {
 /// The figures of a range: of as many publishings as a store of one grant a batch keeps, up to 1,024, and of versions between two publishings. Beside check on
 /// the same store; fails above 3 times check.
 fn quarters(random: &mut Random) {
-    let mut slow = false;
     let (many, _) = filled(random, 16_384, 1, 16_384, 0);
     let (mut between, _) = filled(random, 16_384, 256, 15_000, 0);
     let latest = second::bytes::store(&between).unwrap().latest;
@@ -372,14 +365,8 @@ fn quarters(random: &mut Random) {
         let (mut room, mut other) = (vec![0; 16 * n as usize], vec![0; 16 * n as usize]);
         let mut asked = || assert!(black_box(ours::figures(s, first, last, &mut room)).is_ok());
         compare(&format!("figures-of-{n}-{name}"), 1, &mut asked, || assert!(black_box(second::figures(s, first, last, &mut other)).is_ok()));
-        let best = |call: &mut dyn FnMut()| (0..9).map(|_| processor(call)).fold(f64::MAX, f64::min);
-        let (figures, check) = (best(&mut asked), best(&mut || assert_eq!(ours::check(s), Ok(()))));
-        println!("bar figures-of-{n}-{name} {figures:.3}ms, {:.2} of check's {check:.3}ms, bar 3", figures / check);
-        slow |= figures > 3.0 * check;
-    }
-    if slow {
-        println!("bench: the figures of a range take more than 3 times check");
-        std::process::exit(1);
+        let check = || bars::milliseconds(&mut || assert_eq!(ours::check(s), Ok(())));
+        bars::beside(&format!("figures-of-{n}-{name}-beside-check"), 9, 3.0, || bars::milliseconds(&mut asked), check);
     }
 }
 
@@ -489,7 +476,6 @@ const FEW_VERSIONS: u32 = 100;
 /// 2026-10: moves of full stores of 16,384 slots, over and back, beside check on the same store and, where that ends soon, beside the second program. There and back
 /// are the bytes that the records have in either form. Fails where one takes more than 2.5 times check.
 fn moves() {
-    let mut slow = false;
     for s in full_stores() {
         let store = second::bytes::store(&s).unwrap();
         let versions = store.latest + 1 - store.oldest.max(1);
@@ -499,19 +485,13 @@ fn moves() {
             compare_on(&format!("back-{name}"), 5, &vec![0; old.len()], |t| ours::back(&s, t), |t| second::back(&s, t));
             compare_on(&format!("over-{name}"), 5, &vec![0; s.len()], |t| ours::over(&old, t), |t| second::over(&old, t));
         }
-        let best = |call: &mut dyn FnMut()| (0..9).map(|_| processor(call)).fold(f64::MAX, f64::min);
-        let check = best(&mut || assert_eq!(ours::check(&s), Ok(())));
+        let check = || bars::milliseconds(&mut || assert_eq!(ours::check(&s), Ok(())));
         let (mut to_old, mut to_new) = (vec![0; old.len()], vec![0; s.len()]);
-        let back = best(&mut || assert_eq!(ours::back(&s, &mut to_old), Ok(())));
-        let over = best(&mut || assert_eq!(ours::over(&old, &mut to_new), Ok(())));
+        let back = || bars::milliseconds(&mut || assert_eq!(ours::back(&s, &mut to_old), Ok(())));
+        bars::beside(&format!("back-{name}-beside-check"), 9, 2.5, back, check);
+        let over = || bars::milliseconds(&mut || assert_eq!(ours::over(&old, &mut to_new), Ok(())));
+        bars::beside(&format!("over-{name}-beside-check"), 9, 2.5, over, check);
         assert!(to_old == old && to_new == s, "{name}: not the records' bytes");
-        println!("bar back-{name} {back:.3}ms, {:.2} of check's {check:.3}ms, bar 2.5", back / check);
-        println!("bar over-{name} {over:.3}ms, {:.2} of check's {check:.3}ms, bar 2.5", over / check);
-        slow |= back > 2.5 * check || over > 2.5 * check;
-    }
-    if slow {
-        println!("bench: a move takes more than 2.5 times check");
-        std::process::exit(1);
     }
 }
 
@@ -522,12 +502,9 @@ fn tables() {
     let latest = second::bytes::store(&s).unwrap().latest;
     let mut table = vec![0; 16_384];
     let best = |turns: usize, call: &mut dyn FnMut()| (0..turns).map(|_| processor(call)).fold(f64::MAX, f64::min);
-    let mut missed = vec![];
-    let mut bar = |name: &str, took: f64, beside: &str, other: f64, most: f64| {
+    let bar = |name: &str, took: f64, beside: &str, other: f64, most: f64| {
         println!("bar {name} {took:.3}ms, {:.3} of {beside} {other:.3}ms, bar {most}", took / other);
-        if took > most * other {
-            missed.push(name.to_string());
-        }
+        bars::judge(name, took / other, most, 9);
     };
     let check = best(9, &mut || assert_eq!(ours::check(&s), Ok(())));
     let build = best(9, &mut || assert_eq!(ours::index(&s, &mut table), Ok(())));
@@ -560,35 +537,32 @@ fn tables() {
     ours::index(&s, &mut table).unwrap();
     for size in [1, 64, MOST_ASKS] {
         let b = batch(&mut Random(59), &keys, size, size.min(500));
-        let (mut plain, mut with) = (f64::MAX, f64::MAX);
-        for _ in 0..9 {
-            let mut t = s.clone();
-            plain = plain.min(processor(&mut || assert!(ours::apply(&mut t, next, &b).is_ok())));
-            let (mut u, mut w) = (s.clone(), table.clone());
-            with = with.min(processor(&mut || assert!(ours::apply_indexed(&mut u, &mut w, next, &b).is_ok())));
-            assert!(t == u, "not the same store");
-        }
-        bar(&format!("apply-{size}-with-table"), with, "apply's", plain, 1.15);
+        let calls = (|t: &mut [u8]| ours::apply(t, next, &b).map(|_| ()), |t: &mut [u8], w: &mut [u32]| ours::apply_indexed(t, w, next, &b).map(|_| ()));
+        with_table(&format!("apply-{size}-with-table"), &s, &table, calls);
     }
-    let (mut plain, mut with) = (f64::MAX, f64::MAX);
-    for _ in 0..9 {
-        let mut t = s.clone();
-        plain = plain.min(processor(&mut || assert!(ours::prune(&mut t, next - 2).is_ok())));
-        let (mut u, mut w) = (s.clone(), table.clone());
-        with = with.min(processor(&mut || assert!(ours::prune_indexed(&mut u, &mut w, next - 2).is_ok())));
-        assert!(t == u, "not the same store");
-    }
-    bar("prune-with-table", with, "prune's", plain, 1.15);
-    if !missed.is_empty() {
-        println!("bench: above their bars: {}", missed.join(", "));
-        std::process::exit(1);
-    }
+    let calls = (|t: &mut [u8]| ours::prune(t, next - 2).map(|_| ()), |t: &mut [u8], w: &mut [u32]| ours::prune_indexed(t, w, next - 2).map(|_| ()));
+    with_table("prune-with-table", &s, &table, calls);
+}
+
+/// A call that keeps the table beside the same without one, on copies of a store and its table: at most 1.15 times as long, and the same store is left.
+fn with_table<E: std::fmt::Debug>(name: &str, s: &[u8], table: &[u32], calls: (impl Fn(&mut [u8]) -> Result<(), E>, impl Fn(&mut [u8], &mut [u32]) -> Result<(), E>)) {
+    let (mut t, mut u, mut w) = (s.to_vec(), s.to_vec(), table.to_vec());
+    let plain = || {
+        t.copy_from_slice(s);
+        bars::milliseconds(&mut || calls.0(&mut t).unwrap())
+    };
+    let with = || {
+        u.copy_from_slice(s);
+        w.copy_from_slice(table);
+        bars::milliseconds(&mut || calls.1(&mut u, &mut w).unwrap())
+    };
+    bars::beside(name, 9, 1.15, with, plain);
+    assert!(t == u, "{name}: not the same store");
 }
 
 /// 2026-08: rescues of full stores of 16,384 slots, sound ones, so that all comes back: nothing takes longer. Beside check on the same store, and the
 /// second program's walk. Fails above two seconds.
 fn rescues() {
-    let mut slowest = 0f64;
     for s in full_stores() {
         let store = second::bytes::store(&s).unwrap();
         assert_eq!(ours::check(&s), Ok(()));
@@ -602,14 +576,16 @@ fn rescues() {
             |t| ours::rescue(&s, oldest, store.latest, t),
             |t| second::rescue::walked(&s, oldest, store.latest, t).map(|w| w.0),
         );
-        let best = |call: &mut dyn FnMut()| (0..3).map(|_| processor(call)).fold(f64::MAX, f64::min);
-        let took = best(&mut || assert!(ours::rescue(&s, oldest, store.latest, &mut target.clone()).is_ok()));
-        let check = best(&mut || assert_eq!(ours::check(&s), Ok(())));
-        println!("bar {name} {took:.0}ms bar 2000ms (check {check:.3}ms)");
-        slowest = slowest.max(took);
+        bars::within(&name, 3, 2_000.0, || bars::milliseconds(&mut || assert!(ours::rescue(&s, oldest, store.latest, &mut target.clone()).is_ok())));
     }
-    if slowest > 2_000.0 {
-        println!("bench: a rescue takes more than two seconds");
+}
+
+/// Palettes, rescues and comparisons beside check on stores made to be slow. Fails above a bar.
+fn slows() {
+    slow::pairs();
+    let (kept, broken) = slow::bars(&processor);
+    println!("{kept} passed, {broken} failed");
+    if broken != 0 {
         std::process::exit(1);
     }
 }
@@ -672,6 +648,11 @@ fn stacks() {
 }
 
 fn main() {
+    measured();
+    bars::end();
+}
+
+fn measured() {
     if std::env::args().nth(1).as_deref() == Some("stack") {
         return stacks();
     }
@@ -710,6 +691,9 @@ fn main() {
     }
     if std::env::args().nth(1).as_deref() == Some("tables") {
         return tables();
+    }
+    if std::env::args().nth(1).as_deref() == Some("slow") {
+        return slows();
     }
     let mut random = Random(11);
     let proofs: Vec<_> = (0..1000).map(|_| path(&mut random, 20)).collect();
@@ -754,5 +738,6 @@ fn main() {
     rescues();
     moves();
     tables();
+    slows();
     stacks();
 }
