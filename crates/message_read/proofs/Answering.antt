@@ -13,11 +13,11 @@ use Rattle.terms.specs.Records.{Proof, presence, absence}
 use Rattle.meaning.specs.Calls.{refused, accepted}
 use Rattle.fields.specs.Written.{written}
 use Rattle.sha256.specs.Sha256.{sha256}
-use Rattle.messages.specs.Message.{messageBytes, RawProof}
+use Rattle.messages.specs.Message.{messageBytes, mostBytes, RawProof}
 use Rattle.messages.specs.Reading.{messageIn}
 use Rattle.messages.specs.Lending.{fitted, recordOf, readFrom}
 use Rattle.messages.specs.Spots.{spotsIn}
-use Rattle.messages.proofs.Back.{mostBytes, message-at-most, message-exactly, message-said}
+use Rattle.messages.proofs.Back.{message-at-most, message-exactly, message-said}
 use Rattle.message_rules.specs.Contracts.{Encodes, Said, spotsBytes, ReadsMessage}
 use Rattle.message_rules.proofs.Writing.{written-front}
 use Rattle.message_form.specs.declared.Said.{Said as SaidCode}

@@ -109,10 +109,3 @@ pub fn grants_ics23_read(message: &[u8], room: &mut [u8], answer: &mut [u8; 44])
         Said::Absence(a) => read_absence(message, a, room, answer),
     }
 }
-
-// What `grants` exports. No proof file stands behind it, so that an idle one is refused by its contract alone.
-pub fn read_out(message: &[u8], room: &mut [u8], answer: &mut [u8; 44]) -> u32
-    ensures { λ r. ⌜ ReadsMessage (now (message .entry)) (now (room .entry)) (now (answer .entry)) r (now (room .exit)) (now (answer .exit)) ⌝ }
-{
-    grants_ics23_read(message, room, answer)
-}

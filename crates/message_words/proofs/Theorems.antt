@@ -18,13 +18,13 @@ use Rattle.meaning.specs.Answers.{numberOf, toldOf}
 use Rattle.sha256.specs.Sha256.{sha256}
 use Rattle.proofrecords.specs.ProofBytes.{proofIn, ProofForm}
 use Rattle.proofrecords.proofs.Proofs.{proof-bytes}
-use Rattle.messages.specs.Message.{messageBytes, RawProof}
+use Rattle.messages.specs.Message.{messageBytes, mostBytes, RawProof, ownProof}
 use Rattle.messages.specs.Reading.{messageIn}
 use Rattle.messages.specs.Lending.{Lent, lentFits, rawProof, fitted, writtenFrom, written, recordOf, readFrom, LentBytes, lentIn}
-use Rattle.messages.specs.Spots.{spotsIn}
-use Rattle.messages.proofs.Back.{mostBytes, message-at-most, message-exactly, message-said, one-message}
+use Rattle.messages.specs.Spots.{spotsIn, Stand}
+use Rattle.messages.proofs.Back.{message-at-most, message-exactly, message-said, one-message}
 use Rattle.messages.proofs.Lending.{Written, lent-said, written-said, reading-gives-back, read-was-written}
-use Rattle.messages.proofs.Spots.{Stand, raw-stands-there}
+use Rattle.messages.proofs.Spots.{raw-stands-there}
 use Rattle.message_rules.specs.Contracts.{roomAfter, writtenInto, WritesMessage, Encodes, Said, readInto, spotsBytes, answerBytes, ReadsMessage}
 use Rattle.message_rules.proofs.Digests.{digest-whole}
 
@@ -97,6 +97,7 @@ pub record Message (x : Bytes) (lent : Lent) (room t g : Bytes) : Type 0 where
   pub m : Bytes
   pub proof : Proof
   pub proof-is : proofIn x ≡ some proof
+  pub own : ownProof sha256 (rawProof lent proof) ≡ proof
   pub is : messageBytes (rawProof lent proof) ≡ m
   pub raw : RawProof (rawProof lent proof)
   pub room-is : t ≡ m ++ drop (length m) room
@@ -125,6 +126,7 @@ written-message {x} {lent} {room} {f} {t} {g} b lb w =
       m = m;
       proof = p;
       proof-is = k .proof-is;
+      own = back .2;
       is = k .is;
       raw = raw;
       room-is = w .message ∙ ap (λ o. roomAfter (λ y. y) o room) (a .1);
@@ -143,9 +145,11 @@ written-message {x} {lent} {room} {f} {t} {g} b lb w =
     }
 
 -- What is read was written so: our own record of it, lent the raw keys and values that the message holds, makes the message again.
-pub record ReadBack (m : Bytes) : Type 0 where
+pub record ReadBack (m room t g : Bytes) : Type 0 where
   pub proof : Proof
   pub encodes : Encodes m proof
+  pub room-is : t ≡ recordOf sha256 proof ++ drop (length (recordOf sha256 proof)) room
+  pub told-is : g ≡ answerBytes proof
   pub written-so : {room f t g : Bytes} {r : ℕ} → length m ≤ length room → WritesMessage (recordOf sha256 proof) (lentIn proof) room f r t g →
       (r ≡ 0) × (t ≡ m ++ drop (length m) room) × (g ≡ le 4 (length m))
 
@@ -158,15 +162,18 @@ accepted-fits : (x : Bytes) (lent : Lent) (n k : ℕ) (m : Bytes) → written sh
 accepted-fits x lent n k m e l =
     let w = written-said sha256 x lent n m e in fits-again x lent k m (w .proof) (w .proof-is) (w .fits) (w .is) (omega (arith, w .has-room))
 
-pub read-message : {m room f t g : Bytes} → All Byte m → ReadsMessage m room f 0 t g → ReadBack m
+pub read-message : {m room f t g : Bytes} → All Byte m → ReadsMessage m room f 0 t g → ReadBack m room t g
 unfolding readFrom
-read-message {m} {room} {f} {t} {g} b w = go (w .said) (w .exactly) (w .answer)
+read-message {m} {room} {f} {t} {g} b w = go (w .said) (w .exactly) (w .answer) (w .record-is) (w .told)
   where
-    go : (o : Option Proof) → Said m o → 0 ≡ numberOf (readInto o room) → ReadBack m
-    go none h e = absurd (omega arith)
-    go (some q) h e = record {
+    go : (o : Option Proof) → Said m o → 0 ≡ numberOf (readInto o room) → t ≡ roomAfter (recordOf sha256) (readInto o room) room →
+        g ≡ toldOf answerBytes (readInto o room) f → ReadBack m room t g
+    go none h e i j = absurd (omega arith)
+    go (some q) h e i j = let has : readInto (some q) room ≡ accepted q = not-zero (length room) (recordOf sha256 q) q (sym e) in record {
       proof = q;
       encodes = h;
+      room-is = i ∙ ap (λ o. roomAfter (recordOf sha256) o room) has;
+      told-is = j ∙ ap (λ o. toldOf answerBytes o f) has;
       written-so = λ {room = room₁} {f = f₁} {t = t₁} {g = g₁} {r} long v.
           let a = read-was-written sha256 digest-whole m q b (message-exactly m q b .1 (h .raw, h .is)) in
           let said = accepted-fits (recordOf sha256 q) (lentIn q) (length m) (length room₁) m a long in (

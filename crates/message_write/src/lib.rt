@@ -12,13 +12,11 @@ ghost use Rattle.sha256.specs.Sha256.{sha256};
 ghost use Rattle.proofrecords.specs.ProofBytes.{flags, isPresence, presenceIn, isAbsence, absenceIn};
 ghost use Rattle.messages.specs.Message.{messageBytes};
 ghost use Rattle.messages.specs.Lending.{hashesTo, rawPresence, writtenFrom, written};
-ghost use Rattle.message_rules.specs.Contracts.{WritesMessage};
 ghost use Rattle.message_lent.specs.Lent.{leaf, recordIn, InForm, neighbourFits};
 ghost use Rattle.message_put.specs.Inner.{Lendable};
 ghost use Rattle.message_write.specs.Wrote.{lent, fittedIn, besides, AskedRaw, LendableOr, Writes};
 use fields::get_u16;
 use fields::get_u32;
-use fields::put_u32;
 use message_lent::MOST_KEY;
 use message_lent::existence_size;
 use message_lent::field_size;
@@ -102,15 +100,15 @@ fn write_nonexist(
     let size = field_size(asked.len())
         + neighbour_size(lkey.len(), lvalue.len(), left)
         + neighbour_size(rkey.len(), rvalue.len(), right);
-    let total = field_size(size);
-    if room.len() < total {
+    let whole = field_size(size);
+    if room.len() < whole {
         return Wrote::Refused(NO_ROOM);
     }
     let start = put_head(room, 0, 2, size);
     let after_key = put_field(room, start, 1, asked);
     let after_left = put_neighbour(room, after_key, 2, lkey, lvalue, left);
     put_neighbour(room, after_left, 3, rkey, rvalue, right);
-    Wrote::Length(total as u32)
+    Wrote::Length(whole as u32)
 }
 
 // The same, if the leaves lent are the neighbours'.
@@ -209,7 +207,9 @@ fn write_absence(
     )
 }
 
-fn write(
+// Writes the message of a record to the front of the room. Lent are the raw key asked for, and raw key and value of the leaf shown or the left of two, and of the
+// right of two; a leaf not shown has no bytes.
+pub fn write(
     p: &[u8],
     asked: &[u8],
     key1: &[u8],
@@ -227,44 +227,4 @@ fn write(
         return write_absence(p, asked, key1, value1, key2, value2, room);
     }
     Wrote::Refused(NOT_IN_FORM)
-}
-
-// Writes the message of a record to the front of the room; length: how long it is, 4 bytes little-endian. Lent are the raw key asked for, and raw key and value
-// of the leaf shown or the left of two, and of the right of two; a leaf not shown has no bytes.
-pub fn grants_ics23_write(
-    proof: &[u8],
-    asked: &[u8],
-    key1: &[u8],
-    value1: &[u8],
-    key2: &[u8],
-    value2: &[u8],
-    room: &mut [u8],
-    length: &mut [u8; 4],
-) -> u32
-    ensures { λ r. ⌜ WritesMessage (now (proof .entry)) (lent (now (asked .entry)) (leaf (now (key1 .entry)) (now (value1 .entry))) (leaf (now (key2 .entry)) (now (value2 .entry)))) (now (room .entry)) (now (length .entry)) r (now (room .exit)) (now (length .exit)) ⌝ }
-{
-    let wrote = write(proof, asked, key1, value1, key2, value2, room);
-    match wrote {
-        Wrote::Refused(n) => n,
-        Wrote::Length(n) => {
-            put_u32(length, 0, n);
-            0
-        }
-    }
-}
-
-// What `grants` exports. No proof file stands behind it, so that an idle one is refused by its contract alone.
-pub fn written_out(
-    proof: &[u8],
-    asked: &[u8],
-    key1: &[u8],
-    value1: &[u8],
-    key2: &[u8],
-    value2: &[u8],
-    room: &mut [u8],
-    length: &mut [u8; 4],
-) -> u32
-    ensures { λ r. ⌜ WritesMessage (now (proof .entry)) (lent (now (asked .entry)) (leaf (now (key1 .entry)) (now (value1 .entry))) (leaf (now (key2 .entry)) (now (value2 .entry)))) (now (room .entry)) (now (length .entry)) r (now (room .exit)) (now (length .exit)) ⌝ }
-{
-    grants_ics23_write(proof, asked, key1, value1, key2, value2, room, length)
 }

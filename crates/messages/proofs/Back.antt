@@ -16,7 +16,7 @@ use Rattle.terms.proofs.Tests.{and-left, and-right, same-bytes, bytes-same}
 use Rattle.terms.proofs.Fields.{all-of-tests}
 use Rattle.proofrecords.specs.ProofBytes.{flagsOf}
 use Rattle.messages.specs.Wire.{varintIn, varint, numberTag, bytesTag, messageField, bytesField, numberField}
-use Rattle.messages.specs.Message.{leafOp, path, existence, neighbourField, nonexistence, messageBytes, Raw, RawPresence, RawNeighbour, RawProof}
+use Rattle.messages.specs.Message.{leafOp, path, existence, neighbourField, nonexistence, messageBytes, mostBytes, Raw, RawPresence, RawNeighbour, RawProof}
 use Rattle.messages.specs.Reading.{onward, onlyIf, Front, fieldFrom, pathIn, lengthRight, existenceIn, neighbourFrom, somebody, nonexistenceIn, fieldAlone, messageIn}
 use Rattle.messages.proofs.Wires.{onward-some, only-if-some, Near, Short, field-is, field-back, FieldSaid, field-said, bytes-field-is, length-field, no-bytes}
 use Rattle.messages.proofs.Steps.{path-back, PathSaid, path-said, length-path}
@@ -241,11 +241,7 @@ length-nonexistence a h =
       length-neighbour 3 (a .rightward) (omega arith) (h .2),
     )))
 
--- A message of a presence has at most 14,868 bytes, of an absence at most 29,999.
-abbrev pub mostBytes : Proof → ℕ
-mostBytes (presence p) = 14868
-mostBytes (absence a) = 29999
-
+-- The bound of a message's bytes.
 pub message-at-most : (q : Proof) → RawProof q → length (messageBytes q) ≤ mostBytes q
 message-at-most (presence p) h =
     let l = length-existence p h in omega (arith, length-field 1 1 (existence p) (omega arith) (omega arith) (omega arith))

@@ -3,5 +3,4 @@ pub mod Steps
 pub mod Back
 pub mod Lending
 pub mod Spots
-pub mod Operations
 pub mod Samples

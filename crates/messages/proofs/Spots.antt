@@ -11,22 +11,10 @@ use Rattle.terms.specs.Records.{Presence, Absence, Proof, presence, absence}
 use Rattle.terms.proofs.Fields.{slice-between}
 use Rattle.messages.specs.Wire.{varint, bytesTag, messageField, bytesField}
 use Rattle.messages.specs.Message.{leafOp, path, existence, neighbourField, nonexistence, messageBytes, Raw, RawPresence, RawNeighbour, RawProof}
-use Rattle.messages.specs.Lending.{Lent, leavesOf, lentIn}
-use Rattle.messages.specs.Spots.{Spot, Spots, fieldHead, keySpot, valueSpot, leafSpots, spotsIn}
+use Rattle.messages.specs.Lending.{leavesOf, lentIn}
+use Rattle.messages.specs.Spots.{Spot, fieldHead, keySpot, valueSpot, leafSpots, spotsIn, StandsAt, Stand}
 use Rattle.messages.proofs.Wires.{bytes-field-is}
 use Rattle.messages.proofs.Back.{existence-is, nonexistence-is}
-
--- bytes stand at a spot
-abbrev pub StandsAt : Bytes → Spot → Bytes → Type 0
-StandsAt m spot x = slice (spot .at) (spot .size) m ≡ x
-
--- Each raw key and value where the spots say.
-pub record Stand (m : Bytes) (spots : Spots) (lent : Lent) : Type 0 where
-  pub asked-there : StandsAt m (spots .asked) (lent .asked)
-  pub key1-there : StandsAt m (spots .key1) (lent .first .key)
-  pub value1-there : StandsAt m (spots .value1) (lent .first .value)
-  pub key2-there : StandsAt m (spots .key2) (lent .second .key)
-  pub value2-there : StandsAt m (spots .value2) (lent .second .value)
 
 no-bytes-there : (m : Bytes) → slice 0 0 m ≡ []
 unfolding slice

@@ -1,4 +1,5 @@
--- Document 02, request 2026-02: what a caller lends beside a record, and what the two calls answer. Writing tests 10, 15, 9, reading 10, 9. Assumes nothing.
+-- Document 02, request 2026-02: what a caller lends beside a record, and what the two calls answer. Writing tests 10,
+-- 15, 9, reading 10, 9. Assumes nothing.
 use Prim.Native.Nat.{ℕ}
 use mathlib.Core.Bool.{Bool, true, false, cond}
 use mathlib.Core.List.{[], _∷_}
@@ -18,7 +19,8 @@ pub record Leaf : Type 0 where
   pub key : Bytes
   pub value : Bytes
 
--- The raw key asked for, and the leaves shown: the first is the leaf shown, or the left of two; the second the right of two.
+-- The raw key asked for, and the leaves shown: the first is the leaf shown, or the left of two; the second the right of
+-- two.
 pub record Lent : Type 0 where
   pub asked : Bytes
   pub first : Leaf
@@ -68,7 +70,8 @@ module _ (sha : Bytes → Bytes) where
   -- 15 else.
   abbrev pub lentFits : Lent → Proof → Bool
   lentFits lent (presence p) = allOf (hashesTo mostKey (lent .asked) (p .key) ∷ leavesFit lent (some p) none ∷ [])
-  lentFits lent (absence a) = allOf (hashesTo mostKey (lent .asked) (a .key) ∷ leavesFit lent (a .leftward) (a .rightward) ∷ [])
+  lentFits lent (absence a) =
+      allOf (hashesTo mostKey (lent .asked) (a .key) ∷ leavesFit lent (a .leftward) (a .rightward) ∷ [])
 
   -- 9 if it doesn't fit the room.
   unfoldable pub fitted : {A : Type 0} → ℕ → Bytes → A → Answer A
@@ -78,7 +81,8 @@ module _ (sha : Bytes → Bytes) where
   unfoldable pub writtenFrom : Option Proof → Lent → ℕ → Answer Bytes
   writtenFrom none lent room = refused 10
   writtenFrom (some p) lent room =
-      cond (lentFits lent p) (fitted room (messageBytes (rawProof lent p)) (messageBytes (rawProof lent p))) (refused 15)
+      let m = messageBytes (rawProof lent p) in
+      cond (lentFits lent p) (fitted room m m) (refused 15)
 
   unfoldable pub written : Bytes → Lent → ℕ → Answer Bytes
   written x lent room = writtenFrom (proofIn x) lent room

@@ -3,4 +3,3 @@ pub mod Message
 pub mod Reading
 pub mod Lending
 pub mod Spots
-pub mod Operations

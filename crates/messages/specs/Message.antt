@@ -1,5 +1,6 @@
--- Document 02, request 2026-02: the protobuf CommitmentProof, presence or absence, by ICS 23's published proto file (cosmos.ics23.v1). What a message says is
--- a proof of ours in which keys and values are raw; fields stand in number order. Assumes nothing.
+-- Document 02, request 2026-02: the protobuf CommitmentProof, presence or absence, by ICS 23's published proto file
+-- (cosmos.ics23.v1). What a message says is a proof of ours in which keys and values are raw; fields stand in number
+-- order. Assumes nothing.
 use Prim.Native.Nat.{ℕ, _≤_}
 use mathlib.Core.Bool.{true, false}
 use mathlib.Core.List.{List, [], _∷_, _++_}
@@ -18,7 +19,8 @@ hashBySha256 = 1
 abbrev pub noPrefix : ℕ
 noPrefix = 0
 
--- LeafOp: hash 1, prehash_key 2, prehash_value 3, length 4, prefix 5. Keys and values are hashed before use; leaf prefix byte 1.
+-- LeafOp: hash 1, prehash_key 2, prehash_value 3, length 4, prefix 5. Keys and values are hashed before use; leaf
+-- prefix byte 1.
 unfoldable pub leafOp : Bytes
 leafOp =
     flat
@@ -68,6 +70,11 @@ abbrev pub messageBytes : Proof → Bytes
 messageBytes (presence p) = messageField 1 (existence p)
 messageBytes (absence a) = messageField 2 (nonexistence a)
 
+-- A message of a presence has at most 14,868 bytes, of an absence at most 29,999.
+abbrev pub mostBytes : Proof → ℕ
+mostBytes (presence p) = 14868
+mostBytes (absence a) = 29999
+
 -- A raw key has 1 to 256 bytes, a raw value 1 to 4,096.
 abbrev pub mostKey : ℕ
 mostKey = 256
@@ -94,7 +101,10 @@ RawNeighbour (some p) = RawPresence p
 abbrev pub RawProof : Proof → Type 0
 RawProof (presence p) = RawPresence p
 RawProof (absence a) =
-    Raw mostKey (a .key) × RawNeighbour (a .leftward) × RawNeighbour (a .rightward) × (1 ≤ flagsOf (a .leftward) (a .rightward))
+    Raw mostKey (a .key)
+    × RawNeighbour (a .leftward)
+    × RawNeighbour (a .rightward)
+    × (1 ≤ flagsOf (a .leftward) (a .rightward))
 
 -- Our own record of what a message says: keys and values hashed.
 module _ (sha : Bytes → Bytes) where
@@ -108,4 +118,5 @@ module _ (sha : Bytes → Bytes) where
   abbrev pub ownProof : Proof → Proof
   ownProof (presence p) = presence (ownPresence p)
   ownProof (absence a) =
-      absence (record { key = sha (a .key); leftward = ownNeighbour (a .leftward); rightward = ownNeighbour (a .rightward) })
+      absence
+      (record { key = sha (a .key); leftward = ownNeighbour (a .leftward); rightward = ownNeighbour (a .rightward) })

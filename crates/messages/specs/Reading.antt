@@ -1,5 +1,5 @@
--- Document 02, request 2026-02, the reader: what a message says, read from its front; none (10) where it isn't in the one encoding.
--- `message-exactly` of proofs/Back says that it takes exactly the bytes of `Message`. Assumes nothing.
+-- Document 02, request 2026-02, the reader: what a message says, read from its front; none (10) where it isn't in the
+-- one encoding. `message-exactly` of proofs/Back says that it takes exactly the bytes of `Message`. Assumes nothing.
 use Prim.Native.Nat.{ℕ, zero, suc, _+_, _*_, _-_}
 use mathlib.Core.Bool.{Bool, true, false, cond, _&&_}
 use mathlib.Core.List.{List, [], _∷_, _++_}
@@ -46,7 +46,8 @@ abbrev pub fieldFrom : ℕ → Bytes → Front Bytes
 fieldFrom n [] = none
 fieldFrom n (b ∷ m) = onlyIf (eqb b (8 * n + 2)) (onward (varintFrom 2 m) cutFrom)
 
--- An inner op is its head and the sibling: hash, prefix byte 0 and the suffix's beginning, or hash and the prefix's beginning.
+-- An inner op is its head and the sibling: hash, prefix byte 0 and the suffix's beginning, or hash and the prefix's
+-- beginning.
 abbrev pub leftHead : Bytes
 leftHead = 8 ∷ 1 ∷ 18 ∷ 1 ∷ 0 ∷ 26 ∷ 32 ∷ []
 

@@ -1,12 +1,16 @@
--- Document 02, request 2026-02: where in a message the raw keys and values stand that reading gives back. Assumes nothing.
+-- Document 02, request 2026-02: where in a message the raw keys and values stand that reading gives back. Assumes
+-- nothing.
 use Prim.Native.Nat.{ℕ, _+_}
+use mathlib.Core.Path.{_≡_}
 use mathlib.Core.List.{_++_}
 use mathlib.Core.Option.{Option, none, some}
 use lib.ListN.{length}
 use Rattle.terms.specs.Bits.{Bytes}
+use Rattle.terms.specs.Fields.{slice}
 use Rattle.terms.specs.Records.{Presence, Absence, Proof, presence, absence}
 use Rattle.messages.specs.Wire.{varint, bytesTag, bytesField}
 use Rattle.messages.specs.Message.{existence, neighbourField, nonexistence}
+use Rattle.messages.specs.Lending.{Lent}
 
 -- Where bytes begin, and how many they are; 0 and 0 where there are none.
 pub record Spot : Type 0 where
@@ -33,11 +37,13 @@ abbrev pub keySpot : ℕ → Bytes → Spot
 keySpot start key = record { at = start + length (fieldHead 1 key); size = length key }
 
 abbrev pub valueSpot : ℕ → Presence → Spot
-valueSpot start p = record { at = start + length (bytesField 1 (p .key)) + length (fieldHead 2 (p .value)); size = length (p .value) }
+valueSpot start p =
+    record { at = start + length (bytesField 1 (p .key)) + length (fieldHead 2 (p .value)); size = length (p .value) }
 
 -- The leaves of an absence proof whose neighbours begin there.
 abbrev pub leafSpots : Spot → ℕ → Option Presence → Option Presence → Spots
-leafSpots asked start none none = record { asked = asked; key1 = nowhere; value1 = nowhere; key2 = nowhere; value2 = nowhere }
+leafSpots asked start none none =
+    record { asked = asked; key1 = nowhere; value1 = nowhere; key2 = nowhere; value2 = nowhere }
 leafSpots asked start (some l) none =
     let s = start + length (fieldHead 2 (existence l)) in
     record { asked = asked; key1 = keySpot s (l .key); value1 = valueSpot s l; key2 = nowhere; value2 = nowhere }
@@ -47,13 +53,32 @@ leafSpots asked start none (some r) =
 leafSpots asked start (some l) (some r) =
     let s = start + length (fieldHead 2 (existence l)) in
     let t = start + length (neighbourField 2 (some l)) + length (fieldHead 3 (existence r)) in
-    record { asked = asked; key1 = keySpot s (l .key); value1 = valueSpot s l; key2 = keySpot t (r .key); value2 = valueSpot t r }
+    record {
+      asked = asked;
+      key1 = keySpot s (l .key);
+      value1 = valueSpot s l;
+      key2 = keySpot t (r .key);
+      value2 = valueSpot t r;
+    }
 
 -- In the message of a presence the leaf's key is the one asked for.
 unfoldable pub spotsIn : Proof → Spots
 spotsIn (presence p) =
     let s = length (fieldHead 1 (existence p)) in
-    record { asked = keySpot s (p .key); key1 = keySpot s (p .key); value1 = valueSpot s p; key2 = nowhere; value2 = nowhere }
+    let k = keySpot s (p .key) in
+    record { asked = k; key1 = k; value1 = valueSpot s p; key2 = nowhere; value2 = nowhere }
 spotsIn (absence a) =
     let s = length (fieldHead 2 (nonexistence a)) in
     leafSpots (keySpot s (a .key)) (s + length (bytesField 1 (a .key))) (a .leftward) (a .rightward)
+
+-- Bytes stand at a spot of a message.
+abbrev pub StandsAt : Bytes → Spot → Bytes → Type 0
+StandsAt m spot x = slice (spot .at) (spot .size) m ≡ x
+
+-- Each raw key and value stands in the message where the spots say.
+pub record Stand (m : Bytes) (spots : Spots) (lent : Lent) : Type 0 where
+  pub asked-there : StandsAt m (spots .asked) (lent .asked)
+  pub key1-there : StandsAt m (spots .key1) (lent .first .key)
+  pub value1-there : StandsAt m (spots .value1) (lent .first .value)
+  pub key2-there : StandsAt m (spots .key2) (lent .second .key)
+  pub value2-there : StandsAt m (spots .value2) (lent .second .value)

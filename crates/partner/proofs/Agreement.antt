@@ -19,10 +19,9 @@ use Rattle.proofrecords.specs.ProofBytes.{StepForm, mostSteps}
 use Rattle.meaning.specs.Checking.{keepsTo, outermost, sameStep, partFromTop, pathsPart, parentHash, climb, leadsTo, neighbourHolds, absenceHolds, checked}
 use Rattle.messages.specs.Message.{prefixOf, suffixOf, leafOp, innerOp, path, existence, nonexistence, neighbourField, messageBytes, RawPresence, RawNeighbour, RawProof, ownPresence, ownNeighbour, ownProof}
 use Rattle.messages.specs.Reading.{onward, onlyIf}
-use Rattle.messages.specs.Operations.{leafHashBy, innerHashBy}
 use Rattle.partner.specs.Values.{LeafOp, InnerOp, Existence, Commitment}
 use Rattle.partner.specs.Verifying.{startsWith, position, Padding, hasPadding, sameOp, leftStep, isRoot, leafRight, innerRight, pathRight, depthRight, fits, padding, firstBranch, branchOf, emptyBelow, leftEmpty, rightEmpty, isLeftMost, isRightMost, neighboursFromTop, isLeftNeighbour, hashed, prehashed, lengthed, prepared, leafApplied, innerApplied, sized, pathApplied, calculated, existenceHolds, forComparison, keyBefore, neighbourVerified, nonExistenceHolds, verifyMembership, verifyNonMembership}
-use Rattle.partner.specs.Ours.{ourLeaf, ourSpec, opOf, existenceOf, neighbourOf, commitmentOf, leafBytes, innerBytes, pathBytes, existenceBytes, neighbourBytes, nonExistenceBytes, commitmentBytes}
+use Rattle.partner.specs.Ours.{ourLeaf, ourSpec, opOf, existenceOf, neighbourOf, commitmentOf, leafBytes, innerBytes, pathBytes, existenceBytes, neighbourBytes, nonExistenceBytes, commitmentBytes, leafHashBy, innerHashBy}
 
 -- the message is the encoding of what it says
 path-is : (steps : List Step) → pathBytes (map opOf steps) ≡ path steps
@@ -184,6 +183,11 @@ module _ (sha : Bytes → Bytes) (sha32 : (x : Bytes) → length (sha x) ≡ 32)
   up32 false x h = sha32 (0 ∷ (h ++ x))
   up32 true x h = sha32 (0 ∷ (x ++ h))
 
+  -- what a path leads to has 32 bytes
+  pub climb32 : (steps : List Step) (h : Bytes) → length h ≡ 32 → length (climb (leafHashBy sha) (innerHashBy sha) h steps) ≡ 32
+  climb32 [] h e = e
+  climb32 (s ∷ steps) h e = climb32 steps (upward h s) (up32 (s .side) (s .sibling) h)
+
   path-applied : (steps : List Step) (h : Bytes) → length h ≡ 32 →
       pathApplied ourSpec sha h (map opOf steps) ≡ some (climb (leafHashBy sha) (innerHashBy sha) h steps)
   unfolding onward
@@ -191,7 +195,8 @@ module _ (sha : Bytes → Bytes) (sha32 : (x : Bytes) → length (sha x) ≡ 32)
   path-applied (s ∷ steps) h e =
       rw (op-applied (s .side) (s .sibling) h e) (path-applied steps (upward h s) (up32 (s .side) (s .sibling) h))
 
-  calculated-as-ours : (p : Presence) → RawPresence p →
+  -- Calculate gives what our own steps lead to.
+  pub calculated-as-ours : (p : Presence) → RawPresence p →
       calculated ourSpec sha (existenceOf p)
       ≡ some (climb (leafHashBy sha) (innerHashBy sha) (leafHashBy sha (sha (p .key)) (sha (p .value))) (p .steps))
   unfolding calculated leafApplied prepared prehashed lengthed hashed onward onlyIf

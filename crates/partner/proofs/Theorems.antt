@@ -2,7 +2,7 @@
 -- of paths and roots, and from the checker's own words. Assumes that SHA-256 gives 32 bytes.
 use native.Mathlib.Omega.{arith}
 use Prim.Native.Nat.{ℕ}
-use mathlib.Core.Path.{_≡_, refl, sym, _∙_}
+use mathlib.Core.Path.{_≡_, refl, ap, sym, _∙_}
 use mathlib.Core.Logic.{_↔_}
 use mathlib.Core.Bool.{Bool, true, false, cond, _&&_, false≢true}
 use mathlib.Core.Option.{Option, none, some}
@@ -14,15 +14,14 @@ use Rattle.terms.proofs.Tests.{and-left, and-right, same-bytes, bytes-same}
 use Rattle.meaning.specs.Calls.{Answer, refused, accepted}
 use Rattle.meaning.specs.Reading.{Verdict, present, absent}
 use Rattle.meaning.specs.Checking.{leadsTo, absenceHolds, checked}
-use Rattle.checker.specs.Holding.{Holds}
+use Rattle.checker.specs.Holding.{Leads, Holds, shown, only-left, only-right, both}
 use Rattle.checker.proofs.Theorems.{accepted-exactly-if-holds}
 use Rattle.messages.specs.Message.{messageBytes, RawPresence, RawProof, ownPresence, ownNeighbour, ownProof}
 use Rattle.messages.specs.Reading.{messageIn}
-use Rattle.messages.specs.Operations.{leafHashBy, innerHashBy}
 use Rattle.messages.proofs.Back.{message-exactly}
 use Rattle.partner.specs.Verifying.{fits, isRoot, calculated, existenceHolds, neighbourVerified, verifyMembership, verifyNonMembership}
-use Rattle.partner.specs.Ours.{ourSpec, existenceOf, commitmentOf, commitmentBytes, askedKey, partnerAccepts, verdictOf}
-use Rattle.partner.proofs.Agreement.{verified-as-ours, absence-as-ours, message-is-encoded}
+use Rattle.partner.specs.Ours.{ourSpec, existenceOf, commitmentOf, commitmentBytes, askedKey, partnerAccepts, verdictOf, leafHashBy, innerHashBy}
+use Rattle.partner.proofs.Agreement.{climb32, calculated-as-ours, verified-as-ours, absence-as-ours, message-is-encoded}
 
 picked : (t : Bool) (v : Verdict) → (t ≡ true) ↔ (cond t (accepted v) (refused 11) ≡ accepted v)
 picked true v = (λ e. refl, λ e. refl)
@@ -56,6 +55,25 @@ module _ (sha : Bytes → Bytes) (sha32 : (x : Bytes) → length (sha x) ≡ 32)
       let p = partner-accepts-as-ours root q h in
       let o = accepted-exactly-if-holds (leafHashBy sha) (innerHashBy sha) root (sha (askedKey q)) (ownProof sha q) (verdictOf sha q) in
       (λ t. o .0 (p .0 t), λ t. p .1 (o .1 t))
+
+  -- A root under which a message is accepted has 32 bytes.
+  pub accepted-root-32 : (root : Bytes) (q : Proof) → RawProof q → partnerAccepts sha root q ≡ true → length root ≡ 32
+  accepted-root-32 root q h t = go (partner-accepts-what-holds root q h .0 t)
+    where
+      led : (k : Bytes) (p : Presence) → Leads (leafHashBy sha) (innerHashBy sha) root k p → length root ≡ 32
+      led k p e = ap length (sym e) ∙ climb32 sha sha32 (p .steps) (leafHashBy sha (p .key) (p .value)) (sha32 _)
+
+      go : {k : Bytes} {p : Proof} {v : Verdict} → Holds (leafHashBy sha) (innerHashBy sha) root k p v → length root ≡ 32
+      go {k} (shown {p} e h) = led k p h
+      go {k} (only-left {j} {l} e h o) = led k l (h .0)
+      go {k} (only-right {j} {r} e h o) = led k r (h .0)
+      go {k} (both {j} {l} {r} e h g o) = led k l (h .0)
+
+  -- An existence proof of a message leads a partner to a root exactly if our own record of it does.
+  pub led-as-ours : (root : Bytes) (p : Presence) → RawPresence p →
+      isRoot root (calculated ourSpec sha (existenceOf p)) ≡ leadsTo (leafHashBy sha) (innerHashBy sha) root (ownPresence sha p)
+  unfolding leadsTo
+  led-as-ours root p h = ap (isRoot root) (calculated-as-ours sha sha32 p h)
 
   -- The same of bytes that our reader takes: they are the encoding of what they say in ICS 23's terms, and a partner accepts that exactly if our
   -- check accepts our own record of it.

@@ -113,3 +113,10 @@ module _ (sha : Bytes → Bytes) where
   abbrev pub partnerAccepts : Bytes → Proof → Bool
   partnerAccepts root (presence p) = verifyMembership ourSpec sha root (commitmentOf (presence p)) (p .key) (p .value)
   partnerAccepts root (absence a) = verifyNonMembership ourSpec sha root (commitmentOf (absence a)) (a .key)
+
+  -- Document 01's two hashes by it: leaf hash, of byte 1, key, value; inner hash, of byte 0, left hash, right hash.
+  abbrev pub leafHashBy : Bytes → Bytes → Bytes
+  leafHashBy k x = sha (1 ∷ (k ++ x))
+
+  abbrev pub innerHashBy : Bytes → Bytes → Bytes
+  innerHashBy l r = sha (0 ∷ (l ++ r))

@@ -34,7 +34,8 @@ same-length c = search needs
 
 returns : tie.Need-returns
 returns c =
-    let a = c .before .before .before .before .before .before .args in part-put (a .at) (a .x .now) (a .room .now) (c .before .before .copy .last .0) (c .before .before .copy .ensures)
+    let after-copy = c .before .before in
+    let a = after-copy .before .before .before .before .args in part-put (a .at) (a .x .now) (a .room .now) (after-copy .copy .last .0) (after-copy .copy .ensures)
 
 pub put-bytes-spec : {M : Type 1} → statement M
 put-bytes-spec =

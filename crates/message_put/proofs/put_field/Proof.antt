@@ -4,20 +4,32 @@ use borrow.Author.Needs.{needs}
 use Rattle.message_put.proofs.put_field.Statement.{statement}
 use Rattle.message_put.proofs.put_field.Tie as tie
 
+-- `A-from-B` is the state A as the later state B has it.
+abbrev start-from-put-head : tie.After-put-head → tie.Start
+start-from-put-head c = c .before .before .before .before
+
+abbrev start-from-put-bytes : tie.After-put-bytes → tie.Start
+start-from-put-bytes c = start-from-put-head (c .before .before .before .before)
+
 put-head-requires : tie.Need-put-head-requires
 put-head-requires c κs =
-    let a = c .before .before .before .args in (c .before .before .before .pre .0, room-first (a .x .now) (field-parts (a .n) (a .x .now) (c .before .before .before .pre .0 .0)) (c .before .before .before .pre .1))
+    let start = c .before .before .before in
+    let a = start .args in (start .pre .0, room-first (a .x .now) (field-parts (a .n) (a .x .now) (start .pre .0 .0)) (start .pre .1))
 
 put-bytes-requires : tie.Need-put-bytes-requires
 put-bytes-requires c κs =
-    let a = c .before .before .before .before .before .before .before .args in room-second (c .before .before .before .put-head .ensures) (field-parts (a .n) (a .x .now) (c .before .before .before .before .before .before .before .pre .0 .0)) (c .before .before .before .before .before .before .before .pre .1)
+    let after-put-head = c .before .before .before in
+    let start = after-put-head .before .before .before .before in
+    let a = start .args in room-second (after-put-head .put-head .ensures) (field-parts (a .n) (a .x .now) (start .pre .0 .0)) (start .pre .1)
 
 same-length : tie.Need-same-length
 same-length c = search needs
 
 returns : tie.Need-returns
 returns c =
-    let a = c .before .before .before .before .before .before .before .before .before .before .args in puts-two (c .before .before .before .before .before .before .put-head .ensures) (c .before .before .put-bytes .ensures) (field-parts (a .n) (a .x .now) (c .before .before .before .before .before .before .before .before .before .before .pre .0 .0)) (c .before .before .before .before .before .before .before .before .before .before .pre .1)
+    let after-put-bytes = c .before .before in
+    let start = start-from-put-bytes after-put-bytes in
+    let a = start .args in puts-two (after-put-bytes .before .before .before .before .put-head .ensures) (after-put-bytes .put-bytes .ensures) (field-parts (a .n) (a .x .now) (start .pre .0 .0)) (start .pre .1)
 
 pub put-field-spec : {M : Type 1} → statement M
 put-field-spec =

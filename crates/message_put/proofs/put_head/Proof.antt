@@ -12,20 +12,30 @@ mul-put-byte c = search needs
 add-put-byte : tie.Need-add-put-byte
 add-put-byte c = search needs
 
+-- `A-from-B` is the state A as the later state B has it.
+abbrev start-from-put-byte : tie.After-put-byte → tie.Start
+start-from-put-byte c = c .before .before .before
+
+abbrev start-from-put-varint : tie.After-put-varint → tie.Start
+start-from-put-varint c = start-from-put-byte (c .before .before .before .before)
+
 put-byte-requires : tie.Need-put-byte-requires
 put-byte-requires c κs =
     omega (arith, c .before .before .pre .1 .fits)
 
 put-varint-requires : tie.Need-put-varint-requires
 put-varint-requires c κs =
-    (c .before .before .before .before .before .before .pre .0 .1, room-second (c .before .before .before .put-byte .ensures) refl (c .before .before .before .before .before .before .pre .1))
+    let after-put-byte = c .before .before .before in
+    let start = after-put-byte .before .before .before in
+    (start .pre .0 .1, room-second (after-put-byte .put-byte .ensures) refl (start .pre .1))
 
 same-length : tie.Need-same-length
 same-length c = search needs
 
 returns : tie.Need-returns
 returns c =
-    puts-two (c .before .before .before .before .before .before .put-byte .ensures) (c .before .before .put-varint .ensures) refl (c .before .before .before .before .before .before .before .before .before .pre .1)
+    let after-put-varint = c .before .before in
+    puts-two (after-put-varint .before .before .before .before .put-byte .ensures) (after-put-varint .put-varint .ensures) refl (start-from-put-varint after-put-varint .pre .1)
 
 pub put-head-spec : {M : Type 1} → statement M
 put-head-spec =

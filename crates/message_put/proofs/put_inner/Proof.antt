@@ -8,9 +8,17 @@ use Rattle.message_put.proofs.put_inner.Tie as tie
 shared-slice-read-put-inner-head : tie.Need-shared-slice-read-put-inner-head
 shared-slice-read-put-inner-head c = search needs
 
+-- `A-from-B` is the state A as the later state B has it.
+abbrev start-from-put-inner-head : tie.After-put-inner-head → tie.Start
+start-from-put-inner-head c = c .before .before .before .before .before
+
+abbrev start-from-put-bytes : tie.After-put-bytes → tie.Start
+start-from-put-bytes c = start-from-put-inner-head (c .before .before .before .before .before)
+
 put-inner-head-requires : tie.Need-put-inner-head-requires
 put-inner-head-requires c κs =
-    room-first (slice 1 32 (c .before .before .before .before .args .step .now)) (inner-parts (c .before .before .before .before .args .step .now) (c .before .before .before .before .pre .0)) (c .before .before .before .before .pre .1)
+    let start = c .before .before .before .before in
+    room-first (slice 1 32 (start .args .step .now)) (inner-parts (start .args .step .now) (start .pre .0)) (start .pre .1)
 
 sub-put-bytes : tie.Need-sub-put-bytes
 sub-put-bytes c = search needs
@@ -24,7 +32,9 @@ part-put-bytes-end c = search needs
 put-bytes-requires : tie.Need-put-bytes-requires
 unfolding slice
 put-bytes-requires c κs =
-    room-second (c .before .before .before .before .put-inner-head .ensures) (inner-parts (c .before .before .before .before .before .before .before .before .before .args .step .now) (c .before .before .before .before .before .before .before .before .before .pre .0)) (c .before .before .before .before .before .before .before .before .before .pre .1)
+    let after-put-inner-head = c .before .before .before .before in
+    let start = after-put-inner-head .before .before .before .before .before in
+    room-second (after-put-inner-head .put-inner-head .ensures) (inner-parts (start .args .step .now) (start .pre .0)) (start .pre .1)
 
 same-length : tie.Need-same-length
 same-length c = search needs
@@ -32,7 +42,9 @@ same-length c = search needs
 returns : tie.Need-returns
 unfolding slice
 returns c =
-    puts-two (c .before .before .before .before .before .before .before .put-inner-head .ensures) (c .before .before .put-bytes .ensures) (inner-parts (c .before .before .before .before .before .before .before .before .before .before .before .before .args .step .now) (c .before .before .before .before .before .before .before .before .before .before .before .before .pre .0)) (c .before .before .before .before .before .before .before .before .before .before .before .before .pre .1)
+    let after-put-bytes = c .before .before in
+    let start = start-from-put-bytes after-put-bytes in
+    puts-two (after-put-bytes .before .before .before .before .before .put-inner-head .ensures) (after-put-bytes .put-bytes .ensures) (inner-parts (start .args .step .now) (start .pre .0)) (start .pre .1)
 
 pub put-inner-spec : {M : Type 1} → statement M
 put-inner-spec =

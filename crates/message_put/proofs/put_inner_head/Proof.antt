@@ -14,28 +14,36 @@ slice-aggregate-put-bytes c = search needs
 
 put-bytes-requires : tie.Need-put-bytes-requires
 put-bytes-requires c κs =
-    subst (λ f. RoomFor (c .before .before .before .before .args .at) f (c .before .before .before .before .args .room .now)) (head-right (c .before .before .before .before .args .side) (c .before .before .if1 .taken)) (c .before .before .before .before .pre)
+    let then1 = c .before .before in
+    let start = then1 .before .before in
+    subst (λ f. RoomFor (start .args .at) f (start .args .room .now)) (head-right (start .args .side) (then1 .if1 .taken)) (start .pre)
 
 same-length : tie.Need-same-length
 same-length c = search needs
 
 returns : tie.Need-returns
 returns c =
-    let a = c .before .before .before .before .before .before .before .args in subst (λ f. Puts (a .at) f (a .room .now) (c .before .before .put-bytes .last .0) (c .before .before .put-bytes .result)) (sym (head-right (a .side) (c .before .before .before .before .before .if1 .taken))) (c .before .before .put-bytes .ensures)
+    let after-put-bytes = c .before .before in
+    let then1 = after-put-bytes .before .before .before in
+    let a = then1 .before .before .args in subst (λ f. Puts (a .at) f (a .room .now) (after-put-bytes .put-bytes .last .0) (after-put-bytes .put-bytes .result)) (sym (head-right (a .side) (then1 .if1 .taken))) (after-put-bytes .put-bytes .ensures)
 
 slice-aggregate-put-bytes-2 : tie.Need-slice-aggregate-put-bytes-2
 slice-aggregate-put-bytes-2 c = search needs
 
 put-bytes-requires-2 : tie.Need-put-bytes-requires-2
 put-bytes-requires-2 c κs =
-    subst (λ f. RoomFor (c .before .before .before .before .args .at) f (c .before .before .before .before .args .room .now)) (head-left (c .before .before .before .before .args .side) (c .before .before .if1 .left)) (c .before .before .before .before .pre)
+    let else1 = c .before .before in
+    let start = else1 .before .before in
+    subst (λ f. RoomFor (start .args .at) f (start .args .room .now)) (head-left (start .args .side) (else1 .if1 .left)) (start .pre)
 
 same-length-2 : tie.Need-same-length-2
 same-length-2 c = search needs
 
 returns-2 : tie.Need-returns-2
 returns-2 c =
-    let a = c .before .before .before .before .before .before .before .args in subst (λ f. Puts (a .at) f (a .room .now) (c .before .before .put-bytes2 .last .0) (c .before .before .put-bytes2 .result)) (sym (head-left (a .side) (c .before .before .before .before .before .if1 .left))) (c .before .before .put-bytes2 .ensures)
+    let after-put-bytes2 = c .before .before in
+    let else1 = after-put-bytes2 .before .before .before in
+    let a = else1 .before .before .args in subst (λ f. Puts (a .at) f (a .room .now) (after-put-bytes2 .put-bytes2 .last .0) (after-put-bytes2 .put-bytes2 .result)) (sym (head-left (a .side) (else1 .if1 .left))) (after-put-bytes2 .put-bytes2 .ensures)
 
 pub put-inner-head-spec : {M : Type 1} → statement M
 put-inner-head-spec =

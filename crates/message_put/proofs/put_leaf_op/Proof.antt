@@ -11,14 +11,16 @@ slice-aggregate-put-bytes c = search needs
 
 put-bytes-requires : tie.Need-put-bytes-requires
 put-bytes-requires c κs =
-    subst (λ f. RoomFor (c .before .before .before .args .at) f (c .before .before .before .args .room .now)) leaf-field (c .before .before .before .pre)
+    let start = c .before .before .before in
+    subst (λ f. RoomFor (start .args .at) f (start .args .room .now)) leaf-field (start .pre)
 
 same-length : tie.Need-same-length
 same-length c = search needs
 
 returns : tie.Need-returns
 returns c =
-    let a = c .before .before .before .before .before .before .args in subst (λ f. Puts (a .at) f (a .room .now) (c .before .before .put-bytes .last .0) (c .before .before .put-bytes .result)) (sym leaf-field) (c .before .before .put-bytes .ensures)
+    let after-put-bytes = c .before .before in
+    let a = after-put-bytes .before .before .before .before .args in subst (λ f. Puts (a .at) f (a .room .now) (after-put-bytes .put-bytes .last .0) (after-put-bytes .put-bytes .result)) (sym leaf-field) (after-put-bytes .put-bytes .ensures)
 
 pub put-leaf-op-spec : {M : Type 1} → statement M
 put-leaf-op-spec =

@@ -14,6 +14,10 @@ use borrow.Author.Needs.{needs}
 use Rattle.message_put.proofs.put_neighbour.Statement.{statement}
 use Rattle.message_put.proofs.put_neighbour.Tie as tie
 
+-- `A-from-B` is the state A as the later state B has it.
+abbrev start-from-else1 : tie.Else1 → tie.Start
+start-from-else1 c = c .before .before .before .before .before
+
 returns : tie.Need-returns
 returns c =
     let a = c .before .before .before .before .before .args in
@@ -21,33 +25,46 @@ returns c =
 
 existence-size-requires : tie.Need-existence-size-requires
 existence-size-requires c κs =
-    let l = c .before .before .before .before .before .pre .0 .2 (c .if1 .left) in (c .before .before .before .before .before .pre .0 .1 (c .if1 .left), l .key-short, l .value-short)
+    let start = start-from-else1 c in
+    let l = start .pre .0 .2 (c .if1 .left) in (start .pre .0 .1 (c .if1 .left), l .key-short, l .value-short)
 
 put-head-requires : tie.Need-put-head-requires
 put-head-requires c κs =
-    let a = c .before .before .before .before .before .before .before .args in
-    let s = c .before .existence-size .ensures in
-    let w = neighbour-parts (a .n) (a .key .now) (a .value .now) (a .p .now) (c .before .before .before .before .before .before .before .pre .0 .0) (c .before .before .if1 .left) (c .before .before .before .before .before .before .before .pre .0 .2 (c .before .before .if1 .left)) in
+    let after-existence-size = c .before in
+    let else1 = after-existence-size .before in
+    let start = start-from-else1 else1 in
+    let a = start .args in
+    let s = after-existence-size .existence-size .ensures in
+    let w = neighbour-parts (a .n) (a .key .now) (a .value .now) (a .p .now) (start .pre .0 .0) (else1 .if1 .left) (start .pre .0 .2 (else1 .if1 .left)) in
     let e = s .0 in
-    ((c .before .before .before .before .before .before .before .pre .0 .0, omega (arith, s .1)), rw e (room-first (existence (rawPresence (leaf (a .key .now) (a .value .now)) (presenceIn (a .p .now)))) w (c .before .before .before .before .before .before .before .pre .1)))
+    ((start .pre .0 .0, omega (arith, s .1)), rw e (room-first (existence (rawPresence (leaf (a .key .now) (a .value .now)) (presenceIn (a .p .now)))) w (start .pre .1)))
 
 put-existence-requires : tie.Need-put-existence-requires
 put-existence-requires c κs =
-    let a = c .before .before .before .before .before .before .before .before .before .before .before .args in
-    let l = c .before .before .before .before .before .before .before .before .before .before .before .pre .0 .2 (c .before .before .before .before .before .before .if1 .left) in
-    let e = c .before .before .before .before .before .existence-size .ensures .0 in
-    let w = neighbour-parts (a .n) (a .key .now) (a .value .now) (a .p .now) (c .before .before .before .before .before .before .before .before .before .before .before .pre .0 .0) (c .before .before .before .before .before .before .if1 .left) l in
-    ((c .before .before .before .before .before .before .before .before .before .before .before .pre .0 .1 (c .before .before .before .before .before .before .if1 .left), l), room-second (rw e at (c .before .before .before .put-head .ensures)) w (c .before .before .before .before .before .before .before .before .before .before .before .pre .1))
+    let after-put-head = c .before .before .before in
+    let after-existence-size = after-put-head .before .before in
+    let else1 = after-existence-size .before in
+    let start = start-from-else1 else1 in
+    let a = start .args in
+    let l = start .pre .0 .2 (else1 .if1 .left) in
+    let e = after-existence-size .existence-size .ensures .0 in
+    let w = neighbour-parts (a .n) (a .key .now) (a .value .now) (a .p .now) (start .pre .0 .0) (else1 .if1 .left) l in
+    ((start .pre .0 .1 (else1 .if1 .left), l), room-second (rw e at (after-put-head .put-head .ensures)) w (start .pre .1))
 
 same-length : tie.Need-same-length
 same-length c = search needs
 
 returns-2 : tie.Need-returns-2
 returns-2 c =
-    let a = c .before .before .before .before .before .before .before .before .before .before .before .before .before .before .args in
-    let e = c .before .before .before .before .before .before .before .before .existence-size .ensures .0 in
-    let w = neighbour-parts (a .n) (a .key .now) (a .value .now) (a .p .now) (c .before .before .before .before .before .before .before .before .before .before .before .before .before .before .pre .0 .0) (c .before .before .before .before .before .before .before .before .before .if1 .left) (c .before .before .before .before .before .before .before .before .before .before .before .before .before .before .pre .0 .2 (c .before .before .before .before .before .before .before .before .before .if1 .left)) in
-    puts-two (rw e at (c .before .before .before .before .before .before .put-head .ensures)) (c .before .before .put-existence .ensures) w (c .before .before .before .before .before .before .before .before .before .before .before .before .before .before .pre .1)
+    let after-put-existence = c .before .before in
+    let after-put-head = after-put-existence .before .before .before .before in
+    let after-existence-size = after-put-head .before .before in
+    let else1 = after-existence-size .before in
+    let start = start-from-else1 else1 in
+    let a = start .args in
+    let e = after-existence-size .existence-size .ensures .0 in
+    let w = neighbour-parts (a .n) (a .key .now) (a .value .now) (a .p .now) (start .pre .0 .0) (else1 .if1 .left) (start .pre .0 .2 (else1 .if1 .left)) in
+    puts-two (rw e at (after-put-head .put-head .ensures)) (after-put-existence .put-existence .ensures) w (start .pre .1)
 
 pub put-neighbour-spec : {M : Type 1} → statement M
 put-neighbour-spec =

@@ -11,6 +11,16 @@ use Rattle.message_write.proofs.write.Tie as tie
 is-presence-requires : tie.Need-is-presence-requires
 is-presence-requires c κs = search needs
 
+-- `A-from-B` is the state A as the later state B has it.
+abbrev start-from-is-presence : tie.After-is-presence → tie.Start
+start-from-is-presence c = c .before .before .before .before .before .before .before .before
+
+abbrev start-from-then1 : tie.Then1 → tie.Start
+start-from-then1 c = start-from-is-presence (c .before)
+
+abbrev start-from-else1 : tie.Else1 → tie.Start
+start-from-else1 c = start-from-is-presence (c .before)
+
 write-presence-requires : tie.Need-write-presence-requires
 write-presence-requires c κs =
     sym (c .before .before .is-presence .ensures) ∙ c .before .if1 .taken
@@ -20,8 +30,10 @@ same-length c = search needs
 
 returns : tie.Need-returns
 returns c =
-    let a = c .before .before .before .before .before .before .before .before .before .before .before .before .before .args in
-    writes-same (is-presence (a .p .now) (lent (a .asked .now) (leaf (a .key1 .now) (a .value1 .now)) (leaf (a .key2 .now) (a .value2 .now))) (length (a .room .now)) (sym (c .before .before .before .before .before .is-presence .ensures) ∙ c .before .before .before .before .if1 .taken)) (c .before .before .write-presence .ensures)
+    let after-write-presence = c .before .before in
+    let then1 = after-write-presence .before .before in
+    let a = start-from-then1 then1 .args in
+    writes-same (is-presence (a .p .now) (lent (a .asked .now) (leaf (a .key1 .now) (a .value1 .now)) (leaf (a .key2 .now) (a .value2 .now))) (length (a .room .now)) (sym (then1 .before .is-presence .ensures) ∙ then1 .if1 .taken)) (after-write-presence .write-presence .ensures)
 
 is-absence-requires : tie.Need-is-absence-requires
 is-absence-requires c κs = search needs
@@ -35,13 +47,19 @@ same-length-2 c = search needs
 
 returns-2 : tie.Need-returns-2
 returns-2 c =
-    let a = c .before .before .before .before .before .before .before .before .before .before .before .before .before .before .before .args in
-    writes-same (is-absence (a .p .now) (lent (a .asked .now) (leaf (a .key1 .now) (a .value1 .now)) (leaf (a .key2 .now) (a .value2 .now))) (length (a .room .now)) (sym (c .before .before .before .before .before .before .before .is-presence .ensures) ∙ c .before .before .before .before .before .before .if1 .left) (sym (c .before .before .before .before .before .is-absence .ensures) ∙ c .before .before .before .before .if2 .taken)) (c .before .before .write-absence .ensures)
+    let after-write-absence = c .before .before in
+    let then2 = after-write-absence .before .before in
+    let after-is-absence = then2 .before in
+    let else1 = after-is-absence .before in
+    let a = start-from-else1 else1 .args in
+    writes-same (is-absence (a .p .now) (lent (a .asked .now) (leaf (a .key1 .now) (a .value1 .now)) (leaf (a .key2 .now) (a .value2 .now))) (length (a .room .now)) (sym (else1 .before .is-presence .ensures) ∙ else1 .if1 .left) (sym (after-is-absence .is-absence .ensures) ∙ then2 .if2 .taken)) (after-write-absence .write-absence .ensures)
 
 returns-3 : tie.Need-returns-3
 returns-3 c =
-    let a = c .before .before .before .before .before .before .before .before .before .before .before .args in
-    not-in-form (a .p .now) (lent (a .asked .now) (leaf (a .key1 .now) (a .value1 .now)) (leaf (a .key2 .now) (a .value2 .now))) (a .room .now) (sym (c .before .before .before .is-presence .ensures) ∙ c .before .before .if1 .left) (sym (c .before .is-absence .ensures) ∙ c .if2 .left)
+    let after-is-absence = c .before in
+    let else1 = after-is-absence .before in
+    let a = start-from-else1 else1 .args in
+    not-in-form (a .p .now) (lent (a .asked .now) (leaf (a .key1 .now) (a .value1 .now)) (leaf (a .key2 .now) (a .value2 .now))) (a .room .now) (sym (else1 .before .is-presence .ensures) ∙ else1 .if1 .left) (sym (after-is-absence .is-absence .ensures) ∙ c .if2 .left)
 
 pub write-spec : {M : Type 1} → statement M
 write-spec =

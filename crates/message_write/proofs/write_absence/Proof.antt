@@ -13,23 +13,44 @@ use borrow.Author.Needs.{needs}
 use Rattle.message_write.proofs.write_absence.Statement.{statement}
 use Rattle.message_write.proofs.write_absence.Tie as tie
 
+-- `A-from-B` is the state A as the later state B has it.
+abbrev start-from-hashes-to : tie.After-hashes-to → tie.Start
+start-from-hashes-to c = c .before .before .before .before .before .before .before .before
+
+abbrev start-from-then1 : tie.Then1 → tie.Start
+start-from-then1 c = start-from-hashes-to (c .before)
+
+abbrev start-from-else1 : tie.Else1 → tie.Start
+start-from-else1 c = start-from-hashes-to (c .before)
+
+abbrev start-from-else2 : tie.Else2 → tie.Start
+start-from-else2 c = start-from-else1 (c .before .before)
+
+abbrev start-from-get-u32 : tie.After-get-u32 → tie.Start
+start-from-get-u32 c = start-from-else2 (c .before)
+
 hashes-to-requires : tie.Need-hashes-to-requires
 hashes-to-requires c κs =
-    omega (arith, absence-head (c .before .before .before .before .before .before .before .args .p .now) (c .before .before .before .before .before .before .before .pre))
+    let start = c .before .before .before .before .before .before .before in
+    omega (arith, absence-head (start .args .p .now) (start .pre))
 
 returns : tie.Need-returns
 unfolding absenceIn
-returns c =
-    let a = c .before .before .before .before .before .before .before .before .before .args in
+returns c = let a = start-from-then1 c .args in
     writes-15 (key-off (a .asked .now) (leaf (a .key1 .now) (a .value1 .now)) (leaf (a .key2 .now) (a .value2 .now)) (length (a .room .now)) (absenceIn (a .p .now)) (sym (c .before .hashes-to .ensures) ∙ not-true _ (c .if1 .taken)))
 
 get-u16-requires : tie.Need-get-u16-requires
 get-u16-requires c κs =
-    omega (arith, absence-head (c .before .before .before .before .before .before .before .before .before .args .p .now) (c .before .before .before .before .before .before .before .before .before .pre))
+    let start = start-from-hashes-to (c .before) in
+    omega (arith, absence-head (start .args .p .now) (start .pre))
 
 write-one-requires : tie.Need-write-one-requires
 write-one-requires c κs =
-    ((c .before .before .before .before .before .before .before .before .before .before .before .before .pre, omega (arith, flags-read (c .before .before .before .before .before .before .before .before .before .before .before .before .args .p .now) (c .before .before .get-u16 .ensures), c .before .if2 .taken)), sym (c .before .before .before .before .hashes-to .ensures) ∙ not-false _ (c .before .before .before .if1 .left))
+    let then2 = c .before in
+    let after-get-u16 = then2 .before in
+    let else1 = after-get-u16 .before in
+    let start = start-from-else1 else1 in
+    ((start .pre, omega (arith, flags-read (start .args .p .now) (after-get-u16 .get-u16 .ensures), then2 .if2 .taken)), sym (else1 .before .hashes-to .ensures) ∙ not-false _ (else1 .if1 .left))
 
 same-length : tie.Need-same-length
 same-length c = search needs
@@ -40,7 +61,8 @@ returns-2 c =
 
 get-u32-requires : tie.Need-get-u32-requires
 get-u32-requires c κs =
-    omega (arith, both-room (c .before .before .before .before .before .before .before .before .before .before .before .args .p .now) (c .before .before .before .before .before .before .before .before .before .before .before .pre) (omega (arith, flags-read (c .before .before .before .before .before .before .before .before .before .before .before .args .p .now) (c .before .get-u16 .ensures), c .if2 .left)))
+    let start = start-from-else2 c in
+    omega (arith, both-room (start .args .p .now) (start .pre) (omega (arith, flags-read (start .args .p .now) (c .before .get-u16 .ensures), c .if2 .left)))
 
 cast-e : tie.Need-cast-e
 cast-e c = search needs
@@ -56,37 +78,55 @@ part-write-neighbours-start c = search needs
 
 part-write-neighbours-end : tie.Need-part-write-neighbours-end
 part-write-neighbours-end c =
-    let two : 2 < flags (c .before .before .before .before .before .before .before .before .before .before .before .before .args .p .now) = omega (arith, flags-read (c .before .before .before .before .before .before .before .before .before .before .before .before .args .p .now) (c .before .before .get-u16 .ensures), c .before .if2 .left) in
-    omega (arith, both-room (c .before .before .before .before .before .before .before .before .before .before .before .before .args .p .now) (c .before .before .before .before .before .before .before .before .before .before .before .before .pre) two, length-read (c .before .before .before .before .before .before .before .before .before .before .before .before .args .p .now) (c .get-u32 .ensures))
+    let start = start-from-get-u32 c in
+    let two : 2 < flags (start .args .p .now) = omega (arith, flags-read (start .args .p .now) (c .before .before .get-u16 .ensures), c .before .if2 .left) in
+    omega (arith, both-room (start .args .p .now) (start .pre) two, length-read (start .args .p .now) (c .get-u32 .ensures))
 
 sub-write-neighbours-2 : tie.Need-sub-write-neighbours-2
 sub-write-neighbours-2 c =
-    let two : 2 < flags (c .before .before .before .before .before .before .before .before .before .before .before .before .before .args .p .now) = omega (arith, flags-read (c .before .before .before .before .before .before .before .before .before .before .before .before .before .args .p .now) (c .before .before .before .get-u16 .ensures), c .before .before .if2 .left) in
-    omega (arith, both-room (c .before .before .before .before .before .before .before .before .before .before .before .before .before .args .p .now) (c .before .before .before .before .before .before .before .before .before .before .before .before .before .pre) two, length-read (c .before .before .before .before .before .before .before .before .before .before .before .before .before .args .p .now) (c .before .get-u32 .ensures))
+    let after-get-u32 = c .before in
+    let else2 = after-get-u32 .before in
+    let start = start-from-else2 else2 in
+    let two : 2 < flags (start .args .p .now) = omega (arith, flags-read (start .args .p .now) (else2 .before .get-u16 .ensures), else2 .if2 .left) in
+    omega (arith, both-room (start .args .p .now) (start .pre) two, length-read (start .args .p .now) (after-get-u32 .get-u32 .ensures))
 
 part-write-neighbours-start-2 : tie.Need-part-write-neighbours-start-2
 part-write-neighbours-start-2 c =
-    let two : 2 < flags (c .before .before .before .before .before .before .before .before .before .before .before .before .before .args .p .now) = omega (arith, flags-read (c .before .before .before .before .before .before .before .before .before .before .before .before .before .args .p .now) (c .before .before .before .get-u16 .ensures), c .before .before .if2 .left) in
-    omega (arith, both-room (c .before .before .before .before .before .before .before .before .before .before .before .before .before .args .p .now) (c .before .before .before .before .before .before .before .before .before .before .before .before .before .pre) two, length-read (c .before .before .before .before .before .before .before .before .before .before .before .before .before .args .p .now) (c .before .get-u32 .ensures))
+    let after-get-u32 = c .before in
+    let else2 = after-get-u32 .before in
+    let start = start-from-else2 else2 in
+    let two : 2 < flags (start .args .p .now) = omega (arith, flags-read (start .args .p .now) (else2 .before .get-u16 .ensures), else2 .if2 .left) in
+    omega (arith, both-room (start .args .p .now) (start .pre) two, length-read (start .args .p .now) (after-get-u32 .get-u32 .ensures))
 
 part-write-neighbours-end-2 : tie.Need-part-write-neighbours-end-2
 part-write-neighbours-end-2 c = search needs
 
 write-neighbours-requires : tie.Need-write-neighbours-requires
 write-neighbours-requires c κs =
-    let a = c .before .before .before .before .before .before .before .before .before .before .before .before .before .before .before .args in
-    let two : 2 < flags (a .p .now) = omega (arith, flags-read (c .before .before .before .before .before .before .before .before .before .before .before .before .before .before .before .args .p .now) (c .before .before .before .before .before .get-u16 .ensures), c .before .before .before .before .if2 .left) in
-    let l = length-read (c .before .before .before .before .before .before .before .before .before .before .before .before .before .before .before .args .p .now) (c .before .before .before .get-u32 .ensures) in
-    (right-lengths 256 (a .asked .now) (slice 8 32 (a .p .now)) (sym (c .before .before .before .before .before .before .before .hashes-to .ensures) ∙ not-false _ (c .before .before .before .before .before .before .if1 .left)), (form-left (a .p .now) (c .before .before .before .before .before .before .before .before .before .before .before .before .before .before .before .pre) (c .before .before .before .get-u32 .result) l two, form-right (a .p .now) (c .before .before .before .before .before .before .before .before .before .before .before .before .before .before .before .pre) (c .before .before .before .get-u32 .result) l two))
+    let after-get-u32 = c .before .before .before in
+    let else2 = after-get-u32 .before in
+    let after-get-u16 = else2 .before in
+    let else1 = after-get-u16 .before in
+    let start = start-from-else1 else1 in
+    let a = start .args in
+    let two : 2 < flags (a .p .now) = omega (arith, flags-read (start .args .p .now) (after-get-u16 .get-u16 .ensures), else2 .if2 .left) in
+    let l = length-read (start .args .p .now) (after-get-u32 .get-u32 .ensures) in
+    (right-lengths 256 (a .asked .now) (slice 8 32 (a .p .now)) (sym (else1 .before .hashes-to .ensures) ∙ not-false _ (else1 .if1 .left)), (form-left (a .p .now) (start .pre) (after-get-u32 .get-u32 .result) l two, form-right (a .p .now) (start .pre) (after-get-u32 .get-u32 .result) l two))
 
 same-length-2 : tie.Need-same-length-2
 same-length-2 c = search needs
 
 returns-3 : tie.Need-returns-3
 returns-3 c =
-    let a = c .before .before .before .before .before .before .before .before .before .before .before .before .before .before .before .before .before .before .args in
-    let two : 2 < flags (a .p .now) = omega (arith, flags-read (c .before .before .before .before .before .before .before .before .before .before .before .before .before .before .before .before .before .before .args .p .now) (c .before .before .before .before .before .before .before .before .get-u16 .ensures), c .before .before .before .before .before .before .before .if2 .left) in
-    writes-same (two-shown (a .asked .now) (leaf (a .key1 .now) (a .value1 .now)) (leaf (a .key2 .now) (a .value2 .now)) (length (a .room .now)) (a .p .now) (c .before .before .before .before .before .before .before .before .before .before .before .before .before .before .before .before .before .before .pre) (sym (c .before .before .before .before .before .before .before .before .before .before .hashes-to .ensures) ∙ not-false _ (c .before .before .before .before .before .before .before .before .before .if1 .left)) (c .before .before .before .before .before .before .get-u32 .result) (length-read (c .before .before .before .before .before .before .before .before .before .before .before .before .before .before .before .before .before .before .args .p .now) (c .before .before .before .before .before .before .get-u32 .ensures)) two) (c .before .before .write-neighbours .ensures)
+    let after-write-neighbours = c .before .before in
+    let after-get-u32 = after-write-neighbours .before .before .before .before in
+    let else2 = after-get-u32 .before in
+    let after-get-u16 = else2 .before in
+    let else1 = after-get-u16 .before in
+    let start = start-from-else1 else1 in
+    let a = start .args in
+    let two : 2 < flags (a .p .now) = omega (arith, flags-read (start .args .p .now) (after-get-u16 .get-u16 .ensures), else2 .if2 .left) in
+    writes-same (two-shown (a .asked .now) (leaf (a .key1 .now) (a .value1 .now)) (leaf (a .key2 .now) (a .value2 .now)) (length (a .room .now)) (a .p .now) (start .pre) (sym (else1 .before .hashes-to .ensures) ∙ not-false _ (else1 .if1 .left)) (after-get-u32 .get-u32 .result) (length-read (start .args .p .now) (after-get-u32 .get-u32 .ensures)) two) (after-write-neighbours .write-neighbours .ensures)
 
 pub write-absence-spec : {M : Type 1} → statement M
 write-absence-spec =

@@ -13,9 +13,20 @@ use borrow.Author.Needs.{needs}
 use Rattle.message_write.proofs.write_exist.Statement.{statement}
 use Rattle.message_write.proofs.write_exist.Tie as tie
 
+-- `A-from-B` is the state A as the later state B has it.
+abbrev start-from-existence-size : tie.After-existence-size → tie.Start
+start-from-existence-size c = c .before .before .before .before .before
+
+abbrev start-from-field-size : tie.After-field-size → tie.Start
+start-from-field-size c = start-from-existence-size (c .before)
+
+abbrev start-from-then1 : tie.Then1 → tie.Start
+start-from-then1 c = start-from-field-size (c .before)
+
 existence-size-requires : tie.Need-existence-size-requires
 existence-size-requires c κs =
-    (c .before .before .before .before .pre .0, c .before .before .before .before .pre .1 .key-short, c .before .before .before .before .pre .1 .value-short)
+    let start = c .before .before .before .before in
+    (start .pre .0, start .pre .1 .key-short, start .pre .1 .value-short)
 
 field-size-requires : tie.Need-field-size-requires
 field-size-requires c κs =
@@ -23,40 +34,54 @@ field-size-requires c κs =
 
 returns : tie.Need-returns
 returns c =
-    let a = c .before .before .before .before .before .before .before .args in
-    let e = exist-total (a .key .now) (a .value .now) (presenceIn (a .p .now)) (c .before .before .before .before .before .before .before .pre .1) (c .before .before .existence-size .ensures .0) (c .before .field-size .ensures .0) in
+    let start = start-from-then1 c in
+    let a = start .args in
+    let e = exist-total (a .key .now) (a .value .now) (presenceIn (a .p .now)) (start .pre .1) (c .before .before .existence-size .ensures .0) (c .before .field-size .ensures .0) in
     writes-no-room (presence (rawPresence (leaf (a .key .now) (a .value .now)) (presenceIn (a .p .now)))) (a .room .now) (omega (arith, e, c .if1 .taken))
 
 put-head-requires : tie.Need-put-head-requires
 put-head-requires c κs =
-    let a = c .before .before .before .before .before .before .before .before .args in
-    let s = c .before .before .before .existence-size .ensures in
-    let e = exist-total (a .key .now) (a .value .now) (presenceIn (a .p .now)) (c .before .before .before .before .before .before .before .before .pre .1) (s .0) (c .before .before .field-size .ensures .0) in
-    let w = exist-parts (a .key .now) (a .value .now) (presenceIn (a .p .now)) (c .before .before .before .before .before .before .before .before .pre .1) (s .0) (c .before .before .field-size .ensures .0) in
-    ((omega arith, omega (arith, s .1)), room-first (existence (rawPresence (leaf (a .key .now) (a .value .now)) (presenceIn (a .p .now)))) w (record { fits = omega (arith, e, c .before .if1 .left) }))
+    let else1 = c .before in
+    let after-field-size = else1 .before in
+    let start = start-from-field-size after-field-size in
+    let a = start .args in
+    let s = after-field-size .before .existence-size .ensures in
+    let e = exist-total (a .key .now) (a .value .now) (presenceIn (a .p .now)) (start .pre .1) (s .0) (after-field-size .field-size .ensures .0) in
+    let w = exist-parts (a .key .now) (a .value .now) (presenceIn (a .p .now)) (start .pre .1) (s .0) (after-field-size .field-size .ensures .0) in
+    ((omega arith, omega (arith, s .1)), room-first (existence (rawPresence (leaf (a .key .now) (a .value .now)) (presenceIn (a .p .now)))) w (record { fits = omega (arith, e, else1 .if1 .left) }))
 
 put-existence-requires : tie.Need-put-existence-requires
 put-existence-requires c κs =
-    let a = c .before .before .before .before .before .before .before .before .before .before .before .before .args in
-    let s = c .before .before .before .before .before .before .before .existence-size .ensures in
-    let e = exist-total (a .key .now) (a .value .now) (presenceIn (a .p .now)) (c .before .before .before .before .before .before .before .before .before .before .before .before .pre .1) (s .0) (c .before .before .before .before .before .before .field-size .ensures .0) in
-    let w = exist-parts (a .key .now) (a .value .now) (presenceIn (a .p .now)) (c .before .before .before .before .before .before .before .before .before .before .before .before .pre .1) (s .0) (c .before .before .before .before .before .before .field-size .ensures .0) in
-    (c .before .before .before .before .before .before .before .before .before .before .before .before .pre, room-second (c .before .before .before .put-head .ensures) w (record { fits = omega (arith, e, c .before .before .before .before .before .if1 .left) }))
+    let after-put-head = c .before .before .before in
+    let else1 = after-put-head .before .before in
+    let after-field-size = else1 .before in
+    let start = start-from-field-size after-field-size in
+    let a = start .args in
+    let s = after-field-size .before .existence-size .ensures in
+    let e = exist-total (a .key .now) (a .value .now) (presenceIn (a .p .now)) (start .pre .1) (s .0) (after-field-size .field-size .ensures .0) in
+    let w = exist-parts (a .key .now) (a .value .now) (presenceIn (a .p .now)) (start .pre .1) (s .0) (after-field-size .field-size .ensures .0) in
+    (start .pre, room-second (after-put-head .put-head .ensures) w (record { fits = omega (arith, e, else1 .if1 .left) }))
 
 cast-t15 : tie.Need-cast-t15
 cast-t15 c =
-    omega (arith, c .before .before .before .before .before .before .before .before .before .before .existence-size .ensures .1, c .before .before .before .before .before .before .before .before .before .field-size .ensures .1)
+    let after-field-size = c .before .before .before .before .before .before .before .before .before in
+    omega (arith, after-field-size .before .existence-size .ensures .1, after-field-size .field-size .ensures .1)
 
 same-length : tie.Need-same-length
 same-length c = search needs
 
 returns-2 : tie.Need-returns-2
 returns-2 c =
-    let a = c .before .before .before .before .before .before .before .before .before .before .before .before .before .before .before .args in
-    let s = c .before .before .before .before .before .before .before .before .before .before .existence-size .ensures in
-    let e = exist-total (a .key .now) (a .value .now) (presenceIn (a .p .now)) (c .before .before .before .before .before .before .before .before .before .before .before .before .before .before .before .pre .1) (s .0) (c .before .before .before .before .before .before .before .before .before .field-size .ensures .0) in
-    let w = exist-parts (a .key .now) (a .value .now) (presenceIn (a .p .now)) (c .before .before .before .before .before .before .before .before .before .before .before .before .before .before .before .pre .1) (s .0) (c .before .before .before .before .before .before .before .before .before .field-size .ensures .0) in
-    writes-there (presence (rawPresence (leaf (a .key .now) (a .value .now)) (presenceIn (a .p .now)))) (omega (arith, e, c .before .before .before .before .before .before .before .before .if1 .left)) e (puts-two (c .before .before .before .before .before .before .put-head .ensures) (c .before .before .put-existence .ensures) w (record { fits = omega (arith, e, c .before .before .before .before .before .before .before .before .if1 .left) }))
+    let after-put-existence = c .before .before in
+    let after-put-head = after-put-existence .before .before .before .before in
+    let else1 = after-put-head .before .before in
+    let after-field-size = else1 .before in
+    let start = start-from-field-size after-field-size in
+    let a = start .args in
+    let s = after-field-size .before .existence-size .ensures in
+    let e = exist-total (a .key .now) (a .value .now) (presenceIn (a .p .now)) (start .pre .1) (s .0) (after-field-size .field-size .ensures .0) in
+    let w = exist-parts (a .key .now) (a .value .now) (presenceIn (a .p .now)) (start .pre .1) (s .0) (after-field-size .field-size .ensures .0) in
+    writes-there (presence (rawPresence (leaf (a .key .now) (a .value .now)) (presenceIn (a .p .now)))) (omega (arith, e, else1 .if1 .left)) e (puts-two (after-put-head .put-head .ensures) (after-put-existence .put-existence .ensures) w (record { fits = omega (arith, e, else1 .if1 .left) }))
 
 pub write-exist-spec : {M : Type 1} → statement M
 write-exist-spec =

@@ -8,33 +8,55 @@ use borrow.Author.Needs.{needs}
 use Rattle.message_write.proofs.write_neighbours.Statement.{statement}
 use Rattle.message_write.proofs.write_neighbours.Tie as tie
 
+-- `A-from-B` is the state A as the later state B has it.
+abbrev start-from-neighbour-fits : tie.After-neighbour-fits → tie.Start
+start-from-neighbour-fits c = c .before .before .before .before .before .before .before .before .before
+
+abbrev start-from-then1 : tie.Then1 → tie.Start
+start-from-then1 c = start-from-neighbour-fits (c .before)
+
+abbrev start-from-else1 : tie.Else1 → tie.Start
+start-from-else1 c = start-from-neighbour-fits (c .before)
+
 neighbour-fits-requires : tie.Need-neighbour-fits-requires
 neighbour-fits-requires c κs =
     c .before .before .before .before .before .before .before .before .pre .1 .0
 
 returns : tie.Need-returns
 returns c =
-    writes-15 (first-off (c .before .before .before .before .before .before .before .before .before .before .args .room .now) (besides (c .before .before .before .before .before .before .before .before .before .before .args .asked .now) (leaf (c .before .before .before .before .before .before .before .before .before .before .args .lkey .now) (c .before .before .before .before .before .before .before .before .before .before .args .lvalue .now)) (recordIn (c .before .before .before .before .before .before .before .before .before .before .args .left .now)) (leaf (c .before .before .before .before .before .before .before .before .before .before .args .rkey .now) (c .before .before .before .before .before .before .before .before .before .before .args .rvalue .now)) (recordIn (c .before .before .before .before .before .before .before .before .before .before .args .right .now))) (neighbourFits (leaf (c .before .before .before .before .before .before .before .before .before .before .args .rkey .now) (c .before .before .before .before .before .before .before .before .before .before .args .rvalue .now)) (recordIn (c .before .before .before .before .before .before .before .before .before .before .args .right .now))) (sym (c .before .neighbour-fits .ensures) ∙ not-true _ (c .if1 .taken)))
+    let start = start-from-then1 c in
+    writes-15 (first-off (start .args .room .now) (besides (start .args .asked .now) (leaf (start .args .lkey .now) (start .args .lvalue .now)) (recordIn (start .args .left .now)) (leaf (start .args .rkey .now) (start .args .rvalue .now)) (recordIn (start .args .right .now))) (neighbourFits (leaf (start .args .rkey .now) (start .args .rvalue .now)) (recordIn (start .args .right .now))) (sym (c .before .neighbour-fits .ensures) ∙ not-true _ (c .if1 .taken)))
 
 neighbour-fits-requires-2 : tie.Need-neighbour-fits-requires-2
-neighbour-fits-requires-2 c κs =
-    c .before .before .before .before .before .before .before .before .before .before .pre .1 .1
+neighbour-fits-requires-2 c κs = start-from-neighbour-fits (c .before) .pre .1 .1
 
 returns-2 : tie.Need-returns-2
 returns-2 c =
-    writes-15 (second-off (c .before .before .before .before .before .before .before .before .before .before .before .before .args .room .now) (besides (c .before .before .before .before .before .before .before .before .before .before .before .before .args .asked .now) (leaf (c .before .before .before .before .before .before .before .before .before .before .before .before .args .lkey .now) (c .before .before .before .before .before .before .before .before .before .before .before .before .args .lvalue .now)) (recordIn (c .before .before .before .before .before .before .before .before .before .before .before .before .args .left .now)) (leaf (c .before .before .before .before .before .before .before .before .before .before .before .before .args .rkey .now) (c .before .before .before .before .before .before .before .before .before .before .before .before .args .rvalue .now)) (recordIn (c .before .before .before .before .before .before .before .before .before .before .before .before .args .right .now))) (sym (c .before .before .before .neighbour-fits .ensures) ∙ not-false _ (c .before .before .if1 .left)) (sym (c .before .neighbour-fits2 .ensures) ∙ not-true _ (c .if2 .taken)))
+    let after-neighbour-fits2 = c .before in
+    let else1 = after-neighbour-fits2 .before in
+    let start = start-from-else1 else1 in
+    writes-15 (second-off (start .args .room .now) (besides (start .args .asked .now) (leaf (start .args .lkey .now) (start .args .lvalue .now)) (recordIn (start .args .left .now)) (leaf (start .args .rkey .now) (start .args .rvalue .now)) (recordIn (start .args .right .now))) (sym (else1 .before .neighbour-fits .ensures) ∙ not-false _ (else1 .if1 .left)) (sym (after-neighbour-fits2 .neighbour-fits2 .ensures) ∙ not-true _ (c .if2 .taken)))
 
 write-nonexist-requires : tie.Need-write-nonexist-requires
 write-nonexist-requires c κs =
-    let a = c .before .before .before .before .before .before .before .before .before .before .before .before .before .args in
-    (c .before .before .before .before .before .before .before .before .before .before .before .before .before .pre .0, (lendable-or (a .lkey .now) (a .lvalue .now) (a .left .now) (c .before .before .before .before .before .before .before .before .before .before .before .before .before .pre .1 .0) (sym (c .before .before .before .before .neighbour-fits .ensures) ∙ not-false _ (c .before .before .before .if1 .left)), lendable-or (a .rkey .now) (a .rvalue .now) (a .right .now) (c .before .before .before .before .before .before .before .before .before .before .before .before .before .pre .1 .1) (sym (c .before .before .neighbour-fits2 .ensures) ∙ not-false _ (c .before .if2 .left))))
+    let else2 = c .before in
+    let after-neighbour-fits2 = else2 .before in
+    let else1 = after-neighbour-fits2 .before in
+    let start = start-from-else1 else1 in
+    let a = start .args in
+    (start .pre .0, (lendable-or (a .lkey .now) (a .lvalue .now) (a .left .now) (start .pre .1 .0) (sym (else1 .before .neighbour-fits .ensures) ∙ not-false _ (else1 .if1 .left)), lendable-or (a .rkey .now) (a .rvalue .now) (a .right .now) (start .pre .1 .1) (sym (after-neighbour-fits2 .neighbour-fits2 .ensures) ∙ not-false _ (else2 .if2 .left))))
 
 same-length : tie.Need-same-length
 same-length c = search needs
 
 returns-3 : tie.Need-returns-3
 returns-3 c =
-    writes-same (both-on (c .before .before .before .before .before .before .before .before .before .before .before .before .before .before .before .before .args .room .now) (besides (c .before .before .before .before .before .before .before .before .before .before .before .before .before .before .before .before .args .asked .now) (leaf (c .before .before .before .before .before .before .before .before .before .before .before .before .before .before .before .before .args .lkey .now) (c .before .before .before .before .before .before .before .before .before .before .before .before .before .before .before .before .args .lvalue .now)) (recordIn (c .before .before .before .before .before .before .before .before .before .before .before .before .before .before .before .before .args .left .now)) (leaf (c .before .before .before .before .before .before .before .before .before .before .before .before .before .before .before .before .args .rkey .now) (c .before .before .before .before .before .before .before .before .before .before .before .before .before .before .before .before .args .rvalue .now)) (recordIn (c .before .before .before .before .before .before .before .before .before .before .before .before .before .before .before .before .args .right .now))) (sym (c .before .before .before .before .before .before .before .neighbour-fits .ensures) ∙ not-false _ (c .before .before .before .before .before .before .if1 .left)) (sym (c .before .before .before .before .before .neighbour-fits2 .ensures) ∙ not-false _ (c .before .before .before .before .if2 .left))) (c .before .before .write-nonexist .ensures)
+    let after-write-nonexist = c .before .before in
+    let else2 = after-write-nonexist .before .before in
+    let after-neighbour-fits2 = else2 .before in
+    let else1 = after-neighbour-fits2 .before in
+    let start = start-from-else1 else1 in
+    writes-same (both-on (start .args .room .now) (besides (start .args .asked .now) (leaf (start .args .lkey .now) (start .args .lvalue .now)) (recordIn (start .args .left .now)) (leaf (start .args .rkey .now) (start .args .rvalue .now)) (recordIn (start .args .right .now))) (sym (else1 .before .neighbour-fits .ensures) ∙ not-false _ (else1 .if1 .left)) (sym (after-neighbour-fits2 .neighbour-fits2 .ensures) ∙ not-false _ (else2 .if2 .left))) (after-write-nonexist .write-nonexist .ensures)
 
 pub write-neighbours-spec : {M : Type 1} → statement M
 write-neighbours-spec =

@@ -14,77 +14,133 @@ use borrow.Author.Needs.{needs}
 use Rattle.message_write.proofs.write_nonexist.Statement.{statement}
 use Rattle.message_write.proofs.write_nonexist.Tie as tie
 
+-- `A-from-B` is the state A as the later state B has it.
+abbrev start-from-field-size : tie.After-field-size → tie.Start
+start-from-field-size c = c .before .before .before .before .before .before .before .before .before
+
+abbrev start-from-neighbour-size : tie.After-neighbour-size → tie.Start
+start-from-neighbour-size c = start-from-field-size (c .before)
+
+abbrev start-from-neighbour-size2 : tie.After-neighbour-size2 → tie.Start
+start-from-neighbour-size2 c = start-from-neighbour-size (c .before)
+
 field-size-requires : tie.Need-field-size-requires
 field-size-requires c κs =
     omega (arith, c .before .before .before .before .before .before .before .before .pre .0 .1)
 
 neighbour-size-requires : tie.Need-neighbour-size-requires
-neighbour-size-requires c κs =
-    let l = c .before .before .before .before .before .before .before .before .before .pre .1 .0 in (l .0, λ h. (l .1 h .key-short, l .1 h .value-short))
+neighbour-size-requires c κs = let l = start-from-field-size c .pre .1 .0 in (l .0, λ h. (l .1 h .key-short, l .1 h .value-short))
 
 add-size : tie.Need-add-size
-add-size c =
-    omega (arith, c .before .field-size .ensures .1, c .neighbour-size .ensures .1, c .before .before .before .before .before .before .before .before .before .before .pre .0 .1)
+add-size c = omega (arith, c .before .field-size .ensures .1, c .neighbour-size .ensures .1, start-from-neighbour-size c .pre .0 .1)
 
 neighbour-size-requires-2 : tie.Need-neighbour-size-requires-2
-neighbour-size-requires-2 c κs =
-    let l = c .before .before .before .before .before .before .before .before .before .before .pre .1 .1 in (l .0, λ h. (l .1 h .key-short, l .1 h .value-short))
+neighbour-size-requires-2 c κs = let l = start-from-neighbour-size c .pre .1 .1 in (l .0, λ h. (l .1 h .key-short, l .1 h .value-short))
 
 add-size-2 : tie.Need-add-size-2
-add-size-2 c =
-    omega (arith, c .before .before .field-size .ensures .1, c .before .neighbour-size .ensures .1, c .neighbour-size2 .ensures .1, c .before .before .before .before .before .before .before .before .before .before .before .pre .0 .1)
+add-size-2 c = omega (arith, c .before .before .field-size .ensures .1, c .before .neighbour-size .ensures .1, c .neighbour-size2 .ensures .1, start-from-neighbour-size2 c .pre .0 .1)
 
 field-size-requires-2 : tie.Need-field-size-requires-2
-field-size-requires-2 c κs =
-    omega (arith, c .before .before .field-size .ensures .1, c .before .neighbour-size .ensures .1, c .neighbour-size2 .ensures .1, c .before .before .before .before .before .before .before .before .before .before .before .pre .0 .1)
+field-size-requires-2 c κs = omega (arith, c .before .before .field-size .ensures .1, c .before .neighbour-size .ensures .1, c .neighbour-size2 .ensures .1, start-from-neighbour-size2 c .pre .0 .1)
 
 returns : tie.Need-returns
 returns c =
-    let a = c .before .before .before .before .before .before .before .before .before .before .before .before .before .args in
-    let e = nonexist-total (a .asked .now) (c .before .before .before .before .before .before .before .before .before .before .before .before .before .pre .0 .0) (a .lkey .now) (a .lvalue .now) (a .left .now) (a .rkey .now) (a .rvalue .now) (a .right .now) (c .before .before .before .before .before .before .before .before .before .before .before .before .before .pre .1 .0) (c .before .before .before .before .before .before .before .before .before .before .before .before .before .pre .1 .1) (c .before .before .before .before .field-size .ensures .0) (c .before .before .before .neighbour-size .ensures .0) (c .before .before .neighbour-size2 .ensures .0) (c .before .field-size2 .ensures .0) in
+    let after-field-size2 = c .before in
+    let after-neighbour-size2 = after-field-size2 .before in
+    let after-neighbour-size = after-neighbour-size2 .before in
+    let start = start-from-neighbour-size after-neighbour-size in
+    let a = start .args in
+    let e = nonexist-total (a .asked .now) (start .pre .0 .0) (a .lkey .now) (a .lvalue .now) (a .left .now) (a .rkey .now) (a .rvalue .now) (a .right .now) (start .pre .1 .0) (start .pre .1 .1) (after-neighbour-size .before .field-size .ensures .0) (after-neighbour-size .neighbour-size .ensures .0) (after-neighbour-size2 .neighbour-size2 .ensures .0) (after-field-size2 .field-size2 .ensures .0) in
     writes-no-room (besides (a .asked .now) (leaf (a .lkey .now) (a .lvalue .now)) (recordIn (a .left .now)) (leaf (a .rkey .now) (a .rvalue .now)) (recordIn (a .right .now))) (a .room .now) (omega (arith, e, c .if1 .taken))
 
 put-head-requires : tie.Need-put-head-requires
 put-head-requires c κs =
-    let a = c .before .before .before .before .before .before .before .before .before .before .before .before .before .before .args in
-    let e = nonexist-total (a .asked .now) (c .before .before .before .before .before .before .before .before .before .before .before .before .before .before .pre .0 .0) (a .lkey .now) (a .lvalue .now) (a .left .now) (a .rkey .now) (a .rvalue .now) (a .right .now) (c .before .before .before .before .before .before .before .before .before .before .before .before .before .before .pre .1 .0) (c .before .before .before .before .before .before .before .before .before .before .before .before .before .before .pre .1 .1) (c .before .before .before .before .before .field-size .ensures .0) (c .before .before .before .before .neighbour-size .ensures .0) (c .before .before .before .neighbour-size2 .ensures .0) (c .before .before .field-size2 .ensures .0) in
-    let w = nonexist-parts (a .asked .now) (c .before .before .before .before .before .before .before .before .before .before .before .before .before .before .pre .0 .0) (a .lkey .now) (a .lvalue .now) (a .left .now) (a .rkey .now) (a .rvalue .now) (a .right .now) (c .before .before .before .before .before .before .before .before .before .before .before .before .before .before .pre .1 .0) (c .before .before .before .before .before .before .before .before .before .before .before .before .before .before .pre .1 .1) (c .before .before .before .before .before .field-size .ensures .0) (c .before .before .before .before .neighbour-size .ensures .0) (c .before .before .before .neighbour-size2 .ensures .0) (c .before .before .field-size2 .ensures .0) in
-    ((omega arith, omega (arith, c .before .before .before .before .before .field-size .ensures .1, c .before .before .before .before .neighbour-size .ensures .1, c .before .before .before .neighbour-size2 .ensures .1, c .before .before .before .before .before .before .before .before .before .before .before .before .before .before .pre .0 .1)), room-first (messageField 1 (a .asked .now) ++ (neighbourField 2 (rawNeighbour (leaf (a .lkey .now) (a .lvalue .now)) (recordIn (a .left .now))) ++ neighbourField 3 (rawNeighbour (leaf (a .rkey .now) (a .rvalue .now)) (recordIn (a .right .now))))) w (record { fits = omega (arith, e, c .before .if1 .left) }))
+    let else1 = c .before in
+    let after-field-size2 = else1 .before in
+    let after-neighbour-size2 = after-field-size2 .before in
+    let after-neighbour-size = after-neighbour-size2 .before in
+    let after-field-size = after-neighbour-size .before in
+    let start = start-from-field-size after-field-size in
+    let a = start .args in
+    let e = nonexist-total (a .asked .now) (start .pre .0 .0) (a .lkey .now) (a .lvalue .now) (a .left .now) (a .rkey .now) (a .rvalue .now) (a .right .now) (start .pre .1 .0) (start .pre .1 .1) (after-field-size .field-size .ensures .0) (after-neighbour-size .neighbour-size .ensures .0) (after-neighbour-size2 .neighbour-size2 .ensures .0) (after-field-size2 .field-size2 .ensures .0) in
+    let w = nonexist-parts (a .asked .now) (start .pre .0 .0) (a .lkey .now) (a .lvalue .now) (a .left .now) (a .rkey .now) (a .rvalue .now) (a .right .now) (start .pre .1 .0) (start .pre .1 .1) (after-field-size .field-size .ensures .0) (after-neighbour-size .neighbour-size .ensures .0) (after-neighbour-size2 .neighbour-size2 .ensures .0) (after-field-size2 .field-size2 .ensures .0) in
+    ((omega arith, omega (arith, after-field-size .field-size .ensures .1, after-neighbour-size .neighbour-size .ensures .1, after-neighbour-size2 .neighbour-size2 .ensures .1, start .pre .0 .1)), room-first (messageField 1 (a .asked .now) ++ (neighbourField 2 (rawNeighbour (leaf (a .lkey .now) (a .lvalue .now)) (recordIn (a .left .now))) ++ neighbourField 3 (rawNeighbour (leaf (a .rkey .now) (a .rvalue .now)) (recordIn (a .right .now))))) w (record { fits = omega (arith, e, else1 .if1 .left) }))
 
 put-field-requires : tie.Need-put-field-requires
 put-field-requires c κs =
-    let a = c .before .before .before .before .before .before .before .before .before .before .before .before .before .before .before .before .before .before .args in
-    let e = nonexist-total (a .asked .now) (c .before .before .before .before .before .before .before .before .before .before .before .before .before .before .before .before .before .before .pre .0 .0) (a .lkey .now) (a .lvalue .now) (a .left .now) (a .rkey .now) (a .rvalue .now) (a .right .now) (c .before .before .before .before .before .before .before .before .before .before .before .before .before .before .before .before .before .before .pre .1 .0) (c .before .before .before .before .before .before .before .before .before .before .before .before .before .before .before .before .before .before .pre .1 .1) (c .before .before .before .before .before .before .before .before .before .field-size .ensures .0) (c .before .before .before .before .before .before .before .before .neighbour-size .ensures .0) (c .before .before .before .before .before .before .before .neighbour-size2 .ensures .0) (c .before .before .before .before .before .before .field-size2 .ensures .0) in
-    let w = nonexist-parts (a .asked .now) (c .before .before .before .before .before .before .before .before .before .before .before .before .before .before .before .before .before .before .pre .0 .0) (a .lkey .now) (a .lvalue .now) (a .left .now) (a .rkey .now) (a .rvalue .now) (a .right .now) (c .before .before .before .before .before .before .before .before .before .before .before .before .before .before .before .before .before .before .pre .1 .0) (c .before .before .before .before .before .before .before .before .before .before .before .before .before .before .before .before .before .before .pre .1 .1) (c .before .before .before .before .before .before .before .before .before .field-size .ensures .0) (c .before .before .before .before .before .before .before .before .neighbour-size .ensures .0) (c .before .before .before .before .before .before .before .neighbour-size2 .ensures .0) (c .before .before .before .before .before .before .field-size2 .ensures .0) in
-    ((omega arith, omega (arith, c .before .before .before .before .before .before .before .before .before .before .before .before .before .before .before .before .before .before .pre .0 .1)), room-first (neighbourField 2 (rawNeighbour (leaf (a .lkey .now) (a .lvalue .now)) (recordIn (a .left .now))) ++ neighbourField 3 (rawNeighbour (leaf (a .rkey .now) (a .rvalue .now)) (recordIn (a .right .now)))) refl (room-second (c .before .before .before .put-head .ensures) w (record { fits = omega (arith, e, c .before .before .before .before .before .if1 .left) })))
+    let after-put-head = c .before .before .before in
+    let else1 = after-put-head .before .before in
+    let after-field-size2 = else1 .before in
+    let after-neighbour-size2 = after-field-size2 .before in
+    let after-neighbour-size = after-neighbour-size2 .before in
+    let after-field-size = after-neighbour-size .before in
+    let start = start-from-field-size after-field-size in
+    let a = start .args in
+    let e = nonexist-total (a .asked .now) (start .pre .0 .0) (a .lkey .now) (a .lvalue .now) (a .left .now) (a .rkey .now) (a .rvalue .now) (a .right .now) (start .pre .1 .0) (start .pre .1 .1) (after-field-size .field-size .ensures .0) (after-neighbour-size .neighbour-size .ensures .0) (after-neighbour-size2 .neighbour-size2 .ensures .0) (after-field-size2 .field-size2 .ensures .0) in
+    let w = nonexist-parts (a .asked .now) (start .pre .0 .0) (a .lkey .now) (a .lvalue .now) (a .left .now) (a .rkey .now) (a .rvalue .now) (a .right .now) (start .pre .1 .0) (start .pre .1 .1) (after-field-size .field-size .ensures .0) (after-neighbour-size .neighbour-size .ensures .0) (after-neighbour-size2 .neighbour-size2 .ensures .0) (after-field-size2 .field-size2 .ensures .0) in
+    ((omega arith, omega (arith, start .pre .0 .1)), room-first (neighbourField 2 (rawNeighbour (leaf (a .lkey .now) (a .lvalue .now)) (recordIn (a .left .now))) ++ neighbourField 3 (rawNeighbour (leaf (a .rkey .now) (a .rvalue .now)) (recordIn (a .right .now)))) refl (room-second (after-put-head .put-head .ensures) w (record { fits = omega (arith, e, else1 .if1 .left) })))
 
 put-neighbour-requires : tie.Need-put-neighbour-requires
 put-neighbour-requires c κs =
-    let a = c .before .before .before .before .before .before .before .before .before .before .before .before .before .before .before .before .before .before .before .before .before .before .args in
-    let e = nonexist-total (a .asked .now) (c .before .before .before .before .before .before .before .before .before .before .before .before .before .before .before .before .before .before .before .before .before .before .pre .0 .0) (a .lkey .now) (a .lvalue .now) (a .left .now) (a .rkey .now) (a .rvalue .now) (a .right .now) (c .before .before .before .before .before .before .before .before .before .before .before .before .before .before .before .before .before .before .before .before .before .before .pre .1 .0) (c .before .before .before .before .before .before .before .before .before .before .before .before .before .before .before .before .before .before .before .before .before .before .pre .1 .1) (c .before .before .before .before .before .before .before .before .before .before .before .before .before .field-size .ensures .0) (c .before .before .before .before .before .before .before .before .before .before .before .before .neighbour-size .ensures .0) (c .before .before .before .before .before .before .before .before .before .before .before .neighbour-size2 .ensures .0) (c .before .before .before .before .before .before .before .before .before .before .field-size2 .ensures .0) in
-    let w = nonexist-parts (a .asked .now) (c .before .before .before .before .before .before .before .before .before .before .before .before .before .before .before .before .before .before .before .before .before .before .pre .0 .0) (a .lkey .now) (a .lvalue .now) (a .left .now) (a .rkey .now) (a .rvalue .now) (a .right .now) (c .before .before .before .before .before .before .before .before .before .before .before .before .before .before .before .before .before .before .before .before .before .before .pre .1 .0) (c .before .before .before .before .before .before .before .before .before .before .before .before .before .before .before .before .before .before .before .before .before .before .pre .1 .1) (c .before .before .before .before .before .before .before .before .before .before .before .before .before .field-size .ensures .0) (c .before .before .before .before .before .before .before .before .before .before .before .before .neighbour-size .ensures .0) (c .before .before .before .before .before .before .before .before .before .before .before .neighbour-size2 .ensures .0) (c .before .before .before .before .before .before .before .before .before .before .field-size2 .ensures .0) in
-    ((omega arith, c .before .before .before .before .before .before .before .before .before .before .before .before .before .before .before .before .before .before .before .before .before .before .pre .1 .0 .0, c .before .before .before .before .before .before .before .before .before .before .before .before .before .before .before .before .before .before .before .before .before .before .pre .1 .0 .1), room-third (neighbourField 2 (rawNeighbour (leaf (a .lkey .now) (a .lvalue .now)) (recordIn (a .left .now)))) (neighbourField 3 (rawNeighbour (leaf (a .rkey .now) (a .rvalue .now)) (recordIn (a .right .now)))) (c .before .before .before .before .before .before .before .put-head .ensures) (c .before .before .before .put-field .ensures) w (record { fits = omega (arith, e, c .before .before .before .before .before .before .before .before .before .if1 .left) }))
+    let after-put-field = c .before .before .before in
+    let after-put-head = after-put-field .before .before .before .before in
+    let else1 = after-put-head .before .before in
+    let after-field-size2 = else1 .before in
+    let after-neighbour-size2 = after-field-size2 .before in
+    let after-neighbour-size = after-neighbour-size2 .before in
+    let after-field-size = after-neighbour-size .before in
+    let start = start-from-field-size after-field-size in
+    let a = start .args in
+    let e = nonexist-total (a .asked .now) (start .pre .0 .0) (a .lkey .now) (a .lvalue .now) (a .left .now) (a .rkey .now) (a .rvalue .now) (a .right .now) (start .pre .1 .0) (start .pre .1 .1) (after-field-size .field-size .ensures .0) (after-neighbour-size .neighbour-size .ensures .0) (after-neighbour-size2 .neighbour-size2 .ensures .0) (after-field-size2 .field-size2 .ensures .0) in
+    let w = nonexist-parts (a .asked .now) (start .pre .0 .0) (a .lkey .now) (a .lvalue .now) (a .left .now) (a .rkey .now) (a .rvalue .now) (a .right .now) (start .pre .1 .0) (start .pre .1 .1) (after-field-size .field-size .ensures .0) (after-neighbour-size .neighbour-size .ensures .0) (after-neighbour-size2 .neighbour-size2 .ensures .0) (after-field-size2 .field-size2 .ensures .0) in
+    ((omega arith, start .pre .1 .0 .0, start .pre .1 .0 .1), room-third (neighbourField 2 (rawNeighbour (leaf (a .lkey .now) (a .lvalue .now)) (recordIn (a .left .now)))) (neighbourField 3 (rawNeighbour (leaf (a .rkey .now) (a .rvalue .now)) (recordIn (a .right .now)))) (after-put-head .put-head .ensures) (after-put-field .put-field .ensures) w (record { fits = omega (arith, e, else1 .if1 .left) }))
 
 put-neighbour-requires-2 : tie.Need-put-neighbour-requires-2
 put-neighbour-requires-2 c κs =
-    let a = c .before .before .before .before .before .before .before .before .before .before .before .before .before .before .before .before .before .before .before .before .before .before .before .before .before .before .args in
-    let e = nonexist-total (a .asked .now) (c .before .before .before .before .before .before .before .before .before .before .before .before .before .before .before .before .before .before .before .before .before .before .before .before .before .before .pre .0 .0) (a .lkey .now) (a .lvalue .now) (a .left .now) (a .rkey .now) (a .rvalue .now) (a .right .now) (c .before .before .before .before .before .before .before .before .before .before .before .before .before .before .before .before .before .before .before .before .before .before .before .before .before .before .pre .1 .0) (c .before .before .before .before .before .before .before .before .before .before .before .before .before .before .before .before .before .before .before .before .before .before .before .before .before .before .pre .1 .1) (c .before .before .before .before .before .before .before .before .before .before .before .before .before .before .before .before .before .field-size .ensures .0) (c .before .before .before .before .before .before .before .before .before .before .before .before .before .before .before .before .neighbour-size .ensures .0) (c .before .before .before .before .before .before .before .before .before .before .before .before .before .before .before .neighbour-size2 .ensures .0) (c .before .before .before .before .before .before .before .before .before .before .before .before .before .before .field-size2 .ensures .0) in
-    let w = nonexist-parts (a .asked .now) (c .before .before .before .before .before .before .before .before .before .before .before .before .before .before .before .before .before .before .before .before .before .before .before .before .before .before .pre .0 .0) (a .lkey .now) (a .lvalue .now) (a .left .now) (a .rkey .now) (a .rvalue .now) (a .right .now) (c .before .before .before .before .before .before .before .before .before .before .before .before .before .before .before .before .before .before .before .before .before .before .before .before .before .before .pre .1 .0) (c .before .before .before .before .before .before .before .before .before .before .before .before .before .before .before .before .before .before .before .before .before .before .before .before .before .before .pre .1 .1) (c .before .before .before .before .before .before .before .before .before .before .before .before .before .before .before .before .before .field-size .ensures .0) (c .before .before .before .before .before .before .before .before .before .before .before .before .before .before .before .before .neighbour-size .ensures .0) (c .before .before .before .before .before .before .before .before .before .before .before .before .before .before .before .neighbour-size2 .ensures .0) (c .before .before .before .before .before .before .before .before .before .before .before .before .before .before .field-size2 .ensures .0) in
-    ((omega arith, c .before .before .before .before .before .before .before .before .before .before .before .before .before .before .before .before .before .before .before .before .before .before .before .before .before .before .pre .1 .1 .0, c .before .before .before .before .before .before .before .before .before .before .before .before .before .before .before .before .before .before .before .before .before .before .before .before .before .before .pre .1 .1 .1), room-fourth (neighbourField 2 (rawNeighbour (leaf (a .lkey .now) (a .lvalue .now)) (recordIn (a .left .now)))) (neighbourField 3 (rawNeighbour (leaf (a .rkey .now) (a .rvalue .now)) (recordIn (a .right .now)))) (c .before .before .before .before .before .before .before .before .before .before .before .put-head .ensures) (c .before .before .before .before .before .before .before .put-field .ensures) w (record { fits = omega (arith, e, c .before .before .before .before .before .before .before .before .before .before .before .before .before .if1 .left) }) (c .before .before .before .put-neighbour .ensures))
+    let after-put-neighbour = c .before .before .before in
+    let after-put-field = after-put-neighbour .before .before .before .before in
+    let after-put-head = after-put-field .before .before .before .before in
+    let else1 = after-put-head .before .before in
+    let after-field-size2 = else1 .before in
+    let after-neighbour-size2 = after-field-size2 .before in
+    let after-neighbour-size = after-neighbour-size2 .before in
+    let after-field-size = after-neighbour-size .before in
+    let start = start-from-field-size after-field-size in
+    let a = start .args in
+    let e = nonexist-total (a .asked .now) (start .pre .0 .0) (a .lkey .now) (a .lvalue .now) (a .left .now) (a .rkey .now) (a .rvalue .now) (a .right .now) (start .pre .1 .0) (start .pre .1 .1) (after-field-size .field-size .ensures .0) (after-neighbour-size .neighbour-size .ensures .0) (after-neighbour-size2 .neighbour-size2 .ensures .0) (after-field-size2 .field-size2 .ensures .0) in
+    let w = nonexist-parts (a .asked .now) (start .pre .0 .0) (a .lkey .now) (a .lvalue .now) (a .left .now) (a .rkey .now) (a .rvalue .now) (a .right .now) (start .pre .1 .0) (start .pre .1 .1) (after-field-size .field-size .ensures .0) (after-neighbour-size .neighbour-size .ensures .0) (after-neighbour-size2 .neighbour-size2 .ensures .0) (after-field-size2 .field-size2 .ensures .0) in
+    ((omega arith, start .pre .1 .1 .0, start .pre .1 .1 .1), room-fourth (neighbourField 2 (rawNeighbour (leaf (a .lkey .now) (a .lvalue .now)) (recordIn (a .left .now)))) (neighbourField 3 (rawNeighbour (leaf (a .rkey .now) (a .rvalue .now)) (recordIn (a .right .now)))) (after-put-head .put-head .ensures) (after-put-field .put-field .ensures) w (record { fits = omega (arith, e, else1 .if1 .left) }) (after-put-neighbour .put-neighbour .ensures))
 
 cast-t32 : tie.Need-cast-t32
 cast-t32 c =
-    omega (arith, c .before .before .before .before .before .before .before .before .before .before .before .before .before .before .before .before .before .before .before .before .field-size .ensures .1, c .before .before .before .before .before .before .before .before .before .before .before .before .before .before .before .before .before .before .before .neighbour-size .ensures .1, c .before .before .before .before .before .before .before .before .before .before .before .before .before .before .before .before .before .before .neighbour-size2 .ensures .1, c .before .before .before .before .before .before .before .before .before .before .before .before .before .before .before .before .before .field-size2 .ensures .1, c .before .before .before .before .before .before .before .before .before .before .before .before .before .before .before .before .before .before .before .before .before .before .before .before .before .before .before .before .before .pre .0 .1)
+    let after-put-neighbour2 = c .before .before in
+    let after-put-neighbour = after-put-neighbour2 .before .before .before .before in
+    let after-put-field = after-put-neighbour .before .before .before .before in
+    let after-put-head = after-put-field .before .before .before .before in
+    let after-field-size2 = after-put-head .before .before .before in
+    let after-neighbour-size2 = after-field-size2 .before in
+    let after-neighbour-size = after-neighbour-size2 .before in
+    omega (arith, after-neighbour-size .before .field-size .ensures .1, after-neighbour-size .neighbour-size .ensures .1, after-neighbour-size2 .neighbour-size2 .ensures .1, after-field-size2 .field-size2 .ensures .1, start-from-neighbour-size after-neighbour-size .pre .0 .1)
 
 same-length : tie.Need-same-length
 same-length c = search needs
 
 returns-2 : tie.Need-returns-2
 returns-2 c =
-    let a = c .before .before .before .before .before .before .before .before .before .before .before .before .before .before .before .before .before .before .before .before .before .before .before .before .before .before .before .before .before .args in
-    let e = nonexist-total (a .asked .now) (c .before .before .before .before .before .before .before .before .before .before .before .before .before .before .before .before .before .before .before .before .before .before .before .before .before .before .before .before .before .pre .0 .0) (a .lkey .now) (a .lvalue .now) (a .left .now) (a .rkey .now) (a .rvalue .now) (a .right .now) (c .before .before .before .before .before .before .before .before .before .before .before .before .before .before .before .before .before .before .before .before .before .before .before .before .before .before .before .before .before .pre .1 .0) (c .before .before .before .before .before .before .before .before .before .before .before .before .before .before .before .before .before .before .before .before .before .before .before .before .before .before .before .before .before .pre .1 .1) (c .before .before .before .before .before .before .before .before .before .before .before .before .before .before .before .before .before .before .before .before .field-size .ensures .0) (c .before .before .before .before .before .before .before .before .before .before .before .before .before .before .before .before .before .before .before .neighbour-size .ensures .0) (c .before .before .before .before .before .before .before .before .before .before .before .before .before .before .before .before .before .before .neighbour-size2 .ensures .0) (c .before .before .before .before .before .before .before .before .before .before .before .before .before .before .before .before .before .field-size2 .ensures .0) in
-    let w = nonexist-parts (a .asked .now) (c .before .before .before .before .before .before .before .before .before .before .before .before .before .before .before .before .before .before .before .before .before .before .before .before .before .before .before .before .before .pre .0 .0) (a .lkey .now) (a .lvalue .now) (a .left .now) (a .rkey .now) (a .rvalue .now) (a .right .now) (c .before .before .before .before .before .before .before .before .before .before .before .before .before .before .before .before .before .before .before .before .before .before .before .before .before .before .before .before .before .pre .1 .0) (c .before .before .before .before .before .before .before .before .before .before .before .before .before .before .before .before .before .before .before .before .before .before .before .before .before .before .before .before .before .pre .1 .1) (c .before .before .before .before .before .before .before .before .before .before .before .before .before .before .before .before .before .before .before .before .field-size .ensures .0) (c .before .before .before .before .before .before .before .before .before .before .before .before .before .before .before .before .before .before .before .neighbour-size .ensures .0) (c .before .before .before .before .before .before .before .before .before .before .before .before .before .before .before .before .before .before .neighbour-size2 .ensures .0) (c .before .before .before .before .before .before .before .before .before .before .before .before .before .before .before .before .before .field-size2 .ensures .0) in
-    writes-there (besides (a .asked .now) (leaf (a .lkey .now) (a .lvalue .now)) (recordIn (a .left .now)) (leaf (a .rkey .now) (a .rvalue .now)) (recordIn (a .right .now))) (omega (arith, e, c .before .before .before .before .before .before .before .before .before .before .before .before .before .before .before .before .if1 .left)) e (puts-four (neighbourField 2 (rawNeighbour (leaf (a .lkey .now) (a .lvalue .now)) (recordIn (a .left .now)))) (neighbourField 3 (rawNeighbour (leaf (a .rkey .now) (a .rvalue .now)) (recordIn (a .right .now)))) (c .before .before .before .before .before .before .before .before .before .before .before .before .before .before .put-head .ensures) (c .before .before .before .before .before .before .before .before .before .before .put-field .ensures) w (record { fits = omega (arith, e, c .before .before .before .before .before .before .before .before .before .before .before .before .before .before .before .before .if1 .left) }) (c .before .before .before .before .before .before .put-neighbour .ensures) (c .before .before .put-neighbour2 .ensures))
+    let after-put-neighbour2 = c .before .before in
+    let after-put-neighbour = after-put-neighbour2 .before .before .before .before in
+    let after-put-field = after-put-neighbour .before .before .before .before in
+    let after-put-head = after-put-field .before .before .before .before in
+    let else1 = after-put-head .before .before in
+    let after-field-size2 = else1 .before in
+    let after-neighbour-size2 = after-field-size2 .before in
+    let after-neighbour-size = after-neighbour-size2 .before in
+    let after-field-size = after-neighbour-size .before in
+    let start = start-from-field-size after-field-size in
+    let a = start .args in
+    let e = nonexist-total (a .asked .now) (start .pre .0 .0) (a .lkey .now) (a .lvalue .now) (a .left .now) (a .rkey .now) (a .rvalue .now) (a .right .now) (start .pre .1 .0) (start .pre .1 .1) (after-field-size .field-size .ensures .0) (after-neighbour-size .neighbour-size .ensures .0) (after-neighbour-size2 .neighbour-size2 .ensures .0) (after-field-size2 .field-size2 .ensures .0) in
+    let w = nonexist-parts (a .asked .now) (start .pre .0 .0) (a .lkey .now) (a .lvalue .now) (a .left .now) (a .rkey .now) (a .rvalue .now) (a .right .now) (start .pre .1 .0) (start .pre .1 .1) (after-field-size .field-size .ensures .0) (after-neighbour-size .neighbour-size .ensures .0) (after-neighbour-size2 .neighbour-size2 .ensures .0) (after-field-size2 .field-size2 .ensures .0) in
+    writes-there (besides (a .asked .now) (leaf (a .lkey .now) (a .lvalue .now)) (recordIn (a .left .now)) (leaf (a .rkey .now) (a .rvalue .now)) (recordIn (a .right .now))) (omega (arith, e, else1 .if1 .left)) e (puts-four (neighbourField 2 (rawNeighbour (leaf (a .lkey .now) (a .lvalue .now)) (recordIn (a .left .now)))) (neighbourField 3 (rawNeighbour (leaf (a .rkey .now) (a .rvalue .now)) (recordIn (a .right .now)))) (after-put-head .put-head .ensures) (after-put-field .put-field .ensures) w (record { fits = omega (arith, e, else1 .if1 .left) }) (after-put-neighbour .put-neighbour .ensures) (after-put-neighbour2 .put-neighbour2 .ensures))
 
 pub write-nonexist-spec : {M : Type 1} → statement M
 write-nonexist-spec =

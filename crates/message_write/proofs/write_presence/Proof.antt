@@ -11,14 +11,27 @@ use borrow.Author.Needs.{needs}
 use Rattle.message_write.proofs.write_presence.Statement.{statement}
 use Rattle.message_write.proofs.write_presence.Tie as tie
 
+-- `A-from-B` is the state A as the later state B has it.
+abbrev start-from-hashes-to : tie.After-hashes-to → tie.Start
+start-from-hashes-to c = c .before .before .before .before .before .before .before .before
+
+abbrev start-from-then1 : tie.Then1 → tie.Start
+start-from-then1 c = start-from-hashes-to (c .before)
+
+abbrev start-from-else1 : tie.Else1 → tie.Start
+start-from-else1 c = start-from-hashes-to (c .before)
+
+abbrev start-from-else2 : tie.Else2 → tie.Start
+start-from-else2 c = start-from-else1 (c .before .before)
+
 hashes-to-requires : tie.Need-hashes-to-requires
 hashes-to-requires c κs =
-    omega (arith, presence-whole (c .before .before .before .before .before .before .before .args .p .now) (c .before .before .before .before .before .before .before .pre))
+    let start = c .before .before .before .before .before .before .before in
+    omega (arith, presence-whole (start .args .p .now) (start .pre))
 
 returns : tie.Need-returns
 unfolding presenceIn
-returns c =
-    let a = c .before .before .before .before .before .before .before .before .before .args in
+returns c = let a = start-from-then1 c .args in
     writes-15 (asked-off (a .asked .now) (leaf (a .key1 .now) (a .value1 .now)) (leaf (a .key2 .now) (a .value2 .now)) (length (a .room .now)) (presenceIn (a .p .now)) (sym (c .before .hashes-to .ensures) ∙ not-true _ (c .if1 .taken)))
 
 leaf-fits-requires : tie.Need-leaf-fits-requires
@@ -27,8 +40,10 @@ leaf-fits-requires c κs = search needs
 returns-2 : tie.Need-returns-2
 unfolding presenceIn
 returns-2 c =
-    let a = c .before .before .before .before .before .before .before .before .before .before .before .args in
-    writes-15 (leaf-off (a .asked .now) (leaf (a .key1 .now) (a .value1 .now)) (leaf (a .key2 .now) (a .value2 .now)) (length (a .room .now)) (presenceIn (a .p .now)) (sym (c .before .before .before .hashes-to .ensures) ∙ not-false _ (c .before .before .if1 .left)) (sym (c .before .leaf-fits .ensures) ∙ not-true _ (c .if2 .taken)))
+    let after-leaf-fits = c .before in
+    let else1 = after-leaf-fits .before in
+    let a = start-from-else1 else1 .args in
+    writes-15 (leaf-off (a .asked .now) (leaf (a .key1 .now) (a .value1 .now)) (leaf (a .key2 .now) (a .value2 .now)) (length (a .room .now)) (presenceIn (a .p .now)) (sym (else1 .before .hashes-to .ensures) ∙ not-false _ (else1 .if1 .left)) (sym (after-leaf-fits .leaf-fits .ensures) ∙ not-true _ (c .if2 .taken)))
 
 unlent-requires : tie.Need-unlent-requires
 unlent-requires c κs = search needs
@@ -36,12 +51,18 @@ unlent-requires c κs = search needs
 returns-3 : tie.Need-returns-3
 unfolding presenceIn
 returns-3 c =
-    let a = c .before .before .before .before .before .before .before .before .before .before .before .before .before .args in
-    writes-15 (leaf-over (a .asked .now) (leaf (a .key1 .now) (a .value1 .now)) (leaf (a .key2 .now) (a .value2 .now)) (length (a .room .now)) (presenceIn (a .p .now)) (sym (c .before .before .before .before .before .hashes-to .ensures) ∙ not-false _ (c .before .before .before .before .if1 .left)) (sym (c .before .before .before .leaf-fits .ensures) ∙ not-false _ (c .before .before .if2 .left)) (sym (c .before .unlent .ensures) ∙ not-true _ (c .if3 .taken)))
+    let after-unlent = c .before in
+    let else2 = after-unlent .before in
+    let after-leaf-fits = else2 .before in
+    let else1 = after-leaf-fits .before in
+    let a = start-from-else1 else1 .args in
+    writes-15 (leaf-over (a .asked .now) (leaf (a .key1 .now) (a .value1 .now)) (leaf (a .key2 .now) (a .value2 .now)) (length (a .room .now)) (presenceIn (a .p .now)) (sym (else1 .before .hashes-to .ensures) ∙ not-false _ (else1 .if1 .left)) (sym (after-leaf-fits .leaf-fits .ensures) ∙ not-false _ (else2 .if2 .left)) (sym (after-unlent .unlent .ensures) ∙ not-true _ (c .if3 .taken)))
 
 write-exist-requires : tie.Need-write-exist-requires
 write-exist-requires c κs =
-    let a = c .before .before .before .before .before .before .before .before .before .before .before .before .before .before .args in (c .before .before .before .before .before .before .before .before .before .before .before .before .before .before .pre, lendable (a .key1 .now) (a .value1 .now) (presenceIn (a .p .now)) (sym (c .before .before .before .before .leaf-fits .ensures) ∙ not-false _ (c .before .before .before .if2 .left)))
+    let else2 = c .before .before .before in
+    let start = start-from-else2 else2 in
+    let a = start .args in (start .pre, lendable (a .key1 .now) (a .value1 .now) (presenceIn (a .p .now)) (sym (else2 .before .leaf-fits .ensures) ∙ not-false _ (else2 .if2 .left)))
 
 same-length : tie.Need-same-length
 same-length c = search needs
@@ -49,8 +70,14 @@ same-length c = search needs
 returns-4 : tie.Need-returns-4
 unfolding presenceIn
 returns-4 c =
-    let a = c .before .before .before .before .before .before .before .before .before .before .before .before .before .before .before .before .before .args in
-    writes-same (presence-fits (a .asked .now) (leaf (a .key1 .now) (a .value1 .now)) (leaf (a .key2 .now) (a .value2 .now)) (length (a .room .now)) (presenceIn (a .p .now)) (sym (c .before .before .before .before .before .before .before .before .before .hashes-to .ensures) ∙ not-false _ (c .before .before .before .before .before .before .before .before .if1 .left)) (sym (c .before .before .before .before .before .before .before .leaf-fits .ensures) ∙ not-false _ (c .before .before .before .before .before .before .if2 .left)) (sym (c .before .before .before .before .before .unlent .ensures) ∙ not-false _ (c .before .before .before .before .if3 .left))) (c .before .before .write-exist .ensures)
+    let after-write-exist = c .before .before in
+    let else3 = after-write-exist .before .before in
+    let after-unlent = else3 .before in
+    let else2 = after-unlent .before in
+    let after-leaf-fits = else2 .before in
+    let else1 = after-leaf-fits .before in
+    let a = start-from-else1 else1 .args in
+    writes-same (presence-fits (a .asked .now) (leaf (a .key1 .now) (a .value1 .now)) (leaf (a .key2 .now) (a .value2 .now)) (length (a .room .now)) (presenceIn (a .p .now)) (sym (else1 .before .hashes-to .ensures) ∙ not-false _ (else1 .if1 .left)) (sym (after-leaf-fits .leaf-fits .ensures) ∙ not-false _ (else2 .if2 .left)) (sym (after-unlent .unlent .ensures) ∙ not-false _ (else3 .if3 .left))) (after-write-exist .write-exist .ensures)
 
 pub write-presence-spec : {M : Type 1} → statement M
 write-presence-spec =
