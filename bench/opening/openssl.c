@@ -45,13 +45,13 @@ int main(int count, char **words) {
     double best = 1e9;
     for (int turn = 0; turn < TURNS; turn++) {
         struct timespec from, to;
-        clock_gettime(CLOCK_MONOTONIC, &from);
+        clock_gettime(CLOCK_PROCESS_CPUTIME_ID, &from);
         for (int i = 0; i < PROOFS; i++)
             if (!holds(asked[i])) {
                 fprintf(stderr, "proof %d does not lead to its root\n", i);
                 return 1;
             }
-        clock_gettime(CLOCK_MONOTONIC, &to);
+        clock_gettime(CLOCK_PROCESS_CPUTIME_ID, &to);
         double ms = (to.tv_sec - from.tv_sec) * 1e3 + (to.tv_nsec - from.tv_nsec) / 1e6;
         if (ms < best) best = ms;
     }

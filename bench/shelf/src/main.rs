@@ -1,7 +1,11 @@
 //! The figures of a shelf of 256 parts: building it, publishing 1,000 scattered and 1,000 neighbouring changes, proofs and their check beside a single store. Arguments:
 //! numbers of grants.
 
-use grants::{sha256, shelf_verify, verify, Batch, Key, Made, Rounds, Shelf, ShelfError, Store, MOST_SLOTS};
+#[path = "../../../tests/common/bars.rs"]
+#[allow(dead_code)]
+mod bars;
+
+use grants::{sha256, shelf_verify, verify, Batch, Key, Made, Proof, Root, Rounds, Shelf, ShelfError, Store, MOST_SLOTS};
 use std::path::{Path, PathBuf};
 use std::time::{Duration, Instant};
 
@@ -11,6 +15,9 @@ const CHANGES: u64 = 1_000;
 const PROOFS: u64 = 2_000;
 /// Of so many, no part gets more than one publishing takes.
 const AT_ONCE: u64 = 200_000;
+
+/// The most that the check of a shelf's proof may take beside the checks of its two parts.
+const SHELF_BAR: f64 = 1.15;
 
 /// Keys are hashes, as a publisher's are.
 fn key(n: u64) -> Key {
@@ -102,6 +109,9 @@ fn proofs(shelf: &Shelf, grants: u64) -> Result<(), ShelfError> {
         let checked = best(&both, |(key, piece)| {
             assert_eq!(shelf_verify(root, BITS, key, piece).map(|found| found.is_some()), Ok(present));
         });
+        if present {
+            beside_two_checks(&format!("{grants}"), root, &both);
+        }
         let (sum, most) = (pieces.iter().map(|p| p.len()).sum::<usize>(), pieces.iter().map(|p| p.len()).max());
         println!(
             "  {what}: proofs of {} bytes in the mean, {} at most; prove {}, in rows of 256 {}; verify {}",
@@ -113,6 +123,29 @@ fn proofs(shelf: &Shelf, grants: u64) -> Result<(), ShelfError> {
         );
     }
     Ok(())
+}
+
+/// The check of a shelf's proofs beside its two parts, each by the check of one store: of the list's record for the part's key, and of the part's record under the value of the first.
+fn beside_two_checks(name: &str, root: Root, both: &[(&Key, &[u8])]) {
+    let cut: Vec<_> = both
+        .iter()
+        .map(|(key, piece)| {
+            let (first, second) = piece.split_at(u32::from_le_bytes(piece[..4].try_into().unwrap()) as usize);
+            let mut part = [0; 32];
+            part[0] = key.as_ref()[0];
+            (Key::from(part), Proof::from_bytes(first), *key, Proof::from_bytes(second))
+        })
+        .collect();
+    let whole = || bars::milliseconds(&mut || both.iter().for_each(|(key, piece)| assert!(shelf_verify(root, BITS, key, piece).unwrap().is_some())));
+    let parts = || {
+        bars::milliseconds(&mut || {
+            for (part, first, key, second) in &cut {
+                let under = verify(root, part, first).unwrap().expect("the part is there");
+                assert!(verify(under, key, second).unwrap().is_some());
+            }
+        })
+    };
+    bars::beside(&format!("shelf-verify-{name}-beside-two-checks"), 15, SHELF_BAR, whole, parts);
 }
 
 /// Eight slots for each grant of a part, and so room for some publishings.
@@ -197,4 +230,5 @@ fn main() {
         let _ = std::fs::remove_dir_all(&folder);
         done.expect("a shelf");
     }
+    bars::end();
 }

@@ -14,6 +14,7 @@ use Rattle.nodehash.specs.Node.{leafHash, innerHash}
 use Rattle.proofrecords.specs.ProofBytes.{isPresence, presenceIn, isAbsence, absenceIn, proofIn}
 use Rattle.verify.specs.Holding.{presenceHolds, absenceProofHolds}
 use Rattle.verify.specs.Verify.{judged, verified}
+use Rattle.verify.proofs.Judged as by-form
 
 module _ (root k x : Bytes) where
   -- the answer where a proof holds, else 11
@@ -43,13 +44,10 @@ module _ (root k x : Bytes) where
       sizes = rw (eq-eqb (length root) 32 r, eq-eqb (length k) 32 e)
 
       pub as-presence : isPresence x ≡ true → verified root k x ≡ checked leafHash innerHash root k (presence (presenceIn x))
-      unfolding proofIn
-      as-presence p = sizes ∙ rw p
+      as-presence p = sizes ∙ by-form.as-presence root k x p
 
       pub as-absence : isPresence x ≡ false → isAbsence x ≡ true → verified root k x ≡ checked leafHash innerHash root k (absence (absenceIn x))
-      unfolding proofIn
-      as-absence p a = sizes ∙ rw (p, a)
+      as-absence p a = sizes ∙ by-form.as-absence root k x p a
 
       pub off-form : isPresence x ≡ false → isAbsence x ≡ false → verified root k x ≡ refused 10
-      unfolding proofIn
-      off-form p a = sizes ∙ rw (p, a)
+      off-form p a = sizes ∙ by-form.off-form root k x p a

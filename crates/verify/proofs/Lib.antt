@@ -1,3 +1,4 @@
+pub mod Judged
 pub mod Checks
 pub mod Boundary
 pub mod Acceptance

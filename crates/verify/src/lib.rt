@@ -2,12 +2,15 @@
 ghost use mathlib.Core.Path.{_≡_};
 ghost use mathlib.Core.Bool.{true, cond};
 ghost use lib.ListN.{length};
+ghost use Prim.Native.Nat.{_≤_};
 ghost use Rattle.meaning.specs.Calls.{refused};
 ghost use Rattle.meaning.specs.Reading.{present};
 ghost use Rattle.meaning.specs.Answers.{foundBytes};
 ghost use Rattle.hash.specs.Hash.{hashBytes};
 ghost use Rattle.proofrecords.specs.ProofBytes.{isPresence, isAbsence};
-ghost use Rattle.verify.specs.Holding.{presenceHolds, absenceProofHolds};
+ghost use Rattle.verify_neighbours.specs.Neighbours.{leads};
+ghost use Rattle.verify_neighbours.specs.Around.{Around};
+ghost use Rattle.verify.specs.Holding.{ofKey, presenceHolds, absenceProofHolds};
 ghost use Rattle.verify.specs.Verify.{verified, Verifies};
 ghost use Rattle.verify.specs.Says.{says};
 use fields::clear;
@@ -22,6 +25,8 @@ use refusal_numbers::NOT_HOLDING;
 use refusal_numbers::NOT_IN_FORM;
 use verify_form::is_absence;
 use verify_form::is_presence;
+use verify_neighbours::Led;
+use verify_neighbours::lead_around;
 use verify_neighbours::leads_to;
 use verify_neighbours::neighbours_hold;
 
@@ -32,30 +37,65 @@ pub enum Checked {
     Absent,
 }
 
-// Whether a presence proof holds: its key is the one asked for, and its steps lead to the root.
-fn presence_holds(root: Hash, key: &[u8], proof: &[u8]) -> bool
-    requires { ⌜ isPresence (now proof) ≡ true ⌝ }
-    ensures { λ r. ⌜ r ≡ presenceHolds (hashBytes root) (now (key .entry)) (now (proof .entry)) ⌝ }
+// Whether a proof is of the key asked for: in both forms its key stands at the same place.
+fn is_of(key: &[u8], proof: &[u8]) -> bool
+    requires { ⌜ 40 ≤ length (now proof) ⌝ }
+    ensures { λ r. ⌜ r ≡ ofKey (now (key .entry)) (now (proof .entry)) ⌝ }
 {
-    if !same(key, &proof[KEY_AT..VALUE_AT]) {
+    same(key, &proof[KEY_AT..VALUE_AT])
+}
+
+// Whether a presence proof of the key leads to the root. That of another key isn't walked.
+fn walk_presence(root: Hash, key: &[u8], proof: &[u8]) -> bool
+    requires { ⌜ isPresence (now proof) ≡ true ⌝ }
+    ensures { λ r. ⌜ (ofKey (now (key .entry)) (now (proof .entry)) ≡ true → r ≡ leads (hashBytes root) (now (proof .entry))) ⌝ }
+{
+    if !is_of(key, proof) {
         return false;
     }
     leads_to(root, proof)
 }
 
-// Whether an absence proof holds: its key is the one asked for, and its neighbours show that it is absent.
-fn absence_holds(root: Hash, key: &[u8], proof: &[u8]) -> bool
+// Whether the neighbours' paths in an absence proof of the key lead to the root. That of another key isn't walked.
+fn walk_absence(root: Hash, key: &[u8], proof: &[u8]) -> Led
     requires { ⌜ isAbsence (now proof) ≡ true ⌝ }
-    ensures { λ r. ⌜ r ≡ absenceProofHolds (hashBytes root) (now (key .entry)) (now (proof .entry)) ⌝ }
+    ensures { λ r. ⌜ (ofKey (now (key .entry)) (now (proof .entry)) ≡ true → Around (hashBytes root) (now (proof .entry)) (r .first) (r .second)) ⌝ }
 {
-    if !same(key, &proof[KEY_AT..VALUE_AT]) {
+    if !is_of(key, proof) {
+        return Led {
+            first: false,
+            second: false,
+        };
+    }
+    lead_around(root, proof)
+}
+
+// Whether a presence proof holds: its key is the one asked for, and its steps lead to the root, as `good` tells.
+pub fn presence_holds(root: Hash, good: bool, key: &[u8], proof: &[u8]) -> bool
+    requires { ⌜ isPresence (now proof) ≡ true ⌝ }
+    requires { ⌜ (ofKey (now key) (now proof) ≡ true → good ≡ leads (hashBytes root) (now proof)) ⌝ }
+    ensures { λ r. ⌜ r ≡ presenceHolds (hashBytes root) (now (key .entry)) (now (proof .entry)) ⌝ }
+{
+    if !is_of(key, proof) {
         return false;
     }
-    neighbours_hold(root, key, proof)
+    good
+}
+
+// Whether an absence proof holds: its key is the one asked for, and its neighbours, whose paths lead to the root as g and h tell, show that it is absent.
+pub fn absence_holds(root: Hash, g: bool, h: bool, key: &[u8], proof: &[u8]) -> bool
+    requires { ⌜ isAbsence (now proof) ≡ true ⌝ }
+    requires { ⌜ (ofKey (now key) (now proof) ≡ true → Around (hashBytes root) (now proof) g h) ⌝ }
+    ensures { λ r. ⌜ r ≡ absenceProofHolds (hashBytes root) (now (key .entry)) (now (proof .entry)) ⌝ }
+{
+    if !is_of(key, proof) {
+        return false;
+    }
+    neighbours_hold(root, g, h, key, proof)
 }
 
 // The answer of a proof in form that holds, else 11.
-fn held(holds: bool, answer: Checked) -> Checked
+pub fn held(holds: bool, answer: Checked) -> Checked
     ensures { λ r. ⌜ says r ≡ cond holds (says answer) (refused 11) ⌝ }
 {
     if holds {
@@ -77,11 +117,13 @@ pub fn verify(root: &[u8], key: &[u8], proof: &[u8]) -> Checked
     let top = hash_at(root, 0);
     if is_presence(proof) {
         let value = hash_at(proof, VALUE_AT);
-        let holds = presence_holds(top, key, proof);
+        let good = walk_presence(top, key, proof);
+        let holds = presence_holds(top, good, key, proof);
         return held(holds, Checked::Present(value));
     }
     if is_absence(proof) {
-        let holds = absence_holds(top, key, proof);
+        let led = walk_absence(top, key, proof);
+        let holds = absence_holds(top, led.first, led.second, key, proof);
         return held(holds, Checked::Absent);
     }
     Checked::Refused(NOT_IN_FORM)

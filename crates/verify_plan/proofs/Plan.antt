@@ -1,9 +1,9 @@
 -- The paths of each form. Assumes nothing.
-use Prim.Native.Nat.{ℕ, _+_, _*_, _<_, _≤_}
+use Prim.Native.Nat.{ℕ, _+_, _<_, _≤_}
 use native.Mathlib.Omega.{arith}
-use mathlib.Core.Path.{_≡_, refl, ap, sym, _∙_}
-use mathlib.Core.Bool.{Bool, true, false}
-use lib.ListN.{length, take, drop, length-drop}
+use mathlib.Core.Path.{_≡_, refl, sym, _∙_}
+use mathlib.Core.Bool.{true, false}
+use lib.ListN.{take, drop}
 use lib.Dec.{eqb}
 use borrow.Author.Tests.{eqb-true}
 use Rattle.terms.specs.Bits.{Bytes}
@@ -13,9 +13,8 @@ use Rattle.proofrecords.specs.ProofBytes.{presenceTests, absenceTests, isPresen
 use Rattle.proofrecords.specs.Steps.{Room}
 use Rattle.proofrecords.proofs.Forms.{presence-whole, absence-head, one-there, left-there, right-there, both-room}
 use Rattle.verify_neighbours.specs.Neighbours.{leads}
+use Rattle.verify_neighbours.proofs.Neighbours.{never}
 use Rattle.verify_rows.proofs.Prefix.{leads-front, room-whole}
-use Rattle.verify_one.specs.Lane.{Lies}
-use Rattle.verify_given.specs.Given.{Around, Leading}
 use Rattle.verify_plan.specs.declared.Paths.{Paths}
 use Rattle.verify_plan.specs.Plan.{PathsIn}
 
@@ -26,9 +25,6 @@ not-both x p a =
     let k = eqb-true (field 4 2 x) 16 (all-of-tests (presenceTests x) p .1 .1 .0) in
     let l = eqb-true (field 4 2 x) 17 (all-of-tests (absenceTests x) a .1 .1 .0) in
     omega arith
-
-never : {b : Bool} → b ≡ false → b ≡ true → ⊥
-never e d = let z : _≡_ {A = ℕ} 0 1 = cc in omega arith
 
 whole-room : (x : Bytes) → isPresence x ≡ true → Room (stepCount x) x
 whole-room x p = omega (arith, presence-whole x p)
@@ -63,7 +59,7 @@ module _ (x : Bytes) where
     lies2 = λ k. absurd (omega arith);
     leading = λ root g h one two. record {
       direct = λ q. absurd (never p q);
-      around = λ q. record { lone = λ l. one (omega arith); leftward = λ l. absurd (omega arith); rightward = λ l. absurd (omega arith) };
+      around = λ q. record { lone = λ l. one (omega arith); leftward = λ l. absurd (omega arith); rightward = λ l e. absurd (omega arith) };
     };
   }
 
@@ -98,7 +94,7 @@ module _ (x : Bytes) where
             around = λ q. record {
               lone = λ k. absurd (omega arith);
               leftward = λ k. one (omega arith) ∙ sym (left-leads root);
-              rightward = λ k. two (omega arith) ∙ sym (right-leads root);
+              rightward = λ k e. two (omega arith) ∙ sym (right-leads root);
             };
           };
         })

@@ -29,8 +29,11 @@ hash-at-requires-2 c κs =
     let w = presence-whole (c .before .before .before .before .before .before .before .before .args .proof .now) (sym (c .before .is-presence .ensures) ∙ c .if3 .taken) in
     omega arith
 
+walk-presence-requires : tie.Need-walk-presence-requires
+walk-presence-requires c κs = sym (c .before .before .is-presence .ensures) ∙ c .before .if3 .taken
+
 presence-holds-requires : tie.Need-presence-holds-requires
-presence-holds-requires c κs = sym (c .before .before .is-presence .ensures) ∙ c .before .if3 .taken
+presence-holds-requires c κs = (sym (c .before .before .before .is-presence .ensures) ∙ c .before .before .if3 .taken, c .walk-presence .ensures)
 
 held-requires : tie.Need-held-requires
 held-requires c κs = search needs
@@ -38,28 +41,31 @@ held-requires c κs = search needs
 returns-3 : tie.Need-returns-3
 unfolding slice
 returns-3 c =
-    let a = c .before .before .before .before .before .before .before .before .before .before .before .args in
-    let u = c .before .before .before in
+    let u = c .before .before .before .before in
     let s = u .before .before in
+    let a = s .before .before .before .before .before .before .args in
     c .held .ensures
-    ∙ presence-answer (a .root .now) (a .key .now) (a .proof .now) (s .hash-at .ensures .1 ∙ take-all 32 (a .root .now) (omega (arith, s .before .before .if1 .left))) (c .before .before .hash-at2 .ensures .1) (c .before .presence-holds .ensures)
+    ∙ presence-answer (a .root .now) (a .key .now) (a .proof .now) (s .hash-at .ensures .1 ∙ take-all 32 (a .root .now) (omega (arith, s .before .before .if1 .left))) (c .before .before .before .hash-at2 .ensures .1) (c .before .presence-holds .ensures)
     ∙ sym (as-presence (a .root .now) (a .key .now) (a .proof .now) (s .before .before .if1 .left) (s .before .if2 .left) (sym (u .before .is-presence .ensures) ∙ u .if3 .taken))
 
 is-absence-requires : tie.Need-is-absence-requires
 is-absence-requires c κs = search needs
 
+walk-absence-requires : tie.Need-walk-absence-requires
+walk-absence-requires c κs = sym (c .before .is-absence .ensures) ∙ c .if4 .taken
+
 absence-holds-requires : tie.Need-absence-holds-requires
-absence-holds-requires c κs = sym (c .before .is-absence .ensures) ∙ c .if4 .taken
+absence-holds-requires c κs = (sym (c .before .before .is-absence .ensures) ∙ c .before .if4 .taken, c .walk-absence .ensures)
 
 held-requires-2 : tie.Need-held-requires-2
 held-requires-2 c κs = search needs
 
 returns-4 : tie.Need-returns-4
 returns-4 c =
-    let a = c .before .before .before .before .before .before .before .before .before .before .before .before .args in
-    let w = c .before .before in
+    let w = c .before .before .before in
     let u = w .before .before in
     let s = u .before .before in
+    let a = s .before .before .before .before .before .before .args in
     c .held2 .ensures
     ∙ absence-answer (a .root .now) (a .key .now) (a .proof .now) (s .hash-at .ensures .1 ∙ take-all 32 (a .root .now) (omega (arith, s .before .before .if1 .left))) (c .before .absence-holds .ensures)
     ∙ sym (as-absence (a .root .now) (a .key .now) (a .proof .now) (s .before .before .if1 .left) (s .before .if2 .left) (sym (u .before .is-presence .ensures) ∙ u .if3 .left) (sym (w .before .is-absence .ensures) ∙ w .if4 .taken))
@@ -80,10 +86,12 @@ verify-spec =
     hash-at-requires
     is-presence-requires
     hash-at-requires-2
+    walk-presence-requires
     presence-holds-requires
     held-requires
     returns-3
     is-absence-requires
+    walk-absence-requires
     absence-holds-requires
     held-requires-2
     returns-4

@@ -6,7 +6,7 @@ use Rattle.verify.proofs.Checks.{presence-answer, absence-answer}
 use Rattle.proofrecords.proofs.Forms.{presence-whole}
 use Rattle.hash.specs.Hash.{hashBytes}
 use Rattle.terms.specs.Fields.{slice}
-use Rattle.verify_given.proofs.Judged.{as-presence, as-absence, off-form}
+use Rattle.verify.proofs.Judged.{as-presence, as-absence, off-form}
 use Rattle.verify_given.proofs.verify_given.Statement.{statement}
 use Rattle.verify_given.proofs.verify_given.Tie as tie
 
@@ -18,11 +18,11 @@ hash-at-requires c κs =
     let w = presence-whole (c .before .before .before .before .args .proof .now) (sym (c .before .is-presence .ensures) ∙ c .if1 .taken) in
     omega arith
 
-presence-given-requires : tie.Need-presence-given-requires
-presence-given-requires c κs =
+presence-holds-requires : tie.Need-presence-holds-requires
+presence-holds-requires c κs =
     let s = c .before .before .before .before .before in
     let p = sym (c .before .before .is-presence .ensures) ∙ c .before .if1 .taken in
-    (p, s .pre .direct p)
+    (p, λ k. s .pre .direct p)
 
 held-requires : tie.Need-held-requires
 held-requires c κs = search needs
@@ -34,17 +34,17 @@ returns c =
     let u = c .before .before .before in
     let root = hashBytes (a .root) in
     c .held .ensures
-    ∙ presence-answer root (a .key .now) (a .proof .now) refl (c .before .before .hash-at .ensures .1) (c .before .presence-given .ensures)
+    ∙ presence-answer root (a .key .now) (a .proof .now) refl (c .before .before .hash-at .ensures .1) (c .before .presence-holds .ensures)
     ∙ sym (as-presence root (a .key .now) (a .proof .now) (sym (u .before .is-presence .ensures) ∙ u .if1 .taken))
 
 is-absence-requires : tie.Need-is-absence-requires
 is-absence-requires c κs = search needs
 
-absence-given-requires : tie.Need-absence-given-requires
-absence-given-requires c κs =
+absence-holds-requires : tie.Need-absence-holds-requires
+absence-holds-requires c κs =
     let s = c .before .before .before .before .before .before in
     let p = sym (c .before .is-absence .ensures) ∙ c .if2 .taken in
-    (p, s .pre .around p)
+    (p, λ k. s .pre .around p)
 
 held-requires-2 : tie.Need-held-requires-2
 held-requires-2 c κs = search needs
@@ -56,7 +56,7 @@ returns-2 c =
     let u = w .before .before in
     let root = hashBytes (a .root) in
     c .held2 .ensures
-    ∙ absence-answer root (a .key .now) (a .proof .now) refl (c .before .absence-given .ensures)
+    ∙ absence-answer root (a .key .now) (a .proof .now) refl (c .before .absence-holds .ensures)
     ∙ sym (as-absence root (a .key .now) (a .proof .now) (sym (u .before .is-presence .ensures) ∙ u .if1 .left) (sym (w .before .is-absence .ensures) ∙ w .if2 .taken))
 
 returns-3 : tie.Need-returns-3
@@ -71,11 +71,11 @@ verify-given-spec =
     (tie.spec
     is-presence-requires
     hash-at-requires
-    presence-given-requires
+    presence-holds-requires
     held-requires
     returns
     is-absence-requires
-    absence-given-requires
+    absence-holds-requires
     held-requires-2
     returns-2
     returns-3)

@@ -3,11 +3,13 @@
 use native.Mathlib.Omega.{arith}
 use mathlib.Core.Path.{ap₂, sym, _∙_}
 use borrow.Author.Tests.{not-true, not-false}
+use borrow.Author.Needs.{needs}
+use Rattle.terms.specs.Bits.{left}
 use Rattle.meaning.specs.Checking.{pathsPart}
+use Rattle.hash.specs.Hash.{hashBytes}
 use Rattle.proofrecords.specs.ProofBytes.{stepCount}
 use Rattle.proofrecords.proofs.Forms.{presence-whole}
-use Rattle.verify_neighbours.proofs.Neighbours.{all-steps}
-use borrow.Author.Needs.{needs}
+use Rattle.verify_neighbours.proofs.Neighbours.{all-steps, neighbour-leads}
 use Rattle.verify_neighbours.proofs.both_hold.Statement.{statement}
 use Rattle.verify_neighbours.proofs.both_hold.Tie as tie
 
@@ -18,7 +20,10 @@ returns : tie.Need-returns
 returns c = rw (sym (c .before .neighbour-holds .ensures) ∙ not-true _ (c .if1 .taken))
 
 neighbour-holds-requires-2 : tie.Need-neighbour-holds-requires-2
-neighbour-holds-requires-2 c κs = search needs
+neighbour-holds-requires-2 c κs =
+    let s = c .before .before .before .before .before in
+    let l = neighbour-leads (hashBytes (s .args .root)) (s .args .key .now) (s .args .l .now) left (sym (c .before .neighbour-holds .ensures) ∙ not-false _ (c .if1 .left)) in
+    (s .pre .1 .0, s .pre .1 .1 .1 (s .pre .1 .1 .0 ∙ l))
 
 returns-2 : tie.Need-returns-2
 returns-2 c =
@@ -32,7 +37,7 @@ cast-m : tie.Need-cast-m
 cast-m c = search needs
 
 get-u16-requires-2 : tie.Need-get-u16-requires-2
-get-u16-requires-2 c κs = let w = presence-whole (c .before .before .before .before .before .before .before .before .args .r .now) (c .before .before .before .before .before .before .before .before .pre .1) in omega arith
+get-u16-requires-2 c κs = let w = presence-whole (c .before .before .before .before .before .before .before .before .args .r .now) (c .before .before .before .before .before .before .before .before .pre .1 .0) in omega arith
 
 cast-n : tie.Need-cast-n
 cast-n c = search needs
@@ -42,7 +47,7 @@ unfolding stepCount
 paths-part-requires c κs =
     let s = c .before .before .before .before .before .before .before .before .before in
     let v = presence-whole (s .args .l .now) (s .pre .0) in
-    let w = presence-whole (s .args .r .now) (s .pre .1) in
+    let w = presence-whole (s .args .r .now) (s .pre .1 .0) in
     (omega arith, omega arith)
 
 returns-3 : tie.Need-returns-3

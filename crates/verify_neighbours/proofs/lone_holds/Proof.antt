@@ -4,11 +4,11 @@ use native.Mathlib.Omega.{arith}
 use mathlib.Core.Path.{ap, sym, _∙_}
 use mathlib.Core.Bool.{not}
 use borrow.Author.Tests.{not-true, not-false}
+use borrow.Author.Needs.{needs}
 use Rattle.meaning.specs.Checking.{outermost}
 use Rattle.proofrecords.specs.ProofBytes.{stepCount}
 use Rattle.proofrecords.proofs.Forms.{presence-whole}
 use Rattle.verify_neighbours.proofs.Neighbours.{all-steps}
-use borrow.Author.Needs.{needs}
 use Rattle.verify_neighbours.proofs.lone_holds.Statement.{statement}
 use Rattle.verify_neighbours.proofs.lone_holds.Tie as tie
 
@@ -19,14 +19,14 @@ returns : tie.Need-returns
 returns c = rw (sym (c .before .neighbour-holds .ensures) ∙ not-true _ (c .if1 .taken))
 
 get-u16-requires : tie.Need-get-u16-requires
-get-u16-requires c κs = let s = c .before .before .before .before in let w = presence-whole (s .args .p .now) (s .pre) in omega arith
+get-u16-requires c κs = let s = c .before .before .before .before in let w = presence-whole (s .args .p .now) (s .pre .0) in omega arith
 
 cast-n : tie.Need-cast-n
 cast-n c = search needs
 
 outermost-requires : tie.Need-outermost-requires
 unfolding stepCount
-outermost-requires c κs = let s = c .before .before .before .before .before in let w = presence-whole (s .args .p .now) (s .pre) in omega arith
+outermost-requires c κs = let s = c .before .before .before .before .before in let w = presence-whole (s .args .p .now) (s .pre .0) in omega arith
 
 returns-2 : tie.Need-returns-2
 returns-2 c =

@@ -3,20 +3,17 @@
 use native.Mathlib.Omega.{arith}
 use mathlib.Core.Path.{sym, _∙_}
 use borrow.Author.Tests.{not-true, not-false}
+use borrow.Author.Needs.{needs}
 use Rattle.terms.specs.Fields.{slice}
 use Rattle.meaning.specs.Checking.{neighbourHolds}
 use Rattle.proofrecords.specs.ProofBytes.{presenceIn}
 use Rattle.proofrecords.proofs.Forms.{presence-whole}
-use borrow.Author.Needs.{needs}
 use Rattle.verify_neighbours.proofs.neighbour_holds.Statement.{statement}
 use Rattle.verify_neighbours.proofs.neighbour_holds.Tie as tie
 
-leads-to-requires : tie.Need-leads-to-requires
-leads-to-requires c κs = search needs
-
 returns : tie.Need-returns
 unfolding neighbourHolds
-returns c = rw (sym (c .before .leads-to .ensures) ∙ not-true _ (c .if1 .taken))
+returns c = rw (sym (c .before .before .before .pre .1) ∙ not-true _ (c .if1 .taken))
 
 sub-beyond : tie.Need-sub-beyond
 sub-beyond c = search needs
@@ -25,7 +22,7 @@ part-beyond-start : tie.Need-part-beyond-start
 part-beyond-start c = search needs
 
 part-beyond-end : tie.Need-part-beyond-end
-part-beyond-end c = let w = presence-whole (c .before .before .before .before .args .p .now) (c .before .before .before .before .pre) in omega arith
+part-beyond-end c = let w = presence-whole (c .before .before .before .args .p .now) (c .before .before .before .pre .0) in omega arith
 
 beyond-requires : tie.Need-beyond-requires
 beyond-requires c κs = search needs
@@ -33,13 +30,12 @@ beyond-requires c κs = search needs
 returns-2 : tie.Need-returns-2
 unfolding neighbourHolds presenceIn slice
 returns-2 c =
-    rw (sym (c .before .before .before .leads-to .ensures) ∙ not-false _ (c .before .before .if1 .left)) (c .beyond .ensures)
+    rw (sym (c .before .before .before .before .before .pre .1) ∙ not-false _ (c .before .before .if1 .left)) (c .beyond .ensures)
 
 pub neighbour-holds-spec : {M : Type 1} → statement M
 neighbour-holds-spec =
     tie.close
     (tie.spec
-    leads-to-requires
     returns
     sub-beyond
     part-beyond-start

@@ -4,18 +4,18 @@ use Prim.Native.Nat.{_+_, _<_, _≤_}
 use native.Mathlib.Omega.{arith}
 use mathlib.Core.Path.{ap, ap₂, sym, _∙_}
 use lib.ListN.{length}
+use borrow.Author.Needs.{needs}
+use Rattle.verify_neighbours.specs.Neighbours.{leads, loneNeighbour, bothNeighbours}
 use Rattle.terms.specs.Bits.{left, right}
 use Rattle.hash.specs.Hash.{hashBytes}
 use Rattle.proofrecords.specs.ProofBytes.{isPresence, leftLength, flags}
-use Rattle.verify_neighbours.specs.Neighbours.{loneNeighbour, bothNeighbours}
 use Rattle.proofrecords.proofs.Forms.{absence-head, one-there, flags-both, left-there, right-there, both-room, rest-part, left-part, right-part, above-two}
 use Rattle.verify_neighbours.proofs.Neighbours.{left-shown, right-shown, both-shown}
-use borrow.Author.Needs.{needs}
 use Rattle.verify_neighbours.proofs.neighbours_hold.Statement.{statement}
 use Rattle.verify_neighbours.proofs.neighbours_hold.Tie as tie
 
 head : (c : tie.Start) → 40 ≤ length (c .args .proof .now)
-head c = absence-head (c .args .proof .now) (c .pre)
+head c = absence-head (c .args .proof .now) (c .pre .0)
 
 get-u16-requires : tie.Need-get-u16-requires
 get-u16-requires c κs = let w = head (c .before .before) in omega arith
@@ -33,8 +33,9 @@ lone-holds-requires : tie.Need-lone-holds-requires
 unfolding flags
 lone-holds-requires c κs =
     let s = c .before .before .before .before .before in
+    let x = s .args .proof .now in
     let f = sym (c .before .before .get-u16 .ensures) ∙ c .before .if1 .taken in
-    ap isPresence (rest-part 40 (s .args .proof .now)) ∙ one-there (s .args .proof .now) (s .pre) (omega arith)
+    (ap isPresence (rest-part 40 x) ∙ one-there x (s .pre .0) (omega arith), s .pre .1 .lone (omega arith) ∙ sym (ap (leads (hashBytes (s .args .root))) (rest-part 40 x)))
 
 returns : tie.Need-returns
 unfolding flags
@@ -57,8 +58,9 @@ lone-holds-requires-2 : tie.Need-lone-holds-requires-2
 unfolding flags
 lone-holds-requires-2 c κs =
     let s = c .before .before .before .before .before .before in
+    let x = s .args .proof .now in
     let f = sym (c .before .before .before .get-u16 .ensures) ∙ c .before .if2 .taken in
-    ap isPresence (rest-part 40 (s .args .proof .now)) ∙ one-there (s .args .proof .now) (s .pre) (omega arith)
+    (ap isPresence (rest-part 40 x) ∙ one-there x (s .pre .0) (omega arith), s .pre .1 .lone (omega arith) ∙ sym (ap (leads (hashBytes (s .args .root))) (rest-part 40 x)))
 
 returns-2 : tie.Need-returns-2
 unfolding flags
@@ -74,10 +76,10 @@ unfolding flags
 two-flagged c =
     let s = c .before .before .before .before .before in
     let e = c .before .before .get-u16 .ensures in
-    above-two (s .args .proof .now) (s .pre) (rw (← e) (c .before .if1 .left)) (rw (← e) (c .if2 .left))
+    above-two (s .args .proof .now) (s .pre .0) (rw (← e) (c .before .if1 .left)) (rw (← e) (c .if2 .left))
 
 room : (c : tie.Else2) → let x = c .before .before .before .before .before .args .proof .now in 112 + leftLength x ≤ length x
-room c = let s = c .before .before .before .before .before in both-room (s .args .proof .now) (s .pre) (two-flagged c)
+room c = let s = c .before .before .before .before .before in both-room (s .args .proof .now) (s .pre .0) (two-flagged c)
 
 get-u32-requires : tie.Need-get-u32-requires
 get-u32-requires c κs = let m = room c in omega arith
@@ -114,9 +116,12 @@ unfolding leftLength
 both-hold-requires c κs =
     let s = c .before .before .before .before .before .before .before .before in
     let x = s .args .proof .now in
+    let root = hashBytes (s .args .root) in
     let t = two-flagged (c .before .before .before) in
-    let e = c .before .before .get-u32 .ensures in
-    (ap isPresence (left-part _ x e) ∙ left-there x (s .pre) t, ap isPresence (right-part _ x e) ∙ right-there x (s .pre) t)
+    let e = c .before .before .get-u32 .ensures in (
+      ap isPresence (left-part _ x e) ∙ left-there x (s .pre .0) t,
+      (ap isPresence (right-part _ x e) ∙ right-there x (s .pre .0) t, (s .pre .1 .leftward t ∙ sym (ap (leads root) (left-part _ x e)), λ g. s .pre .1 .rightward t g ∙ sym (ap (leads root) (right-part _ x e)))),
+    )
 
 returns-3 : tie.Need-returns-3
 unfolding leftLength
@@ -128,7 +133,7 @@ returns-3 c =
     let e = c .before .before .before .get-u32 .ensures in
     c .both-hold .ensures
     ∙ ap₂ (bothNeighbours root k) (left-part _ x e) (right-part _ x e)
-    ∙ sym (both-shown root k x (flags-both x (s .pre) (two-flagged (c .before .before .before .before))))
+    ∙ sym (both-shown root k x (flags-both x (s .pre .0) (two-flagged (c .before .before .before .before))))
 
 pub neighbours-hold-spec : {M : Type 1} → statement M
 neighbours-hold-spec =

@@ -1,0 +1,158 @@
+-- `verify_neighbours::lead_around` meets its contract: by the flags, each path is walked where it lies. Assumes nothing.
+use Prim.Native.Nat.{_+_, _<_, _≤_}
+use native.Mathlib.Omega.{arith}
+use mathlib.Core.Path.{refl, ap, sym, _∙_}
+use lib.ListN.{length}
+use borrow.Author.Tests.{not-true, not-false}
+use Rattle.hash.specs.Hash.{hashBytes}
+use Rattle.proofrecords.specs.ProofBytes.{isPresence, leftLength, flags}
+use Rattle.proofrecords.proofs.Forms.{absence-head, one-there, left-there, right-there, both-room, rest-part, left-part, right-part}
+use Rattle.verify_neighbours.specs.Neighbours.{leads}
+use Rattle.verify_neighbours.proofs.Neighbours.{never}
+use borrow.Author.Needs.{needs}
+use Rattle.verify_neighbours.proofs.lead_around.Statement.{statement}
+use Rattle.verify_neighbours.proofs.lead_around.Tie as tie
+
+head : (c : tie.Start) → 40 ≤ length (c .args .proof .now)
+head c = absence-head (c .args .proof .now) (c .pre)
+
+get-u16-requires : tie.Need-get-u16-requires
+get-u16-requires c κs = let w = head (c .before) in omega arith
+
+sub-leads-to : tie.Need-sub-leads-to
+sub-leads-to c = let w = head (c .before .before .before) in omega arith
+
+part-leads-to-start : tie.Need-part-leads-to-start
+part-leads-to-start c = let w = head (c .before .before .before) in omega arith
+
+part-leads-to-end : tie.Need-part-leads-to-end
+part-leads-to-end c = search needs
+
+leads-to-requires : tie.Need-leads-to-requires
+unfolding flags
+leads-to-requires c κs =
+    let g = c .before .before in
+    let s = g .before .before in
+    ap isPresence (rest-part 40 (s .args .proof .now)) ∙ one-there (s .args .proof .now) (s .pre) (omega (arith, g .get-u16 .ensures, c .before .if1 .taken))
+
+returns : tie.Need-returns
+unfolding flags
+returns c =
+    let g = c .before .before .before in
+    let s = g .before .before in
+    let x = s .args .proof .now in
+    let f = g .get-u16 .ensures in
+    let t = c .before .before .if1 .taken in
+    record {
+      lone = λ k. c .leads-to .ensures ∙ ap (leads (hashBytes (s .args .root))) (rest-part 40 x);
+      leftward = λ k. absurd (omega (arith, f, t, k));
+      rightward = λ k. absurd (omega (arith, f, t, k));
+    }
+
+-- past the test of the flags there are two neighbours
+two-flagged : (c : tie.Else1) → 2 < flags (c .before .before .before .args .proof .now)
+unfolding flags
+two-flagged c = omega (arith, c .before .get-u16 .ensures, c .if1 .left)
+
+room : (c : tie.Else1) → let x = c .before .before .before .args .proof .now in 112 + leftLength x ≤ length x
+room c = let s = c .before .before .before in both-room (s .args .proof .now) (s .pre) (two-flagged c)
+
+get-u32-requires : tie.Need-get-u32-requires
+get-u32-requires c κs = let m = room c in omega arith
+
+cast-e : tie.Need-cast-e
+cast-e c = search needs
+
+add-e : tie.Need-add-e
+add-e c = search needs
+
+sub-leads-to-2 : tie.Need-sub-leads-to-2
+sub-leads-to-2 c = search needs
+
+part-leads-to-start-2 : tie.Need-part-leads-to-start-2
+part-leads-to-start-2 c = search needs
+
+part-leads-to-end-2 : tie.Need-part-leads-to-end-2
+unfolding leftLength
+part-leads-to-end-2 c = let m = room (c .before) in omega arith
+
+leads-to-requires-2 : tie.Need-leads-to-requires-2
+unfolding leftLength
+leads-to-requires-2 c κs =
+    let o = c .before .before in
+    let s = o .before .before .before in
+    ap isPresence (left-part _ (s .args .proof .now) (c .before .get-u32 .ensures)) ∙ left-there (s .args .proof .now) (s .pre) (two-flagged o)
+
+returns-2 : tie.Need-returns-2
+unfolding leftLength
+returns-2 c =
+    let u = c .before .before .before in
+    let o = u .before in
+    let s = o .before .before .before in
+    let x = s .args .proof .now in
+    let two = two-flagged o in
+    let l = sym (not-true _ (c .if2 .taken)) ∙ c .before .leads-to2 .ensures ∙ ap (leads (hashBytes (s .args .root))) (left-part _ x (u .get-u32 .ensures)) in
+    record {
+      lone = λ k. absurd (omega (arith, two, k));
+      leftward = λ k. l;
+      rightward = λ k e. absurd (never refl e);
+    }
+
+sub-leads-to-3 : tie.Need-sub-leads-to-3
+unfolding leftLength
+sub-leads-to-3 c = let m = room (c .before .before .before .before) in omega arith
+
+part-leads-to-start-3 : tie.Need-part-leads-to-start-3
+unfolding leftLength
+part-leads-to-start-3 c = let m = room (c .before .before .before .before) in omega arith
+
+part-leads-to-end-3 : tie.Need-part-leads-to-end-3
+part-leads-to-end-3 c = search needs
+
+leads-to-requires-3 : tie.Need-leads-to-requires-3
+unfolding leftLength
+leads-to-requires-3 c κs =
+    let u = c .before .before .before .before in
+    let o = u .before in
+    let s = o .before .before .before in
+    ap isPresence (right-part _ (s .args .proof .now) (u .get-u32 .ensures)) ∙ right-there (s .args .proof .now) (s .pre) (two-flagged o)
+
+returns-3 : tie.Need-returns-3
+unfolding leftLength
+returns-3 c =
+    let e = c .before .before in
+    let u = e .before .before .before in
+    let o = u .before in
+    let s = o .before .before .before in
+    let x = s .args .proof .now in
+    let two = two-flagged o in
+    let l = sym (not-false _ (e .if2 .left)) ∙ e .before .leads-to2 .ensures ∙ ap (leads (hashBytes (s .args .root))) (left-part _ x (u .get-u32 .ensures)) in
+    record {
+      lone = λ k. absurd (omega (arith, two, k));
+      leftward = λ k. l;
+      rightward = λ k g. c .leads-to3 .ensures ∙ ap (leads (hashBytes (s .args .root))) (right-part _ x (u .get-u32 .ensures));
+    }
+
+pub lead-around-spec : {M : Type 1} → statement M
+lead-around-spec =
+    tie.close
+    (tie.spec
+    get-u16-requires
+    sub-leads-to
+    part-leads-to-start
+    part-leads-to-end
+    leads-to-requires
+    returns
+    get-u32-requires
+    cast-e
+    add-e
+    sub-leads-to-2
+    part-leads-to-start-2
+    part-leads-to-end-2
+    leads-to-requires-2
+    returns-2
+    sub-leads-to-3
+    part-leads-to-start-3
+    part-leads-to-end-3
+    leads-to-requires-3
+    returns-3)
