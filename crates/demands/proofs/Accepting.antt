@@ -20,7 +20,7 @@ use Rattle.nodehash.specs.Node.{leafHash, innerHash}
 use Rattle.proofrecords.specs.ProofBytes.{proofIn}
 use Rattle.verify.specs.Verify.{judged, verified}
 use Rattle.refusals.proofs.Proofs.{read-as, proof-is}
-use Rattle.grants.specs.Contracts.{Verifies}
+use Rattle.contracts.specs.Contracts.{Verifies}
 use Rattle.demands.specs.Claims.{Accepts}
 
 -- what is found tells the answer

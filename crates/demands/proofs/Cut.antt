@@ -25,7 +25,7 @@ use Rattle.layout.specs.Stores.{slotIn, storeOf, storeBytes}
 use Rattle.layout.proofs.Stores.{slot-in}
 use Rattle.promises.proofs.Calls.{sound-form, sound-back}
 use Rattle.promises.specs.Calls.{SoundBytes, accepts, exports-refusal, exports-answer}
-use Rattle.grants.specs.Contracts.{Prunes}
+use Rattle.contracts.specs.Contracts.{Prunes}
 use Rattle.demands.specs.Claims.{Pruned}
 use Rattle.demands.proofs.Stored.{stored-is, stored-sound, prune-form}
 use Rattle.demands.proofs.Refusals.{no-refusal, never-0, prune-refusals, does-numbers}

@@ -33,8 +33,8 @@ use Rattle.promises.proofs.Calls.{one-export}
 use Rattle.read.specs.Reads.{rootAnswer}
 use Rattle.read_c.specs.Export.{rootBytes}
 use Rattle.apply_c.specs.Export.{told}
-use Rattle.grants.specs.Contracts.{Applies}
-use Rattle.demands.specs.Desk.{RowOverBytes, DeskOverBytes, GapsOverBytes, NotAboveOverBytes}
+use Rattle.contracts.specs.Contracts.{Applies}
+use Rattle.demands.specs.Desk.{RowOverBytes, DeskOverBytes}
 use Rattle.demands.proofs.Hashes.{leaf-hash-whole, inner-hash-whole}
 use Rattle.demands.proofs.Stored.{stored-is, stored-sound, formatted-form, prune-form, apply-form}
 
@@ -250,7 +250,7 @@ g9 : Whole (g₉ leafHash innerHash)
 g9 = sound-after (gapAt 2) (desk-gaps leafHash innerHash .1 .1 .0) (g5, refl, refl, refl)
 
 -- Each row with a gap is what the contracts say of the bytes,
-pub gaps-over-bytes : GapsOverBytes
+pub gaps-over-bytes : All RowOverBytes (gaps leafHash innerHash)
 gaps-over-bytes =
     let h = desk-gaps leafHash innerHash in
     let g7 = sound-after (gapAt 4) (h .1 .1 .1 .1 .0) g9 in
@@ -261,7 +261,7 @@ gaps-over-bytes =
     ((s20, refl, refl, refl), (g5, ((g5, refl, refl, refl), (g9, (g9, (g7, (g7, ((g9, refl, refl, refl), ((g12, refl, refl, refl), (g15, (g15, (g15, (g13, ((s2, refl, refl, refl), tt))))))))))))))
 
 -- and each row whose number is not above latest.
-pub not-above-over-bytes : NotAboveOverBytes
+pub not-above-over-bytes : All RowOverBytes (notAbove leafHash innerHash)
 not-above-over-bytes =
     let last = sound-after (gapAt 13) (desk-gaps leafHash innerHash .1 .1 .1 .1 .1 .1 .1 .1 .1 .1 .1 .1 .1 .0) (s2, refl, refl, refl) in
     rows-over-bytes (notAbove leafHash innerHash) (not-above leafHash innerHash)

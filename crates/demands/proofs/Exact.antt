@@ -59,10 +59,10 @@ use Rattle.refusals.proofs.Rescues.{rescue-first}
 use Rattle.refusals.proofs.Findings.{finding-first}
 use Rattle.refusals.proofs.Moves.{move-first}
 use Rattle.refusals.proofs.Proofs.{off-form, form-first}
-use Rattle.demands.specs.Tables.{formatRows, checkRows, applyRows, pruneRows, rootRows, rootTests, getRows, getTests, countRows, atRows, atTests, proveRows, proveTests, paletteTests, paletteRows, changesRows, verifyRows, verifyManyRows, sha256Rows, rescuingRows, overRows, backRows}
-use Rattle.grants.specs.Contracts.{Formats, Checks, Applies, Prunes, ReadsRoot, ReadsKey, Counts, ReadsAt, Proves, Palettes, Changes, Verifies, VerifiesMany, Hashes, Rescues, MovesOver, MovesBack}
+use Rattle.demands.specs.Tables.{formatRows, soundRows, applyRows, pruneRows, rootRows, getRows, atRows, proveRows, paletteRows, testsOf, changesRows, verifyRows, verifyManyRows, rescuingRows, moveRows}
+use Rattle.contracts.specs.Contracts.{Formats, Checks, Applies, Prunes, ReadsRoot, ReadsKey, Counts, ReadsAt, Proves, Palettes, Changes, Verifies, VerifiesMany, Hashes, Rescues, MovesOver, MovesBack}
 use Rattle.demands.specs.Tables.{findingRows}
-use Rattle.grants.specs.Contracts.{Finds}
+use Rattle.contracts.specs.Contracts.{Finds}
 
 -- Format: 1.
 pub format-exactly : {s t : Bytes} {r : ℕ} → Formats s r t → Exactly (formatRows s) r
@@ -74,10 +74,10 @@ format-exactly {s} {r = r} w = exactly (formatRows s) r refl (go (sizeRight coun
     go false e f = inl (length-wrong s e, f)
 
 -- Check: 1, 2, 3.
-pub check-exactly : {s : Bytes} {r : ℕ} → Checks s r → Exactly (checkRows s) r
-check-exactly {s} {r} w = exactly (checkRows s) r refl (go w)
+pub check-exactly : {s : Bytes} {r : ℕ} → Checks s r → Exactly (soundRows s) r
+check-exactly {s} {r} w = exactly (soundRows s) r refl (go w)
   where
-    go : {n : ℕ} → check.Checked counted s n → First (checkRows s) n
+    go : {n : ℕ} → check.Checked counted s n → First (soundRows s) n
     go (check.refused n e) = let h = header-row s e in within (headerRows s) ((3, NotSound s) ∷ []) n (h .0) (h .1)
     go (check.unsound c o l e f) = past (headerRows s) ((3, NotSound s) ∷ []) 3 (after-header s e) (inl (f, refl))
     go (check.sound c o l e f) = past (headerRows s) ((3, NotSound s) ∷ []) 0 (after-header s e) (inr (λ n. n f, refl))
@@ -135,74 +135,74 @@ never-lost s v t e (its-root i n m) = let z : _≡_ {A = ℕ} 0 1 = cc in omega 
 
 -- A root read: 1, 2, 8, 3, and the slot beside 3.
 module _ {s : Bytes} {v : ℕ} {f : Bytes} {r : ℕ} {g : Bytes} (w : ReadsRoot s v f r g) where
-  root-answers : Stopped (rootTests s v) [] (StopsRoot s v) r
+  root-answers : Stopped (testsOf (rootRows s v)) [] (StopsRoot s v) r
   unfolding rootAnswer
   root-answers =
-      subst (Stopped (rootTests s v) [] (StopsRoot s v)) (sym (w .answer))
+      subst (Stopped (testsOf (rootRows s v)) [] (StopsRoot s v)) (sym (w .answer))
       (read-stopped s (readRoot leafHash innerHash (storeOf s) v) (λ c o l e. root-stopped leafHash innerHash s v))
 
   pub root-exactly : Exactly (rootRows s v) (low r)
   root-exactly = exactly (rootRows s v) (low r) refl (stopped-found refl refl root-answers (never-lost s v lostRecord refl))
 
-  pub root-names-slot : Names (λ i. NoneOf (rootTests s v) × StopsRoot s v (spoiltRecord i)) r
+  pub root-names-slot : Names (λ i. NoneOf (testsOf (rootRows s v)) × StopsRoot s v (spoiltRecord i)) r
   root-names-slot = stopped-names refl refl root-answers
 
 -- A key read: 12, 1, 2, 8, 17 or 3, and the slot beside 3.
 module _ {s : Bytes} {v : ℕ} {k f : Bytes} {r : ℕ} {g : Bytes} (h : All Byte s) (w : ReadsKey s v k f r g) where
-  get-answers : Stopped (getTests s v k) [] (StopsGet s v k) r
+  get-answers : Stopped (testsOf (getRows s v k)) [] (StopsGet s v k) r
   unfolding keyAnswer
   get-answers =
-      subst (Stopped (getTests s v k) [] (StopsGet s v k)) (sym (w .answer))
+      subst (Stopped (testsOf (getRows s v k)) [] (StopsGet s v k)) (sym (w .answer))
       (key-stopped k (byHeader (headerOf counted s) (readKey (storeOf s) v k))
       (read-stopped s (readKey (storeOf s) v k) (λ c o l e. get-stopped s (records-formed s h e) v k)))
 
   pub get-exactly : Exactly (getRows s v k) (low r)
   get-exactly = exactly (getRows s v k) (low r) refl (stopped-first refl refl get-answers)
 
-  pub get-names-slot : Names (λ i. NoneOf (getTests s v k) × StopsGet s v k (spoiltRecord i)) r
+  pub get-names-slot : Names (λ i. NoneOf (testsOf (getRows s v k)) × StopsGet s v k (spoiltRecord i)) r
   get-names-slot = stopped-names refl refl get-answers
 
 -- The number of grants: 1, 2, 8, 3, and the slot beside 3.
 module _ {s : Bytes} {v : ℕ} {f : Bytes} {r : ℕ} {g : Bytes} (w : Counts s v f r g) where
-  count-answers : Stopped (rootTests s v) [] (StopsRoot s v) r
+  count-answers : Stopped (testsOf (rootRows s v)) [] (StopsRoot s v) r
   unfolding numberAnswer
   count-answers =
-      subst (Stopped (rootTests s v) [] (StopsRoot s v)) (sym (w .answer))
+      subst (Stopped (testsOf (rootRows s v)) [] (StopsRoot s v)) (sym (w .answer))
       (read-stopped s (readNumber (storeOf s) v) (λ c o l e. number-stopped leafHash innerHash s v))
 
-  pub count-exactly : Exactly (countRows s v) (low r)
-  count-exactly = exactly (countRows s v) (low r) refl (stopped-found refl refl count-answers (never-lost s v lostRecord refl))
+  pub count-exactly : Exactly (rootRows s v) (low r)
+  count-exactly = exactly (rootRows s v) (low r) refl (stopped-found refl refl count-answers (never-lost s v lostRecord refl))
 
-  pub count-names-slot : Names (λ i. NoneOf (rootTests s v) × StopsRoot s v (spoiltRecord i)) r
+  pub count-names-slot : Names (λ i. NoneOf (testsOf (rootRows s v)) × StopsRoot s v (spoiltRecord i)) r
   count-names-slot = stopped-names refl refl count-answers
 
 -- The grant at a position: 1, 2, 8, 20, 17 or 3, and the slot beside 3.
 module _ {s : Bytes} {v i : ℕ} {f : Bytes} {r : ℕ} {g : Bytes} (h : All Byte s) (w : ReadsAt s v i f r g) where
-  at-answers : Stopped (atTests s v i) [] (StopsAt s v i) r
+  at-answers : Stopped (testsOf (atRows s v i)) [] (StopsAt s v i) r
   unfolding positionAnswer
   at-answers =
-      subst (Stopped (atTests s v i) [] (StopsAt s v i)) (sym (w .answer))
+      subst (Stopped (testsOf (atRows s v i)) [] (StopsAt s v i)) (sym (w .answer))
       (read-stopped s (readPosition (storeOf s) v i) (λ c o l e. position-stopped s (records-formed s h e) v i))
 
   pub at-exactly : Exactly (atRows s v i) (low r)
   at-exactly = exactly (atRows s v i) (low r) refl (stopped-first refl refl at-answers)
 
-  pub at-names-slot : Names (λ j. NoneOf (atTests s v i) × StopsAt s v i (spoiltRecord j)) r
+  pub at-names-slot : Names (λ j. NoneOf (testsOf (atRows s v i)) × StopsAt s v i (spoiltRecord j)) r
   at-names-slot = stopped-names refl refl at-answers
 
 -- Proving: 12, 1, 2, 8, 14, 17 or 3, 9, and the slot beside 3.
 module _ {s : Bytes} {v : ℕ} {k room f : Bytes} {r : ℕ} {t g : Bytes} (h : All Byte s) (w : Proves s v k room f r t g) where
-  prove-answers : Stopped (proveTests s v k) ((9, TooLong s v k room) ∷ []) (StopsProve s v k) r
+  prove-answers : Stopped (testsOf (proveRows s v k room)) ((9, TooLong s v k room) ∷ []) (StopsProve s v k) r
   unfolding proveAnswer
   prove-answers =
-      subst (Stopped (proveTests s v k) ((9, TooLong s v k room) ∷ []) (StopsProve s v k)) (sym (w .answer))
+      subst (Stopped (testsOf (proveRows s v k room)) ((9, TooLong s v k room) ∷ []) (StopsProve s v k)) (sym (w .answer))
       (key-stopped k (byHeader (headerOf counted s) (prove (storeOf s) v k (length room)))
       (read-stopped s (prove (storeOf s) v k (length room)) (λ c o l e. prove-stopped s (records-formed s h e) v k room)))
 
   pub prove-exactly : Exactly (proveRows s v k room) (low r)
   prove-exactly = exactly (proveRows s v k room) (low r) refl (stopped-first refl refl prove-answers)
 
-  pub prove-names-slot : Names (λ i. NoneOf (proveTests s v k) × StopsProve s v k (spoiltRecord i)) r
+  pub prove-names-slot : Names (λ i. NoneOf (testsOf (proveRows s v k room)) × StopsProve s v k (spoiltRecord i)) r
   prove-names-slot = stopped-names refl refl prove-answers
 
 -- A list of keys: 12; then the rest.
@@ -216,17 +216,17 @@ list-stopped {early = early} {later = later} {stops = stops} list a w = go (whol
 
 -- A palette: 12, 1, 2, 8, 14, 17 or 3, 9, and the slot beside 3.
 module _ {s : Bytes} {v : ℕ} {list room f : Bytes} {r : ℕ} {t g : Bytes} (h : All Byte s) (w : Palettes s v list room f r t g) where
-  palette-answers : Stopped (paletteTests s v list) ((9, TooLongTogether s v (keysIn list) room) ∷ []) (StopsPalette s v (keysIn list)) r
+  palette-answers : Stopped (testsOf (paletteRows s v list room)) ((9, TooLongTogether s v (keysIn list) room) ∷ []) (StopsPalette s v (keysIn list)) r
   unfolding paletteAnswer
   palette-answers =
-      subst (Stopped (paletteTests s v list) ((9, TooLongTogether s v (keysIn list) room) ∷ []) (StopsPalette s v (keysIn list))) (sym (w .answer))
+      subst (Stopped (testsOf (paletteRows s v list room)) ((9, TooLongTogether s v (keysIn list) room) ∷ []) (StopsPalette s v (keysIn list))) (sym (w .answer))
       (list-stopped list (byHeader (headerOf counted s) (palette (storeOf s) v (keysIn list) (length room)))
       (read-stopped s (palette (storeOf s) v (keysIn list) (length room)) (λ c o l e. palette-stopped s (records-formed s h e) v (keysIn list) room)))
 
   pub palette-exactly : Exactly (paletteRows s v list room) (low r)
   palette-exactly = exactly (paletteRows s v list room) (low r) refl (stopped-first refl refl palette-answers)
 
-  pub palette-names-slot : Names (λ i. NoneOf (paletteTests s v list) × StopsPalette s v (keysIn list) (spoiltRecord i)) r
+  pub palette-names-slot : Names (λ i. NoneOf (testsOf (paletteRows s v list room)) × StopsPalette s v (keysIn list) (spoiltRecord i)) r
   palette-names-slot = stopped-names refl refl palette-answers
 
 -- A comparison: 1, 2, 3, 8, 13, 9.
@@ -254,11 +254,11 @@ finding-exactly {s} {v} {k} {x} {r = r} h w =
         inr (λ n. n (e, tt), does-first (finds sha256 v k (proofIn x)) s (foundRows s v k x) a (finding-first s v k x h) d)
 
 -- A move over, and back: 1, 2, 3.
-pub over-exactly : {s old t : Bytes} {r : ℕ} → MovesOver s old r t → Exactly (overRows s old) r
-over-exactly {s} {old} {r = r} w = exactly (overRows s old) r refl (move-first plain s old w)
+pub over-exactly : {s old t : Bytes} {r : ℕ} → MovesOver s old r t → Exactly (moveRows plain s old) r
+over-exactly {s} {old} {r = r} w = exactly (moveRows plain s old) r refl (move-first plain s old w)
 
-pub back-exactly : {s old t : Bytes} {r : ℕ} → MovesBack s old r t → Exactly (backRows s old) r
-back-exactly {s} {old} {r = r} w = exactly (backRows s old) r refl (move-first counted s old w)
+pub back-exactly : {s old t : Bytes} {r : ℕ} → MovesBack s old r t → Exactly (moveRows counted s old) r
+back-exactly {s} {old} {r = r} w = exactly (moveRows counted s old) r refl (move-first counted s old w)
 
 -- The proof check: 12, 10, 11.
 pub verify-exactly : {root k x f : Bytes} {r : ℕ} {g : Bytes} → All Byte x → Verifies root k x f r g → Exactly (verifyRows root k x) r
@@ -310,5 +310,5 @@ verify-many-exactly {root} {list} {row} {old} {r} w =
         inr (right e f, inr (cut g, inr (λ z. absurd (omega (arith, leb-true (answerSize * many) (length old) h)), refl)))
 
 -- A hash is never refused.
-pub sha256-exactly : {x g : Bytes} {r : ℕ} → Hashes x r g → Exactly sha256Rows r
-sha256-exactly {r = r} w = exactly sha256Rows r refl (w .answer)
+pub sha256-exactly : {x g : Bytes} {r : ℕ} → Hashes x r g → Exactly [] r
+sha256-exactly {r = r} w = exactly [] r refl (w .answer)

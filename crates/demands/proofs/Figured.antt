@@ -32,7 +32,7 @@ use Rattle.refusals.specs.Rows.{KeptRange}
 use Rattle.refusals.specs.Orders.{rangeRows}
 use Rattle.refusals.proofs.Exactly.{First, exactly}
 use Rattle.refusals.proofs.Figures.{range-said, figures-first}
-use Rattle.grants.specs.Contracts as contracts
+use Rattle.contracts.specs.Contracts as contracts
 use Rattle.demands.specs.Tables.{figuresRows}
 use Rattle.demands.specs.Claims.{treeOfVersion, grantsOfVersion, NextVersion, latestOf}
 use Rattle.demands.specs.Quarter.{FiguresAre, partOf, GivesFigures}

@@ -29,10 +29,9 @@ use Rattle.layout.proofs.Stores.{length-slots}
 use Rattle.batch.specs.Batch.{batchOf}
 use Rattle.format.specs.Format.{formatBytes}
 use Rattle.promises.specs.Calls.{wrong-header, not-sound, refuses, accepts, Exports, exports-refusal, exports-answer}
-use Rattle.demands.specs.Calls.{takenOver, Called, formats, applies, prunes, checks, reads-root, reads-key, counts, reads-at, proves, palettes, compares, figures, pocket-proves, verifies, pocket-verifies, shelf-verifies, verifies-many, writes-message, reads-message, tells-version, hashes, Calls, none-yet, then-called, doneBy, WithoutGaps, Life, rescues-from, rescues-into, moves-back, moves-over}
-use Rattle.demands.specs.Calls.{formats-both, applies-both, prunes-both, builds, tells, reads-root-by, reads-key-by, counts-by, reads-at-by, proves-by, palettes-by}
-use Rattle.demands.specs.Calls.{finds}
-use Rattle.grants.specs.Contracts.{Formats, Applies, Prunes, AppliesIndexed, PrunesIndexed}
+use Rattle.demands.specs.Calls.{takenOver, Called, formats, applies, prunes, Calls, none-yet, then-called, doneBy, WithoutGaps, Life, rescues-into, moves-over, looks}
+use Rattle.demands.specs.Calls.{formats-both, applies-both, prunes-both}
+use Rattle.contracts.specs.Contracts.{Formats, Applies, Prunes, AppliesIndexed, PrunesIndexed}
 use Rattle.demands.proofs.Hashes.{leaf-hash-whole, inner-hash-whole}
 use Rattle.demands.proofs.Stored.{stored-is, formatted-form, prune-form, apply-form}
 use Rattle.demands.proofs.Refusals.{refused-format-writes-nothing, refused-apply-writes-nothing, refused-prune-writes-nothing, refused-rescue-writes-nothing, refused-over-writes-nothing}
@@ -106,39 +105,11 @@ module _ {s : Bytes} {es : List Entry} (k : Keeping s es) where
   called-after (prunes-both {table} {u} {n} {r} {f} {t} {g} w) gap =
       settled-after (pruning n) r (λ z. refused-prune-indexed-writes-nothing z n w .0)
       (λ z d. prune-after n (accepted-prune-keeps-the-table n (subst (λ m. PrunesIndexed n s table f m t u g) z w) .0)) gap
-  called-after (builds w) gap = refl
-  called-after (tells w) gap = refl
-  called-after (checks w) gap = refl
-  called-after (reads-root w) gap = refl
-  called-after (reads-key w) gap = refl
-  called-after (counts w) gap = refl
-  called-after (reads-at w) gap = refl
-  called-after (proves w) gap = refl
-  called-after (palettes w) gap = refl
-  called-after (reads-root-by w) gap = refl
-  called-after (reads-key-by w) gap = refl
-  called-after (counts-by w) gap = refl
-  called-after (reads-at-by w) gap = refl
-  called-after (proves-by w) gap = refl
-  called-after (palettes-by w) gap = refl
-  called-after (compares w) gap = refl
-  called-after (figures w) gap = refl
-  called-after (pocket-proves w) gap = refl
-  called-after (finds w) gap = refl
-  called-after (rescues-from w) gap = refl
   called-after (rescues-into {latest = latest} {r = r} {source = source} {g = g} n h w) gap =
       settled-after (taking (takenOver source latest g)) r (λ z. refused-rescue-writes-nothing w z .0) (λ z d. absurd d) gap
-  called-after (moves-back w) gap = refl
   called-after (moves-over {r = r} {source = source} h w) gap =
       settled-after (taking (held (storeIn plain source))) r (λ z. refused-over-writes-nothing w z) (λ z d. absurd d) gap
-  called-after (verifies w) gap = refl
-  called-after (verifies-many w) gap = refl
-  called-after (pocket-verifies w) gap = refl
-  called-after (tells-version w) gap = refl
-  called-after (shelf-verifies w) gap = refl
-  called-after (writes-message w) gap = refl
-  called-after (reads-message w) gap = refl
-  called-after (hashes w) gap = refl
+  called-after looks gap = refl
 
 done-form : (c : Call) (b : Bool) → CallForm c → CallForm (doneBy c b)
 done-form c true f = f
@@ -151,37 +122,9 @@ form-of (prunes {n} {r} w) = done-form (pruning n) (eqb r 0) tt
 form-of (formats-both {r = r} w) = done-form formatting (eqb r 0) tt
 form-of (applies-both number batch {r = r} small h w) = done-form (applying number (batchOf batch)) (eqb r 0) (asks-form number batch small h)
 form-of (prunes-both {n = n} {r = r} w) = done-form (pruning n) (eqb r 0) tt
-form-of (builds w) = tt
-form-of (tells w) = tt
-form-of (checks w) = tt
-form-of (reads-root w) = tt
-form-of (reads-key w) = tt
-form-of (counts w) = tt
-form-of (reads-at w) = tt
-form-of (proves w) = tt
-form-of (palettes w) = tt
-form-of (reads-root-by w) = tt
-form-of (reads-key-by w) = tt
-form-of (counts-by w) = tt
-form-of (reads-at-by w) = tt
-form-of (proves-by w) = tt
-form-of (palettes-by w) = tt
-form-of (compares w) = tt
-form-of (figures w) = tt
-form-of (pocket-proves w) = tt
-form-of (finds w) = tt
-form-of (rescues-from w) = tt
 form-of (rescues-into {latest = latest} {r = r} {source = source} {g = g} n h w) = done-form (taking (takenOver source latest g)) (eqb r 0) tt
-form-of (moves-back w) = tt
 form-of (moves-over {r = r} {source = source} h w) = done-form (taking (held (storeIn plain source))) (eqb r 0) tt
-form-of (verifies w) = tt
-form-of (verifies-many w) = tt
-form-of (pocket-verifies w) = tt
-form-of (tells-version w) = tt
-form-of (shelf-verifies w) = tt
-form-of (writes-message w) = tt
-form-of (reads-message w) = tt
-form-of (hashes w) = tt
+form-of looks = tt
 
 -- a sequence of public calls is one of the definitions' calls
 forms-of : {s t : Bytes} {history : List (Call × Bool)} → Calls s history t → All CallForm (callsOf history)

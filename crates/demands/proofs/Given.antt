@@ -24,7 +24,7 @@ use Rattle.layout.specs.Stores.{storeOf}
 use Rattle.read_open.specs.Headed.{byHeader}
 use Rattle.prove.specs.Proving.{proveAnswer, roomAfter}
 use Rattle.prove_c.specs.Export.{provedInto, lengthBytes}
-use Rattle.grants.specs.Contracts.{Proves}
+use Rattle.contracts.specs.Contracts.{Proves}
 use Rattle.demands.proofs.Refusals.{clash, accepted-of, prove-nonzero}
 
 -- the tests that a proof has passed

@@ -49,12 +49,12 @@ use Rattle.move_rules.specs.Moves.{other, Moves}
 use Rattle.move_rules.proofs.Outcomes.{moved-was-sound}
 use Rattle.move_rules.proofs.Theorems.{accepted-move-is-worth}
 use Rattle.move_rules.proofs.Ledger.{moved-keeps}
-use Rattle.grants.specs.Contracts.{Formats, ReadsRoot, ReadsKey, Proves, Rescues, MovesOver, Verifies, Counts, ReadsAt}
+use Rattle.contracts.specs.Contracts.{Formats, ReadsRoot, ReadsKey, Proves, Rescues, MovesOver, Verifies, Counts, ReadsAt}
 use Rattle.meaning.specs.Counting.{grantAt}
 use Rattle.meaning.specs.Answers.{foundBytes, numberOf, toldOf}
-use Rattle.demands.specs.Calls.{Called, formats, applies, prunes, checks, reads-root, reads-key, counts, reads-at, proves, palettes, compares, figures, pocket-proves, verifies, pocket-verifies, shelf-verifies, verifies-many, writes-message, reads-message, tells-version, hashes, Calls, none-yet, then-called, Life, rescues-from, rescues-into, moves-back, moves-over, finds, Begins, by-format, by-rescue, as-found, by-over, by-back, takenOver}
+use Rattle.demands.specs.Calls.{Called, formats, applies, prunes, Calls, none-yet, then-called, Life, rescues-into, moves-over, looks, Begins, by-format, by-rescue, as-found, by-over, by-back, takenOver}
 use Rattle.index_rules.specs.Tables.{FormatsBoth, wrong-size, both-fresh, not-told, refuses-both, accepts-both, ExportsBoth, both-refused, both-answered}
-use Rattle.demands.specs.Calls.{formats-both, applies-both, prunes-both, builds, tells, reads-root-by, reads-key-by, counts-by, reads-at-by, proves-by, palettes-by}
+use Rattle.demands.specs.Calls.{formats-both, applies-both, prunes-both}
 use Rattle.demands.specs.Claims.{grantsOfVersion, AfterHistory}
 use Rattle.demands.proofs.Hashes.{leaf-hash-whole, inner-hash-whole}
 use Rattle.demands.proofs.Stored.{stored-is, stored-sound, formatted-form, prune-form, apply-form}
@@ -198,37 +198,9 @@ called-keeps {s} es (prunes-both {n = n} w) k =
     (λ a e.
     let kept = keeps-calls leafHash innerHash leaf-hash-whole inner-hash-whole (pruning n ∷ []) (storeOf s) es (tt, tt) (k .keeps) in
     rw e at kept)
-called-keeps es (builds w) k = k
-called-keeps es (tells w) k = k
-called-keeps es (checks w) k = k
-called-keeps es (reads-root w) k = k
-called-keeps es (reads-key w) k = k
-called-keeps es (counts w) k = k
-called-keeps es (reads-at w) k = k
-called-keeps es (proves w) k = k
-called-keeps es (palettes w) k = k
-called-keeps es (reads-root-by w) k = k
-called-keeps es (reads-key-by w) k = k
-called-keeps es (counts-by w) k = k
-called-keeps es (reads-at-by w) k = k
-called-keeps es (proves-by w) k = k
-called-keeps es (palettes-by w) k = k
-called-keeps es (compares w) k = k
-called-keeps es (figures w) k = k
-called-keeps es (pocket-proves w) k = k
-called-keeps es (finds w) k = k
-called-keeps es (rescues-from w) k = k
 called-keeps es (rescues-into n h w) k = rescue-into es n h w k
-called-keeps es (moves-back w) k = k
 called-keeps es (moves-over h w) k = moved-over es h w k
-called-keeps es (verifies w) k = k
-called-keeps es (verifies-many w) k = k
-called-keeps es (pocket-verifies w) k = k
-called-keeps es (tells-version w) k = k
-called-keeps es (shelf-verifies w) k = k
-called-keeps es (writes-message w) k = k
-called-keeps es (reads-message w) k = k
-called-keeps es (hashes w) k = k
+called-keeps es looks k = k
 
 calls-keep : {s t : Bytes} {history : List (Call × Bool)} (es : List Entry) → Calls s history t → Keeping s es →
     Keeping t (ledger history es)

@@ -45,8 +45,9 @@ use Rattle.refusals.proofs.Stopped.{Stopped, stopped-past, stopped-within, stop
 use Rattle.refusals.proofs.Walks.{kept-said, root-stopped, get-stopped, prove-stopped}
 use Rattle.refusals.proofs.Positions.{number-stopped, position-stopped}
 use Rattle.refusals.proofs.Palettes.{palette-stopped}
-use Rattle.grants.specs.Contracts.{ReadsRootBy, ReadsKeyBy, CountsBy, ReadsAtBy, ProvesBy, PalettesBy}
-use Rattle.demands.specs.Indexed.{WrongLengths, headerRowsBy, rootTestsBy, rootRowsBy, getTestsBy, getRowsBy, atTestsBy, atRowsBy, proveTestsBy, proveRowsBy, paletteTestsBy, paletteRowsBy, NoneTwice, AsPlain}
+use Rattle.contracts.specs.Contracts.{ReadsRootBy, ReadsKeyBy, CountsBy, ReadsAtBy, ProvesBy, PalettesBy}
+use Rattle.demands.specs.Indexed.{WrongLengths, headerRowsBy, rowsBy, NoneTwice, AsPlain}
+use Rattle.demands.specs.Tables.{rootRows, getRows, atRows, proveRows, paletteRows, testsOf}
 use Rattle.demands.proofs.Refusals.{refused-of}
 use Rattle.demands.proofs.Exact.{key-stopped, list-stopped, never-lost}
 
@@ -209,91 +210,91 @@ as-stopped {early = early} {later = later} {stops = stops} e w = subst (λ x. St
 -- Where no two slots match, each number is answered exactly if its row deserves it and no earlier one does; and the slot beside 3.
 module _ {s : Bytes} {table : List ℕ} {v : ℕ} (once : NoneTwice s v) where
   module _ {f g : Bytes} {r : ℕ} where
-    root-answers : ReadsRootBy s table v f r g → Stopped (rootTestsBy s table v) [] (StopsRoot s v) r
+    root-answers : ReadsRootBy s table v f r g → Stopped (testsOf (rowsBy s table (rootRows s v))) [] (StopsRoot s v) r
     unfolding rootIndexed
     root-answers w =
-        subst (Stopped (rootTestsBy s table v) [] (StopsRoot s v)) (sym (w .answer))
+        subst (Stopped (testsOf (rowsBy s table (rootRows s v))) [] (StopsRoot s v)) (sym (w .answer))
         (by-header s table (readRootBy leafHash innerHash (byTable table (storeOf s)) (storeOf s) v)
         (λ c o l e. as-stopped (root-alike (storeOf s) table v once leafHash innerHash) (root-stopped leafHash innerHash s v)))
 
-    pub root-by-exactly : ReadsRootBy s table v f r g → Exactly (rootRowsBy s table v) (low r)
-    root-by-exactly w = exactly (rootRowsBy s table v) (low r) refl (stopped-found refl refl (root-answers w) (never-lost s v lostRecord refl))
+    pub root-by-exactly : ReadsRootBy s table v f r g → Exactly (rowsBy s table (rootRows s v)) (low r)
+    root-by-exactly w = exactly (rowsBy s table (rootRows s v)) (low r) refl (stopped-found refl refl (root-answers w) (never-lost s v lostRecord refl))
 
-    pub root-by-names-slot : ReadsRootBy s table v f r g → Names (λ i. NoneOf (rootTestsBy s table v) × StopsRoot s v (spoiltRecord i)) r
+    pub root-by-names-slot : ReadsRootBy s table v f r g → Names (λ i. NoneOf (testsOf (rowsBy s table (rootRows s v))) × StopsRoot s v (spoiltRecord i)) r
     root-by-names-slot w = stopped-names refl refl (root-answers w)
 
-    count-answers : CountsBy s table v f r g → Stopped (rootTestsBy s table v) [] (StopsRoot s v) r
+    count-answers : CountsBy s table v f r g → Stopped (testsOf (rowsBy s table (rootRows s v))) [] (StopsRoot s v) r
     unfolding numberIndexed
     count-answers w =
-        subst (Stopped (rootTestsBy s table v) [] (StopsRoot s v)) (sym (w .answer))
+        subst (Stopped (testsOf (rowsBy s table (rootRows s v))) [] (StopsRoot s v)) (sym (w .answer))
         (by-header s table (readNumberBy (byTable table (storeOf s)) (storeOf s) v)
         (λ c o l e. as-stopped (number-alike (storeOf s) table v once) (number-stopped leafHash innerHash s v)))
 
-    pub count-by-exactly : CountsBy s table v f r g → Exactly (rootRowsBy s table v) (low r)
-    count-by-exactly w = exactly (rootRowsBy s table v) (low r) refl (stopped-found refl refl (count-answers w) (never-lost s v lostRecord refl))
+    pub count-by-exactly : CountsBy s table v f r g → Exactly (rowsBy s table (rootRows s v)) (low r)
+    count-by-exactly w = exactly (rowsBy s table (rootRows s v)) (low r) refl (stopped-found refl refl (count-answers w) (never-lost s v lostRecord refl))
 
-    pub count-by-names-slot : CountsBy s table v f r g → Names (λ i. NoneOf (rootTestsBy s table v) × StopsRoot s v (spoiltRecord i)) r
+    pub count-by-names-slot : CountsBy s table v f r g → Names (λ i. NoneOf (testsOf (rowsBy s table (rootRows s v))) × StopsRoot s v (spoiltRecord i)) r
     count-by-names-slot w = stopped-names refl refl (count-answers w)
 
   module _ (bytes : All Byte s) where
-    get-answers : {k f g : Bytes} {r : ℕ} → ReadsKeyBy s table v k f r g → Stopped (getTestsBy s table v k) [] (StopsGet s v k) r
+    get-answers : {k f g : Bytes} {r : ℕ} → ReadsKeyBy s table v k f r g → Stopped (testsOf (rowsBy s table (getRows s v k))) [] (StopsGet s v k) r
     unfolding keyIndexed
     get-answers {k} w =
-        subst (Stopped (getTestsBy s table v k) [] (StopsGet s v k)) (sym (w .answer))
+        subst (Stopped (testsOf (rowsBy s table (getRows s v k))) [] (StopsGet s v k)) (sym (w .answer))
         (key-stopped k (byHeader (headerWith s table) (readKeyBy (byTable table (storeOf s)) (storeOf s) v k))
         (by-header s table (readKeyBy (byTable table (storeOf s)) (storeOf s) v k)
         (λ c o l e. as-stopped (key-alike (storeOf s) table v once k) (get-stopped s (records-formed s bytes e) v k))))
 
-    pub get-by-exactly : {k f g : Bytes} {r : ℕ} → ReadsKeyBy s table v k f r g → Exactly (getRowsBy s table v k) (low r)
-    get-by-exactly {k} {r = r} w = exactly (getRowsBy s table v k) (low r) refl (stopped-first refl refl (get-answers w))
+    pub get-by-exactly : {k f g : Bytes} {r : ℕ} → ReadsKeyBy s table v k f r g → Exactly (rowsBy s table (getRows s v k)) (low r)
+    get-by-exactly {k} {r = r} w = exactly (rowsBy s table (getRows s v k)) (low r) refl (stopped-first refl refl (get-answers w))
 
     pub get-by-names-slot : {k f g : Bytes} {r : ℕ} → ReadsKeyBy s table v k f r g →
-        Names (λ i. NoneOf (getTestsBy s table v k) × StopsGet s v k (spoiltRecord i)) r
+        Names (λ i. NoneOf (testsOf (rowsBy s table (getRows s v k))) × StopsGet s v k (spoiltRecord i)) r
     get-by-names-slot w = stopped-names refl refl (get-answers w)
 
-    at-answers : {i : ℕ} {f g : Bytes} {r : ℕ} → ReadsAtBy s table v i f r g → Stopped (atTestsBy s table v i) [] (StopsAt s v i) r
+    at-answers : {i : ℕ} {f g : Bytes} {r : ℕ} → ReadsAtBy s table v i f r g → Stopped (testsOf (rowsBy s table (atRows s v i))) [] (StopsAt s v i) r
     unfolding positionIndexed
     at-answers {i} w =
-        subst (Stopped (atTestsBy s table v i) [] (StopsAt s v i)) (sym (w .answer))
+        subst (Stopped (testsOf (rowsBy s table (atRows s v i))) [] (StopsAt s v i)) (sym (w .answer))
         (by-header s table (readPositionBy (byTable table (storeOf s)) (storeOf s) v i)
         (λ c o l e. as-stopped (position-alike (storeOf s) table v once i) (position-stopped s (records-formed s bytes e) v i)))
 
-    pub at-by-exactly : {i : ℕ} {f g : Bytes} {r : ℕ} → ReadsAtBy s table v i f r g → Exactly (atRowsBy s table v i) (low r)
-    at-by-exactly {i} {r = r} w = exactly (atRowsBy s table v i) (low r) refl (stopped-first refl refl (at-answers w))
+    pub at-by-exactly : {i : ℕ} {f g : Bytes} {r : ℕ} → ReadsAtBy s table v i f r g → Exactly (rowsBy s table (atRows s v i)) (low r)
+    at-by-exactly {i} {r = r} w = exactly (rowsBy s table (atRows s v i)) (low r) refl (stopped-first refl refl (at-answers w))
 
     pub at-by-names-slot : {i : ℕ} {f g : Bytes} {r : ℕ} → ReadsAtBy s table v i f r g →
-        Names (λ j. NoneOf (atTestsBy s table v i) × StopsAt s v i (spoiltRecord j)) r
+        Names (λ j. NoneOf (testsOf (rowsBy s table (atRows s v i))) × StopsAt s v i (spoiltRecord j)) r
     at-by-names-slot w = stopped-names refl refl (at-answers w)
 
     prove-answers : {k room f t g : Bytes} {r : ℕ} → ProvesBy s table v k room f r t g →
-        Stopped (proveTestsBy s table v k) ((9, TooLong s v k room) ∷ []) (StopsProve s v k) r
+        Stopped (testsOf (rowsBy s table (proveRows s v k room))) ((9, TooLong s v k room) ∷ []) (StopsProve s v k) r
     unfolding proveIndexed
     prove-answers {k} {room} w =
-        subst (Stopped (proveTestsBy s table v k) ((9, TooLong s v k room) ∷ []) (StopsProve s v k)) (sym (w .answer))
+        subst (Stopped (testsOf (rowsBy s table (proveRows s v k room))) ((9, TooLong s v k room) ∷ []) (StopsProve s v k)) (sym (w .answer))
         (key-stopped k (byHeader (headerWith s table) (proveBy (byTable table (storeOf s)) (storeOf s) v k (length room)))
         (by-header s table (proveBy (byTable table (storeOf s)) (storeOf s) v k (length room))
         (λ c o l e. as-stopped (prove-alike (storeOf s) table v once k (length room)) (prove-stopped s (records-formed s bytes e) v k room))))
 
-    pub prove-by-exactly : {k room f t g : Bytes} {r : ℕ} → ProvesBy s table v k room f r t g → Exactly (proveRowsBy s table v k room) (low r)
-    prove-by-exactly {k} {room} {r = r} w = exactly (proveRowsBy s table v k room) (low r) refl (stopped-first refl refl (prove-answers w))
+    pub prove-by-exactly : {k room f t g : Bytes} {r : ℕ} → ProvesBy s table v k room f r t g → Exactly (rowsBy s table (proveRows s v k room)) (low r)
+    prove-by-exactly {k} {room} {r = r} w = exactly (rowsBy s table (proveRows s v k room)) (low r) refl (stopped-first refl refl (prove-answers w))
 
     pub prove-by-names-slot : {k room f t g : Bytes} {r : ℕ} → ProvesBy s table v k room f r t g →
-        Names (λ i. NoneOf (proveTestsBy s table v k) × StopsProve s v k (spoiltRecord i)) r
+        Names (λ i. NoneOf (testsOf (rowsBy s table (proveRows s v k room))) × StopsProve s v k (spoiltRecord i)) r
     prove-by-names-slot w = stopped-names refl refl (prove-answers w)
 
     palette-answers : {list room f t g : Bytes} {r : ℕ} → PalettesBy s table v list room f r t g →
-        Stopped (paletteTestsBy s table v list) ((9, TooLongTogether s v (keysIn list) room) ∷ []) (StopsPalette s v (keysIn list)) r
+        Stopped (testsOf (rowsBy s table (paletteRows s v list room))) ((9, TooLongTogether s v (keysIn list) room) ∷ []) (StopsPalette s v (keysIn list)) r
     unfolding paletteIndexed
     palette-answers {list} {room} w =
         let its = paletteOf (proofBy (byTable table (storeOf s)) (storeOf s) v) (storeOf s) v (keysIn list) (length room) in
-        subst (Stopped (paletteTestsBy s table v list) ((9, TooLongTogether s v (keysIn list) room) ∷ []) (StopsPalette s v (keysIn list))) (sym (w .answer))
+        subst (Stopped (testsOf (rowsBy s table (paletteRows s v list room))) ((9, TooLongTogether s v (keysIn list) room) ∷ []) (StopsPalette s v (keysIn list))) (sym (w .answer))
         (list-stopped list (byHeader (headerWith s table) its)
         (by-header s table its
         (λ c o l e. as-stopped (palette-alike (storeOf s) table v once (keysIn list) (length room)) (palette-stopped s (records-formed s bytes e) v (keysIn list) room))))
 
-    pub palette-by-exactly : {list room f t g : Bytes} {r : ℕ} → PalettesBy s table v list room f r t g → Exactly (paletteRowsBy s table v list room) (low r)
-    palette-by-exactly {list} {room} {r = r} w = exactly (paletteRowsBy s table v list room) (low r) refl (stopped-first refl refl (palette-answers w))
+    pub palette-by-exactly : {list room f t g : Bytes} {r : ℕ} → PalettesBy s table v list room f r t g → Exactly (rowsBy s table (paletteRows s v list room)) (low r)
+    palette-by-exactly {list} {room} {r = r} w = exactly (rowsBy s table (paletteRows s v list room)) (low r) refl (stopped-first refl refl (palette-answers w))
 
     pub palette-by-names-slot : {list room f t g : Bytes} {r : ℕ} → PalettesBy s table v list room f r t g →
-        Names (λ i. NoneOf (paletteTestsBy s table v list) × StopsPalette s v (keysIn list) (spoiltRecord i)) r
+        Names (λ i. NoneOf (testsOf (rowsBy s table (paletteRows s v list room))) × StopsPalette s v (keysIn list) (spoiltRecord i)) r
     palette-by-names-slot w = stopped-names refl refl (palette-answers w)

@@ -29,7 +29,7 @@ use Rattle.palette.specs.Palettes.{proofsBytes}
 use Rattle.verify_rows.specs.Rows.{ownLength, answerBytes, answersOf, overFront}
 use Rattle.verify_rows.proofs.Cutting.{proofs-sized}
 use Rattle.verify_rows.proofs.Answered.{accepted-if-0, row-pieces, answered-pieces, answers-long}
-use Rattle.grants.specs.Contracts.{ReadsRoot, Palettes, VerifiesMany}
+use Rattle.contracts.specs.Contracts.{ReadsRoot, Palettes, VerifiesMany}
 use Rattle.demands.specs.Claims.{treeOfVersion}
 use Rattle.demands.specs.Many.{SingleChecks, none-checked, then-checked, BesideSingleChecks, KeyReads, none-read, then-read, answersFor, RowShown}
 use Rattle.demands.proofs.Refusals.{no-refusal}

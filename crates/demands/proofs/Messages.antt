@@ -2,28 +2,42 @@
 use Prim.Native.Nat.{ℕ, _≤_, _^_, _<_}
 use native.Mathlib.Omega.{arith}
 use mathlib.Core.Path.{_≡_, refl, ap, sym, _∙_, subst}
+use mathlib.Core.Bool.{Bool, true, false, cond}
 use mathlib.Core.List.{_++_}
-use lib.ListN.{length, take, drop}
+use mathlib.Core.Option.{Option, none, some}
+use lib.ListN.{length, take, drop, length-append}
 use lib.Seq.{take-at}
+use lib.Dec.{eqb}
+use borrow.Author.Tests.{eqb-false, eq-eqb}
 use Rattle.terms.specs.Bits.{Bytes, Byte, All}
 use Rattle.terms.specs.Fields.{le, num}
 use Rattle.terms.specs.Records.{Presence, Proof, presence, absence}
-use Rattle.terms.proofs.Fields.{num-le}
+use Rattle.terms.proofs.Fields.{num-le, length-le}
+use Rattle.meaning.specs.Calls.{refused, accepted}
+use Rattle.meaning.specs.Reading.{Verdict}
+use Rattle.meaning.specs.Answers.{numberOf, foundAfter}
 use Rattle.sha256.specs.Sha256.{sha256}
 use Rattle.nodehash.specs.Node.{leafHash, innerHash}
-use Rattle.messages.specs.Lending.{Lent, LentBytes, rawProof, lentIn}
-use Rattle.messages.specs.Spots.{spotsIn}
-use Rattle.messages.proofs.Spots.{Stand}
-use Rattle.messages.proofs.Back.{mostBytes}
-use Rattle.messages.proofs.Operations.{verifier-leads-as-ours}
-use Rattle.message_words.proofs.Theorems.{Message, written-message}
-pub use Rattle.message_words.proofs.Theorems.{one-write, one-read, refused-write-writes-nothing, refused-read-writes-nothing, ReadBack, read-message}
+use Rattle.proofrecords.specs.ProofBytes.{proofBytes, proofIn, NeighbourForm, ProofForm, neighbourBytes}
+use Rattle.proofrecords.proofs.Proofs.{length-presence, length-absence, proof-back}
+use Rattle.messages.specs.Message.{messageBytes, mostBytes, RawPresence, RawProof, ownProof}
+use Rattle.messages.specs.Lending.{Lent, LentBytes, rawProof, recordOf, lentIn}
+use Rattle.messages.specs.Spots.{spotsIn, Stand}
+use Rattle.messages.proofs.Lending.{own-form}
+use Rattle.message_rules.specs.Contracts.{spotsBytes}
+use Rattle.demands.proofs.Hashes.{digest-whole}
+use Rattle.message_words.proofs.Theorems.{Message, written-message, ReadBack, read-message}
+pub use Rattle.message_words.proofs.Theorems.{one-write, one-read, refused-write-writes-nothing, refused-read-writes-nothing}
+use Rattle.partner.specs.Ours.{askedKey, verdictOf, partnerAccepts}
+use Rattle.partner.proofs.Agreement.{message-is-encoded}
+use Rattle.partner.proofs.Theorems.{checked-by-partner, accepted-root-32, led-as-ours}
+use Rattle.verify.specs.Verify.{verified}
 use Rattle.refusals.specs.Exactly.{Exactly}
 use Rattle.refusals.proofs.Exactly.{First, exactly}
 use Rattle.refusals.proofs.Messages.{write-first, read-first}
-use Rattle.grants.specs.Contracts.{Verifies, WritesMessage, ReadsMessage}
+use Rattle.contracts.specs.Contracts.{Verifies, WritesMessage, ReadsMessage}
 use Rattle.demands.specs.Tables.{writeMessageRows, readMessageRows}
-use Rattle.demands.specs.Messages.{MessageGiven, LedAlike}
+use Rattle.demands.specs.Messages.{PartnerAgrees, MessageGiven, MessageTaken, LedAlike}
 
 -- 10, 15, 9 exactly, and 10, 9.
 pub write-message-exactly : {x : Bytes} {lent : Lent} {room f t g : Bytes} {r : ℕ} → All Byte x → WritesMessage x lent room f r t g → Exactly (writeMessageRows x lent room) r
@@ -37,6 +51,57 @@ read-message-exactly {m} {room} {r = r} w =
 most : (q : Proof) → mostBytes q ≤ 29999
 most (presence p) = omega arith
 most (absence a) = omega arith
+
+-- What our check answers of a record under any root, by the partner's answer to its message.
+record Agreed (root x : Bytes) (q : Proof) : Type 0 where
+  n : ℕ
+  not-0 : 1 ≤ n
+  is : verified root (sha256 (askedKey q)) x ≡ cond (partnerAccepts sha256 root q) (accepted (verdictOf sha256 q)) (refused n)
+
+agreed : (root x : Bytes) (q : Proof) → RawProof q → proofIn x ≡ some (ownProof sha256 q) → Agreed root x q
+unfolding verified leafHash innerHash
+agreed root x q h e = go (eqb (length root) 32) refl
+  where
+    sha32 : (y : Bytes) → length (sha256 y) ≡ 32
+    sha32 y = digest-whole y .0
+
+    refuses : (b : Bool) → partnerAccepts sha256 root q ≡ b → (length root ≡ 32 → ⊥) → partnerAccepts sha256 root q ≡ false
+    refuses true a other = absurd (other (accepted-root-32 sha256 sha32 root q h a))
+    refuses false a other = a
+
+    go : (b : Bool) → eqb (length root) 32 ≡ b → Agreed root x q
+    go true t = record {
+      n = 11;
+      not-0 = omega arith;
+      is = rw (t, eq-eqb (length (sha256 (askedKey q))) 32 (sha32 (askedKey q)), e) (checked-by-partner sha256 sha32 root q h);
+    }
+    go false t = record {
+      n = 12;
+      not-0 = omega arith;
+      is = rw (t, refuses (partnerAccepts sha256 root q) refl (λ z. eqb-false (length root) 32 t z));
+    }
+
+partner-agrees : (x m : Bytes) (q : Proof) → RawProof q → messageBytes q ≡ m → proofIn x ≡ some (ownProof sha256 q) → PartnerAgrees x m q
+partner-agrees x m q h is e = record {
+  encoded = message-is-encoded q ∙ is;
+  agrees = λ {root} {f} {g} {r} w. (λ t. w .answer ∙ number root t, λ z. back root (sym (w .answer) ∙ z));
+  found = λ {root} {f} {g} w. w .found ∙ ap (λ o. foundAfter o f) (taken root (back root (sym (w .answer))));
+}
+  where
+    taken : (root : Bytes) → partnerAccepts sha256 root q ≡ true → verified root (sha256 (askedKey q)) x ≡ accepted (verdictOf sha256 q)
+    taken root t = let a = agreed root x q h e in a .is ∙ ap (λ b. cond b (accepted (verdictOf sha256 q)) (refused (a .n))) t
+
+    number : (root : Bytes) → partnerAccepts sha256 root q ≡ true → numberOf (verified root (sha256 (askedKey q)) x) ≡ 0
+    number root t = ap (λ o. numberOf o) (taken root t)
+
+    only : (b : Bool) (v : Verdict) (n : ℕ) → 1 ≤ n → numberOf (cond b (accepted v) (refused n)) ≡ 0 → b ≡ true
+    only true v n l z = refl
+    only false v n l z = absurd (omega arith)
+
+    back : (root : Bytes) → numberOf (verified root (sha256 (askedKey q)) x) ≡ 0 → partnerAccepts sha256 root q ≡ true
+    back root z =
+        let a = agreed root x q h e in
+        only (partnerAccepts sha256 root q) (verdictOf sha256 q) (a .n) (a .not-0) (sym (ap (λ o. numberOf o) (a .is)) ∙ z)
 
 -- What was written is a message that reading gives back.
 pub message-is-given : {x : Bytes} {lent : Lent} {room f t g : Bytes} → All Byte x → LentBytes lent → WritesMessage x lent room f 0 t g → MessageGiven x lent t g
@@ -55,9 +120,40 @@ message-is-given {x} {lent} {room} {f} {t} {g} b lb w =
           let e = k .given-back fits (subst (λ m. ReadsMessage m room₁ f₁ r t₁ g₁) same v) in
           let is : take (length x) t₁ ≡ x = ap (take (length x)) (e .1) ∙ take-at x (drop (length x) room₁) (length x) refl in
           (subst (λ y. Verifies root key y f₂ r₂ g₂) is, subst (λ y. Verifies root key y f₂ r₂ g₂) (sym is));
+      partner = partner-agrees x (take (num g) t) q (k .raw) (k .is ∙ sym same) (k .proof-is ∙ ap some (sym (k .own)));
+    }
+
+-- a record in form is short
+few-beside : (o : Option Presence) → NeighbourForm o → length (neighbourBytes o) ≤ 8520
+few-beside none h = omega arith
+few-beside (some p) h = rw (length-presence p h) (omega (arith, h .short))
+
+few : (p : Proof) → ProofForm p → length (proofBytes p) ≤ 17080
+few (presence p) h = omega (arith, length-presence p h, h .short)
+few (absence a) h = omega (arith, length-absence a (h .0) (h .1) (h .2), few-beside (a .leftward) (h .1), few-beside (a .rightward) (h .2))
+
+-- What was read is a message, and our own record of it makes it again.
+pub message-is-taken : {m room f t g : Bytes} → All Byte m → ReadsMessage m room f 0 t g → MessageTaken m t g
+message-is-taken {m} {room} {f} {t} {g} b w =
+    let k = read-message b w in
+    let q = k .proof in
+    let x = recordOf sha256 q in
+    let form = own-form sha256 digest-whole q (k .encodes .raw) in
+    let first : take 4 g ≡ le 4 (length x) =
+    ap (take 4) (k .told-is) ∙ take-at (le 4 (length x)) (spotsBytes (spotsIn q)) 4 (length-le 4 (length x)) in
+    let long : num (take 4 g) ≡ length x = ap num first ∙ num-le 4 (length x) (omega (arith, few (ownProof sha256 q) form)) in
+    let same : take (num (take 4 g)) t ≡ x =
+    ap (take (num (take 4 g))) (k .room-is) ∙ take-at x (drop (length x) room) (num (take 4 g)) (sym long) in
+    let is : proofIn (take (num (take 4 g)) t) ≡ some (ownProof sha256 q) = ap proofIn same ∙ proof-back (ownProof sha256 q) form in
+    record {
+      proof = q;
+      encodes = k .encodes;
+      record-is = same;
+      written-so = k .written-so;
+      partner = partner-agrees (take (num (take 4 g)) t) m q (k .encodes .raw) (k .encodes .is) is;
     }
 
 -- A partner's verifier is led as ours is.
-pub led-alike : (p : Presence) → LedAlike p
+pub led-alike : (p : Presence) → RawPresence p → LedAlike p
 unfolding leafHash innerHash
-led-alike p = record { led = λ root. verifier-leads-as-ours sha256 root p }
+led-alike p h = record { led = λ root. led-as-ours sha256 (λ y. digest-whole y .0) root p h }

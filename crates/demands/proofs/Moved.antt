@@ -8,7 +8,7 @@ use Rattle.move_rules.specs.Moves.{SameRoom}
 use Rattle.move_rules.specs.Claims.{SoundIn}
 use Rattle.move_rules.proofs.Outcomes.{former-never-matter, sound-is-moved}
 use Rattle.move_rules.proofs.Theorems.{accepted-move-is-worth}
-use Rattle.grants.specs.Contracts.{MovesOver, MovesBack}
+use Rattle.contracts.specs.Contracts.{MovesOver, MovesBack}
 use Rattle.demands.specs.Claims.{MovedOver, MovedBack}
 
 -- An accepted move over, and one back, are worth what 02 says.

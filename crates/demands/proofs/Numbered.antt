@@ -19,7 +19,7 @@ use Rattle.promises.specs.Calls.{SoundBytes}
 use Rattle.read_number.proofs.Theorems.{number-of-sound}
 use Rattle.read_position.proofs.Theorems.{position-of-sound}
 use Rattle.read_counts_c.specs.Export.{grantBytes}
-use Rattle.grants.specs.Contracts.{Counts, ReadsAt}
+use Rattle.contracts.specs.Contracts.{Counts, ReadsAt}
 use Rattle.demands.specs.Claims.{grantsOfVersion, Numbered}
 
 -- a position is below the number of grants, or 20

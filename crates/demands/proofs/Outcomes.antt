@@ -11,11 +11,11 @@ use Rattle.changes.specs.Changes.{roomAfter}
 use Rattle.changes_c.specs.Export.{countBytes}
 use Rattle.rescue_bytes.proofs.Outcomes as rescue
 use Rattle.move_rules.proofs.Outcomes as move
-use Rattle.grants.specs.Contracts.{Formats, Checks, Applies, Prunes, ReadsRoot, ReadsKey, Counts, ReadsAt, Proves, Palettes, Changes, Verifies, VerifiesMany, TellsVersion, Hashes, Rescues, MovesOver, MovesBack}
+use Rattle.contracts.specs.Contracts.{Formats, Checks, Applies, Prunes, ReadsRoot, ReadsKey, Counts, ReadsAt, Proves, Palettes, Changes, Verifies, VerifiesMany, TellsVersion, Hashes, Rescues, MovesOver, MovesBack}
 use Rattle.forgery.specs.Finding.{Finding}
 use Rattle.finding_rules.specs.Call.{findingBytes}
 use Rattle.finding.specs.Finding.{Answers, wrong-key, right-key}
-use Rattle.grants.specs.Contracts.{Finds}
+use Rattle.contracts.specs.Contracts.{Finds}
 
 -- what is found of a proof has one answer
 one-found : {s : Bytes} {v : ℕ} {k x : Bytes} {p q : Answer Finding} → Answers s v k x p → Answers s v k x q → p ≡ q

@@ -43,7 +43,7 @@ use Rattle.prove.specs.Proving.{proveAnswer}
 use Rattle.palette.specs.Palettes.{paletteAnswer, proofsBytes, roomAfter}
 use Rattle.palette_c.specs.Export.{palettedInto, lengthBytes}
 use Rattle.verify.specs.Verify.{verified}
-use Rattle.grants.specs.Contracts.{ReadsRoot, Proves, Palettes, Verifies}
+use Rattle.contracts.specs.Contracts.{ReadsRoot, Proves, Palettes, Verifies}
 use Rattle.demands.specs.Claims.{treeOfVersion, grantsOfVersion}
 use Rattle.demands.specs.Palettes.{SingleCalls, none-asked, then-given, FirstRefusal, refused-here, refused-later, BesideSingleCalls, cutApart, EachAccepted, PaletteShown}
 use Rattle.demands.proofs.Refusals.{clash, no-refusal, with-number, never-0, refused-of, accepted-of, header-numbers, proof-nonzero}

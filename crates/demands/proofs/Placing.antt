@@ -24,7 +24,7 @@ use Rattle.layout.proofs.Stores.{slot-in}
 use Rattle.fields.specs.Written.{written}
 use Rattle.promises.specs.Calls.{SoundBytes}
 use Rattle.promises.proofs.Calls.{sound-form, sound-back}
-use Rattle.grants.specs.Contracts.{Applies}
+use Rattle.contracts.specs.Contracts.{Applies}
 use Rattle.demands.specs.Claims.{treeOfVersion, latestOf}
 use Rattle.demands.specs.Placing.{slotFor, Places}
 use Rattle.demands.proofs.Refusals.{no-refusal}

@@ -45,8 +45,8 @@ use Rattle.verify.specs.Verify.{verified}
 use Rattle.verify_rows.specs.Rows.{overFront, manyVerified}
 use Rattle.rescue_bytes.proofs.Outcomes.{refused-export-leaves}
 use Rattle.move_rules.proofs.Outcomes as move
-use Rattle.grants.specs.Contracts.{Formats, Applies, Prunes, ReadsRoot, ReadsKey, Counts, ReadsAt, Proves, Changes, Rescues, MovesOver, MovesBack, Verifies, VerifiesMany}
-use Rattle.grants.specs.Contracts.{Finds}
+use Rattle.contracts.specs.Contracts.{Formats, Applies, Prunes, ReadsRoot, ReadsKey, Counts, ReadsAt, Proves, Changes, Rescues, MovesOver, MovesBack, Verifies, VerifiesMany}
+use Rattle.contracts.specs.Contracts.{Finds}
 
 -- One of the numbers in a list.
 abbrev pub OneOf : List ℕ → ℕ → Type 0

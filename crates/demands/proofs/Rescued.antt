@@ -20,7 +20,7 @@ use Rattle.rescue_bytes.specs.Claims.{Worth, AllRooted, AsItWas}
 use Rattle.rescue_bytes.proofs.Outcomes.{accepted-report, former-never-matter}
 use Rattle.rescue_bytes.proofs.Worth as worths
 use Rattle.rescue_bytes.proofs.Again.{GaveBack, sound-comes-back, rescued-comes-back}
-use Rattle.grants.specs.Contracts.{Rescues}
+use Rattle.contracts.specs.Contracts.{Rescues}
 use Rattle.demands.specs.Claims.{Rescued, GivenBack}
 use Rattle.demands.proofs.Stored.{stored-sound}
 use Rattle.demands.proofs.Showing.{root-of-tree, key-of-grants}

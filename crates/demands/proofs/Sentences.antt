@@ -23,7 +23,7 @@ use Rattle.verify.specs.Verify.{judged, verified}
 use Rattle.palette_rules.specs.Palette.{wholeKeys, keysIn, palette}
 use Rattle.palette.specs.Palettes.{paletteAnswer, roomAfter}
 use Rattle.palette_c.specs.Export.{lengthBytes}
-use Rattle.grants.specs.Contracts.{Verifies, Palettes}
+use Rattle.contracts.specs.Contracts.{Verifies, Palettes}
 use Rattle.demands.proofs.Given.{kindOf, kind-is}
 
 -- the kind and the flags of a proof's bytes

@@ -15,7 +15,7 @@ use Rattle.shelf_rules.specs.Shelf.{shelfIn, shelfJudged, shelfVerified}
 use Rattle.refusals.specs.Exactly.{Exactly}
 use Rattle.refusals.proofs.Exactly.{First, exactly}
 use Rattle.refusals.proofs.Shelf.{shelf-first}
-use Rattle.grants.specs.Contracts.{ShelfVerifies}
+use Rattle.contracts.specs.Contracts.{ShelfVerifies}
 use Rattle.demands.specs.Tables.{shelfVerifyRows}
 use Rattle.demands.proofs.Refusals.{found-kept}
 

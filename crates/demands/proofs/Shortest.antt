@@ -20,7 +20,7 @@ use Rattle.proofrecords.specs.ProofBytes.{proofBytes, PresenceForm, ProofForm}
 use Rattle.proofrecords.proofs.Proofs.{length-presence, length-absence, absence-has-112}
 use Rattle.verify.specs.Verify.{verified}
 use Rattle.verify.proofs.Acceptance.{absent-is-shown}
-use Rattle.grants.specs.Contracts.{Verifies}
+use Rattle.contracts.specs.Contracts.{Verifies}
 use Rattle.demands.proofs.Hashes.{leaf-hash-whole}
 use Rattle.demands.proofs.Accepting.{verified-so}
 use Rattle.demands.proofs.Showing.{checker-on, verify-left}

@@ -34,7 +34,7 @@ use Rattle.prove.specs.Proving.{proveAnswer}
 use Rattle.prove_c.specs.Export.{provedInto}
 use Rattle.verify.specs.Verify.{verified}
 use Rattle.meaning.specs.Answers.{numberOf, foundBytes, foundAfter}
-use Rattle.grants.specs.Contracts.{ReadsRoot, ReadsKey, Proves, Verifies}
+use Rattle.contracts.specs.Contracts.{ReadsRoot, ReadsKey, Proves, Verifies}
 use Rattle.demands.specs.Claims.{treeOfVersion, grantsOfVersion, Shown, NothingToShow}
 use Rattle.demands.proofs.Refusals.{refused-prove-writes-nothing}
 use Rattle.demands.proofs.Hashes.{hash-whole}

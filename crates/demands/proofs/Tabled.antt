@@ -32,7 +32,7 @@ use Rattle.refusals.proofs.Exactly.{First, past, within, exactly}
 use Rattle.refusals.proofs.Headers.{length-wrong, length-right, Header, wrong-length, wrong-header as header-wrong, right, header-is}
 use Rattle.refusals.proofs.Batches.{batch-first}
 use Rattle.refusals.proofs.Walks.{prune-first}
-use Rattle.grants.specs.Contracts.{Formats, Applies, Prunes, Indexes, TellsIndex, FormatsIndexed, AppliesIndexed, PrunesIndexed}
+use Rattle.contracts.specs.Contracts.{Formats, Applies, Prunes, Indexes, TellsIndex, FormatsIndexed, AppliesIndexed, PrunesIndexed}
 use Rattle.demands.specs.Indexed.{WrongLengths, headerRowsBy}
 use Rattle.demands.proofs.Refusals.{never-0, apply-refusals, prune-refusals}
 use Rattle.demands.specs.Tabled.{WrongTable, indexRows, tellRows, formatRowsBy, applyRowsBy, pruneRowsBy, Together, formatted-both, built-for, then-formatted, then-applied, then-pruned, then-built, then-looked}

@@ -26,7 +26,7 @@ use Rattle.batch.proofs.Batches.{batch-of-back}
 use Rattle.promises.specs.Calls.{SoundBytes, accepts, exports-refusal, exports-answer}
 use Rattle.apply_c.specs.Export.{answerBytes, told}
 use Rattle.meaning.specs.Answers.{foundBytes}
-use Rattle.grants.specs.Contracts.{Applies, ReadsRoot, ReadsKey}
+use Rattle.contracts.specs.Contracts.{Applies, ReadsRoot, ReadsKey}
 use Rattle.demands.specs.Claims.{treeOfVersion, grantsOfVersion, latestOf, ReadsAs, ComparesAs, NextVersion}
 use Rattle.demands.proofs.Hashes.{leaf-hash-whole, inner-hash-whole, hash-whole}
 use Rattle.demands.proofs.Stored.{stored-is, stored-sound, apply-form}

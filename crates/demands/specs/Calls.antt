@@ -17,17 +17,15 @@ use Rattle.batch.specs.Batch.{batchOf}
 use Rattle.rescue_bytes.specs.Rescues.{slotsIn}
 use Rattle.rescue_bytes.specs.Claims.{runLedger}
 use Rattle.move_rules.specs.Claims.{SoundIn}
-use Rattle.messages.specs.Lending.{Lent}
-use Rattle.grants.specs.Contracts.{Formats, Checks, Applies, Prunes, ReadsRoot, ReadsKey, Counts, ReadsAt, Proves, Palettes, Changes, Rescues, MovesOver, MovesBack, Finds, Figures, PocketProves, Verifies, PocketVerifies, ShelfVerifies, VerifiesMany, WritesMessage, ReadsMessage, TellsVersion, Hashes}
-use Rattle.grants.specs.Contracts.{ReadsRootBy, ReadsKeyBy, CountsBy, ReadsAtBy, ProvesBy, PalettesBy}
-use Rattle.grants.specs.Contracts.{Indexes, TellsIndex, FormatsIndexed, AppliesIndexed, PrunesIndexed}
+use Rattle.contracts.specs.Contracts.{Formats, Applies, Prunes, Rescues, MovesOver, MovesBack}
+use Rattle.contracts.specs.Contracts.{FormatsIndexed, AppliesIndexed, PrunesIndexed}
 
 -- What a rescued store takes over: the grants of its versions, from the first that was reported to latest, by the source's trees.
 abbrev pub takenOver : Bytes → ℕ → Bytes → List Entry
 takenOver source latest g = runLedger (slotsIn source) (field 0 4 g) (latest - field 0 4 g)
 
--- A public call with any arguments, lent the bytes s whole and as the store, leaves the bytes t. A history notes of it what was asked and
--- whether it was accepted, that is, answered with 0.
+-- A public call with any arguments, lent the bytes s whole and as the store, leaves the bytes t. A history notes of it
+-- what was asked and whether it was accepted, that is, answered with 0.
 pub data Called (s : Bytes) : Call × Bool → Bytes → Type 0 where
   -- formatting again, too
   formats : {r : ℕ} {t : Bytes} → Formats s r t → Called s (formatting, eqb r 0) t
@@ -35,53 +33,23 @@ pub data Called (s : Bytes) : Call × Bool → Bytes → Type 0 where
   applies : (number : ℕ) (batch : Bytes) {f t g : Bytes} {r : ℕ} → number ≤ top32 → All Byte batch →
       Applies number batch s f r t g → Called s (applying number (batchOf batch), eqb r 0) t
   prunes : {n r : ℕ} {f t g : Bytes} → Prunes n s f r t g → Called s (pruning n, eqb r 0) t
-  -- these look at the store
-  checks : {r : ℕ} → Checks s r → Called s (looking, false) s
-  reads-root : {v r : ℕ} {f g : Bytes} → ReadsRoot s v f r g → Called s (looking, false) s
-  reads-key : {v r : ℕ} {k f g : Bytes} → ReadsKey s v k f r g → Called s (looking, false) s
-  counts : {v r : ℕ} {f g : Bytes} → Counts s v f r g → Called s (looking, false) s
-  reads-at : {v i r : ℕ} {f g : Bytes} → ReadsAt s v i f r g → Called s (looking, false) s
-  proves : {v r : ℕ} {k room f t g : Bytes} → Proves s v k room f r t g → Called s (looking, false) s
-  palettes : {v r : ℕ} {list room f t g : Bytes} → Palettes s v list room f r t g → Called s (looking, false) s
-  compares : {first second limit r : ℕ} {room f t g : Bytes} → Changes first second limit s room f r t g → Called s (looking, false) s
-  figures : {first last r : ℕ} {room f t g : Bytes} → Figures first last s room f r t g → Called s (looking, false) s
-  pocket-proves : {v r : ℕ} {k room f t g : Bytes} → PocketProves s v k room f r t g → Called s (looking, false) s
   -- with a table, format, apply and prune do to the store what they do without it, or are refused (2026-05)
   formats-both : {table u : List ℕ} {r : ℕ} {t : Bytes} → FormatsIndexed s table r t u → Called s (formatting, eqb r 0) t
-  applies-both : (number : ℕ) (batch : Bytes) {table u : List ℕ} {f t g : Bytes} {r : ℕ} → number ≤ top32 → All Byte batch →
-      AppliesIndexed number batch s table f r t u g → Called s (applying number (batchOf batch), eqb r 0) t
-  prunes-both : {table u : List ℕ} {n r : ℕ} {f t g : Bytes} → PrunesIndexed n s table f r t u g → Called s (pruning n, eqb r 0) t
-  -- a table is built and told from a store that is looked at
-  builds : {table u : List ℕ} {r : ℕ} → Indexes s table r u → Called s (looking, false) s
-  tells : {table : List ℕ} {r : ℕ} → TellsIndex s table r → Called s (looking, false) s
-  -- the reads by a table (2026-05)
-  reads-root-by : {table : List ℕ} {v r : ℕ} {f g : Bytes} → ReadsRootBy s table v f r g → Called s (looking, false) s
-  reads-key-by : {table : List ℕ} {v r : ℕ} {k f g : Bytes} → ReadsKeyBy s table v k f r g → Called s (looking, false) s
-  counts-by : {table : List ℕ} {v r : ℕ} {f g : Bytes} → CountsBy s table v f r g → Called s (looking, false) s
-  reads-at-by : {table : List ℕ} {v i r : ℕ} {f g : Bytes} → ReadsAtBy s table v i f r g → Called s (looking, false) s
-  proves-by : {table : List ℕ} {v r : ℕ} {k room f t g : Bytes} → ProvesBy s table v k room f r t g →
-      Called s (looking, false) s
-  palettes-by : {table : List ℕ} {v r : ℕ} {list room f t g : Bytes} → PalettesBy s table v list room f r t g →
-      Called s (looking, false) s
-  -- the source of a rescue is looked at; its target begins anew, with what the source's trees of the run hold (2026-08)
-  rescues-from : {oldest latest r : ℕ} {old f t g : Bytes} → Rescues oldest latest s old f r t g → Called s (looking, false) s
-  rescues-into : {oldest latest r : ℕ} {source f t g : Bytes} → latest ≤ top32 → All Byte source → Rescues oldest latest source s f r t g →
+  applies-both : (number : ℕ) (batch : Bytes) {table u : List ℕ} {f t g : Bytes} {r : ℕ} → number ≤ top32 →
+      All Byte batch → AppliesIndexed number batch s table f r t u g →
+      Called s (applying number (batchOf batch), eqb r 0) t
+  prunes-both : {table u : List ℕ} {n r : ℕ} {f t g : Bytes} → PrunesIndexed n s table f r t u g →
+      Called s (pruning n, eqb r 0) t
+  -- the target of a rescue begins anew, with what the source's trees of the run hold (2026-08)
+  rescues-into : {oldest latest r : ℕ} {source f t g : Bytes} → latest ≤ top32 → All Byte source →
+      Rescues oldest latest source s f r t g →
       Called s (taking (takenOver source latest g), eqb r 0) t
-  finds : {v r : ℕ} {k x f g : Bytes} → Finds s v k x f r g → Called s (looking, false) s
-  -- so is the source of a move back; the target of a move over begins anew, with what the source's kept versions hold
-  -- (2026-10)
-  moves-back : {r : ℕ} {old t : Bytes} → MovesBack s old r t → Called s (looking, false) s
+  -- so does the target of a move over, with what the source's kept versions hold (2026-10)
   moves-over : {r : ℕ} {source t : Bytes} → All Byte source → MovesOver source s r t →
       Called s (taking (held (storeIn plain source)), eqb r 0) t
-  -- and these are lent none
-  verifies : {r : ℕ} {root k x f g : Bytes} → Verifies root k x f r g → Called s (looking, false) s
-  verifies-many : {r : ℕ} {root list row old new : Bytes} → VerifiesMany root list row old r new → Called s (looking, false) s
-  pocket-verifies : {r : ℕ} {root k x f g : Bytes} → PocketVerifies root k x f r g → Called s (looking, false) s
-  tells-version : {r : ℕ} → TellsVersion r → Called s (looking, false) s
-  shelf-verifies : {b r : ℕ} {root k x f g : Bytes} → ShelfVerifies root b k x f r g → Called s (looking, false) s
-  writes-message : {r : ℕ} {x room f t g : Bytes} {lent : Lent} → WritesMessage x lent room f r t g → Called s (looking, false) s
-  reads-message : {r : ℕ} {m room f t g : Bytes} → ReadsMessage m room f r t g → Called s (looking, false) s
-  hashes : {r : ℕ} {x g : Bytes} → Hashes x r g → Called s (looking, false) s
+  -- Every other call is lent the store to look at, as a rescue and a move their source, or not at all: whatever it is
+  -- asked and answers, the store stays.
+  looks : Called s (looking, false) s
 
 -- Calls one after the other, from the bytes s to the bytes t, with their history.
 pub data Calls : Bytes → List (Call × Bool) → Bytes → Type 0 where

@@ -38,7 +38,7 @@ use Rattle.apply_c.specs.Export.{told}
 use Rattle.meaning.specs.Counting.{grantAt}
 use Rattle.meaning.specs.Answers.{foundBytes, numberOf, toldOf}
 use Rattle.read_counts_c.specs.Export.{grantBytes}
-use Rattle.grants.specs.Contracts.{ReadsRoot, ReadsKey, Proves, Palettes, Changes, Verifies, Counts, ReadsAt}
+use Rattle.contracts.specs.Contracts.{ReadsRoot, ReadsKey, Proves, Palettes, Changes, Verifies, Counts, ReadsAt}
 
 -- Of the store that bytes hold: the tree of a version, its grants, and the latest version.
 abbrev pub treeOfVersion : Bytes → ℕ → VTree

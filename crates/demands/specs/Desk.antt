@@ -1,17 +1,17 @@
 -- Document 01, 'The desk's example', over the bytes: what the contracts of apply, prune and the root read say of each row of the
--- table; and of the rows with gaps between the numbers, and of numbers that are not above latest (2026-13). Assumes nothing.
+-- table. Assumes nothing.
 use Prim.Native.Nat.{ℕ}
 use mathlib.Core.Path.{_≡_}
 use mathlib.Core.Logic.{_↔_}
 use Rattle.terms.specs.Bits.{Bytes, All}
 use Rattle.terms.specs.Fields.{le}
 use Rattle.meaning.specs.Answers.{numberOf, toldOf}
-use Rattle.meaning.specs.Desk.{Row, applies, prunes, reads, table, gaps, notAbove}
+use Rattle.meaning.specs.Desk.{Row, applies, prunes, reads, table}
 use Rattle.nodehash.specs.Node.{leafHash, innerHash}
 use Rattle.layout.specs.Stores.{storeBytes}
 use Rattle.batch.specs.Batch.{asksBytes}
 use Rattle.apply_c.specs.Export.{told}
-use Rattle.grants.specs.Contracts.{Applies, Prunes, ReadsRoot}
+use Rattle.contracts.specs.Contracts.{Applies, Prunes, ReadsRoot}
 
 -- On the bytes of the row's store the call answers what the row says, tells it, and leaves the bytes of the row's store after it; and the
 -- contract allows that.
@@ -23,12 +23,6 @@ RowOverBytes (prunes st n answer end) = (f : Bytes) (r : ℕ) (t g : Bytes) →
 RowOverBytes (reads st v answer) = (f : Bytes) (r : ℕ) (g : Bytes) →
     ReadsRoot (storeBytes st) v f r g ↔ ((r ≡ numberOf answer) × (g ≡ toldOf (λ root. root) answer f))
 
--- The tables over the bytes, their hashes those of nodes.
+-- The table over the bytes, its hashes those of nodes.
 abbrev pub DeskOverBytes : Type 0
 DeskOverBytes = All RowOverBytes (table leafHash innerHash)
-
-abbrev pub GapsOverBytes : Type 0
-GapsOverBytes = All RowOverBytes (gaps leafHash innerHash)
-
-abbrev pub NotAboveOverBytes : Type 0
-NotAboveOverBytes = All RowOverBytes (notAbove leafHash innerHash)

@@ -2,22 +2,20 @@
 -- 'whatever the index holds, a read differs from the plain scan's only where two slots match.' Assumes nothing.
 use Prim.Native.Nat.{ℕ, _+_, _*_, _≤_}
 use mathlib.Core.Path.{_≡_}
-use mathlib.Core.Bool.{true}
-use mathlib.Core.List.{List, [], _∷_, _++_}
+use mathlib.Core.Bool.{true, cond}
+use mathlib.Core.List.{List, [], _∷_}
 use lib.ListN.{length}
+use lib.Dec.{eqb}
 use Rattle.terms.specs.declared.Form.the-variants.{Counted as counted}
 use Rattle.terms.specs.Bits.{Bytes}
 use Rattle.meaning.specs.Calls.{isKept}
-use Rattle.palette_rules.specs.Palette.{keysIn}
 use Rattle.index_reads.specs.Matching.{NoTwoMatch}
 use Rattle.layout.specs.Sizes.{headerSize, mostSlots, slotSize}
 use Rattle.layout.specs.Stores.{storeOf}
 use Rattle.refusals.specs.Exactly.{Table}
-use Rattle.refusals.specs.Rows.{WrongHeader, Not32, NotKeys}
-use Rattle.refusals.specs.Orders.{versionRows, lookupRows, keyRows, placingRows, positionRows, provingRows, proofRows}
-use Rattle.refusals.specs.Orders.{askingRows, togetherRows}
-use Rattle.grants.specs.Contracts.{ReadsRoot, ReadsKey, Counts, ReadsAt, Proves, Palettes}
-use Rattle.grants.specs.Contracts.{ReadsRootBy, ReadsKeyBy, CountsBy, ReadsAtBy, ProvesBy, PalettesBy}
+use Rattle.refusals.specs.Rows.{WrongHeader}
+use Rattle.contracts.specs.Contracts.{ReadsRoot, ReadsKey, Counts, ReadsAt, Proves, Palettes}
+use Rattle.contracts.specs.Contracts.{ReadsRootBy, ReadsKeyBy, CountsBy, ReadsAtBy, ProvesBy, PalettesBy}
 
 -- 1: the store's length isn't 24 + 128n, n in 1 to 16,384, or the table hasn't n entries.
 abbrev pub WrongLengths : Bytes → List ℕ → Type 0
@@ -28,37 +26,11 @@ WrongLengths s table =
 abbrev pub headerRowsBy : Bytes → List ℕ → Table
 headerRowsBy s table = (1, WrongLengths s table) ∷ (2, WrongHeader s) ∷ []
 
--- The tables of the six reads, each with the rows that it tests before it looks for records: those of the plain call,
--- with this 1.
-abbrev pub rootTestsBy : Bytes → List ℕ → ℕ → Table
-rootTestsBy s table v = headerRowsBy s table ++ versionRows s v
-
-abbrev pub rootRowsBy : Bytes → List ℕ → ℕ → Table
-rootRowsBy s table v = headerRowsBy s table ++ lookupRows s v
-
-abbrev pub getTestsBy : Bytes → List ℕ → ℕ → Bytes → Table
-getTestsBy s table v k = (12, Not32 (k ∷ [])) ∷ headerRowsBy s table ++ versionRows s v
-
-abbrev pub getRowsBy : Bytes → List ℕ → ℕ → Bytes → Table
-getRowsBy s table v k = (12, Not32 (k ∷ [])) ∷ headerRowsBy s table ++ keyRows s v k
-
-abbrev pub atTestsBy : Bytes → List ℕ → ℕ → ℕ → Table
-atTestsBy s table v i = headerRowsBy s table ++ placingRows s v i
-
-abbrev pub atRowsBy : Bytes → List ℕ → ℕ → ℕ → Table
-atRowsBy s table v i = headerRowsBy s table ++ positionRows s v i
-
-abbrev pub proveTestsBy : Bytes → List ℕ → ℕ → Bytes → Table
-proveTestsBy s table v k = (12, Not32 (k ∷ [])) ∷ headerRowsBy s table ++ provingRows s v
-
-abbrev pub proveRowsBy : Bytes → List ℕ → ℕ → Bytes → Bytes → Table
-proveRowsBy s table v k room = (12, Not32 (k ∷ [])) ∷ headerRowsBy s table ++ proofRows s v k room
-
-abbrev pub paletteTestsBy : Bytes → List ℕ → ℕ → Bytes → Table
-paletteTestsBy s table v list = (12, NotKeys list) ∷ headerRowsBy s table ++ askingRows s v (keysIn list)
-
-abbrev pub paletteRowsBy : Bytes → List ℕ → ℕ → Bytes → Bytes → Table
-paletteRowsBy s table v list room = (12, NotKeys list) ∷ headerRowsBy s table ++ togetherRows s v (keysIn list) room
+-- The table of a read by a table of slot numbers: that of the plain call, with this 1.
+abbrev pub rowsBy : Bytes → List ℕ → Table → Table
+rowsBy s table [] = []
+rowsBy s table (row ∷ rows) =
+    (row .0, cond (eqb (row .0) 1) (WrongLengths s table) (row .1)) ∷ rowsBy s table rows
 
 -- No two slots match where version v is read: nothing is looked for of a version that isn't kept.
 abbrev pub NoneTwice : Bytes → ℕ → Type 0

@@ -10,7 +10,7 @@ use Rattle.meaning.specs.Reading.{answerOf}
 use Rattle.meaning.specs.Answers.{foundBytes}
 use Rattle.palette_rules.specs.Palette.{keysIn}
 use Rattle.refusals.specs.Rows.{Piece}
-use Rattle.grants.specs.Contracts.{ReadsRoot, ReadsKey, Palettes, Verifies, VerifiesMany}
+use Rattle.contracts.specs.Contracts.{ReadsRoot, ReadsKey, Palettes, Verifies, VerifiesMany}
 use Rattle.demands.specs.Claims.{grantsOfVersion}
 
 -- Single checks against a root, a piece for each key, each with 33 zero bytes for what is found; and of each its

@@ -9,7 +9,7 @@ use Rattle.terms.specs.Fields.{num, field, flat}
 use Rattle.meaning.specs.Reading.{answerOf}
 use Rattle.meaning.specs.Answers.{foundBytes}
 use Rattle.palette_rules.specs.Palette.{keysIn}
-use Rattle.grants.specs.Contracts.{ReadsRoot, Proves, Palettes, Verifies}
+use Rattle.contracts.specs.Contracts.{ReadsRoot, Proves, Palettes, Verifies}
 use Rattle.demands.specs.Claims.{grantsOfVersion}
 
 -- Single calls for keys of version v of the bytes s, one after the other, all accepted, and the proof that each gave.

@@ -8,7 +8,7 @@ use Rattle.terms.specs.Fields.{num}
 use Rattle.meaning.specs.Reading.{answerOf}
 use Rattle.meaning.specs.Answers.{foundBytes}
 use Rattle.refusals.specs.Rows.{OutsidePocket, ProvedOutside}
-use Rattle.grants.specs.Contracts.{ReadsRoot, Proves, Verifies, PocketProves, PocketVerifies}
+use Rattle.contracts.specs.Contracts.{ReadsRoot, Proves, Verifies, PocketProves, PocketVerifies}
 use Rattle.demands.specs.Claims.{grantsOfVersion}
 
 -- The bytes x checked as a proof for key k against a root, by the pocket check and by the full one.

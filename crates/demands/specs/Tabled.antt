@@ -11,7 +11,7 @@ use Rattle.index_rules.specs.Tables.{RightFor}
 use Rattle.refusals.specs.Exactly.{Table}
 use Rattle.refusals.specs.Rows.{NotSound}
 use Rattle.refusals.specs.Orders.{batchRows, versionRows}
-use Rattle.grants.specs.Contracts.{Indexes, FormatsIndexed, AppliesIndexed, PrunesIndexed}
+use Rattle.contracts.specs.Contracts.{Indexes, FormatsIndexed, AppliesIndexed, PrunesIndexed}
 use Rattle.demands.specs.Indexed.{WrongLengths, headerRowsBy}
 use Rattle.demands.specs.Calls.{Called, Life}
 

@@ -2,30 +2,29 @@
 -- the proof check 10, 11. Format gives only 1.' By 2026-03 proving tests for 14 after 8; by 2026-13 apply tests for 18 where 6 was; by
 -- 2026-09 a position is tested for 20 after the root's lookup. Assumes nothing.
 use Prim.Native.Nat.{ℕ}
+use mathlib.Core.Bool.{cond, _||_}
 use mathlib.Core.List.{[], _∷_, _++_}
 use lib.ListN.{length}
-use Rattle.terms.specs.declared.Form.the-variants.{Plain as plain, Counted as counted}
+use lib.Dec.{eqb}
 use Rattle.terms.specs.Bits.{Bytes}
 use Rattle.palette_rules.specs.Palette.{keysIn}
 use Rattle.refusals.specs.Exactly.{Table}
 use Rattle.refusals.specs.Rows.{WrongLength, NotSound, Not32, NotKeys}
-use Rattle.refusals.specs.Orders.{headerRows, batchRows, versionRows, lookupRows, keyRows, placingRows, positionRows, provingRows, proofRows, askingRows, togetherRows, comparisonRows, holdingRows, rowRows, rescueRows, moveRows}
+use Rattle.refusals.specs.Orders.{headerRows, batchRows, versionRows, lookupRows, keyRows, positionRows, proofRows}
+use Rattle.refusals.specs.Orders.{togetherRows, comparisonRows, holdingRows, rowRows}
 use Rattle.refusals.specs.Orders.{rangeRows, pocketRows, pocketHoldingRows}
-use Rattle.refusals.specs.Orders.{foundRows, messageRows, readingRows}
-use Rattle.messages.specs.Lending.{Lent}
-use Rattle.refusals.specs.Orders.{shelfRows}
+use Rattle.refusals.specs.Orders.{foundRows, shelfRows}
+-- A rescue (2026-08), a move (2026-10), a message written and one read (2026-02). A hash is never refused.
+pub use Rattle.refusals.specs.Orders.{rescueRows as rescuingRows, moveRows}
+pub use Rattle.refusals.specs.Orders.{messageRows as writeMessageRows, readingRows as readMessageRows}
 
--- 1, 2; then 3 by full soundness.
+-- 1, 2; then 3 by full soundness: check, and what apply, prune and others test first.
 abbrev pub soundRows : Bytes → Table
 soundRows s = headerRows s ++ (3, NotSound s) ∷ []
 
 -- Format: 1.
 abbrev pub formatRows : Bytes → Table
 formatRows s = (1, WrongLength s) ∷ []
-
--- Check: 1, 2, 3.
-abbrev pub checkRows : Bytes → Table
-checkRows s = soundRows s
 
 -- Apply: 1, 2, 3; then 4, 5, 18, 7.
 abbrev pub applyRows : ℕ → Bytes → Bytes → Table
@@ -35,52 +34,29 @@ applyRows number batch s = soundRows s ++ batchRows number batch s
 abbrev pub pruneRows : ℕ → Bytes → Table
 pruneRows n s = soundRows s ++ versionRows s n
 
--- A root read: 1, 2, 8, 3; and the rows that it tests before it looks for a record.
+-- A root read, and the number of grants (document 02, 2026-09): 1, 2, 8, 3.
 abbrev pub rootRows : Bytes → ℕ → Table
 rootRows s v = headerRows s ++ lookupRows s v
-
-abbrev pub rootTests : Bytes → ℕ → Table
-rootTests s v = headerRows s ++ versionRows s v
 
 -- A key read: 12; then 1, 2; then 8, 17 or 3.
 abbrev pub getRows : Bytes → ℕ → Bytes → Table
 getRows s v k = (12, Not32 (k ∷ [])) ∷ headerRows s ++ keyRows s v k
 
-abbrev pub getTests : Bytes → ℕ → Bytes → Table
-getTests s v k = (12, Not32 (k ∷ [])) ∷ headerRows s ++ versionRows s v
-
--- Document 02, 2026-09: the number of grants: 1, 2, 8, 3, as of the root.
-abbrev pub countRows : Bytes → ℕ → Table
-countRows s v = rootRows s v
-
 -- The grant at a position: 1, 2, 8; 20 by the root's number; then 17 or 3.
 abbrev pub atRows : Bytes → ℕ → ℕ → Table
 atRows s v i = headerRows s ++ positionRows s v i
 
-abbrev pub atTests : Bytes → ℕ → ℕ → Table
-atTests s v i = headerRows s ++ placingRows s v i
-
 -- Proving: 12; then 1, 2; then 8, 14, 17 or 3, 9.
-abbrev pub proveTests : Bytes → ℕ → Bytes → Table
-proveTests s v k = (12, Not32 (k ∷ [])) ∷ headerRows s ++ provingRows s v
-
 abbrev pub proveRows : Bytes → ℕ → Bytes → Bytes → Table
 proveRows s v k room = (12, Not32 (k ∷ [])) ∷ headerRows s ++ proofRows s v k room
 
 -- A palette (document 02, 2026-04): 12, for the list alone; then 1, 2; then 8, 14, 17 or 3 of the first key refused, 9.
-abbrev pub paletteTests : Bytes → ℕ → Bytes → Table
-paletteTests s v list = (12, NotKeys list) ∷ headerRows s ++ askingRows s v (keysIn list)
-
 abbrev pub paletteRows : Bytes → ℕ → Bytes → Bytes → Table
 paletteRows s v list room = (12, NotKeys list) ∷ headerRows s ++ togetherRows s v (keysIn list) room
 
 -- Document 02, 2026-01: 'Order: 1, 2, 3 by full soundness, 8, 13, 9.'
 abbrev pub changesRows : Bytes → ℕ → ℕ → ℕ → Bytes → Table
 changesRows s first second limit room = soundRows s ++ comparisonRows s first second limit room
-
--- Document 02, 2026-08: a rescue: 1, 2, 3.
-abbrev pub rescuingRows : Bytes → Bytes → ℕ → ℕ → Table
-rescuingRows s old oldest latest = rescueRows s old oldest latest
 
 -- Document 02, 2026-14: the figures: 1, 2, 3 by full soundness; then 8, 9.
 abbrev pub figuresRows : Bytes → ℕ → ℕ → Bytes → Table
@@ -93,13 +69,6 @@ pocketProveRows s v k room = (12, Not32 (k ∷ [])) ∷ headerRows s ++ pocketRo
 -- Document 02, 2026-12: what is found of a proof: 12; then 1, 2, 3 by full soundness; then 8, 14, 10, 11.
 abbrev pub findingRows : Bytes → ℕ → Bytes → Bytes → Table
 findingRows s v k x = (12, Not32 (k ∷ [])) ∷ soundRows s ++ foundRows s v k x
-
--- Document 02, 2026-10: a move over, and back: 1, 2, 3.
-abbrev pub overRows : Bytes → Bytes → Table
-overRows s old = moveRows plain s old
-
-abbrev pub backRows : Bytes → Bytes → Table
-backRows s old = moveRows counted s old
 
 -- The proof check: 12; then 10, 11.
 abbrev pub verifyRows : Bytes → Bytes → Bytes → Table
@@ -117,13 +86,7 @@ pocketVerifyRows root k x = (12, Not32 (root ∷ k ∷ [])) ∷ pocketHoldingRow
 abbrev pub shelfVerifyRows : Bytes → ℕ → Bytes → Bytes → Table
 shelfVerifyRows root b k x = (12, Not32 (root ∷ k ∷ [])) ∷ shelfRows root b k x
 
--- A hash is never refused.
-abbrev pub sha256Rows : Table
-sha256Rows = []
-
--- Document 02, 2026-02: writing a message: 10, 15, 9; reading one: 10, 9.
-abbrev pub writeMessageRows : Bytes → Lent → Bytes → Table
-writeMessageRows x lent room = messageRows x lent room
-
-abbrev pub readMessageRows : Bytes → Bytes → Table
-readMessageRows m room = readingRows m room
+-- The rows that a read tests before it looks for a record: those before 17 and 3.
+abbrev pub testsOf : Table → Table
+testsOf [] = []
+testsOf (row ∷ rows) = cond (eqb (row .0) 17 || eqb (row .0) 3) [] (row ∷ testsOf rows)

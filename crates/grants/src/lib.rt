@@ -1,7 +1,7 @@
 // The public calls, for C, Rust and others to link. Each answers 0 where it is accepted, else document 01's number of refusal; a refused
 // call writes nothing, its answer included. A slice is passed as a pointer and a length, an array as a pointer alone.
 use terms::Form;
-ghost use Rattle.grants.specs.Contracts.{Formats, Checks, Indexes, TellsIndex, FormatsIndexed, AppliesIndexed, PrunesIndexed, Applies, Prunes, ReadsRoot, ReadsKey, Counts, ReadsAt, Proves, Palettes, ReadsRootBy, ReadsKeyBy, CountsBy, ReadsAtBy, ProvesBy, PalettesBy, Changes, Rescues, MovesOver, MovesBack, Finds, Figures, PocketProves, Verifies, PocketVerifies, ShelfVerifies, VerifiesMany, WritesMessage, ReadsMessage, TellsVersion, Hashes};
+ghost use Rattle.contracts.specs.Contracts.{Formats, Checks, Indexes, TellsIndex, FormatsIndexed, AppliesIndexed, PrunesIndexed, Applies, Prunes, ReadsRoot, ReadsKey, Counts, ReadsAt, Proves, Palettes, ReadsRootBy, ReadsKeyBy, CountsBy, ReadsAtBy, ProvesBy, PalettesBy, Changes, Rescues, MovesOver, MovesBack, Finds, Figures, PocketProves, Verifies, PocketVerifies, ShelfVerifies, VerifiesMany, WritesMessage, ReadsMessage, TellsVersion, Hashes};
 ghost use Rattle.message_rules.specs.Contracts.{lentOf};
 
 // Makes a fresh store of any bytes of the right length.
@@ -398,7 +398,7 @@ pub extern "C" fn grants_ics23_write(
 ) -> u32
     ensures { λ r. ⌜ WritesMessage (now (proof .entry)) (lentOf (now (asked .entry)) (now (key1 .entry)) (now (value1 .entry)) (now (key2 .entry)) (now (value2 .entry))) (now (room .entry)) (now (length .entry)) r (now (room .exit)) (now (length .exit)) ⌝ }
 {
-    message_write::written_out(proof, asked, key1, value1, key2, value2, room, length)
+    message_c::written_out(proof, asked, key1, value1, key2, value2, room, length)
 }
 
 // Reads an ICS 23 message into our record at the front of the room. answer: the record's length, then where in the message asked, key1, value1, key2, value2 stand:
@@ -407,7 +407,7 @@ pub extern "C" fn grants_ics23_write(
 pub extern "C" fn grants_ics23_read(message: &[u8], room: &mut [u8], answer: &mut [u8; 44]) -> u32
     ensures { λ r. ⌜ ReadsMessage (now (message .entry)) (now (room .entry)) (now (answer .entry)) r (now (room .exit)) (now (answer .exit)) ⌝ }
 {
-    message_read::read_out(message, room, answer)
+    message_c::read_out(message, room, answer)
 }
 
 // SHA-256 of the bytes; never refused.

@@ -16,7 +16,7 @@ use Rattle.layout.specs.Stores.{storeOf}
 use Rattle.shelf_rules.specs.Shelf.{partKey}
 use Rattle.shelf_grants.specs.Contents.{rootOf}
 use Rattle.shelf_grants.proofs.Listed.{said}
-use Rattle.grants.specs.Contracts.{ReadsRoot, Verifies, Finds, ShelfVerifies}
+use Rattle.contracts.specs.Contracts.{ReadsRoot, Verifies, Finds, ShelfVerifies}
 use Rattle.demands.specs.Claims.{grantsOfVersion}
 use Rattle.demands.specs.Forged.{Deceived}
 use Rattle.demands.proofs.Showing.{root-of-tree}

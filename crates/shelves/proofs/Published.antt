@@ -33,7 +33,7 @@ use Rattle.promises.specs.Calls.{SoundBytes, accepts, exports-refusal, exports-
 use Rattle.shelf_grants.specs.Contents.{Parts, gathered, allGrants, Among, InPlace, rootOf, listed, listGrants, newRoots, shelfRoot}
 use Rattle.shelf_grants.proofs.Gathered.{gathered-same}
 use Rattle.shelf_grants.proofs.Listed.{placed-batch, shelf-root-of-parts, new-roots-make-the-list}
-use Rattle.grants.specs.Contracts.{Formats, Applies, Prunes, ReadsRoot}
+use Rattle.contracts.specs.Contracts.{Formats, Applies, Prunes, ReadsRoot}
 use Rattle.demands.specs.Claims.{treeOfVersion, grantsOfVersion, latestOf, NextVersion}
 use Rattle.demands.proofs.Hashes.{leaf-hash-whole, inner-hash-whole}
 use Rattle.demands.proofs.Stored.{stored-is, stored-sound, formatted-form, prune-form}

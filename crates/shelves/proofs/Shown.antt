@@ -34,7 +34,7 @@ use Rattle.shelf_rules.proofs.Records.{shelf-back, shelf-proofs-have-25600-byte
 use Rattle.shelf_grants.specs.Contents.{Parts, allGrants, InPlace, rootOf, listGrants}
 use Rattle.shelf_grants.proofs.Gathered.{front-prefix, answer-of-part}
 use Rattle.shelf_grants.proofs.Listed.{said, answer-in-list}
-use Rattle.grants.specs.Contracts.{ReadsRoot, Proves, Verifies, ShelfVerifies}
+use Rattle.contracts.specs.Contracts.{ReadsRoot, Proves, Verifies, ShelfVerifies}
 use Rattle.demands.specs.Claims.{treeOfVersion, grantsOfVersion, latestOf, Shown, NothingToShow}
 use Rattle.demands.proofs.Hashes.{hash-whole}
 use Rattle.demands.proofs.Forms.{proof-form}

@@ -24,7 +24,7 @@ use Rattle.shelf_rules.specs.Shelf.{partKey, ShelfProof, noPart, inPart, shelfB
 use Rattle.shelf_rules.specs.Holding.{ShelfHolds, no-part, in-part}
 use Rattle.shelf_rules.proofs.Records.{shelf-bytes}
 use Rattle.shelf_rules.proofs.Theorems.{shelf-accepted-exactly-if-holds, shelf-refused-with-11}
-use Rattle.grants.specs.Contracts.{Verifies, ShelfVerifies}
+use Rattle.contracts.specs.Contracts.{Verifies, ShelfVerifies}
 use Rattle.demands.proofs.Showing.{checker-on}
 use Rattle.shelves.specs.Shelf.{BySingleChecks, list-alone, both-records}
 

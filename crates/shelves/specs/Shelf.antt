@@ -21,7 +21,7 @@ use Rattle.batch.specs.Batch.{batchOf}
 use Rattle.promises.specs.Calls.{SoundBytes}
 use Rattle.shelf_rules.specs.Shelf.{mostBits, partKey}
 use Rattle.shelf_grants.specs.Contents.{Parts, allGrants, Among, InPlace, listGrants, newRoots}
-use Rattle.grants.specs.Contracts.{Formats, Applies, Prunes, ReadsRoot, Proves, Verifies, Finds, ShelfVerifies}
+use Rattle.contracts.specs.Contracts.{Formats, Applies, Prunes, ReadsRoot, Proves, Verifies, Finds, ShelfVerifies}
 use Rattle.demands.specs.Claims.{grantsOfVersion, latestOf}
 use Rattle.demands.specs.Forged.{Deceived}
 
