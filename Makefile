@@ -7,8 +7,8 @@ demo:
 # Every crate from nothing with the edits that must fail, then each other test over what was built. RT_JOBS says how many checks run at a time;
 # `tests/gate` chooses by the memory where it isn't set.
 test:
-	@tests/gate 'rt ci' tests/format tests/rooms tests/belief tests/sealed tests/links tests/sha256/run tests/second/run tests/passes/run \
-		tests/compare/run tests/proto/run tests/looks/run tests/rust/run tests/tool/run tests/examples/run tests/wasm/run \
+	@tests/gate 'rt ci' tests/format tests/states tests/rooms tests/belief tests/sealed tests/links tests/sha256/run tests/second/run tests/passes/run \
+		tests/compare/run tests/proto/run tests/looks/run tests/slow/run tests/rust/run tests/tool/run tests/examples/run tests/wasm/run \
 		tests/python/run tests/stale/run tests/dist/run
 
 # The static library, proved where `make test` has made the proofs, else the same sources compiled without them; the last line says which.
@@ -23,9 +23,14 @@ tool:
 wasm:
 	@js/build
 
-# Packages that need no kit, in target/dist: for C, Debian, npm, cargo and Python, with their sums (docs/RELEASE.md).
+# Packages that need no kit, in target/dist: for C, Debian, npm, cargo, Python and Go, with their sums (docs/RELEASE.md).
 dist:
 	@rust/dist
+
+# The tool for the other machine (target/cross/grants), of Debian's packages, which are fetched and not installed; `make dist` then packs it too.
+.PHONY: cross
+cross:
+	@rust/cross
 
 # Tool, manual page, completions, header, libraries and pkg-config file below PREFIX.
 .PHONY: install uninstall

@@ -3,6 +3,7 @@ use lookup::Found;
 use lookup::find;
 use lookup::holds_record;
 use place::Place;
+use place::child_place;
 use place::key_bit;
 use place::same;
 use slots::bits_of;
@@ -20,7 +21,7 @@ ghost use lib.Dec.{eqb};
 ghost use Rattle.terms.specs.Bits.{bits};
 ghost use Rattle.meaning.specs.Store.{find};
 ghost use Rattle.local.specs.Test.{every, total, byRecord, isFound};
-ghost use Rattle.place.specs.Place.{placeOf, Proper, Stands, Grown};
+ghost use Rattle.place.specs.Place.{placeOf, Proper, Stands};
 ghost use Rattle.layout.specs.Headers.{sizeRight};
 ghost use Rattle.layout.specs.Stores.{storeIn, slotNo, Has};
 ghost use Rattle.check_kin.specs.Kin.{Keeps, countNode, endsAt, livesApart, clearOf};
@@ -157,17 +158,6 @@ pub fn child_found(form: Form, store: &[u8], version: u32, place: Place) -> bool
     }
 }
 
-// The place one bit longer, on a side.
-pub fn longer(place: Place, right: bool) -> Place
-    requires { ⌜ Proper place × (place .count < 256) ⌝ }
-    ensures { λ r. ⌜ Grown right place r ⌝ }
-{
-    if right {
-        return place.right();
-    }
-    place.left()
-}
-
 // The place of the first bits of a key.
 pub fn front(key: &[u8], count: usize) -> Place
     requires { ⌜ (length (now key) ≡ 32) × (count ≤ 256) ⌝ }
@@ -176,7 +166,7 @@ pub fn front(key: &[u8], count: usize) -> Place
     let mut place = Place::top();
     let mut i = 0;
     while i < count {
-        place = longer(place, key_bit(key, i));
+        place = child_place(place, key_bit(key, i));
         i += 1;
     }
     place

@@ -31,7 +31,7 @@ use Rattle.check_pass.specs.Passes.{Room, Each}
 use Rattle.check_pass.proofs.Records.{version-of, retired-of, free-zero, read-long, read-bytes, stands}
 use Rattle.check_seen.specs.Seen.{OwnAt}
 use Rattle.check_seen.proofs.Seen.{own-lives, seen-passes}
-use Rattle.check_sums.proofs.Sums.{under-start, under-end}
+use Rattle.check_seen.proofs.Sums.{under-start, under-end}
 use Rattle.check_quick.specs.declared.Look as declared
 use Rattle.check_quick.specs.declared.Look.the-variants.{Fine, Suspect}
 use Rattle.check_quick.specs.Look.{Sure, Alone, Linked}

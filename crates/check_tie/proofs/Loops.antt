@@ -35,8 +35,8 @@ use Rattle.check_hash.specs.Known.{linkSlot, linkSide, Stored, Known}
 use Rattle.hash.specs.declared.Hash.{Hash}
 use Rattle.hash.specs.Hash.{hashBytes}
 use Rattle.check_seen.specs.Seen.{OwnAt, Tied}
-use Rattle.check_sums.specs.Sums.{Under}
-use Rattle.check_sums.proofs.Sums.{under-record, under-other}
+use Rattle.check_seen.specs.Sums.{Under}
+use Rattle.check_seen.proofs.Sums.{under-record, under-other}
 use Rattle.check_tie.specs.declared.Parent as declared
 use Rattle.check_tie.specs.declared.Link as declared-link
 use Rattle.check_tie.specs.Side.{ParentIn, IsParent, IsLink, SideTied, TiedAt, SlotTied, TiedTo}

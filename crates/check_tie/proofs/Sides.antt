@@ -23,8 +23,8 @@ use Rattle.place.specs.Place.{placeOf}
 use Rattle.layout.specs.Stores.{storeIn}
 use Rattle.check_kin.specs.Kin.{isLeafBody}
 use Rattle.hash.specs.Hash.{hashBytes}
-use Rattle.check_sums.specs.Sums.{Added}
-use Rattle.check_sums.proofs.Sums.{added-side, none-added}
+use Rattle.check_seen.specs.Sums.{Added}
+use Rattle.check_seen.proofs.Sums.{added-side, none-added}
 use Rattle.check_counts.specs.Counts.{FitsAt}
 use Rattle.check_counts.proofs.Weights.{form-is}
 use Rattle.check_pass.specs.Passes.{Passed}

@@ -22,7 +22,7 @@ use Rattle.check_kin.specs.declared.Kept as declared-kept
 use Rattle.check_kin.specs.Kin.{Keeps, endsAt, isLeafBody}
 use Rattle.check_pass.specs.Passes.{Each}
 use Rattle.check_seen.specs.Seen.{OwnAt, Tied}
-use Rattle.check_sums.specs.Sums.{SideAdded, Under}
+use Rattle.check_seen.specs.Sums.{SideAdded, Under}
 use Rattle.check_tie.specs.declared.Parent as declared
 use Rattle.check_tie.specs.declared.Link as declared-link
 

@@ -6,13 +6,13 @@ use check_kin::Kept;
 use check_kin::ends_before;
 use check_kin::kept_life;
 use check_kin::later;
-use check_kin::longer;
-use check_sums::add;
+use check_seen::add;
 use hash::Hash;
 use hash::hash_at;
 use hash::same_hash;
 use layout::sizes::LEAF_KIND;
 use place::Place;
+use place::child_place;
 use place::place_at;
 use slots::bits_of;
 use slots::child_hash;
@@ -120,7 +120,7 @@ fn tie_link(
         return false;
     }
     let up = parent.up;
-    if !is_node(form, store, c, version, longer(up, link.right)) {
+    if !is_node(form, store, c, version, child_place(up, link.right)) {
         return false;
     }
     if !outlives(form, store, c, kept.latest, parent.ends, link.other) {

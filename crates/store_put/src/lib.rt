@@ -1,4 +1,5 @@
-// Writing a store in lent memory, document 01, 'Bytes': a slot by its number, its mark, and the kept versions of the header. Each function writes these bytes and nothing else.
+// Writing a store in lent memory, document 01, 'Bytes': a slot by its number or by the bytes of another, its mark, and the kept versions of the header. Each function writes these bytes and nothing else.
+use fields::copy;
 use fields::put_u32;
 use layout::sizes;
 use layout::slot_size;
@@ -13,10 +14,11 @@ ghost use mathlib.Core.Path.{_≡_};
 ghost use lib.ListN.{length};
 ghost use Rattle.terms.specs.Records.{used, free, innerBody, tally, noTally};
 ghost use Rattle.place.specs.Place.{placeOf, Proper};
-ghost use Rattle.layout.specs.Sizes.{grantSize};
+ghost use Rattle.layout.specs.Sizes.{grantSize, slotSize};
 ghost use Rattle.layout.specs.Slots.{recordOf};
 ghost use Rattle.layout.specs.Stores.{HeaderWithin, SlotWithin, withSlot, withSince, withOldest, withLatest};
 ghost use Rattle.slots.specs.Answer.{childSays, grantBody};
+ghost use Rattle.store_put.specs.Copied.{withBytes};
 
 pub fn put_oldest(store: &mut [u8], version: u32)
     requires { ⌜ HeaderWithin (now store) ⌝ }
@@ -94,4 +96,14 @@ pub fn put_retired_at(form: Form, store: &mut [u8], i: usize, since: u32)
 {
     let at = slot_start(form, i) + sizes::RETIRED_AT;
     put_u32(store, at, since);
+}
+
+// Writes the bytes of a slot to slot i.
+pub fn copy_slot(store: &mut [u8], i: usize, slot: &[u8])
+    requires { ⌜ SlotWithin Form.Counted i (now store) × (length (now slot) ≡ slotSize Form.Counted) ⌝ }
+    ensures { λ _. ⌜ now (store .exit) ≡ withBytes i (now (slot .entry)) (now (store .entry)) ⌝ }
+{
+    let start = sizes::HEADER_SIZE + sizes::COUNTED_SIZE * i;
+    let end = start + sizes::COUNTED_SIZE;
+    copy(&mut store[start..end], slot);
 }

@@ -19,18 +19,30 @@ put-answer-requires c κs = search needs
 same-length : tie.Need-same-length
 same-length c = search needs
 
+-- `A-from-B` is the state A as the later state B has it.
+abbrev start-from-apply : tie.After-apply → tie.Start
+start-from-apply c = c .before .before .before .before
+
+abbrev start-from-applied : tie.After-applied → tie.Start
+start-from-applied c = start-from-apply (c .before .before .before .before)
+
+abbrev start-from-applied2 : tie.After-applied2 → tie.Start
+start-from-applied2 c = start-from-apply (c .before .before .before .before)
+
 returns : tie.Need-returns
 returns c =
-    let a = c .before .before .before .before .before .before .before .before .before .args in
-    export-refused (a .number) (a .batch .now) (c .before .before .before .before .before .apply .ensures) (c .before .applied .given .1)
+    let after-applied = c .before in
+    let a = start-from-applied after-applied .args in
+    export-refused (a .number) (a .batch .now) (after-applied .before .before .before .before .apply .ensures) (after-applied .applied .given .1)
 
 same-length-2 : tie.Need-same-length-2
 same-length-2 c = search needs
 
 returns-2 : tie.Need-returns-2
 returns-2 c =
-    let a = c .before .before .before .before .before .before .before .before .before .before .before .args in
-    export-made (a .number) (a .batch .now) (c .before .before .before .before .before .before .before .apply .ensures) (c .before .before .before .applied2 .given .1) (c .put-answer .ensures)
+    let after-applied2 = c .before .before .before in
+    let a = start-from-applied2 after-applied2 .args in
+    export-made (a .number) (a .batch .now) (after-applied2 .before .before .before .before .apply .ensures) (after-applied2 .applied2 .given .1) (c .put-answer .ensures)
 
 pub grants-apply-spec : {M : Type 1} → statement M
 grants-apply-spec =

@@ -25,8 +25,19 @@ put-u32-requires-2 c κs = search needs
 same-length : tie.Need-same-length
 same-length c = search needs
 
+-- `A-from-B` is the state A as the later state B has it.
+abbrev start-from-put-u32 : tie.After-put-u32 → tie.Start
+start-from-put-u32 c = c .before .before .before
+
+abbrev start-from-put-hash : tie.After-put-hash → tie.Start
+start-from-put-hash c = start-from-put-u32 (c .before .before .before .before)
+
 returns : tie.Need-returns
-returns c = let a = c .before .before .before .before .before .before .before .before .before .before .before .before .before in answer-put (a .args .version) (a .args .count) (a .args .root) (a .args .answer .now) _ _ _ (a .pre) (c .before .before .before .before .before .before .before .before .before .before .put-u32 .ensures) (c .before .before .before .before .before .before .put-hash .ensures) (c .before .before .put-u322 .ensures)
+returns c =
+    let after-put-u322 = c .before .before in
+    let after-put-hash = after-put-u322 .before .before .before .before in
+    let start = start-from-put-hash after-put-hash in
+    answer-put (start .args .version) (start .args .count) (start .args .root) (start .args .answer .now) _ _ _ (start .pre) (after-put-hash .before .before .before .before .put-u32 .ensures) (after-put-hash .put-hash .ensures) (after-put-u322 .put-u322 .ensures)
 
 pub put-answer-spec : {M : Type 1} → statement M
 put-answer-spec =

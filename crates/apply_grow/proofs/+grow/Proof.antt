@@ -55,6 +55,10 @@ grow-calls t = (
   fork-reads.Learnt,
 )
 
+-- `A-from-B` is the state A as the later state B has it.
+abbrev grow-start-from-to-grow : (t : ℕ) → grow-lts.After-to-grow (grow-calls t) (grow-at t) grow.Post → grow-lts.Start (grow-calls t) (grow-at t) grow.Post
+grow-start-from-to-grow t c = c .before .before .before .before
+
 grow-stays-at-requires : (t : ℕ) → grow-lts.Need-stays-at-requires (grow-calls t) (grow-at t) grow.Post
 grow-stays-at-requires t c κs =
     let c2 = c .before .before in
@@ -103,19 +107,19 @@ grow-grow-requires t c κs =
 
 grow-right-requires : (t : ℕ) → grow-lts.Need-right-requires (grow-calls t) (grow-at t) grow.Post
 grow-right-requires t c κs =
-    let c7 = c .before .before .before .before .before .before .before in
-    let c9 = c7 .before .before in
-    let c10 = c9 .before in
-    let c13 = c10 .before .before .before in
-    (c13 .pre .1 .proper, several-short (c13 .pre .1) (few-is (c13 .pre .1) (c10 .stays-at .result) (c10 .stays-at .ensures) (c7 .enum-told2 .given .1) (c9 .to-grow .ensures)))
+    let after-left = c .before .before .before .before .before in
+    let after-enum-told2 = after-left .before .before in
+    let after-to-grow = after-enum-told2 .before .before in
+    let start = grow-start-from-to-grow t after-to-grow in
+    (start .pre .1 .proper, several-short (start .pre .1) (few-is (start .pre .1) (after-to-grow .before .stays-at .result) (after-to-grow .before .stays-at .ensures) (after-enum-told2 .enum-told2 .given .1) (after-to-grow .to-grow .ensures)))
 
 grow-right-run-requires : (t : ℕ) → grow-lts.Need-right-run-requires (grow-calls t) (grow-at t) grow.Post
 grow-right-run-requires t c κs =
-    let c8 = c .before .before .before .before .before .before .before .before in
-    let c10 = c8 .before .before in
-    let c11 = c10 .before in
-    let c14 = c11 .before .before .before in
-    run-at (c14 .args .place) (c14 .args .run .now) (c14 .pre .1 .proper) (several-short (c14 .pre .1) (few-is (c14 .pre .1) (c11 .stays-at .result) (c11 .stays-at .ensures) (c8 .enum-told2 .given .1) (c10 .to-grow .ensures))) (c14 .pre .1 .run)
+    let after-left-run = c .before .before .before .before .before in
+    let after-enum-told2 = after-left-run .before .before .before in
+    let after-to-grow = after-enum-told2 .before .before in
+    let start = grow-start-from-to-grow t after-to-grow in
+    run-at (start .args .place) (start .args .run .now) (start .pre .1 .proper) (several-short (start .pre .1) (few-is (start .pre .1) (after-to-grow .before .stays-at .result) (after-to-grow .before .stays-at .ensures) (after-enum-told2 .enum-told2 .given .1) (after-to-grow .to-grow .ensures))) (start .pre .1 .run)
 
 grow-grow-requires-2 : (t : ℕ) → grow-lts.Need-grow-requires-2 (grow-calls t) (grow-at t) grow.Post
 grow-grow-requires-2 t c κs =

@@ -21,7 +21,10 @@ begins-requires : tie.Need-begins-requires
 begins-requires c κs = search needs
 
 returns : tie.Need-returns
-returns c = c .begins .ensures ∙ ap (begins (placeOf (c .before .before .before .before .before .args .place))) (put-over (c .before .before .before .before .before .args .h) (replicate 32 0) _ refl (c .before .before .before .put-hash .ensures))
+returns c =
+    let after-put-hash = c .before .before .before in
+    let start = after-put-hash .before .before in
+    c .begins .ensures ∙ ap (begins (placeOf (start .args .place))) (put-over (start .args .h) (replicate 32 0) _ refl (after-put-hash .put-hash .ensures))
 
 pub hash-begins-spec : {M : Type 1} → statement M
 hash-begins-spec =

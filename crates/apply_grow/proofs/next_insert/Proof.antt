@@ -23,7 +23,10 @@ is-insert-requires : tie.Need-is-insert-requires Inv-loop μ-loop
 is-insert-requires c κs = omega (arith, c .before .loop .inv)
 
 returns : tie.Need-returns Inv-loop μ-loop
-returns c = stop-here (c .before .before .before .loop .inv) (c .before .before .loop-test .taken) (sym (c .before .is-insert .ensures) ∙ c .if1 .taken)
+returns c =
+    let after-is-insert = c .before in
+    let in-loop = after-is-insert .before in
+    stop-here (in-loop .before .loop .inv) (in-loop .loop-test .taken) (sym (after-is-insert .is-insert .ensures) ∙ c .if1 .taken)
 
 add-i : tie.Need-add-i Inv-loop μ-loop
 add-i c = omega arith
@@ -32,7 +35,10 @@ loop-less : tie.Need-loop-less Inv-loop μ-loop
 loop-less c = omega arith
 
 loop-again : tie.Need-loop-again Inv-loop μ-loop
-loop-again c = pass-one (c .before .before .before .loop .inv) (c .before .before .loop-test .taken) (sym (c .before .is-insert .ensures) ∙ c .if1 .left)
+loop-again c =
+    let after-is-insert = c .before in
+    let in-loop = after-is-insert .before in
+    pass-one (in-loop .before .loop .inv) (in-loop .loop-test .taken) (sym (after-is-insert .is-insert .ensures) ∙ c .if1 .left)
 
 returns-2 : tie.Need-returns-2 Inv-loop μ-loop
 returns-2 c = stop-at-end (c .before .loop .inv) (c .loop-test .left)

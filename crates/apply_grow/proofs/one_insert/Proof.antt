@@ -15,9 +15,11 @@ hash-at-requires-2 c κs = search needs
 
 returns : tie.Need-returns
 returns c =
-    let a = c .before .before .before .before in
-    let g = c .before .before .grant .ensures in
-    one-says (a .args .run .now) (a .args .i) _ _ _ (a .pre .0) (a .pre .1) (g .0) (g .1) (c .before .hash-at .ensures .1) (c .hash-at2 .ensures .1)
+    let after-hash-at = c .before in
+    let after-grant = after-hash-at .before in
+    let start = after-grant .before .before in
+    let g = after-grant .grant .ensures in
+    one-says (start .args .run .now) (start .args .i) _ _ _ (start .pre .0) (start .pre .1) (g .0) (g .1) (after-hash-at .hash-at .ensures .1) (c .hash-at2 .ensures .1)
 
 pub one-insert-spec : {M : Type 1} → statement M
 one-insert-spec =

@@ -19,10 +19,16 @@ hash-begins-requires : tie.Need-hash-begins-requires
 hash-begins-requires c κs = search needs
 
 returns-2 : tie.Need-returns-2
-returns-2 c = let a = c .before .before .before .before .before .args in leaf-here (a .stays) (placeOf (a .place)) (c .before .before .before .stays .given .1) (sym (c .before .hash-begins .ensures) ∙ c .if1 .taken)
+returns-2 c =
+    let after-hash-begins = c .before in
+    let after-stays = after-hash-begins .before .before in
+    let a = after-stays .before .before .args in leaf-here (a .stays) (placeOf (a .place)) (after-stays .stays .given .1) (sym (after-hash-begins .hash-begins .ensures) ∙ c .if1 .taken)
 
 returns-3 : tie.Need-returns-3
-returns-3 c = let a = c .before .before .before .before .before .args in leaf-elsewhere (a .stays) (placeOf (a .place)) (c .before .before .before .stays .given .1) (sym (c .before .hash-begins .ensures) ∙ c .if1 .left)
+returns-3 c =
+    let after-hash-begins = c .before in
+    let after-stays = after-hash-begins .before .before in
+    let a = after-stays .before .before .args in leaf-elsewhere (a .stays) (placeOf (a .place)) (after-stays .stays .given .1) (sym (after-hash-begins .hash-begins .ensures) ∙ c .if1 .left)
 
 pub stays-at-spec : {M : Type 1} → statement M
 stays-at-spec =

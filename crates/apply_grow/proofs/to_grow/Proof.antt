@@ -16,32 +16,62 @@ next-insert-requires c κs = omega arith
 enum-told : tie.Need-enum-told
 enum-told c = search needs
 
+-- `A-from-B` is the state A as the later state B has it.
+abbrev start-from-enum-told : tie.After-enum-told → tie.Start
+start-from-enum-told c = c .before .before .before .before .before
+
+abbrev start-from-stays : tie.After-stays → tie.Start
+start-from-stays c = c .before .before .before .before .before
+
 returns : tie.Need-returns
-returns c = let a = c .before .before .before .before .before .before .args in no-grants (a .stays) (a .run .now) (c .before .before .before .next-insert .ensures) (c .before .enum-told .given .1) (omega (arith, c .if1 .taken, c .before .before .before .before .record-count .ensures))
+returns c =
+    let after-enum-told = c .before in
+    let a = start-from-enum-told after-enum-told .args in no-grants (a .stays) (a .run .now) (after-enum-told .before .before .next-insert .ensures) (after-enum-told .enum-told .given .1) (omega (arith, c .if1 .taken, after-enum-told .before .before .before .record-count .ensures))
 
 add-next-insert : tie.Need-add-next-insert
-add-next-insert c = omega (arith, c .if1, c .before .before .before .before .record-count .ensures, c .before .before .before .before .before .before .good)
+add-next-insert c = omega (arith, c .if1, c .before .before .before .before .record-count .ensures, start-from-enum-told (c .before) .good)
 
 next-insert-requires-2 : tie.Need-next-insert-requires-2
 next-insert-requires-2 c κs = omega (arith, c .if1, c .before .before .before .before .record-count .ensures)
 
 returns-2 : tie.Need-returns-2
-returns-2 c = let a = c .before .before .before .before .before .before .before .before .args in two-inserts (a .stays) (a .run .now) (c .before .before .before .before .before .next-insert .ensures) (c .before .before .before .enum-told .given .1) (omega (arith, c .before .before .if1, c .before .before .before .before .before .before .record-count .ensures)) (c .before .next-insert2 .ensures) (omega (arith, c .if2, c .before .before .before .before .before .before .record-count .ensures))
+returns-2 c =
+    let after-next-insert2 = c .before in
+    let state = after-next-insert2 .before in
+    let after-enum-told = state .before in
+    let after-next-insert = after-enum-told .before .before in
+    let after-record-count = after-next-insert .before in
+    let a = after-record-count .before .before .args in two-inserts (a .stays) (a .run .now) (after-next-insert .next-insert .ensures) (after-enum-told .enum-told .given .1) (omega (arith, state .if1, after-record-count .record-count .ensures)) (after-next-insert2 .next-insert2 .ensures) (omega (arith, c .if2, after-record-count .record-count .ensures))
 
 one-insert-requires : tie.Need-one-insert-requires
-one-insert-requires c κs = let l : c .before .before .before .before .before .next-insert .result < count (c .before .before .before .before .before .before .before .before .args .run .now) = omega (arith, c .before .before .if1, c .before .before .before .before .before .before .record-count .ensures) in (l, c .before .before .before .before .before .next-insert .ensures .here l)
+one-insert-requires c κs =
+    let state = c .before .before in
+    let after-next-insert = state .before .before .before in
+    let after-record-count = after-next-insert .before in
+    let l : after-next-insert .next-insert .result < count (after-record-count .before .before .args .run .now) = omega (arith, state .if1, after-record-count .record-count .ensures) in (l, after-next-insert .next-insert .ensures .here l)
 
 enum-known-stays : tie.Need-enum-known-stays
 enum-known-stays c = search needs
 
 returns-3 : tie.Need-returns-3
-returns-3 c = let a = c .before .before .before .before .before .before .before .args in leaf-and-insert (a .stays) (a .run .now) (c .before .before .before .before .next-insert .ensures) (c .before .before .stays .given .1) (omega (arith, c .if3, c .before .before .before .before .before .record-count .ensures))
+returns-3 c =
+    let after-stays = c .before .before in
+    let a = start-from-stays after-stays .args in leaf-and-insert (a .stays) (a .run .now) (after-stays .before .before .next-insert .ensures) (after-stays .stays .given .1) (omega (arith, c .if3, after-stays .before .before .before .record-count .ensures))
 
 returns-4 : tie.Need-returns-4
-returns-4 c = let a = c .before .before .before .before .before .before .before .before .before .args in one-insert-only (a .stays) (a .run .now) (c .before .before .before .before .before .before .next-insert .ensures) (c .one-insert .result) (c .before .before .before .before .enum-told .given .1) (omega (arith, c .before .before .before .if1, c .before .before .before .before .before .before .before .record-count .ensures)) (c .before .before .next-insert2 .ensures) (omega (arith, c .before .if2, c .before .before .before .before .before .before .before .record-count .ensures)) (c .one-insert .ensures)
+returns-4 c =
+    let state = c .before in
+    let after-next-insert2 = state .before in
+    let state-2 = after-next-insert2 .before in
+    let after-enum-told = state-2 .before in
+    let after-next-insert = after-enum-told .before .before in
+    let after-record-count = after-next-insert .before in
+    let a = after-record-count .before .before .args in one-insert-only (a .stays) (a .run .now) (after-next-insert .next-insert .ensures) (c .one-insert .result) (after-enum-told .enum-told .given .1) (omega (arith, state-2 .if1, after-record-count .record-count .ensures)) (after-next-insert2 .next-insert2 .ensures) (omega (arith, state .if2, after-record-count .record-count .ensures)) (c .one-insert .ensures)
 
 returns-5 : tie.Need-returns-5
-returns-5 c = let a = c .before .before .before .before .before .before .before .args in leaf-only (a .stays) (a .run .now) (c .before .before .before .before .next-insert .ensures) (c .before .before .stays .given .1) (omega (arith, c .if3, c .before .before .before .before .before .record-count .ensures))
+returns-5 c =
+    let after-stays = c .before .before in
+    let a = start-from-stays after-stays .args in leaf-only (a .stays) (a .run .now) (after-stays .before .before .next-insert .ensures) (after-stays .stays .given .1) (omega (arith, c .if3, after-stays .before .before .before .record-count .ensures))
 
 pub to-grow-spec : {M : Type 1} → statement M
 to-grow-spec =

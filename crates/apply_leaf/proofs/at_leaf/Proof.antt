@@ -13,6 +13,10 @@ inserts-more-requires c κs = search needs
 staying-requires : tie.Need-staying-requires
 staying-requires c κs = search needs
 
+-- `A-from-B` is the state A as the later state B has it.
+abbrev start-from-inserts-more : tie.After-inserts-more → tie.Start
+start-from-inserts-more c = c .before .before .before .before
+
 grow-requires : tie.Need-grow-requires
 grow-requires c κs =
     let c1 = c .before in
@@ -38,11 +42,10 @@ alone-requires c κs = search needs
 
 returns-2 : tie.Need-returns-2
 returns-2 c =
-    let c1 = c .before in
-    let c2 = c1 .before in
-    let c3 = c2 .before in
-    let c6 = c3 .before .before .before in
-    alone-did (c6 .pre) (c6 .args .value) (c6 .args .version) (c2 .inserts-more .ensures) (c1 .if1 .left) (c .alone .ensures _ (c3 .own-ask .ensures))
+    let else1 = c .before in
+    let after-inserts-more = else1 .before in
+    let start = start-from-inserts-more after-inserts-more in
+    alone-did (start .pre) (start .args .value) (start .args .version) (after-inserts-more .inserts-more .ensures) (else1 .if1 .left) (c .alone .ensures _ (after-inserts-more .before .own-ask .ensures))
 
 pub at-leaf-spec : {M : Type 1} → statement M
 at-leaf-spec =

@@ -23,7 +23,11 @@ hash-at-requires c κs = omega (arith, c .child-hash .ensures .1)
 
 returns : tie.Need-returns
 unfolding childSays
-returns c = ap₂ child (c .before .before .before .child-version-at .ensures) (read-whole (c .hash-at .ensures .1) (c .before .child-hash .ensures .1) (c .before .child-hash .ensures .0 ∙ ap (λ x. kidOn (c .before .before .before .before .before .args .right) x .hash) (c .before .before .slot-of .ensures .0)))
+returns c =
+    let after-child-hash = c .before in
+    let after-slot-of = after-child-hash .before in
+    let after-child-version-at = after-slot-of .before in
+    ap₂ child (after-child-version-at .child-version-at .ensures) (read-whole (c .hash-at .ensures .1) (after-child-hash .child-hash .ensures .1) (after-child-hash .child-hash .ensures .0 ∙ ap (λ x. kidOn (after-child-version-at .before .before .args .right) x .hash) (after-slot-of .slot-of .ensures .0)))
 
 pub child-on-spec : {M : Type 1} → statement M
 child-on-spec =

@@ -8,6 +8,10 @@ use borrow.Author.Needs.{needs}
 use Rattle.apply_read.proofs.node_in.Statement.{statement}
 use Rattle.apply_read.proofs.node_in.Tie as tie
 
+-- `A-from-B` is the state A as the later state B has it.
+abbrev start-from-is-leaf : tie.After-is-leaf → tie.Start
+start-from-is-leaf c = c .before .before .before .before
+
 slot-of-requires : tie.Need-slot-of-requires
 slot-of-requires c κs = slot-there (c .before .pre)
 
@@ -30,24 +34,36 @@ hash-at-requires-2 : tie.Need-hash-at-requires-2
 hash-at-requires-2 c κs = omega (arith, c .value-of .ensures .1)
 
 returns : tie.Need-returns
-returns c = leaf-held (c .before .before .before .before .before .before .before .before .before .pre) refl (c .before .before .hash-at .result) (c .hash-at2 .result) (c .before .before .before .before .before .is-leaf .ensures ∙ ap isLeaf (c .before .before .before .before .before .before .before .slot-of .ensures .0)) (c .before .before .before .before .if1 .taken) (c .before .before .before .before .before .before .version-at .ensures) (read-whole (c .before .before .hash-at .ensures .1) (c .before .before .before .key-of .ensures .1) (c .before .before .before .key-of .ensures .0 ∙ ap keyIn (c .before .before .before .before .before .before .before .slot-of .ensures .0))) (read-whole (c .hash-at2 .ensures .1) (c .before .value-of .ensures .1) (c .before .value-of .ensures .0 ∙ ap valueIn (c .before .before .before .before .before .before .before .slot-of .ensures .0)))
+returns c =
+    let after-value-of = c .before in
+    let after-hash-at = after-value-of .before in
+    let after-key-of = after-hash-at .before in
+    let then1 = after-key-of .before in
+    let after-is-leaf = then1 .before in
+    let after-version-at = after-is-leaf .before in
+    let after-slot-of = after-version-at .before in
+    leaf-held (after-slot-of .before .before .pre) refl (after-hash-at .hash-at .result) (c .hash-at2 .result) (after-is-leaf .is-leaf .ensures ∙ ap isLeaf (after-slot-of .slot-of .ensures .0)) (then1 .if1 .taken) (after-version-at .version-at .ensures) (read-whole (after-hash-at .hash-at .ensures .1) (after-key-of .key-of .ensures .1) (after-key-of .key-of .ensures .0 ∙ ap keyIn (after-slot-of .slot-of .ensures .0))) (read-whole (c .hash-at2 .ensures .1) (after-value-of .value-of .ensures .1) (after-value-of .value-of .ensures .0 ∙ ap valueIn (after-slot-of .slot-of .ensures .0)))
 
 child-on-requires : tie.Need-child-on-requires
-child-on-requires c κs = slot-there (c .before .before .before .before .before .pre)
+child-on-requires c κs = slot-there (start-from-is-leaf (c .before) .pre)
 
 child-on-requires-2 : tie.Need-child-on-requires-2
-child-on-requires-2 c κs = slot-there (c .before .before .before .before .before .before .pre)
+child-on-requires-2 c κs = slot-there (start-from-is-leaf (c .before .before) .pre)
 
 child-count-at-requires : tie.Need-child-count-at-requires
-child-count-at-requires c κs = slot-there (c .before .before .before .before .before .before .before .pre)
+child-count-at-requires c κs = slot-there (start-from-is-leaf (c .before .before .before) .pre)
 
 child-count-at-requires-2 : tie.Need-child-count-at-requires-2
-child-count-at-requires-2 c κs = slot-there (c .before .before .before .before .before .before .before .before .pre)
+child-count-at-requires-2 c κs = slot-there (start-from-is-leaf (c .before .before .before .before) .pre)
 
 returns-2 : tie.Need-returns-2
 returns-2 c =
-    let d = c .before .before in
-    inner-held (d .before .before .before .before .before .before .before .pre) refl (d .before .child-on .result) (d .child-on2 .result) (d .before .before .before .is-leaf .ensures ∙ ap isLeaf (d .before .before .before .before .before .slot-of .ensures .0)) (d .before .before .if1 .left) (d .before .before .before .before .version-at .ensures) (d .before .child-on .ensures) (d .child-on2 .ensures) (c .before .child-count-at .ensures) (c .child-count-at2 .ensures)
+    let after-child-count-at = c .before in
+    let after-child-on2 = after-child-count-at .before in
+    let after-child-on = after-child-on2 .before in
+    let else1 = after-child-on .before in
+    let after-is-leaf = else1 .before in
+    inner-held (start-from-is-leaf after-is-leaf .pre) refl (after-child-on .child-on .result) (after-child-on2 .child-on2 .result) (after-is-leaf .is-leaf .ensures ∙ ap isLeaf (after-is-leaf .before .before .slot-of .ensures .0)) (else1 .if1 .left) (after-is-leaf .before .version-at .ensures) (after-child-on .child-on .ensures) (after-child-on2 .child-on2 .ensures) (after-child-count-at .child-count-at .ensures) (c .child-count-at2 .ensures)
 
 pub node-in-spec : {M : Type 1} → statement M
 node-in-spec =

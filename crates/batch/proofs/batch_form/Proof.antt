@@ -16,6 +16,10 @@ Inv-loop b n i₀ i = (i ≤ n) × (batchForm b ≡ every askForm (drop i (recor
 abbrev μ-loop : tie.MeasureT-loop
 μ-loop b n i₀ i = n - i
 
+-- `A-from-B` is the state A as the later state B has it.
+abbrev start-from-at-loop : tie.At-loop Inv-loop μ-loop → tie.Start Inv-loop μ-loop
+start-from-at-loop c = c .before .before .before .before
+
 returns : tie.Need-returns Inv-loop μ-loop
 returns c = sym (form-torn (c .before .before .args .b .now) (c .if1 .taken))
 
@@ -33,8 +37,10 @@ record-form-requires c κs = c .record-at .ensures .1
 
 returns-3 : tie.Need-returns-3 Inv-loop μ-loop
 returns-3 c =
-    let t = c .before .before .before .before in
-    sym (t .loop .inv .1 ∙ form-off (c .before .before .before .before .before .before .before .before .args .b .now) (t .loop .i) (omega arith) (sym (ap askForm (c .before .before .record-at .ensures .0)) ∙ sym (c .before .record-form .ensures) ∙ not-true _ (c .if3 .taken)))
+    let after-record-form = c .before in
+    let after-record-at = after-record-form .before in
+    let at-loop = after-record-at .before .before in
+    sym (at-loop .loop .inv .1 ∙ form-off (start-from-at-loop at-loop .args .b .now) (at-loop .loop .i) (omega arith) (sym (ap askForm (after-record-at .record-at .ensures .0)) ∙ sym (after-record-form .record-form .ensures) ∙ not-true _ (c .if3 .taken)))
 
 add-i : tie.Need-add-i Inv-loop μ-loop
 add-i c = omega arith
@@ -44,11 +50,15 @@ loop-less c = omega arith
 
 loop-again : tie.Need-loop-again Inv-loop μ-loop
 loop-again c =
-    let t = c .before .before .before .before in
-    (omega arith, t .loop .inv .1 ∙ form-next (c .before .before .before .before .before .before .before .before .args .b .now) (t .loop .i) (omega arith) (sym (ap askForm (c .before .before .record-at .ensures .0)) ∙ sym (c .before .record-form .ensures) ∙ not-false _ (c .if3 .left)))
+    let after-record-form = c .before in
+    let after-record-at = after-record-form .before in
+    let at-loop = after-record-at .before .before in
+    (omega arith, at-loop .loop .inv .1 ∙ form-next (start-from-at-loop at-loop .args .b .now) (at-loop .loop .i) (omega arith) (sym (ap askForm (after-record-at .record-at .ensures .0)) ∙ sym (after-record-form .record-form .ensures) ∙ not-false _ (c .if3 .left)))
 
 returns-4 : tie.Need-returns-4 Inv-loop μ-loop
-returns-4 c = sym (c .before .loop .inv .1 ∙ form-end (c .before .before .before .before .before .args .b .now) (c .before .loop .i) (c .loop-test .left))
+returns-4 c =
+    let at-loop = c .before in
+    sym (at-loop .loop .inv .1 ∙ form-end (start-from-at-loop at-loop .args .b .now) (at-loop .loop .i) (c .loop-test .left))
 
 pub batch-form-spec : {M : Type 1} → statement M
 batch-form-spec =

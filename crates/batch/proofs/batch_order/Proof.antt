@@ -36,10 +36,15 @@ key-requires-2 c κs = omega arith
 before-requires : tie.Need-before-requires Inv-loop μ-loop
 before-requires c κs = tt
 
+-- `A-from-B` is the state A as the later state B has it.
+abbrev at-loop-from-before2 : tie.After-before2 Inv-loop μ-loop → tie.At-loop Inv-loop μ-loop
+at-loop-from-before2 c = c .before .before .before .before
+
 returns : tie.Need-returns Inv-loop μ-loop
 returns c =
-    let t = c .before .before .before .before .before in
-    sym (t .loop .inv .1 ∙ order-off (c .before .before .before .before .before .before .before .args .b .now) (t .loop .i) (omega arith) (sym (ap₂ before (c .before .before .before .key .ensures .0) (c .before .before .key2 .ensures .0)) ∙ sym (c .before .before2 .ensures) ∙ not-true _ (c .if1 .taken)))
+    let after-before2 = c .before in
+    let at-loop = at-loop-from-before2 after-before2 in
+    sym (at-loop .loop .inv .1 ∙ order-off (at-loop .before .before .args .b .now) (at-loop .loop .i) (omega arith) (sym (ap₂ before (after-before2 .before .before .key .ensures .0) (after-before2 .before .key2 .ensures .0)) ∙ sym (after-before2 .before2 .ensures) ∙ not-true _ (c .if1 .taken)))
 
 add-i : tie.Need-add-i Inv-loop μ-loop
 add-i c = omega arith
@@ -49,8 +54,9 @@ loop-less c = omega arith
 
 loop-again : tie.Need-loop-again Inv-loop μ-loop
 loop-again c =
-    let t = c .before .before .before .before .before in
-    (omega arith, t .loop .inv .1 ∙ order-next (c .before .before .before .before .before .before .before .args .b .now) (t .loop .i) (omega arith) (sym (ap₂ before (c .before .before .before .key .ensures .0) (c .before .before .key2 .ensures .0)) ∙ sym (c .before .before2 .ensures) ∙ not-false _ (c .if1 .left)))
+    let after-before2 = c .before in
+    let at-loop = at-loop-from-before2 after-before2 in
+    (omega arith, at-loop .loop .inv .1 ∙ order-next (at-loop .before .before .args .b .now) (at-loop .loop .i) (omega arith) (sym (ap₂ before (after-before2 .before .before .key .ensures .0) (after-before2 .before .key2 .ensures .0)) ∙ sym (after-before2 .before2 .ensures) ∙ not-false _ (c .if1 .left)))
 
 returns-2 : tie.Need-returns-2 Inv-loop μ-loop
 returns-2 c = sym (c .before .loop .inv .1 ∙ order-end (c .before .before .before .args .b .now) (c .before .loop .i) (c .loop-test .left))

@@ -36,11 +36,14 @@ loop-less c = omega arith
 
 loop-again : tie.Need-loop-again Inv-loop μ-loop
 loop-again c =
-    let t = c .before .before .before .before in
-    let a = t .before .before .args in
-    let l = t .loop .low in
-    let m = l + (t .loop .high - l) / 2 in
-    (t .loop .inv .0, cut-right (a .i) (a .run .now) (t .before .before .pre) m (omega arith) (sym (ap (bit (a .i)) (c .before .before .key .ensures .0)) ∙ sym (c .before .key-bit .ensures) ∙ c .if1 .taken), omega arith)
+    let after-key-bit = c .before in
+    let after-key = after-key-bit .before in
+    let at-loop = after-key .before .before in
+    let start = at-loop .before .before in
+    let a = start .args in
+    let l = at-loop .loop .low in
+    let m = l + (at-loop .loop .high - l) / 2 in
+    (at-loop .loop .inv .0, cut-right (a .i) (a .run .now) (start .pre) m (omega arith) (sym (ap (bit (a .i)) (after-key .key .ensures .0)) ∙ sym (after-key-bit .key-bit .ensures) ∙ c .if1 .taken), omega arith)
 
 add-low : tie.Need-add-low Inv-loop μ-loop
 add-low c = omega arith
@@ -50,12 +53,15 @@ loop-less-2 c = omega arith
 
 loop-again-2 : tie.Need-loop-again-2 Inv-loop μ-loop
 loop-again-2 c =
-    let t = c .before .before .before .before in
-    let a = t .before .before .args in
-    let l = t .loop .low in
-    let m = l + (t .loop .high - l) / 2 in
-    let h = cut-left (a .i) (a .run .now) (t .before .before .pre) m (omega arith) (sym (ap (bit (a .i)) (c .before .before .key .ensures .0)) ∙ sym (c .before .key-bit .ensures) ∙ c .if1 .left) in
-    (omega arith, t .loop .inv .1, t .loop .inv .2)
+    let after-key-bit = c .before in
+    let after-key = after-key-bit .before in
+    let at-loop = after-key .before .before in
+    let start = at-loop .before .before in
+    let a = start .args in
+    let l = at-loop .loop .low in
+    let m = l + (at-loop .loop .high - l) / 2 in
+    let h = cut-left (a .i) (a .run .now) (start .pre) m (omega arith) (sym (ap (bit (a .i)) (after-key .key .ensures .0)) ∙ sym (after-key-bit .key-bit .ensures) ∙ c .if1 .left) in
+    (omega arith, at-loop .loop .inv .1, at-loop .loop .inv .2)
 
 returns : tie.Need-returns Inv-loop μ-loop
 returns c = (omega arith, omega arith)

@@ -21,15 +21,19 @@ enum-told-2 c = search needs
 
 returns-2 : tie.Need-returns-2
 returns-2 c =
-    let d = c .before .before .before .before .before .args in
+    let after-find = c .before .before in
+    let else1 = after-find .before in
+    let d = else1 .before .before .args in
     rw
-    (ne-eqb (d .version) 0 (c .before .before .before .if1 .left), is-found (storeIn (d .form) (d .store .now) .slots) (d .version) (placeOf (d .place)) _ (c .enum-told .given .1) (c .before .before .find .ensures))
+    (ne-eqb (d .version) 0 (else1 .if1 .left), is-found (storeIn (d .form) (d .store .now) .slots) (d .version) (placeOf (d .place)) _ (c .enum-told .given .1) (after-find .find .ensures))
 
 returns-3 : tie.Need-returns-3
 returns-3 c =
-    let d = c .before .before .before .before .before .args in
+    let after-find = c .before .before in
+    let else1 = after-find .before in
+    let d = else1 .before .before .args in
     rw
-    (ne-eqb (d .version) 0 (c .before .before .before .if1 .left), not-found (storeIn (d .form) (d .store .now) .slots) (d .version) (placeOf (d .place)) _ (c .enum-told2 .given .1) (c .before .before .find .ensures))
+    (ne-eqb (d .version) 0 (else1 .if1 .left), not-found (storeIn (d .form) (d .store .now) .slots) (d .version) (placeOf (d .place)) _ (c .enum-told2 .given .1) (after-find .find .ensures))
 
 pub child-found-spec : {M : Type 1} → statement M
 child-found-spec =

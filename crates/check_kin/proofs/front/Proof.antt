@@ -22,26 +22,36 @@ top-requires c κs = search needs
 loop-holds : tie.Need-loop-holds Inv-loop μ-loop
 loop-holds c = (omega arith, c .top .ensures)
 
-key-bit-requires : tie.Need-key-bit-requires Inv-loop μ-loop
-key-bit-requires c κs = omega (arith, c .before .before .before .before .pre .0, c .before .before .before .before .pre .1, c .before .loop .inv .0)
+-- `A-from-B` is the state A as the later state B has it.
+abbrev start-from-key-bit : tie.After-key-bit Inv-loop μ-loop → tie.Start Inv-loop μ-loop
+start-from-key-bit c = c .before .before .before .before .before
 
-longer-requires : tie.Need-longer-requires Inv-loop μ-loop
-longer-requires c κs =
-    (c .before .before .loop .inv .1 .proper, omega (arith, c .before .before .before .before .before .pre .1, c .before .before .loop .inv .1 .count))
+abbrev start-from-child-place : tie.After-child-place Inv-loop μ-loop → tie.Start Inv-loop μ-loop
+start-from-child-place c = start-from-key-bit (c .before)
+
+key-bit-requires : tie.Need-key-bit-requires Inv-loop μ-loop
+key-bit-requires c κs =
+    let at-loop = c .before in
+    let start = at-loop .before .before .before in
+    omega (arith, start .pre .0, start .pre .1, at-loop .loop .inv .0)
+
+child-place-requires : tie.Need-child-place-requires Inv-loop μ-loop
+child-place-requires c κs = (c .before .before .loop .inv .1 .proper, omega (arith, start-from-key-bit c .pre .1, c .before .before .loop .inv .1 .count))
 
 add-i : tie.Need-add-i Inv-loop μ-loop
-add-i c = omega (arith, c .before .before .before .before .before .before .pre .1)
+add-i c = omega (arith, start-from-child-place c .pre .1)
 
 loop-less : tie.Need-loop-less Inv-loop μ-loop
 loop-less c = omega arith
 
 loop-again : tie.Need-loop-again Inv-loop μ-loop
 loop-again c =
-    let w = c .before .before .before .loop in
-    let a = c .before .before .before .before .before .before in (
+    let after-key-bit = c .before in
+    let start = start-from-key-bit after-key-bit in
+    let w = after-key-bit .before .before .loop in (
       omega arith,
-      front-next (a .args .key .now) (w .i) (w .place) (c .longer .result) (omega (arith, a .pre .0, a .pre .1)) (w .inv .1)
-          (subst (λ t. Grown t (w .place) (c .longer .result)) (c .before .key-bit .ensures) (c .longer .ensures)),
+      front-next (start .args .key .now) (w .i) (w .place) (c .child-place .result) (omega (arith, start .pre .0, start .pre .1)) (w .inv .1)
+          (subst (λ t. Grown t (w .place) (c .child-place .result)) (after-key-bit .key-bit .ensures) (c .child-place .ensures)),
     )
 
 returns : tie.Need-returns Inv-loop μ-loop
@@ -60,7 +70,7 @@ front-spec =
     top-requires
     loop-holds
     key-bit-requires
-    longer-requires
+    child-place-requires
     add-i
     loop-less
     loop-again

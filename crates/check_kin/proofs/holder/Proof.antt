@@ -10,6 +10,19 @@ use borrow.Author.Needs.{needs}
 use Rattle.check_kin.proofs.holder.Statement.{statement}
 use Rattle.check_kin.proofs.holder.Tie as tie
 
+-- `A-from-B` is the state A as the later state B has it.
+abbrev shared-slice-known-from-else1 : tie.Else1 → tie.After-shared-slice-known
+shared-slice-known-from-else1 c = c .before .before
+
+abbrev shared-slice-known-from-slot-of : tie.After-slot-of → tie.After-shared-slice-known
+shared-slice-known-from-slot-of c = shared-slice-known-from-else1 (c .before .before .before .before .before)
+
+abbrev start-from-count-at : tie.After-count-at → tie.Start
+start-from-count-at c = c .before .before .before .before
+
+abbrev start-from-slot-of : tie.After-slot-of → tie.Start
+start-from-slot-of c = start-from-count-at (c .before .before .before .before)
+
 version-at-requires : tie.Need-version-at-requires
 version-at-requires c κs = slot-within (c .before .pre .0)
 
@@ -37,9 +50,7 @@ returns-2 c =
     (c6 .args .version) (c6 .args .place) (c6 .pre .1) (λ e. c .if2 .taken (c2 .count-at .ensures ∙ e))
 
 slot-of-requires : tie.Need-slot-of-requires
-slot-of-requires c κs =
-    let c7 = c .before .before .before .before .before .before .before in
-    slot-within (c7 .pre .0)
+slot-of-requires c κs = slot-within (start-from-count-at (c .before .before .before) .pre .0)
 
 bits-of-requires : tie.Need-bits-of-requires
 bits-of-requires c κs = search needs
@@ -52,25 +63,25 @@ same-requires c κs = search needs
 
 returns-3 : tie.Need-returns-3
 returns-3 c =
-    let c3 = c .before .before .before in
-    let c4 = c3 .before in
-    let c11 = c4 .before .before .before .before .before .before .before in
-    let c12 = c11 .before in
-    other-bits (c12 .pre .0) (all-of Byte (c12 .args .store .now) 0 (λ i _. omega (arith, c11 .shared-slice-known .given i)))
-    (c12 .args .version) (c12 .args .place) (c12 .pre .1) (c4 .slot-of .ensures .0) (c3 .bits-of .ensures .0)
-    (sym (c .before .same .ensures) ∙ not-true _ (c .if3 .taken))
+    let after-same = c .before in
+    let after-bits-of = after-same .before .before in
+    let after-slot-of = after-bits-of .before in
+    let start = start-from-slot-of after-slot-of in
+    other-bits (start .pre .0) (all-of Byte (start .args .store .now) 0 (λ i _. omega (arith, shared-slice-known-from-slot-of after-slot-of .shared-slice-known .given i)))
+    (start .args .version) (start .args .place) (start .pre .1) (after-slot-of .slot-of .ensures .0) (after-bits-of .bits-of .ensures .0)
+    (sym (after-same .same .ensures) ∙ not-true _ (c .if3 .taken))
 
 holds-record-requires : tie.Need-holds-record-requires
 holds-record-requires c κs = search needs
 
 returns-4 : tie.Need-returns-4
 returns-4 c =
-    let c6 = c .before .before .before .before .before .before in
-    let c13 = c6 .before .before .before .before .before .before .before in
-    let c14 = c13 .before in
-    no-record (c14 .pre .0) (all-of Byte (c14 .args .store .now) 0 (λ i _. omega (arith, c13 .shared-slice-known .given i)))
-    (c14 .args .version) (c14 .args .place) (c14 .pre .1) (c6 .slot-of .ensures .0)
-    (sym (c .before .holds-record .ensures) ∙ not-true _ (c .if4 .taken))
+    let after-holds-record = c .before in
+    let after-slot-of = after-holds-record .before .before .before .before .before in
+    let start = start-from-slot-of after-slot-of in
+    no-record (start .pre .0) (all-of Byte (start .args .store .now) 0 (λ i _. omega (arith, shared-slice-known-from-slot-of after-slot-of .shared-slice-known .given i)))
+    (start .args .version) (start .args .place) (start .pre .1) (after-slot-of .slot-of .ensures .0)
+    (sym (after-holds-record .holds-record .ensures) ∙ not-true _ (c .if4 .taken))
 
 returns-5 : tie.Need-returns-5
 returns-5 c =

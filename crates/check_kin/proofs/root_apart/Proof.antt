@@ -10,6 +10,13 @@ use borrow.Author.Needs.{needs}
 use Rattle.check_kin.proofs.root_apart.Statement.{statement}
 use Rattle.check_kin.proofs.root_apart.Tie as tie
 
+-- `A-from-B` is the state A as the later state B has it.
+abbrev start-from-retired-at : tie.After-retired-at → tie.Start
+start-from-retired-at c = c .before .before .before .before
+
+abbrev start-from-lives-apart : tie.After-lives-apart → tie.Start
+start-from-lives-apart c = start-from-retired-at (c .before .before .before)
+
 count-at-requires : tie.Need-count-at-requires
 count-at-requires c κs = slot-within (c .before .pre .0)
 
@@ -29,9 +36,7 @@ ends-before-requires : tie.Need-ends-before-requires
 ends-before-requires c κs = search needs
 
 version-at-requires : tie.Need-version-at-requires
-version-at-requires c κs =
-    let c5 = c .before .before .before .before .before in
-    slot-within (c5 .pre .0)
+version-at-requires c κs = slot-within (start-from-retired-at (c .before) .pre .0)
 
 lives-apart-requires : tie.Need-lives-apart-requires
 lives-apart-requires c κs = search needs
@@ -48,9 +53,7 @@ returns-2 c =
     (c .before .lives-apart .ensures) (c .if2 .taken)
 
 slot-of-requires : tie.Need-slot-of-requires
-slot-of-requires c κs =
-    let c8 = c .before .before .before .before .before .before .before .before in
-    slot-within (c8 .pre .0)
+slot-of-requires c κs = slot-within (start-from-lives-apart (c .before) .pre .0)
 
 holds-record-requires : tie.Need-holds-record-requires
 holds-record-requires c κs = search needs

@@ -11,6 +11,16 @@ use borrow.Author.Needs.{needs}
 use Rattle.check_tie.proofs.is_node.Statement.{statement}
 use Rattle.check_tie.proofs.is_node.Tie as tie
 
+-- `A-from-B` is the state A as the later state B has it.
+abbrev start-from-count-at : tie.After-count-at → tie.Start
+start-from-count-at c = c .before .before .before .before
+
+abbrev start-from-else2 : tie.Else2 → tie.Start
+start-from-else2 c = start-from-count-at (c .before .before)
+
+abbrev start-from-hash-at : tie.After-hash-at → tie.Start
+start-from-hash-at c = start-from-else2 (c .before .before .before .before)
+
 version-at-requires : tie.Need-version-at-requires
 version-at-requires c κs = slot-within (c .before .pre .0)
 
@@ -29,9 +39,7 @@ returns-2 : tie.Need-returns-2
 returns-2 c = tt
 
 slot-of-requires : tie.Need-slot-of-requires
-slot-of-requires c κs =
-    let c7 = c .before .before .before .before .before .before .before in
-    slot-within (c7 .pre .0)
+slot-of-requires c κs = slot-within (start-from-count-at (c .before .before .before) .pre .0)
 
 bits-of-requires : tie.Need-bits-of-requires
 bits-of-requires c κs = search needs
@@ -44,8 +52,8 @@ slice-aggregate-hash-at c = search needs
 
 hash-at-requires-2 : tie.Need-hash-at-requires-2
 hash-at-requires-2 c κs =
-    let c11 = c .before .before .before .before .before .before .before .before .before .before .before in
-    omega (arith, bits-long (c11 .args .place) (c11 .pre .3))
+    let start = start-from-hash-at (c .before) in
+    omega (arith, bits-long (start .args .place) (start .pre .3))
 
 same-hash-requires : tie.Need-same-hash-requires
 same-hash-requires c κs = search needs

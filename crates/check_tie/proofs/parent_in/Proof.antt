@@ -8,6 +8,13 @@ use borrow.Author.Needs.{needs}
 use Rattle.check_tie.proofs.parent_in.Statement.{statement}
 use Rattle.check_tie.proofs.parent_in.Tie as tie
 
+-- `A-from-B` is the state A as the later state B has it.
+abbrev start-from-count-at : tie.After-count-at → tie.Start
+start-from-count-at c = c .before .before .before .before
+
+abbrev start-from-version-at : tie.After-version-at → tie.Start
+start-from-version-at c = start-from-count-at (c .before .before)
+
 slot-of-requires : tie.Need-slot-of-requires
 slot-of-requires c κs = slot-within (c .before .pre .0)
 
@@ -30,14 +37,10 @@ place-at-requires c κs =
     (c .before .bits-of .ensures .0 ∙ ap bitsIn (c2 .slot-of .ensures .0)) (c .before .bits-of .ensures .1)
 
 version-at-requires : tie.Need-version-at-requires
-version-at-requires c κs =
-    let c5 = c .before .before .before .before .before in
-    slot-within (c5 .pre .0)
+version-at-requires c κs = slot-within (start-from-count-at (c .before) .pre .0)
 
 retired-at-requires : tie.Need-retired-at-requires
-retired-at-requires c κs =
-    let c6 = c .before .before .before .before .before .before in
-    slot-within (c6 .pre .0)
+retired-at-requires c κs = slot-within (start-from-version-at c .pre .0)
 
 ends-before-requires : tie.Need-ends-before-requires
 ends-before-requires c κs = search needs

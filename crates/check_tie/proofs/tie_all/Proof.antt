@@ -14,6 +14,13 @@ Inv-loop form store kept guess known₀ sums₀ n j₀ known sums j = Going form
 abbrev μ-loop : tie.MeasureT-loop
 μ-loop form store kept guess known₀ sums₀ n j₀ known sums j = n - j
 
+-- `A-from-B` is the state A as the later state B has it.
+abbrev at-loop-from-tie-slot : tie.After-tie-slot Inv-loop μ-loop → tie.At-loop Inv-loop μ-loop
+at-loop-from-tie-slot c = c .before .before .before .before .before .before .before .before
+
+abbrev in-loop-from-tie-slot : tie.After-tie-slot Inv-loop μ-loop → tie.In-loop Inv-loop μ-loop
+in-loop-from-tie-slot c = c .before .before .before .before .before .before .before
+
 slot-count-requires : tie.Need-slot-count-requires Inv-loop μ-loop
 slot-count-requires c κs = c .before .pre .0 .keeps .size
 
@@ -82,10 +89,10 @@ loop-less c =
 
 loop-again : tie.Need-loop-again Inv-loop μ-loop
 loop-again c =
-    let c8 = c .before .before .before .before .before .before .before .before in
-    go-next (c8 .before .loop .inv) (c8 .loop-test .taken) (c .before .tie-slot .last .1 .1 .1 .1 .1 .1 .1 .0)
-    (c .before .tie-slot .last .1 .1 .1 .1 .1 .1 .0) (c .before .tie-slot .ensures .0)
-    (passed-so (c .before .tie-slot .result) (c .if1 .left) (c .before .tie-slot .ensures .1))
+    let after-tie-slot = c .before in
+    go-next (at-loop-from-tie-slot after-tie-slot .loop .inv) (in-loop-from-tie-slot after-tie-slot .loop-test .taken) (after-tie-slot .tie-slot .last .1 .1 .1 .1 .1 .1 .1 .0)
+    (after-tie-slot .tie-slot .last .1 .1 .1 .1 .1 .1 .0) (after-tie-slot .tie-slot .ensures .0)
+    (passed-so (after-tie-slot .tie-slot .result) (c .if1 .left) (after-tie-slot .tie-slot .ensures .1))
 
 returns-2 : tie.Need-returns-2 Inv-loop μ-loop
 returns-2 c = go-end (c .before .loop .inv) (c .loop-test .left)

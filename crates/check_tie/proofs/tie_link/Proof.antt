@@ -8,6 +8,16 @@ use Rattle.check_tie.proofs.Sides.{side-missing, side-found}
 use Rattle.check_tie.proofs.tie_link.Statement.{statement}
 use Rattle.check_tie.proofs.tie_link.Tie as tie
 
+-- `A-from-B` is the state A as the later state B has it.
+abbrev start-from-else1 : tie.Else1 → tie.Start
+start-from-else1 c = c .before .before
+
+abbrev start-from-else2 : tie.Else2 → tie.Start
+start-from-else2 c = start-from-else1 (c .before .before)
+
+abbrev start-from-else3 : tie.Else3 → tie.Start
+start-from-else3 c = start-from-else1 (c .before .before .before .before)
+
 returns : tie.Need-returns
 returns c =
     let c2 = c .before .before .before in
@@ -29,8 +39,8 @@ returns-3 c =
     let c6 = c .before .before .before .before .before .before in
     (c6 .pre .3, tt)
 
-longer-requires : tie.Need-longer-requires
-longer-requires c κs =
+child-place-requires : tie.Need-child-place-requires
+child-place-requires c κs =
     let c7 = c .before .before .before .before .before .before .before in
     (c7 .pre .1 .proper, c7 .pre .1 .short)
 
@@ -42,7 +52,7 @@ is-node-requires c κs =
     let c8 = c6 .before .before in
     let h = (room-has {fm = c8 .args .form} {s = c8 .args .store .now} {i = c8 .args .c}
     (record { size = c8 .pre .0 .keeps .size; many = c5 .slot-count .ensures }) (omega (arith, c4 .if2 .left))) in
-    (h, c8 .pre .0 .own (c8 .args .c) (h .inside), omega (arith, c6 .if1 .left), c .longer .ensures .proper)
+    (h, c8 .pre .0 .own (c8 .args .c) (h .inside), omega (arith, c6 .if1 .left), c .child-place .ensures .proper)
 
 returns-4 : tie.Need-returns-4
 returns-4 c =
@@ -51,12 +61,11 @@ returns-4 c =
 
 outlives-requires : tie.Need-outlives-requires
 outlives-requires c κs =
-    let c6 = c .before .before .before .before .before .before in
-    let c7 = c6 .before in
-    let c10 = c7 .before .before .before in (
-      (room-has {fm = c10 .args .form} {s = c10 .args .store .now} {i = c10 .args .c}
-          (record { size = c10 .pre .0 .keeps .size; many = c7 .slot-count .ensures }) (omega (arith, c6 .if2 .left))),
-      c10 .pre .0 .keeps .latest,
+    let else2 = c .before .before .before .before .before .before in
+    let start = start-from-else2 else2 in (
+      (room-has {fm = start .args .form} {s = start .args .store .now} {i = start .args .c}
+          (record { size = start .pre .0 .keeps .size; many = else2 .before .slot-count .ensures }) (omega (arith, else2 .if2 .left))),
+      start .pre .0 .keeps .latest,
     )
 
 returns-5 : tie.Need-returns-5
@@ -66,13 +75,12 @@ returns-5 c =
 
 hash-right-requires : tie.Need-hash-right-requires
 hash-right-requires c κs =
-    let c9 = c .before .before .before .before .before .before .before .before .before in
-    let c10 = c9 .before in
-    let c13 = c10 .before .before .before in (
-      (room-has {fm = c13 .args .form} {s = c13 .args .store .now} {i = c13 .args .c}
-          (record { size = c13 .pre .0 .keeps .size; many = c10 .slot-count .ensures }) (omega (arith, c9 .if2 .left))),
-      c13 .pre .2,
-      c13 .pre .3,
+    let else2 = c .before .before .before .before .before .before .before .before .before in
+    let start = start-from-else2 else2 in (
+      (room-has {fm = start .args .form} {s = start .args .store .now} {i = start .args .c}
+          (record { size = start .pre .0 .keeps .size; many = else2 .before .slot-count .ensures }) (omega (arith, else2 .if2 .left))),
+      start .pre .2,
+      start .pre .3,
     )
 
 returns-6 : tie.Need-returns-6
@@ -80,46 +88,43 @@ returns-6 c = (c .before .hash-right .ensures .0, tt)
 
 count-fits-requires : tie.Need-count-fits-requires
 count-fits-requires c κs =
-    let c12 = c .before .before .before .before .before .before .before .before .before .before .before in
-    let c13 = c12 .before in
-    let c16 = c13 .before .before .before in
-    room-has {fm = c16 .args .form} {s = c16 .args .store .now} {i = c16 .args .c}
-    (record { size = c16 .pre .0 .keeps .size; many = c13 .slot-count .ensures }) (omega (arith, c12 .if2 .left))
+    let else2 = c .before .before .before .before .before .before .before .before .before .before .before in
+    let start = start-from-else2 else2 in
+    room-has {fm = start .args .form} {s = start .args .store .now} {i = start .args .c}
+    (record { size = start .pre .0 .keeps .size; many = else2 .before .slot-count .ensures }) (omega (arith, else2 .if2 .left))
 
 returns-7 : tie.Need-returns-7
 returns-7 c = (c .before .before .before .hash-right .ensures .0, tt)
 
 add-requires : tie.Need-add-requires
 add-requires c κs =
-    let c12 = c .before .before .before .before .before .before .before .before .before .before .before .before .before .before in
-    let c13 = c12 .before in
-    let c16 = c13 .before .before .before in (
-      slot-small (room-has {fm = c16 .args .form} {s = c16 .args .store .now} {i = c16 .args .c}
-          (record { size = c16 .pre .0 .keeps .size; many = c13 .slot-count .ensures }) (omega (arith, c12 .if2 .left))),
-      c16 .pre .1 .life,
+    let else2 = c .before .before .before .before .before .before .before .before .before .before .before .before .before .before in
+    let start = start-from-else2 else2 in (
+      slot-small (room-has {fm = start .args .form} {s = start .args .store .now} {i = start .args .c}
+          (record { size = start .pre .0 .keeps .size; many = else2 .before .slot-count .ensures }) (omega (arith, else2 .if2 .left))),
+      start .pre .1 .life,
     )
 
 returns-8 : tie.Need-returns-8
 returns-8 c =
-    let k1 = c .before .before in
-    let k = k1 .before in
-    let c2 = k .before in
-    let c3 = c2 .before in
-    let c5 = c3 .before .before in
-    let c6 = c5 .before in
-    let c7 = c6 .before in
-    let c8 = c7 .before in
-    let c9 = c8 .before in
-    let c11 = c9 .before .before in
-    let c17 = c11 .before .before .before .before .before .before in
-    let a = c17 .args in (
-      c3 .hash-right .ensures .0,
+    let else7 = c .before .before in
+    let after-count-fits = else7 .before in
+    let else6 = after-count-fits .before in
+    let after-hash-right = else6 .before in
+    let else5 = after-hash-right .before .before in
+    let after-outlives = else5 .before in
+    let else4 = after-outlives .before in
+    let after-is-node = else4 .before in
+    let after-child-place = after-is-node .before in
+    let else3 = after-child-place .before .before in
+    let a = start-from-else3 else3 .args in (
+      after-hash-right .hash-right .ensures .0,
       side-found (a .form) (a .store .now) (a .parent) (a .link) (a .c) (a .sums .now) (c .add .last .0) refl
-          (c11 .if3 .left) (c9 .longer .ensures .place)
-          (passed-so (c8 .is-node .result) (c7 .if4 .left) (c8 .is-node .ensures))
-          (passed-so (c6 .outlives .result) (c5 .if5 .left) (c6 .outlives .ensures))
-          (passed-so (c3 .hash-right .result) (c2 .if6 .left) (c3 .hash-right .ensures .1))
-          (c11 .before .before .before .before .if1 .left) (k .count-fits .ensures (not-false _ (k1 .if7 .left))) (c .add .ensures),
+          (else3 .if3 .left) (after-child-place .child-place .ensures .place)
+          (passed-so (after-is-node .is-node .result) (else4 .if4 .left) (after-is-node .is-node .ensures))
+          (passed-so (after-outlives .outlives .result) (else5 .if5 .left) (after-outlives .outlives .ensures))
+          (passed-so (after-hash-right .hash-right .result) (else6 .if6 .left) (after-hash-right .hash-right .ensures .1))
+          (else3 .before .before .before .before .if1 .left) (after-count-fits .count-fits .ensures (not-false _ (else7 .if7 .left))) (c .add .ensures),
     )
 
 pub tie-link-spec : {M : Type 1} → statement M
@@ -130,7 +135,7 @@ tie-link-spec =
     slot-count-requires
     returns-2
     returns-3
-    longer-requires
+    child-place-requires
     is-node-requires
     returns-4
     outlives-requires

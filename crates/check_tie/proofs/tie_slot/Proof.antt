@@ -14,6 +14,28 @@ use borrow.Author.Needs.{needs}
 use Rattle.check_tie.proofs.tie_slot.Statement.{statement}
 use Rattle.check_tie.proofs.tie_slot.Tie as tie
 
+-- `A-from-B` is the state A as the later state B has it.
+abbrev start-from-slot-of : tie.After-slot-of → tie.Start
+start-from-slot-of c = c .before .before .before .before
+
+abbrev start-from-parent-in : tie.After-parent-in → tie.Start
+start-from-parent-in c = start-from-slot-of (c .before)
+
+abbrev start-from-child-version-at : tie.After-child-version-at → tie.Start
+start-from-child-version-at c = start-from-parent-in (c .before)
+
+abbrev start-from-child-version-at2 : tie.After-child-version-at2 → tie.Start
+start-from-child-version-at2 c = start-from-child-version-at (c .before)
+
+abbrev start-from-child-count-at : tie.After-child-count-at → tie.Start
+start-from-child-count-at c = start-from-child-version-at2 (c .before)
+
+abbrev start-from-child-count-at2 : tie.After-child-count-at2 → tie.Start
+start-from-child-count-at2 c = start-from-child-count-at (c .before)
+
+abbrev start-from-tie-link : tie.After-tie-link → tie.Start
+start-from-tie-link c = start-from-child-count-at2 (c .before .before .before .before .before)
+
 kind-at-requires : tie.Need-kind-at-requires
 kind-at-requires c κs = slot-within (c .before .pre .0)
 
@@ -44,37 +66,33 @@ parent-in-requires c κs =
     )
 
 child-version-at-requires : tie.Need-child-version-at-requires
-child-version-at-requires c κs =
-    let c5 = c .before .before .before .before .before in
-    slot-within (c5 .pre .0)
+child-version-at-requires c κs = slot-within (start-from-parent-in c .pre .0)
 
 child-version-at-requires-2 : tie.Need-child-version-at-requires-2
-child-version-at-requires-2 c κs =
-    let c6 = c .before .before .before .before .before .before in
-    slot-within (c6 .pre .0)
+child-version-at-requires-2 c κs = slot-within (start-from-child-version-at c .pre .0)
 
 child-count-at-requires : tie.Need-child-count-at-requires
-child-count-at-requires c κs = slot-within (c .before .before .before .before .before .before .before .pre .0)
+child-count-at-requires c κs = slot-within (start-from-child-version-at2 c .pre .0)
 
 child-count-at-requires-2 : tie.Need-child-count-at-requires-2
-child-count-at-requires-2 c κs = slot-within (c .before .before .before .before .before .before .before .before .pre .0)
+child-count-at-requires-2 c κs = slot-within (start-from-child-count-at c .pre .0)
 
 cast-number : tie.Need-cast-number
 cast-number c =
-    let c7 = c .before .before .before .before .before .before .before .before .before in
-    let h = slot-small {s = c7 .args .store .now} (c7 .pre .0) in
+    let start = start-from-child-count-at2 c in
+    let h = slot-small {s = start .args .store .now} (start .pre .0) in
     omega (arith, h)
 
 mul-number : tie.Need-mul-number
 mul-number c =
-    let c7 = c .before .before .before .before .before .before .before .before .before in
-    let h = slot-small {s = c7 .args .store .now} (c7 .pre .0) in
+    let start = start-from-child-count-at2 c in
+    let h = slot-small {s = start .args .store .now} (start .pre .0) in
     omega (arith, h)
 
 add-number : tie.Need-add-number
 add-number c =
-    let c7 = c .before .before .before .before .before .before .before .before .before in
-    let h = slot-small {s = c7 .args .store .now} (c7 .pre .0) in
+    let start = start-from-child-count-at2 c in
+    let h = slot-small {s = start .args .store .now} (start .pre .0) in
     omega (arith, h)
 
 child-hash-requires : tie.Need-child-hash-requires
@@ -85,17 +103,16 @@ hash-at-requires c κs = omega (arith, c .child-hash .ensures .1)
 
 tie-link-requires : tie.Need-tie-link-requires
 tie-link-requires c κs =
-    let c2 = c .before .before in
-    let c3 = c2 .before in
-    let c6 = c3 .before .before .before .before .before in
-    let c7 = c6 .before in
-    let c11 = c7 .before .before .before .before in (
-      c11 .pre .1,
-      c6 .parent-in .ensures .fit,
-      left-stored (c11 .pre .0) (2 * c11 .args .j + 1) (c2 .hash-at .result) refl
-          (read-whole (c2 .hash-at .ensures .1) (c3 .child-hash .ensures .1)
-          (c3 .child-hash .ensures .0 ∙ ap (λ x. leftIn x .hash) (c7 .slot-of .ensures .0))),
-      c11 .pre .2,
+    let after-hash-at = c .before .before in
+    let after-child-hash = after-hash-at .before in
+    let after-parent-in = after-child-hash .before .before .before .before .before in
+    let start = start-from-parent-in after-parent-in in (
+      start .pre .1,
+      after-parent-in .parent-in .ensures .fit,
+      left-stored (start .pre .0) (2 * start .args .j + 1) (after-hash-at .hash-at .result) refl
+          (read-whole (after-hash-at .hash-at .ensures .1) (after-child-hash .child-hash .ensures .1)
+          (after-child-hash .child-hash .ensures .0 ∙ ap (λ x. leftIn x .hash) (after-parent-in .before .slot-of .ensures .0))),
+      start .pre .2,
     )
 
 returns-2 : tie.Need-returns-2
@@ -103,8 +120,8 @@ returns-2 c = (c .before .tie-link .ensures .0, tt)
 
 add-t18 : tie.Need-add-t18
 add-t18 c =
-    let c13 = c .before .before .before .before .before .before .before .before .before .before .before .before .before .before .before in
-    let h = slot-small {s = c13 .args .store .now} (c13 .pre .0) in
+    let start = start-from-tie-link (c .before) in
+    let h = slot-small {s = start .args .store .now} (start .pre .0) in
     omega (arith, h)
 
 child-hash-requires-2 : tie.Need-child-hash-requires-2
@@ -115,18 +132,18 @@ hash-at-requires-2 c κs = omega (arith, c .child-hash2 .ensures .1)
 
 tie-link-requires-2 : tie.Need-tie-link-requires-2
 tie-link-requires-2 c κs =
-    let c2 = c .before .before in
-    let c3 = c2 .before in
-    let c5 = c3 .before .before in
-    let c12 = c5 .before .before .before .before .before .before .before .before .before in
-    let c13 = c12 .before in
-    let c17 = c13 .before .before .before .before in (
-      c17 .pre .1,
-      c12 .parent-in .ensures .fit,
-      right-stored (c17 .pre .0) (2 * c17 .args .j + 1 + 1) (c2 .hash-at2 .result)
-          (omega arith) (read-whole (c2 .hash-at2 .ensures .1) (c3 .child-hash2 .ensures .1)
-          (c3 .child-hash2 .ensures .0 ∙ ap (λ x. rightIn x .hash) (c13 .slot-of .ensures .0))),
-      c5 .tie-link .ensures .0,
+    let after-hash-at2 = c .before .before in
+    let after-child-hash2 = after-hash-at2 .before in
+    let after-tie-link = after-child-hash2 .before .before in
+    let after-child-count-at2 = after-tie-link .before .before .before .before .before in
+    let after-parent-in = after-child-count-at2 .before .before .before .before in
+    let start = start-from-parent-in after-parent-in in (
+      start .pre .1,
+      after-parent-in .parent-in .ensures .fit,
+      right-stored (start .pre .0) (2 * start .args .j + 1 + 1) (after-hash-at2 .hash-at2 .result)
+          (omega arith) (read-whole (after-hash-at2 .hash-at2 .ensures .1) (after-child-hash2 .child-hash2 .ensures .1)
+          (after-child-hash2 .child-hash2 .ensures .0 ∙ ap (λ x. rightIn x .hash) (after-parent-in .before .slot-of .ensures .0))),
+      after-tie-link .tie-link .ensures .0,
     )
 
 returns-3 : tie.Need-returns-3

@@ -22,7 +22,10 @@ compress-requires c κs = search needs
 
 returns : tie.Need-returns
 returns c =
-    one-block-end _ _ _ _ _ (c .before .before .before .if1 .taken) (c .before .before .before .before .whole-blocks .ensures) (c .before .before .tail-words .ensures) (c .before .last-words .ensures)
+    let after-last-words = c .before in
+    let after-tail-words = after-last-words .before in
+    let then1 = after-tail-words .before in
+    one-block-end _ _ _ _ _ (then1 .if1 .taken) (then1 .before .whole-blocks .ensures) (after-tail-words .tail-words .ensures) (after-last-words .last-words .ensures)
     (c .compress .ensures)
 
 tail-words-requires-2 : tie.Need-tail-words-requires-2
@@ -45,8 +48,13 @@ compress-requires-3 c κs = search needs
 
 returns-2 : tie.Need-returns-2
 returns-2 c =
-    two-blocks-end _ _ _ _ _ _ _ (c .before .before .before .before .before .if1 .left) (c .before .before .before .before .before .before .whole-blocks .ensures) (c .before .before .before .before .tail-words2 .ensures) (c .before .before .before .compress2 .ensures)
-    (c .before .before .tail-words3 .ensures) (c .before .last-words2 .ensures) (c .compress3 .ensures)
+    let after-last-words2 = c .before in
+    let after-tail-words3 = after-last-words2 .before in
+    let after-compress2 = after-tail-words3 .before in
+    let after-tail-words2 = after-compress2 .before in
+    let else1 = after-tail-words2 .before in
+    two-blocks-end _ _ _ _ _ _ _ (else1 .if1 .left) (else1 .before .whole-blocks .ensures) (after-tail-words2 .tail-words2 .ensures) (after-compress2 .compress2 .ensures)
+    (after-tail-words3 .tail-words3 .ensures) (after-last-words2 .last-words2 .ensures) (c .compress3 .ensures)
 
 pub hash-value-spec : {M : Type 1} → statement M
 hash-value-spec =

@@ -100,22 +100,36 @@ tail-word-requires-16 c κs = search needs
 
 returns : tie.Need-returns
 returns c =
+    let after-tail-word15 = c .before in
+    let after-tail-word14 = after-tail-word15 .before in
+    let after-tail-word13 = after-tail-word14 .before in
+    let after-tail-word12 = after-tail-word13 .before in
+    let after-tail-word11 = after-tail-word12 .before in
+    let after-tail-word10 = after-tail-word11 .before in
+    let after-tail-word9 = after-tail-word10 .before in
+    let after-tail-word8 = after-tail-word9 .before in
+    let after-tail-word7 = after-tail-word8 .before in
+    let after-tail-word6 = after-tail-word7 .before in
+    let after-tail-word5 = after-tail-word6 .before in
+    let after-tail-word4 = after-tail-word5 .before in
+    let after-tail-word3 = after-tail-word4 .before in
+    let after-tail-word2 = after-tail-word3 .before in
     block-of-words _ _
-    (c .before .before .before .before .before .before .before .before .before .before .before .before .before .before .before .tail-word .ensures)
-    (c .before .before .before .before .before .before .before .before .before .before .before .before .before .before .tail-word2 .ensures)
-    (c .before .before .before .before .before .before .before .before .before .before .before .before .before .tail-word3 .ensures)
-    (c .before .before .before .before .before .before .before .before .before .before .before .before .tail-word4 .ensures)
-    (c .before .before .before .before .before .before .before .before .before .before .before .tail-word5 .ensures)
-    (c .before .before .before .before .before .before .before .before .before .before .tail-word6 .ensures)
-    (c .before .before .before .before .before .before .before .before .before .tail-word7 .ensures)
-    (c .before .before .before .before .before .before .before .before .tail-word8 .ensures)
-    (c .before .before .before .before .before .before .before .tail-word9 .ensures)
-    (c .before .before .before .before .before .before .tail-word10 .ensures)
-    (c .before .before .before .before .before .tail-word11 .ensures)
-    (c .before .before .before .before .tail-word12 .ensures)
-    (c .before .before .before .tail-word13 .ensures)
-    (c .before .before .tail-word14 .ensures)
-    (c .before .tail-word15 .ensures)
+    (after-tail-word2 .before .tail-word .ensures)
+    (after-tail-word2 .tail-word2 .ensures)
+    (after-tail-word3 .tail-word3 .ensures)
+    (after-tail-word4 .tail-word4 .ensures)
+    (after-tail-word5 .tail-word5 .ensures)
+    (after-tail-word6 .tail-word6 .ensures)
+    (after-tail-word7 .tail-word7 .ensures)
+    (after-tail-word8 .tail-word8 .ensures)
+    (after-tail-word9 .tail-word9 .ensures)
+    (after-tail-word10 .tail-word10 .ensures)
+    (after-tail-word11 .tail-word11 .ensures)
+    (after-tail-word12 .tail-word12 .ensures)
+    (after-tail-word13 .tail-word13 .ensures)
+    (after-tail-word14 .tail-word14 .ensures)
+    (after-tail-word15 .tail-word15 .ensures)
     (c .tail-word16 .ensures)
 
 pub tail-words-spec : {M : Type 1} → statement M

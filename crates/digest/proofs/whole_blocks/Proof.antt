@@ -37,10 +37,16 @@ add-i c = search needs
 loop-less : tie.Need-loop-less Inv-loop μ-loop
 loop-less c = search needs
 
+-- `A-from-B` is the state A as the later state B has it.
+abbrev start-from-at-loop : tie.At-loop Inv-loop μ-loop → tie.Start Inv-loop μ-loop
+start-from-at-loop c = c .before .before .before
+
+abbrev start-from-compress : tie.After-compress Inv-loop μ-loop → tie.Start Inv-loop μ-loop
+start-from-compress c = start-from-at-loop (c .before .before .before)
+
 loop-again : tie.Need-loop-again Inv-loop μ-loop
-loop-again c =
-    let l = c .before .before .before .loop in
-    (search needs, whole-next (c .before .before .before .before .before .before .args .b .now) (l .i) _ _ _ (omega arith) (l .inv .1) (c .before .words-at .ensures) (c .compress .ensures))
+loop-again c = let l = c .before .before .before .loop in
+    (search needs, whole-next (start-from-compress c .args .b .now) (l .i) _ _ _ (omega arith) (l .inv .1) (c .before .words-at .ensures) (c .compress .ensures))
 
 returns : tie.Need-returns Inv-loop μ-loop
 returns c =

@@ -100,22 +100,36 @@ word-at-requires-16 c κs = search needs
 
 returns : tie.Need-returns
 returns c =
+    let after-word-at15 = c .before in
+    let after-word-at14 = after-word-at15 .before in
+    let after-word-at13 = after-word-at14 .before in
+    let after-word-at12 = after-word-at13 .before in
+    let after-word-at11 = after-word-at12 .before in
+    let after-word-at10 = after-word-at11 .before in
+    let after-word-at9 = after-word-at10 .before in
+    let after-word-at8 = after-word-at9 .before in
+    let after-word-at7 = after-word-at8 .before in
+    let after-word-at6 = after-word-at7 .before in
+    let after-word-at5 = after-word-at6 .before in
+    let after-word-at4 = after-word-at5 .before in
+    let after-word-at3 = after-word-at4 .before in
+    let after-word-at2 = after-word-at3 .before in
     block-of-words _ _
-    (c .before .before .before .before .before .before .before .before .before .before .before .before .before .before .before .word-at .ensures)
-    (c .before .before .before .before .before .before .before .before .before .before .before .before .before .before .word-at2 .ensures)
-    (c .before .before .before .before .before .before .before .before .before .before .before .before .before .word-at3 .ensures)
-    (c .before .before .before .before .before .before .before .before .before .before .before .before .word-at4 .ensures)
-    (c .before .before .before .before .before .before .before .before .before .before .before .word-at5 .ensures)
-    (c .before .before .before .before .before .before .before .before .before .before .word-at6 .ensures)
-    (c .before .before .before .before .before .before .before .before .before .word-at7 .ensures)
-    (c .before .before .before .before .before .before .before .before .word-at8 .ensures)
-    (c .before .before .before .before .before .before .before .word-at9 .ensures)
-    (c .before .before .before .before .before .before .word-at10 .ensures)
-    (c .before .before .before .before .before .word-at11 .ensures)
-    (c .before .before .before .before .word-at12 .ensures)
-    (c .before .before .before .word-at13 .ensures)
-    (c .before .before .word-at14 .ensures)
-    (c .before .word-at15 .ensures)
+    (after-word-at2 .before .word-at .ensures)
+    (after-word-at2 .word-at2 .ensures)
+    (after-word-at3 .word-at3 .ensures)
+    (after-word-at4 .word-at4 .ensures)
+    (after-word-at5 .word-at5 .ensures)
+    (after-word-at6 .word-at6 .ensures)
+    (after-word-at7 .word-at7 .ensures)
+    (after-word-at8 .word-at8 .ensures)
+    (after-word-at9 .word-at9 .ensures)
+    (after-word-at10 .word-at10 .ensures)
+    (after-word-at11 .word-at11 .ensures)
+    (after-word-at12 .word-at12 .ensures)
+    (after-word-at13 .word-at13 .ensures)
+    (after-word-at14 .word-at14 .ensures)
+    (after-word-at15 .word-at15 .ensures)
     (c .word-at16 .ensures)
 
 pub words-at-spec : {M : Type 1} → statement M

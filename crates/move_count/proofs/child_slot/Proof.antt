@@ -9,7 +9,9 @@ use Rattle.move_count.proofs.child_slot.Statement.{statement}
 use Rattle.move_count.proofs.child_slot.Tie as tie
 
 returns : tie.Need-returns
-returns c = no-version (c .before .before .pre .0) (c .before .before .args .version) (placeOf (c .before .before .args .place)) (c .if1 .taken)
+returns c =
+    let start = c .before .before in
+    no-version (start .pre .0) (start .args .version) (placeOf (start .args .place)) (c .if1 .taken)
 
 is-node-requires : tie.Need-is-node-requires
 is-node-requires c κs = (c .before .before .pre .0, omega (arith, c .if1 .left), c .before .before .pre .1)
@@ -19,7 +21,9 @@ returns-2 c =
     let a = c .before .before .before .before .args in subst (NodeIn (a .store .now) (a .guess) (a .version) (placeOf (a .place))) (c .if2 .taken) (c .before .is-node .ensures)
 
 find-requires : tie.Need-find-requires
-find-requires c κs = (c .before .before .before .before .pre .0 .size, c .before .before .before .before .pre .1)
+find-requires c κs =
+    let start = c .before .before .before .before in
+    (start .pre .0 .size, start .pre .1)
 
 returns-3 : tie.Need-returns-3
 returns-3 c = c .find .ensures

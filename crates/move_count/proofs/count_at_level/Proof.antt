@@ -7,8 +7,17 @@ use Rattle.move_count.proofs.Levels.{off-level, on-level, level-inner}
 use Rattle.move_count.proofs.count_at_level.Statement.{statement}
 use Rattle.move_count.proofs.count_at_level.Tie as tie
 
+-- `A-from-B` is the state A as the later state B has it.
+abbrev else1-from-count-slot : tie.After-count-slot → tie.Else1
+else1-from-count-slot c = c .before .before .before .before .before .before
+
+abbrev start-from-count-slot : tie.After-count-slot → tie.Start
+start-from-count-slot c = c .before .before .before .before .before .before .before .before
+
 returns : tie.Need-returns
-returns c = off-level (c .before .before .pre .0) (c .before .before .pre .1) (c .before .before .args .counts .now) (c .before .before .pre .2) (c .if1 .taken)
+returns c =
+    let start = c .before .before in
+    off-level (start .pre .0) (start .pre .1) (start .args .counts .now) (start .pre .2) (c .if1 .taken)
 
 mul-wide : tie.Need-mul-wide
 mul-wide c = omega (arith, slot-small (c .before .before .pre .1))
@@ -38,10 +47,15 @@ wide-requires-2 : tie.Need-wide-requires-2
 wide-requires-2 c κs = search needs
 
 count-slot-requires : tie.Need-count-slot-requires
-count-slot-requires c κs = level-inner (c .before .before .before .before .before .before .before .pre .0) (c .before .before .before .before .before .before .before .pre .1) (c .before .before .before .before .before .before .before .pre .2) (c .before .before .before .before .before .if1 .left) (c .before .before .before .before .before .before .before .pre .3) (c .before .before .before .before .before .before .before .pre .4)
+count-slot-requires c κs =
+    let else1 = c .before .before .before .before .before in
+    let start = else1 .before .before in
+    level-inner (start .pre .0) (start .pre .1) (start .pre .2) (else1 .if1 .left) (start .pre .3) (start .pre .4)
 
 returns-2 : tie.Need-returns-2
-returns-2 c = on-level (c .before .before .before .before .before .before .before .before .pre .0) (c .before .before .before .before .before .before .before .before .pre .1) (c .before .before .before .before .before .before .before .before .pre .2) (c .before .before .before .before .before .before .if1 .left) (c .count-slot .ensures)
+returns-2 c =
+    let start = start-from-count-slot c in
+    on-level (start .pre .0) (start .pre .1) (start .pre .2) (else1-from-count-slot c .if1 .left) (c .count-slot .ensures)
 
 pub count-at-level-spec : {M : Type 1} → statement M
 count-at-level-spec =

@@ -12,11 +12,16 @@ slot-count-requires c κs = c .before .pre .0 .size
 
 guess-children-requires : tie.Need-guess-children-requires
 guess-children-requires c κs =
-    let s = c .before .before .before .args .store .now in
-    ((record { size = c .before .before .before .pre .0 .size; many = c .before .slot-count .ensures }), omega (arith, c .before .slot-count .ensures, size-says plain (length s) (c .before .before .before .pre .0 .size)))
+    let after-slot-count = c .before in
+    let start = after-slot-count .before .before in
+    let s = start .args .store .now in
+    ((record { size = start .pre .0 .size; many = after-slot-count .slot-count .ensures }), omega (arith, after-slot-count .slot-count .ensures, size-says plain (length s) (start .pre .0 .size)))
 
 count-levels-requires : tie.Need-count-levels-requires
-count-levels-requires c κs = (c .before .before .before .before .before .before .pre .0, (record { size = c .before .before .before .before .before .before .pre .0 .size; many = c .before .before .before .before .slot-count .ensures }), c .before .before .before .before .before .before .pre .1)
+count-levels-requires c κs =
+    let after-slot-count = c .before .before .before .before in
+    let start = after-slot-count .before .before in
+    (start .pre .0, (record { size = start .pre .0 .size; many = after-slot-count .slot-count .ensures }), start .pre .1)
 
 returns : tie.Need-returns
 returns c = c .count-levels .ensures

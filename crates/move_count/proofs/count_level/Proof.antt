@@ -13,6 +13,13 @@ Inv-loop store n level levels guess counts₀ i₀ counts i = Counting store cou
 abbrev μ-loop : tie.MeasureT-loop
 μ-loop store n level levels guess counts₀ i₀ counts i = n - i
 
+-- `A-from-B` is the state A as the later state B has it.
+abbrev start-from-at-loop : tie.At-loop Inv-loop μ-loop → tie.Start Inv-loop μ-loop
+start-from-at-loop c = c .before .before
+
+abbrev start-from-count-at-level : tie.After-count-at-level Inv-loop μ-loop → tie.Start Inv-loop μ-loop
+start-from-count-at-level c = start-from-at-loop (c .before .before .before .before)
+
 loop-holds : tie.Need-loop-holds Inv-loop μ-loop
 loop-holds c = counting-starts (c .before .pre .4)
 
@@ -24,10 +31,13 @@ element-copy-out-count-at-level c = omega (arith, slot-small (room-has (c .befor
 
 count-at-level-requires : tie.Need-count-at-level-requires Inv-loop μ-loop
 count-at-level-requires c κs =
-    (c .before .before .before .before .before .pre .0, room-has (c .before .before .before .before .before .pre .1) (c .before .before .loop-test .taken), c .before .before .before .before .before .pre .2 .each _ (c .before .before .loop-test .taken), c .before .before .before .before .before .pre .3, counting-longer (c .before .before .before .loop .inv))
+    let in-loop = c .before .before in
+    let at-loop = in-loop .before in
+    let start = at-loop .before .before in
+    (start .pre .0, room-has (start .pre .1) (in-loop .loop-test .taken), start .pre .2 .each _ (in-loop .loop-test .taken), start .pre .3, counting-longer (at-loop .loop .inv))
 
 add-i : tie.Need-add-i Inv-loop μ-loop
-add-i c = omega (arith, slot-small (room-has (c .before .before .before .before .before .before .pre .1) (c .before .before .before .loop-test .taken)))
+add-i c = omega (arith, slot-small (room-has (start-from-count-at-level c .pre .1) (c .before .before .before .loop-test .taken)))
 
 loop-less : tie.Need-loop-less Inv-loop μ-loop
 loop-less c = omega (arith, c .before .before .before .loop-test .taken)

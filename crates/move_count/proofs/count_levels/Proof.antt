@@ -19,19 +19,25 @@ levels-of-requires : tie.Need-levels-of-requires Inv-loop μ-loop
 levels-of-requires c κs = (c .before .before .pre .0, c .before .before .pre .1, length-replicate {0} {A = ℕ} 16384 0)
 
 loop-holds : tie.Need-loop-holds Inv-loop μ-loop
-loop-holds c = (none-longest (c .before .before .before .pre .0) (c .before .before .before .pre .2), omega arith)
+loop-holds c =
+    let start = c .before .before .before in
+    (none-longest (start .pre .0) (start .pre .2), omega arith)
 
 sub-level : tie.Need-sub-level Inv-loop μ-loop
 sub-level c = omega (arith, c .loop-test .taken)
 
 count-level-requires : tie.Need-count-level-requires Inv-loop μ-loop
-count-level-requires c κs = (
-  c .before .before .before .before .before .before .before .pre .0,
-  c .before .before .before .before .before .before .before .pre .1,
-  c .before .before .before .before .levels-of .ensures,
-  omega (arith, c .before .before .before .loop .inv .1, c .before .before .loop-test .taken),
-  level-next (c .before .before .before .loop .inv .0) (c .before .before .loop-test .taken),
-)
+count-level-requires c κs =
+    let in-loop = c .before .before in
+    let at-loop = in-loop .before in
+    let after-levels-of = at-loop .before in
+    let start = after-levels-of .before .before .before in (
+      start .pre .0,
+      start .pre .1,
+      after-levels-of .levels-of .ensures,
+      omega (arith, at-loop .loop .inv .1, in-loop .loop-test .taken),
+      level-next (at-loop .loop .inv .0) (in-loop .loop-test .taken),
+    )
 
 loop-less : tie.Need-loop-less Inv-loop μ-loop
 loop-less c = omega (arith, c .before .before .before .loop-test .taken)

@@ -5,10 +5,14 @@ use Rattle.move_count.proofs.guess_children.Statement.{statement}
 use Rattle.move_count.proofs.guess_children.Tie as tie
 
 sort-requires : tie.Need-sort-requires
-sort-requires c κs = (c .before .before .before .pre .0, c .before .before .before .pre .1)
+sort-requires c κs =
+    let start = c .before .before .before in
+    (start .pre .0, start .pre .1)
 
 guessed-requires : tie.Need-guessed-requires
-guessed-requires c κs = (c .before .before .before .before .before .before .pre .0, c .before .before .sort .ensures)
+guessed-requires c κs =
+    let after-sort = c .before .before in
+    (after-sort .before .before .before .before .pre .0, after-sort .sort .ensures)
 
 returns : tie.Need-returns
 returns c = search needs

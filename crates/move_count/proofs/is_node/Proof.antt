@@ -12,6 +12,16 @@ use Rattle.move_count.proofs.Nodes.{slot-has, node-in}
 use Rattle.move_count.proofs.is_node.Statement.{statement}
 use Rattle.move_count.proofs.is_node.Tie as tie
 
+-- `A-from-B` is the state A as the later state B has it.
+abbrev start-from-version-at : tie.After-version-at → tie.Start
+start-from-version-at c = c .before .before .before .before
+
+abbrev start-from-else3 : tie.Else3 → tie.Start
+start-from-else3 c = start-from-version-at (c .before .before .before .before)
+
+abbrev start-from-hash-at : tie.After-hash-at → tie.Start
+start-from-hash-at c = start-from-else3 (c .before .before .before .before)
+
 slot-count-requires : tie.Need-slot-count-requires
 slot-count-requires c κs = c .before .pre .0 .size
 
@@ -19,13 +29,19 @@ returns : tie.Need-returns
 returns c = tt
 
 version-at-requires : tie.Need-version-at-requires
-version-at-requires c κs = slot-within (slot-has (c .before .before .before .args .store .now) (c .before .before .before .pre .0) (c .before .slot-count .ensures) (c .if1 .left))
+version-at-requires c κs =
+    let after-slot-count = c .before in
+    let start = after-slot-count .before .before in
+    slot-within (slot-has (start .args .store .now) (start .pre .0) (after-slot-count .slot-count .ensures) (c .if1 .left))
 
 returns-2 : tie.Need-returns-2
 returns-2 c = tt
 
 count-at-requires : tie.Need-count-at-requires
-count-at-requires c κs = slot-within (slot-has (c .before .before .before .before .before .args .store .now) (c .before .before .before .before .before .pre .0) (c .before .before .before .slot-count .ensures) (c .before .before .if1 .left))
+count-at-requires c κs =
+    let after-version-at = c .before in
+    let start = start-from-version-at after-version-at in
+    slot-within (slot-has (start .args .store .now) (start .pre .0) (after-version-at .before .before .slot-count .ensures) (after-version-at .before .if1 .left))
 
 cast-if3 : tie.Need-cast-if3
 cast-if3 c = search needs
@@ -34,7 +50,10 @@ returns-3 : tie.Need-returns-3
 returns-3 c = tt
 
 slot-of-requires : tie.Need-slot-of-requires
-slot-of-requires c κs = slot-within (slot-has (c .before .before .before .before .before .before .before .before .before .args .store .now) (c .before .before .before .before .before .before .before .before .before .pre .0) (c .before .before .before .before .before .before .before .slot-count .ensures) (c .before .before .before .before .before .before .if1 .left))
+slot-of-requires c κs =
+    let after-version-at = c .before .before .before .before .before in
+    let start = start-from-version-at after-version-at in
+    slot-within (slot-has (start .args .store .now) (start .pre .0) (after-version-at .before .before .slot-count .ensures) (after-version-at .before .if1 .left))
 
 bits-of-requires : tie.Need-bits-of-requires
 bits-of-requires c κs = search needs
@@ -46,18 +65,29 @@ slice-aggregate-hash-at : tie.Need-slice-aggregate-hash-at
 slice-aggregate-hash-at c = search needs
 
 hash-at-requires-2 : tie.Need-hash-at-requires-2
-hash-at-requires-2 c κs = omega (arith, proper-whole (c .before .before .before .before .before .before .before .before .before .before .before .before .before .args .place) (c .before .before .before .before .before .before .before .before .before .before .before .before .before .pre .2))
+hash-at-requires-2 c κs =
+    let start = start-from-hash-at (c .before) in
+    omega (arith, proper-whole (start .args .place) (start .pre .2))
 
 same-hash-requires : tie.Need-same-hash-requires
 same-hash-requires c κs = search needs
 
 returns-4 : tie.Need-returns-4
 returns-4 c =
-    let a = c .before .before .before .before .before .before .before .before .before .before .before .before .before .before .before .args in
-    node-in (c .before .before .before .before .before .before .before .before .before .before .before .before .before .before .before .pre .0) (all-of Byte (a .store .now) 0 (λ i _. omega (arith, c .before .before .before .before .before .before .before .before .before .before .before .before .before .before .shared-slice-known .given i)))
-    (slot-has (c .before .before .before .before .before .before .before .before .before .before .before .before .before .before .before .args .store .now) (c .before .before .before .before .before .before .before .before .before .before .before .before .before .before .before .pre .0) (c .before .before .before .before .before .before .before .before .before .before .before .before .before .slot-count .ensures) (c .before .before .before .before .before .before .before .before .before .before .before .before .if1 .left)) (c .before .before .before .before .before .before .before .before .before .before .before .version-at .ensures) (c .before .before .before .before .before .before .before .before .before .before .if2 .left) (c .before .before .before .before .before .before .before .before .before .before .before .before .before .before .before .pre .1) (c .before .before .before .before .before .before .before .before .before .before .before .before .before .before .before .pre .2) (c .before .before .before .before .before .before .before .before .before .count-at .ensures) (c .before .before .before .before .before .before .before .if3 .left)
-    (read-whole (c .before .before .before .hash-at .ensures .1) (c .before .before .before .before .bits-of .ensures .1) (c .before .before .before .before .bits-of .ensures .0 ∙ ap bitsIn (c .before .before .before .before .before .slot-of .ensures .0)))
-    (c .before .hash-at2 .ensures .1) (c .same-hash .result) (c .same-hash .ensures)
+    let after-hash-at2 = c .before in
+    let after-hash-at = after-hash-at2 .before .before in
+    let after-bits-of = after-hash-at .before in
+    let after-slot-of = after-bits-of .before in
+    let else3 = after-slot-of .before .before in
+    let after-count-at = else3 .before .before in
+    let else2 = after-count-at .before in
+    let after-version-at = else2 .before in
+    let start = start-from-version-at after-version-at in
+    let a = start .args in
+    node-in (start .pre .0) (all-of Byte (a .store .now) 0 (λ i _. omega (arith, after-version-at .before .before .before .shared-slice-known .given i)))
+    (slot-has (start .args .store .now) (start .pre .0) (after-version-at .before .before .slot-count .ensures) (after-version-at .before .if1 .left)) (after-version-at .version-at .ensures) (else2 .if2 .left) (start .pre .1) (start .pre .2) (after-count-at .count-at .ensures) (else3 .if3 .left)
+    (read-whole (after-hash-at .hash-at .ensures .1) (after-bits-of .bits-of .ensures .1) (after-bits-of .bits-of .ensures .0 ∙ ap bitsIn (after-slot-of .slot-of .ensures .0)))
+    (after-hash-at2 .hash-at2 .ensures .1) (c .same-hash .result) (c .same-hash .ensures)
 
 pub is-node-spec : {M : Type 1} → statement M
 is-node-spec =

@@ -10,6 +10,10 @@ use Rattle.move_count.proofs.Nodes.{found-has, found-weighs, none-weigh
 use Rattle.move_count.proofs.leaves_at.Statement.{statement}
 use Rattle.move_count.proofs.leaves_at.Tie as tie
 
+-- `A-from-B` is the state A as the later state B has it.
+abbrev start-from-found : tie.After-found → tie.Start
+start-from-found c = c .before .before .before .before
+
 child-slot-requires : tie.Need-child-slot-requires
 child-slot-requires c κs = (c .before .pre .0, c .before .pre .1)
 
@@ -18,24 +22,30 @@ enum-known-found c = search needs
 
 weight-of-requires : tie.Need-weight-of-requires
 weight-of-requires c κs =
-    let a = c .before .before .before .before .before .args in
-    found-has (c .before .before .before .before .before .pre .0) (a .version) (placeOf (a .place))
-    (subst (FoundIn (plainStore (a .store .now) .slots) (a .version) (placeOf (a .place))) (c .before .found .given .1) (c .before .before .before .child-slot .ensures))
+    let after-found = c .before in
+    let start = start-from-found after-found in
+    let a = start .args in
+    found-has (start .pre .0) (a .version) (placeOf (a .place))
+    (subst (FoundIn (plainStore (a .store .now) .slots) (a .version) (placeOf (a .place))) (after-found .found .given .1) (after-found .before .before .child-slot .ensures))
 
 enum-told : tie.Need-enum-told
 enum-told c = search needs
 
 returns : tie.Need-returns
 returns c =
-    let a = c .before .before .before .before .before .before .args in
-    found-weighs (c .before .before .before .before .before .before .pre .0) (a .version) (placeOf (a .place)) (proper-count (a .place) (c .before .before .before .before .before .before .pre .1)) (c .before .before .before .before .before .before .pre .2)
-    (subst (FoundIn (plainStore (a .store .now) .slots) (a .version) (placeOf (a .place))) (c .before .before .found .given .1) (c .before .before .before .before .child-slot .ensures)) (c .weight-of .ensures)
+    let after-found = c .before .before in
+    let start = start-from-found after-found in
+    let a = start .args in
+    found-weighs (start .pre .0) (a .version) (placeOf (a .place)) (proper-count (a .place) (start .pre .1)) (start .pre .2)
+    (subst (FoundIn (plainStore (a .store .now) .slots) (a .version) (placeOf (a .place))) (after-found .found .given .1) (after-found .before .before .child-slot .ensures)) (c .weight-of .ensures)
 
 returns-2 : tie.Need-returns-2
 returns-2 c =
-    let a = c .before .before .before .before .args in
-    none-weighs (c .before .before .before .before .pre .0) (a .version) (placeOf (a .place))
-    (subst (FoundIn (plainStore (a .store .now) .slots) (a .version) (placeOf (a .place))) (c .enum-told .given .1) (c .before .before .child-slot .ensures))
+    let after-child-slot = c .before .before in
+    let start = after-child-slot .before .before in
+    let a = start .args in
+    none-weighs (start .pre .0) (a .version) (placeOf (a .place))
+    (subst (FoundIn (plainStore (a .store .now) .slots) (a .version) (placeOf (a .place))) (c .enum-told .given .1) (after-child-slot .child-slot .ensures))
 
 pub leaves-at-spec : {M : Type 1} → statement M
 leaves-at-spec =

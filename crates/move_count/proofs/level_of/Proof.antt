@@ -12,15 +12,22 @@ kind-at-requires : tie.Need-kind-at-requires
 kind-at-requires c κs = slot-within (c .before .pre .1)
 
 returns : tie.Need-returns
-returns c = no-level (c .before .before .before .pre .0) (c .before .before .before .pre .1) (c .before .kind-at .ensures) (c .if1 .taken)
+returns c =
+    let after-kind-at = c .before in
+    let start = after-kind-at .before .before in
+    no-level (start .pre .0) (start .pre .1) (after-kind-at .kind-at .ensures) (c .if1 .taken)
 
 count-at-requires : tie.Need-count-at-requires
 count-at-requires c κs = slot-within (c .before .before .before .pre .1)
 
 returns-2 : tie.Need-returns-2
 returns-2 c =
-    its-level (c .before .before .before .before .pre .0) (c .before .before .before .before .pre .1) (all-of Byte (c .before .before .before .before .args .store .now) 0 (λ i _. omega (arith, c .before .before .before .shared-slice-known .given i))) (c .before .before .kind-at .ensures)
-    (c .before .if1 .left) (c .count-at .ensures)
+    let else1 = c .before in
+    let after-kind-at = else1 .before in
+    let after-shared-slice-known = after-kind-at .before in
+    let start = after-shared-slice-known .before in
+    its-level (start .pre .0) (start .pre .1) (all-of Byte (start .args .store .now) 0 (λ i _. omega (arith, after-shared-slice-known .shared-slice-known .given i))) (after-kind-at .kind-at .ensures)
+    (else1 .if1 .left) (c .count-at .ensures)
 
 pub level-of-spec : {M : Type 1} → statement M
 level-of-spec =

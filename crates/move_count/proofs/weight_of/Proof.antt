@@ -8,11 +8,18 @@ use Rattle.move_count.proofs.Nodes.{leaf-weighs, inner-weighs}
 use Rattle.move_count.proofs.weight_of.Statement.{statement}
 use Rattle.move_count.proofs.weight_of.Tie as tie
 
+-- `A-from-B` is the state A as the later state B has it.
+abbrev start-from-wide : tie.After-wide → tie.Start
+start-from-wide c = c .before .before .before .before .before
+
 kind-at-requires : tie.Need-kind-at-requires
 kind-at-requires c κs = slot-within (c .before .pre)
 
 returns : tie.Need-returns
-returns c = leaf-weighs (c .before .before .before .pre) (c .before .before .before .args .counts .now) (c .before .kind-at .ensures) (c .if1 .taken)
+returns c =
+    let after-kind-at = c .before in
+    let start = after-kind-at .before .before in
+    leaf-weighs (start .pre) (start .args .counts .now) (after-kind-at .kind-at .ensures) (c .if1 .taken)
 
 mul-wide : tie.Need-mul-wide
 mul-wide c = omega (arith, slot-small (c .before .before .before .pre))
@@ -27,16 +34,16 @@ wide-requires : tie.Need-wide-requires
 wide-requires c κs = search needs
 
 mul-wide-3 : tie.Need-mul-wide-3
-mul-wide-3 c = omega (arith, slot-small (c .before .before .before .before .before .pre))
+mul-wide-3 c = omega (arith, slot-small (start-from-wide c .pre))
 
 add-wide : tie.Need-add-wide
-add-wide c = omega (arith, slot-small (c .before .before .before .before .before .pre))
+add-wide c = omega (arith, slot-small (start-from-wide c .pre))
 
 mul-wide-4 : tie.Need-mul-wide-4
-mul-wide-4 c = omega (arith, slot-small (c .before .before .before .before .before .pre))
+mul-wide-4 c = omega (arith, slot-small (start-from-wide c .pre))
 
 element-copy-out-wide-2 : tie.Need-element-copy-out-wide-2
-element-copy-out-wide-2 c = omega (arith, slot-small (c .before .before .before .before .before .pre))
+element-copy-out-wide-2 c = omega (arith, slot-small (start-from-wide c .pre))
 
 wide-requires-2 : tie.Need-wide-requires-2
 wide-requires-2 c κs = search needs
@@ -46,7 +53,9 @@ add-result c = omega (arith, c .wide2 .ensures .1, c .before .before .wide .ensu
 
 returns-2 : tie.Need-returns-2
 returns-2 c =
-    inner-weighs (c .before .before .before .before .before .before .before .pre) (c .before .before .before .before .before .before .before .args .counts .now) (c .before .before .before .before .before .kind-at .ensures) (c .before .before .before .before .if1 .left) (c .before .before .wide .ensures .0) (c .wide2 .ensures .0)
+    let after-wide = c .before .before in
+    let start = start-from-wide after-wide in
+    inner-weighs (start .pre) (start .args .counts .now) (after-wide .before .before .before .kind-at .ensures) (after-wide .before .before .if1 .left) (after-wide .wide .ensures .0) (c .wide2 .ensures .0)
 
 pub weight-of-spec : {M : Type 1} → statement M
 weight-of-spec =

@@ -5,6 +5,10 @@ use borrow.Author.Needs.{needs}
 use Rattle.move_put.proofs.put_slot.Statement.{statement}
 use Rattle.move_put.proofs.put_slot.Tie as tie
 
+-- `A-from-B` is the state A as the later state B has it.
+abbrev start-from-read-slot : tie.After-read-slot → tie.Start
+start-from-read-slot c = c .before .before .before .before
+
 slot-of-requires : tie.Need-slot-of-requires
 slot-of-requires c κs = slot-within (c .before .before .pre .0)
 
@@ -40,33 +44,48 @@ same-length c = search needs
 
 returns : tie.Need-returns
 returns c =
-    let a = c .before .before .before .before .before .before .before .before .before .before .before .args in
-    puts-free (a .to) (a .target .now) (c .before .before .before .before .before .before .before .before .before .before .before .pre .0) (c .before .before .before .before .before .before .before .before .slot-of .ensures .0) (c .before .before .before .before .before .before .before .read-slot .ensures) (a .lefts) (a .rights) (c .before .before .before .before .enum-told .given .1)
-    (c .before .before .clear-slot-at .ensures)
+    let after-clear-slot-at = c .before .before in
+    let after-enum-told = after-clear-slot-at .before .before in
+    let after-read-slot = after-enum-told .before .before .before in
+    let start = start-from-read-slot after-read-slot in
+    let a = start .args in
+    puts-free (a .to) (a .target .now) (start .pre .0) (after-read-slot .before .slot-of .ensures .0) (after-read-slot .read-slot .ensures) (a .lefts) (a .rights) (after-enum-told .enum-told .given .1)
+    (after-clear-slot-at .clear-slot-at .ensures)
 
 same-length-2 : tie.Need-same-length-2
 same-length-2 c = search needs
 
 returns-2 : tie.Need-returns-2
 returns-2 c =
-    let a = c .before .before .before .before .before .before .before .before .before .before .before .before .args in
-    puts-leaf (a .to) (a .target .now) (c .before .before .before .before .before .before .before .before .before .before .before .before .pre .0) (c .before .before .before .before .before .before .before .before .before .slot-of .ensures .0) (c .before .before .before .before .before .before .before .before .read-slot .ensures) (a .lefts) (a .rights) _ (c .before .before .before .before .before .enum-told2 .given .1)
-    (c .before .before .before .grant-of .ensures .0) (c .before .before .put-leaf-at .ensures)
+    let after-put-leaf-at = c .before .before in
+    let after-grant-of = after-put-leaf-at .before in
+    let after-enum-told2 = after-grant-of .before .before in
+    let after-read-slot = after-enum-told2 .before .before .before in
+    let start = start-from-read-slot after-read-slot in
+    let a = start .args in
+    puts-leaf (a .to) (a .target .now) (start .pre .0) (after-read-slot .before .slot-of .ensures .0) (after-read-slot .read-slot .ensures) (a .lefts) (a .rights) _ (after-enum-told2 .enum-told2 .given .1)
+    (after-grant-of .grant-of .ensures .0) (after-put-leaf-at .put-leaf-at .ensures)
 
 same-length-3 : tie.Need-same-length-3
 same-length-3 c = search needs
 
 returns-3 : tie.Need-returns-3
 returns-3 c =
-    let a = c .before .before .before .before .before .before .before .before .before .before .before .before .args in
-    puts-inner (a .to) (a .target .now) (c .before .before .before .before .before .before .before .before .before .before .before .before .pre .0) (c .before .before .before .before .before .before .before .before .before .slot-of .ensures .0) (c .before .before .before .before .before .before .before .before .read-slot .ensures) (a .lefts) (a .rights) _ _ (c .before .before .before .before .before .kind .given .1)
-    (c .before .before .put-inner-at .ensures)
+    let after-put-inner-at = c .before .before in
+    let after-kind = after-put-inner-at .before .before .before in
+    let after-read-slot = after-kind .before .before .before in
+    let start = start-from-read-slot after-read-slot in
+    let a = start .args in
+    puts-inner (a .to) (a .target .now) (start .pre .0) (after-read-slot .before .slot-of .ensures .0) (after-read-slot .read-slot .ensures) (a .lefts) (a .rights) _ _ (after-kind .kind .given .1)
+    (after-put-inner-at .put-inner-at .ensures)
 
 returns-4 : tie.Need-returns-4
 returns-4 c =
-    let a = c .before .before .before .before .before .before .before .args in
-    none-spoiled (a .to) (a .target .now) (c .before .before .before .before .before .before .before .pre .0) (c .before .before .before .before .slot-of .ensures .0) (c .before .before .before .read-slot .ensures) (a .lefts) (a .rights) (c .enum-told3 .given .1)
-    (c .before .before .before .before .before .before .before .pre .1)
+    let after-read-slot = c .before .before .before in
+    let start = start-from-read-slot after-read-slot in
+    let a = start .args in
+    none-spoiled (a .to) (a .target .now) (start .pre .0) (after-read-slot .before .slot-of .ensures .0) (after-read-slot .read-slot .ensures) (a .lefts) (a .rights) (c .enum-told3 .given .1)
+    (start .pre .1)
 
 pub put-slot-spec : {M : Type 1} → statement M
 put-slot-spec =

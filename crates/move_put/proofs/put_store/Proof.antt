@@ -17,6 +17,16 @@ Inv-loop from to source counts target₀ n i₀ target i = Putting from to sourc
 abbrev μ-loop : tie.MeasureT-loop
 μ-loop from to source counts target₀ n i₀ target i = n - i
 
+-- `A-from-B` is the state A as the later state B has it.
+abbrev at-loop-from-wide : tie.After-wide Inv-loop μ-loop → tie.At-loop Inv-loop μ-loop
+at-loop-from-wide c = c .before .before .before .before
+
+abbrev start-from-oldest-of : tie.After-oldest-of Inv-loop μ-loop → tie.Start Inv-loop μ-loop
+start-from-oldest-of c = c .before .before .before .before .before
+
+abbrev start-from-latest-of : tie.After-latest-of Inv-loop μ-loop → tie.Start Inv-loop μ-loop
+start-from-latest-of c = start-from-oldest-of (c .before)
+
 slot-count-requires : tie.Need-slot-count-requires Inv-loop μ-loop
 slot-count-requires c κs =
     c .before .before .pre .room .source
@@ -27,34 +37,47 @@ cast-put-header c =
 
 oldest-of-requires : tie.Need-oldest-of-requires Inv-loop μ-loop
 oldest-of-requires c κs =
-    let a = c .before .before .before .before .args in omega (arith, size-least (a .from) _ (c .before .before .before .before .pre .room .source))
+    let start = c .before .before .before .before in
+    let a = start .args in omega (arith, size-least (a .from) _ (start .pre .room .source))
 
 latest-of-requires : tie.Need-latest-of-requires Inv-loop μ-loop
 latest-of-requires c κs =
-    let a = c .before .before .before .before .before .args in omega (arith, size-least (a .from) _ (c .before .before .before .before .before .pre .room .source))
+    let start = start-from-oldest-of c in
+    let a = start .args in omega (arith, size-least (a .from) _ (start .pre .room .source))
 
 put-header-requires : tie.Need-put-header-requires Inv-loop μ-loop
 put-header-requires c κs =
-    let a = c .before .before .before .before .before .before .args in omega (arith, size-least (a .to) _ (c .before .before .before .before .before .before .pre .room .target))
+    let start = start-from-latest-of c in
+    let a = start .args in omega (arith, size-least (a .to) _ (start .pre .room .target))
 
 loop-holds : tie.Need-loop-holds Inv-loop μ-loop
 loop-holds c =
-    let a = c .before .before .before .before .before .before .before .before .before .args in
-    putting-starts (c .before .before .before .before .before .before .before .before .before .pre) (c .before .before .before .before .before .before .slot-count .ensures)
-    (c .before .before .put-header .ensures
-    ∙ ap₂ (λ o l. written 0 (headerBytes (a .to) (c .before .before .before .before .before .before .slot-count .result) o l) (a .target .now)) (c .before .before .before .before .oldest-of .ensures) (c .before .before .before .latest-of .ensures))
+    let after-put-header = c .before .before in
+    let after-latest-of = after-put-header .before in
+    let after-oldest-of = after-latest-of .before in
+    let start = start-from-oldest-of after-oldest-of in
+    let a = start .args in
+    putting-starts (start .pre) (after-oldest-of .before .before .slot-count .ensures)
+    (after-put-header .put-header .ensures
+    ∙ ap₂ (λ o l. written 0 (headerBytes (a .to) (after-oldest-of .before .before .slot-count .result) o l) (a .target .now)) (after-oldest-of .oldest-of .ensures) (after-latest-of .latest-of .ensures))
 
 mul-wide : tie.Need-mul-wide Inv-loop μ-loop
 mul-wide c =
-    omega (arith, few-slots (c .before .before .loop .inv .able) (c .before .before .loop .inv .many), c .before .loop-test .taken)
+    let in-loop = c .before in
+    let at-loop = in-loop .before in
+    omega (arith, few-slots (at-loop .loop .inv .able) (at-loop .loop .inv .many), in-loop .loop-test .taken)
 
 mul-wide-2 : tie.Need-mul-wide-2 Inv-loop μ-loop
 mul-wide-2 c =
-    omega (arith, few-slots (c .before .before .loop .inv .able) (c .before .before .loop .inv .many), c .before .loop-test .taken)
+    let in-loop = c .before in
+    let at-loop = in-loop .before in
+    omega (arith, few-slots (at-loop .loop .inv .able) (at-loop .loop .inv .many), in-loop .loop-test .taken)
 
 element-copy-out-wide : tie.Need-element-copy-out-wide Inv-loop μ-loop
 element-copy-out-wide c =
-    omega (arith, few-slots (c .before .before .loop .inv .able) (c .before .before .loop .inv .many), c .before .loop-test .taken)
+    let in-loop = c .before in
+    let at-loop = in-loop .before in
+    omega (arith, few-slots (at-loop .loop .inv .able) (at-loop .loop .inv .many), in-loop .loop-test .taken)
 
 wide-requires : tie.Need-wide-requires Inv-loop μ-loop
 wide-requires c κs =
@@ -62,19 +85,23 @@ wide-requires c κs =
 
 mul-wide-3 : tie.Need-mul-wide-3 Inv-loop μ-loop
 mul-wide-3 c =
-    omega (arith, few-slots (c .before .before .before .before .loop .inv .able) (c .before .before .before .before .loop .inv .many), c .before .before .before .loop-test .taken)
+    let at-loop = at-loop-from-wide c in
+    omega (arith, few-slots (at-loop .loop .inv .able) (at-loop .loop .inv .many), c .before .before .before .loop-test .taken)
 
 add-wide : tie.Need-add-wide Inv-loop μ-loop
 add-wide c =
-    omega (arith, few-slots (c .before .before .before .before .loop .inv .able) (c .before .before .before .before .loop .inv .many), c .before .before .before .loop-test .taken)
+    let at-loop = at-loop-from-wide c in
+    omega (arith, few-slots (at-loop .loop .inv .able) (at-loop .loop .inv .many), c .before .before .before .loop-test .taken)
 
 mul-wide-4 : tie.Need-mul-wide-4 Inv-loop μ-loop
 mul-wide-4 c =
-    omega (arith, few-slots (c .before .before .before .before .loop .inv .able) (c .before .before .before .before .loop .inv .many), c .before .before .before .loop-test .taken)
+    let at-loop = at-loop-from-wide c in
+    omega (arith, few-slots (at-loop .loop .inv .able) (at-loop .loop .inv .many), c .before .before .before .loop-test .taken)
 
 element-copy-out-wide-2 : tie.Need-element-copy-out-wide-2 Inv-loop μ-loop
 element-copy-out-wide-2 c =
-    omega (arith, few-slots (c .before .before .before .before .loop .inv .able) (c .before .before .before .before .loop .inv .many), c .before .before .before .loop-test .taken)
+    let at-loop = at-loop-from-wide c in
+    omega (arith, few-slots (at-loop .loop .inv .able) (at-loop .loop .inv .many), c .before .before .before .loop-test .taken)
 
 wide-requires-2 : tie.Need-wide-requires-2 Inv-loop μ-loop
 wide-requires-2 c κs =
@@ -82,11 +109,15 @@ wide-requires-2 c κs =
 
 put-slot-requires : tie.Need-put-slot-requires Inv-loop μ-loop
 put-slot-requires c κs =
-    (putting-has (c .before .before .before .before .before .before .loop .inv) (c .before .before .before .before .before .loop-test .taken), putting-whole (c .before .before .before .before .before .before .loop .inv) (c .before .before .before .before .before .loop-test .taken), putting-within (c .before .before .before .before .before .before .loop .inv) (c .before .before .before .before .before .loop-test .taken))
+    let in-loop = c .before .before .before .before .before in
+    let at-loop = in-loop .before in
+    (putting-has (at-loop .loop .inv) (in-loop .loop-test .taken), putting-whole (at-loop .loop .inv) (in-loop .loop-test .taken), putting-within (at-loop .loop .inv) (in-loop .loop-test .taken))
 
 add-i : tie.Need-add-i Inv-loop μ-loop
 add-i c =
-    omega (arith, few-slots (c .before .before .before .before .before .before .before .before .before .loop .inv .able) (c .before .before .before .before .before .before .before .before .before .loop .inv .many), c .before .before .before .before .before .before .before .before .loop-test .taken)
+    let in-loop = c .before .before .before .before .before .before .before .before in
+    let at-loop = in-loop .before in
+    omega (arith, few-slots (at-loop .loop .inv .able) (at-loop .loop .inv .many), in-loop .loop-test .taken)
 
 loop-less : tie.Need-loop-less Inv-loop μ-loop
 loop-less c =
@@ -94,7 +125,10 @@ loop-less c =
 
 loop-again : tie.Need-loop-again Inv-loop μ-loop
 loop-again c =
-    putting-next (c .before .before .before .before .before .before .before .before .before .loop .inv) (c .before .before .before .before .before .before .before .before .loop-test .taken) (c .before .before .before .before .before .wide .ensures) (c .before .before .before .wide2 .ensures) (c .before .before .put-slot .ensures)
+    let after-put-slot = c .before .before in
+    let after-wide2 = after-put-slot .before in
+    let after-wide = after-wide2 .before .before in
+    putting-next (at-loop-from-wide after-wide .loop .inv) (after-wide .before .before .before .loop-test .taken) (after-wide .wide .ensures) (after-wide2 .wide2 .ensures) (after-put-slot .put-slot .ensures)
 
 same-length : tie.Need-same-length Inv-loop μ-loop
 same-length c =

@@ -55,22 +55,36 @@ middle-requires-8 c κs = search needs
 
 returns : tie.Need-returns
 returns c =
+    let after-seam8 = c .before in
+    let after-middle7 = after-seam8 .before in
+    let after-seam7 = after-middle7 .before in
+    let after-middle6 = after-seam7 .before in
+    let after-seam6 = after-middle6 .before in
+    let after-middle5 = after-seam6 .before in
+    let after-seam5 = after-middle5 .before in
+    let after-middle4 = after-seam5 .before in
+    let after-seam4 = after-middle4 .before in
+    let after-middle3 = after-seam4 .before in
+    let after-seam3 = after-middle3 .before in
+    let after-middle2 = after-seam3 .before in
+    let after-seam2 = after-middle2 .before in
+    let after-middle = after-seam2 .before in
     first-block _ _ _ (search needs)
-    (c .before .before .before .before .before .before .before .before .before .before .before .before .before .before .before .seam .ensures)
-    (c .before .before .before .before .before .before .before .before .before .before .before .before .before .before .middle .ensures)
-    (c .before .before .before .before .before .before .before .before .before .before .before .before .before .seam2 .ensures)
-    (c .before .before .before .before .before .before .before .before .before .before .before .before .middle2 .ensures)
-    (c .before .before .before .before .before .before .before .before .before .before .before .seam3 .ensures)
-    (c .before .before .before .before .before .before .before .before .before .before .middle3 .ensures)
-    (c .before .before .before .before .before .before .before .before .before .seam4 .ensures)
-    (c .before .before .before .before .before .before .before .before .middle4 .ensures)
-    (c .before .before .before .before .before .before .before .seam5 .ensures)
-    (c .before .before .before .before .before .before .middle5 .ensures)
-    (c .before .before .before .before .before .seam6 .ensures)
-    (c .before .before .before .before .middle6 .ensures)
-    (c .before .before .before .seam7 .ensures)
-    (c .before .before .middle7 .ensures)
-    (c .before .seam8 .ensures)
+    (after-middle .before .seam .ensures)
+    (after-middle .middle .ensures)
+    (after-seam2 .seam2 .ensures)
+    (after-middle2 .middle2 .ensures)
+    (after-seam3 .seam3 .ensures)
+    (after-middle3 .middle3 .ensures)
+    (after-seam4 .seam4 .ensures)
+    (after-middle4 .middle4 .ensures)
+    (after-seam5 .seam5 .ensures)
+    (after-middle5 .middle5 .ensures)
+    (after-seam6 .seam6 .ensures)
+    (after-middle6 .middle6 .ensures)
+    (after-seam7 .seam7 .ensures)
+    (after-middle7 .middle7 .ensures)
+    (after-seam8 .seam8 .ensures)
     (c .middle8 .ensures)
 
 pub first-words-spec : {M : Type 1} → statement M

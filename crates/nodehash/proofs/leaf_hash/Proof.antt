@@ -21,9 +21,11 @@ node-hash-requires c κs = search needs
 returns : tie.Need-returns
 unfolding leafHash
 returns c =
-    let g = c .before .before .before .before .args .grant .now in
-    let e = c .before .hash-at2 .ensures .1 ∙ take-all 32 (drop 32 g) (simp length-drop (omega arith)) in
-    rw (← c .before .before .hash-at .ensures .1, ← e) (c .node-hash .ensures)
+    let after-hash-at2 = c .before in
+    let after-hash-at = after-hash-at2 .before in
+    let g = after-hash-at .before .before .args .grant .now in
+    let e = after-hash-at2 .hash-at2 .ensures .1 ∙ take-all 32 (drop 32 g) (simp length-drop (omega arith)) in
+    rw (← after-hash-at .hash-at .ensures .1, ← e) (c .node-hash .ensures)
 
 pub leaf-hash-spec : {M : Type 1} → statement M
 leaf-hash-spec =

@@ -25,6 +25,10 @@ abbrev μ-loop : tie.MeasureT-loop
 top-requires : tie.Need-top-requires Inv-loop μ-loop
 top-requires c κs = search needs
 
+-- `A-from-B` is the state A as the later state B has it.
+abbrev at-loop-from-child-place : tie.After-child-place Inv-loop μ-loop → tie.At-loop Inv-loop μ-loop
+at-loop-from-child-place c = c .before .before .before .before
+
 -- src/lib.rt:139:5
 loop-holds : tie.Need-loop-holds Inv-loop μ-loop
 loop-holds c = set-out (c .before .before .before .pre) (c .top .ensures)
@@ -56,8 +60,7 @@ child-place-requires c κs =
 
 -- src/lib.rt:145:13
 kid-requires : tie.Need-kid-requires Inv-loop μ-loop
-kid-requires c κs =
-    let w = c .before .before .before .before .loop .inv in
+kid-requires c κs = let w = at-loop-from-child-place c .loop .inv in
     record { size = w .holds .slotted .size; inside = w .holds .slotted .inside; proper = c .child-place .ensures .proper }
 
 -- src/lib.rt:147:27
@@ -67,10 +70,13 @@ enum-known-next c = search needs
 -- src/lib.rt:147:33
 returns-2 : tie.Need-returns-2 Inv-loop μ-loop
 returns-2 c =
-    let kid = c .before .before .before in
-    let turn = kid .before .before in
-    let here = turn .before .before in
-    ends-refused (here .before .loop .inv) (here .leaf-here .ensures) (turn .before .if1 .left) (turn .turn-at .result) (turn .turn-at .ensures) (kid .before .child-place .ensures) _ (kid .kid .ensures) (c .before .next .given .1)
+    let after-next = c .before in
+    let after-kid = after-next .before .before in
+    let after-child-place = after-kid .before in
+    let after-turn-at = after-child-place .before in
+    let else1 = after-turn-at .before in
+    let after-leaf-here = else1 .before in
+    ends-refused (after-leaf-here .before .loop .inv) (after-leaf-here .leaf-here .ensures) (else1 .if1 .left) (after-turn-at .turn-at .result) (after-turn-at .turn-at .ensures) (after-child-place .child-place .ensures) _ (after-kid .kid .ensures) (after-next .next .given .1)
 
 -- src/lib.rt:148:22
 enum-known-next-2 : tie.Need-enum-known-next-2 Inv-loop μ-loop
@@ -87,10 +93,13 @@ loop-less c =
 -- src/lib.rt:139:5
 loop-again : tie.Need-loop-again Inv-loop μ-loop
 loop-again c =
-    let kid = c .before .before .before in
-    let turn = kid .before .before in
-    let here = turn .before .before in
-    goes-on (here .before .loop .inv) (here .leaf-here .ensures) (turn .before .if1 .left) (turn .turn-at .result) (turn .turn-at .ensures) (kid .before .child-place .ensures) _ (kid .kid .ensures) (c .before .next2 .given .1)
+    let after-next2 = c .before in
+    let after-kid = after-next2 .before .before in
+    let after-child-place = after-kid .before in
+    let after-turn-at = after-child-place .before in
+    let else1 = after-turn-at .before in
+    let after-leaf-here = else1 .before in
+    goes-on (after-leaf-here .before .loop .inv) (after-leaf-here .leaf-here .ensures) (else1 .if1 .left) (after-turn-at .turn-at .result) (after-turn-at .turn-at .ensures) (after-child-place .child-place .ensures) _ (after-kid .kid .ensures) (after-next2 .next2 .given .1)
 
 pub descend-spec : {M : Type 1} → statement M
 descend-spec =

@@ -13,6 +13,13 @@ enum-known-opened c = search needs
 cast-t7 : tie.Need-cast-t7
 cast-t7 c = search needs
 
+-- `A-from-B` is the state A as the later state B has it.
+abbrev start-from-open : tie.After-open → tie.Start
+start-from-open c = c .before .before .before
+
+abbrev start-from-root-position : tie.After-root-position → tie.Start
+start-from-root-position c = start-from-open (c .before .before .before)
+
 returns : tie.Need-returns
 returns c =
     let o = c .before .before .before in
@@ -29,10 +36,8 @@ root-position-requires c κs =
     size-kept (a .store .now) (a .version) (a .position) (o .«open» .ensures) (c .enum-told .given .1)
 
 returns-2 : tie.Need-returns-2
-returns-2 c =
-    let o = c .before .before .before in
-    let a = o .before .before .before .args in
-    position-is-read (a .store .now) (a .version) (a .position) (o .«open» .ensures) (a .index .now) (c .root-position .result) (c .before .enum-told .given .1) (c .root-position .ensures)
+returns-2 c = let a = start-from-root-position c .args in
+    position-is-read (a .store .now) (a .version) (a .position) (c .before .before .before .«open» .ensures) (a .index .now) (c .root-position .result) (c .before .enum-told .given .1) (c .root-position .ensures)
 
 pub grants-at-spec : {M : Type 1} → statement M
 grants-at-spec =

@@ -20,6 +20,10 @@ use Rattle.slots.proofs.key_of.Reads as key-of-reads
 use Rattle.slots.proofs.value_of.Reads as value-of-reads
 use Rattle.store.proofs.slot_of.Reads as slot-of-reads
 
+-- `A-from-B` is the state A as the later state B has it.
+abbrev start-from-begins : tie.After-begins → tie.Start
+start-from-begins c = c .before .before .before .before
+
 -- src/lib.rt:77:9
 slot-of-requires : tie.Need-slot-of-requires
 slot-of-requires c κs =
@@ -37,16 +41,17 @@ begins-requires c κs = search needs
 -- src/lib.rt:79:9
 returns : tie.Need-returns
 returns c =
-    let a = c .before .before .before .before .before .args in
-    let b = c .before in
-    leaf-stray (placeOf (a .place)) (slotIn counted (a .i) (a .store .now)) (a .n) (b .begins .ensures ∙ ap (begins (placeOf (a .place))) (b .before .key-of .ensures .0 ∙ ap keyIn (b .before .before .slot-of .ensures .0))) (not-true _ (c .if1 .taken))
+    let after-begins = c .before in
+    let a = start-from-begins after-begins .args in
+    leaf-stray (placeOf (a .place)) (slotIn counted (a .i) (a .store .now)) (a .n) (after-begins .begins .ensures ∙ ap (begins (placeOf (a .place))) (after-begins .before .key-of .ensures .0 ∙ ap keyIn (after-begins .before .before .slot-of .ensures .0))) (not-true _ (c .if1 .taken))
 
 -- src/lib.rt:82:9
 returns-2 : tie.Need-returns-2
 returns-2 c =
-    let a = c .before .before .before .before .before .before .args in
-    let b = c .before .before in
-    leaf-over (placeOf (a .place)) (slotIn counted (a .i) (a .store .now)) (a .n) (b .begins .ensures ∙ ap (begins (placeOf (a .place))) (b .before .key-of .ensures .0 ∙ ap keyIn (b .before .before .slot-of .ensures .0))) (not-false _ (c .before .if1 .left)) (c .if2 .taken)
+    let else1 = c .before in
+    let after-begins = else1 .before in
+    let a = start-from-begins after-begins .args in
+    leaf-over (placeOf (a .place)) (slotIn counted (a .i) (a .store .now)) (a .n) (after-begins .begins .ensures ∙ ap (begins (placeOf (a .place))) (after-begins .before .key-of .ensures .0 ∙ ap keyIn (after-begins .before .before .slot-of .ensures .0))) (not-false _ (else1 .if1 .left)) (c .if2 .taken)
 
 -- src/lib.rt:84:23
 key-of-requires-2 : tie.Need-key-of-requires-2
@@ -67,14 +72,20 @@ hash-at-requires-2 c κs = search needs
 -- src/lib.rt:73:1
 returns-3 : tie.Need-returns-3
 returns-3 c =
-    let b = c .before .before .before .before .before .before in
-    let slot = b .before .before in
-    let a = slot .before .before .args in
+    let after-value-of = c .before in
+    let after-hash-at = after-value-of .before in
+    let after-key-of2 = after-hash-at .before in
+    let else2 = after-key-of2 .before in
+    let else1 = else2 .before in
+    let after-begins = else1 .before in
+    let after-key-of = after-begins .before in
+    let after-slot-of = after-key-of .before in
+    let a = after-slot-of .before .before .args in
     let x = slotIn counted (a .i) (a .store .now) in
-    leaf-there (placeOf (a .place)) x (a .n) (b .begins .ensures ∙ ap (begins (placeOf (a .place))) (b .before .key-of .ensures .0 ∙ ap keyIn (slot .slot-of .ensures .0))) (not-false _ (c .before .before .before .before .before .if1 .left)) (c .before .before .before .before .if2 .left)
-    (c .before .before .hash-at .result) (c .hash-at2 .result)
-    (key-whole x (c .before .before .before .key-of2 .ensures .0 ∙ ap keyIn (slot .slot-of .ensures .0)) (c .before .before .hash-at .ensures .1))
-    (value-whole x (c .before .value-of .ensures .0 ∙ ap valueIn (slot .slot-of .ensures .0)) (c .hash-at2 .ensures .1))
+    leaf-there (placeOf (a .place)) x (a .n) (after-begins .begins .ensures ∙ ap (begins (placeOf (a .place))) (after-key-of .key-of .ensures .0 ∙ ap keyIn (after-slot-of .slot-of .ensures .0))) (not-false _ (else1 .if1 .left)) (else2 .if2 .left)
+    (after-hash-at .hash-at .result) (c .hash-at2 .result)
+    (key-whole x (after-key-of2 .key-of2 .ensures .0 ∙ ap keyIn (after-slot-of .slot-of .ensures .0)) (after-hash-at .hash-at .ensures .1))
+    (value-whole x (after-value-of .value-of .ensures .0 ∙ ap valueIn (after-slot-of .slot-of .ensures .0)) (c .hash-at2 .ensures .1))
 
 pub leaf-at-spec : {M : Type 1} → statement M
 leaf-at-spec =

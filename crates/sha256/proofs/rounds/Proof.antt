@@ -19,8 +19,11 @@ rounds3-requires c κs = search needs
 
 returns : tie.Need-returns
 returns c =
-    four-times _ _ _ _ _ _ _ _ _ (c .before .before .before .rounds1 .ensures .0) (c .before .before .rounds2 .ensures .0) (c .before .rounds3 .ensures .0)
-    (c .before .before .before .before .rounds0 .ensures) (c .before .before .before .rounds1 .ensures .1) (c .before .before .rounds2 .ensures .1) (c .before .rounds3 .ensures .1)
+    let after-rounds3 = c .before in
+    let after-rounds2 = after-rounds3 .before in
+    let after-rounds1 = after-rounds2 .before in
+    four-times _ _ _ _ _ _ _ _ _ (after-rounds1 .rounds1 .ensures .0) (after-rounds2 .rounds2 .ensures .0) (after-rounds3 .rounds3 .ensures .0)
+    (after-rounds1 .before .rounds0 .ensures) (after-rounds1 .rounds1 .ensures .1) (after-rounds2 .rounds2 .ensures .1) (after-rounds3 .rounds3 .ensures .1)
 
 pub rounds-spec : {M : Type 1} → statement M
 rounds-spec =

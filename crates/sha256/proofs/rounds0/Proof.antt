@@ -57,23 +57,38 @@ step-requires-16 c κs = search needs
 returns : tie.Need-returns
 unfolding K
 returns c =
-    let a = c .before .before .before .before .before .before .before .before .before .before .before .before .before .before .before .before .args in
+    let after-step15 = c .before in
+    let after-step14 = after-step15 .before in
+    let after-step13 = after-step14 .before in
+    let after-step12 = after-step13 .before in
+    let after-step11 = after-step12 .before in
+    let after-step10 = after-step11 .before in
+    let after-step9 = after-step10 .before in
+    let after-step8 = after-step9 .before in
+    let after-step7 = after-step8 .before in
+    let after-step6 = after-step7 .before in
+    let after-step5 = after-step6 .before in
+    let after-step4 = after-step5 .before in
+    let after-step3 = after-step4 .before in
+    let after-step2 = after-step3 .before in
+    let after-step = after-step2 .before in
+    let a = after-step .before .args in
     sixteen-rounds 0 (a .x) (a .s)
-    (c .before .before .before .before .before .before .before .before .before .before .before .before .before .before .before .step .ensures)
-    (c .before .before .before .before .before .before .before .before .before .before .before .before .before .before .step2 .ensures)
-    (c .before .before .before .before .before .before .before .before .before .before .before .before .before .step3 .ensures)
-    (c .before .before .before .before .before .before .before .before .before .before .before .before .step4 .ensures)
-    (c .before .before .before .before .before .before .before .before .before .before .before .step5 .ensures)
-    (c .before .before .before .before .before .before .before .before .before .before .step6 .ensures)
-    (c .before .before .before .before .before .before .before .before .before .step7 .ensures)
-    (c .before .before .before .before .before .before .before .before .step8 .ensures)
-    (c .before .before .before .before .before .before .before .step9 .ensures)
-    (c .before .before .before .before .before .before .step10 .ensures)
-    (c .before .before .before .before .before .step11 .ensures)
-    (c .before .before .before .before .step12 .ensures)
-    (c .before .before .before .step13 .ensures)
-    (c .before .before .step14 .ensures)
-    (c .before .step15 .ensures)
+    (after-step .step .ensures)
+    (after-step2 .step2 .ensures)
+    (after-step3 .step3 .ensures)
+    (after-step4 .step4 .ensures)
+    (after-step5 .step5 .ensures)
+    (after-step6 .step6 .ensures)
+    (after-step7 .step7 .ensures)
+    (after-step8 .step8 .ensures)
+    (after-step9 .step9 .ensures)
+    (after-step10 .step10 .ensures)
+    (after-step11 .step11 .ensures)
+    (after-step12 .step12 .ensures)
+    (after-step13 .step13 .ensures)
+    (after-step14 .step14 .ensures)
+    (after-step15 .step15 .ensures)
     (c .step16 .ensures)
 
 pub rounds0-spec : {M : Type 1} → statement M

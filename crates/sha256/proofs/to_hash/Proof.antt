@@ -18,7 +18,10 @@ join-requires-4 : tie.Need-join-requires-4
 join-requires-4 c κs = search needs
 
 returns : tie.Need-returns
-returns c = hash-in-parts _ (c .before .before .before .join .ensures .1) (c .before .before .join2 .ensures .1) (c .before .join3 .ensures .1) (c .join4 .ensures .1)
+returns c =
+    let after-join3 = c .before in
+    let after-join2 = after-join3 .before in
+    hash-in-parts _ (after-join2 .before .join .ensures .1) (after-join2 .join2 .ensures .1) (after-join3 .join3 .ensures .1) (c .join4 .ensures .1)
 
 pub to-hash-spec : {M : Type 1} → statement M
 to-hash-spec =

@@ -1,0 +1,76 @@
+-- `order_kids::node_before` meets its contract. Assumes nothing.
+use native.Mathlib.Omega.{arith}
+use mathlib.Core.Path.{ap, _∙_}
+use Rattle.terms.specs.declared.Form.the-variants.{Counted as counted}
+use Rattle.terms.specs.Bits.{Byte}
+use Rattle.terms.proofs.Lists.{all-of}
+use Rattle.layout.specs.Slots.{countIn, bitsIn, versionIn}
+use Rattle.layout.specs.Stores.{slotIn}
+use Rattle.store.proofs.Slots.{slot-within}
+use Rattle.order_look.proofs.Keys.{all-same}
+use Rattle.order_kids.proofs.Entries.{stands-before}
+use borrow.Author.Needs.{needs}
+use Rattle.order_kids.proofs.node_before.Statement.{statement}
+use Rattle.order_kids.proofs.node_before.Tie as tie
+
+count-at-requires : tie.Need-count-at-requires
+count-at-requires c κs = slot-within (c .before .pre .1 .0)
+
+wide-requires : tie.Need-wide-requires
+wide-requires c κs = search needs
+
+version-at-requires : tie.Need-version-at-requires
+version-at-requires c κs = slot-within (c .before .before .before .pre .1 .0)
+
+slot-of-requires : tie.Need-slot-of-requires
+slot-of-requires c κs = slot-within (c .before .before .before .before .pre .1 .0)
+
+bits-of-requires : tie.Need-bits-of-requires
+bits-of-requires c κs = search needs
+
+compared-requires : tie.Need-compared-requires
+compared-requires c κs = (c .before .before .before .before .before .before .pre .0 .0, c .bits-of .ensures .1)
+
+enum-told : tie.Need-enum-told
+enum-told c = search needs
+
+enum-told-2 : tie.Need-enum-told-2
+enum-told-2 c = search needs
+
+enum-told-3 : tie.Need-enum-told-3
+enum-told-3 c = search needs
+
+returns : tie.Need-returns
+returns c =
+    let bits = c .before .before .before in
+    let version = bits .before .before in
+    let start = version .before .before .before .before in
+    let a = start .args in
+    let x = slotIn counted (a .j) (a .store .now) in
+    stands-before (all-of Byte (a .store .now) 0 (λ i _. omega (arith, version .before .before .before .shared-slice-known .given i))) (start .pre .0) (start .pre .1)
+    (all-same _ (countIn x) _ (bitsIn x) _ (versionIn x) (version .before .wide .ensures ∙ version .before .before .count-at .ensures)
+    (bits .bits-of .ensures .0 ∙ ap bitsIn (bits .before .slot-of .ensures .0)) (version .version-at .ensures))
+    _ (c .before .before .compared .ensures) (c .enum-told .given .1)
+
+returns-2 : tie.Need-returns-2
+returns-2 c = tt
+
+returns-3 : tie.Need-returns-3
+returns-3 c = tt
+
+pub node-before-spec : {M : Type 1} → statement M
+node-before-spec =
+    tie.close
+    (tie.spec
+    count-at-requires
+    wide-requires
+    version-at-requires
+    slot-of-requires
+    bits-of-requires
+    compared-requires
+    enum-told
+    enum-told-2
+    enum-told-3
+    returns
+    returns-2
+    returns-3)
