@@ -1,9 +1,9 @@
 //! Which records a damaged store misses, to tell a person. What a store is worth is the library's word: check, and the refusals of the reads. Here the
 //! slots are looked at once more for their places and versions, which a refusal doesn't carry; nothing is promised of it.
 
-use crate::records::{self, in_form, zero, Body, Header, Place, Record};
-use crate::{Key, Store};
-use std::collections::{BTreeMap, BTreeSet, HashMap, HashSet};
+use crate::records::{self, Body, Header, Place, Record};
+use crate::{rescue, Found, Key, Slot, Store};
+use std::collections::{BTreeMap, BTreeSet, HashSet};
 
 /// A record that a kept version wants and that no slot in form is.
 #[derive(Clone, Copy, Debug, PartialEq, Eq)]
@@ -38,43 +38,22 @@ enum Sight {
 }
 
 struct Slots {
-    records: Vec<Option<Record>>,
-    /// The lowest slot in form of a version and place.
-    nodes: HashMap<(u32, Place), usize>,
-    roots: Vec<usize>,
+    found: Found,
     /// The used slots that are not in form, their fields as they stand.
     spoilt: Vec<(u32, Record)>,
 }
 
 impl Slots {
     fn of(store: &[u8]) -> Slots {
-        let mut slots = Slots {
-            records: vec![],
-            nodes: HashMap::new(),
-            roots: vec![],
-            spoilt: vec![],
-        };
-        for (i, slot) in records::chunks(store).enumerate() {
-            let record = records::fields(slot);
-            let good = in_form(slot, &record);
-            slots.records.push(good.then_some(record));
-            if good {
-                slots
-                    .nodes
-                    .entry((record.version, record.place))
-                    .or_insert(i);
-                if record.place == Place::EMPTY {
-                    slots.roots.push(i);
-                }
-            } else if !zero(slot) {
-                slots.spoilt.push((i as u32, record));
-            }
-        }
-        slots
+        let found = Found::of(records::chunks(store).map(rescue::found).collect());
+        let slots = records::chunks(store).zip(&found.slots).zip(0..);
+        let spoilt = slots.filter(|((_, slot), _)| **slot == Slot::OffForm);
+        let spoilt = spoilt.map(|((bytes, _), i)| (i, records::fields(bytes))).collect();
+        Slots { found, spoilt }
     }
 
     fn record(&self, i: usize) -> Record {
-        self.records[i].expect("in form")
+        self.found.record(i).expect("in form")
     }
 
     fn sight(&self, found: Option<usize>, agrees: impl Fn(&Record) -> bool) -> Sight {
@@ -86,35 +65,18 @@ impl Slots {
     }
 
     fn node(&self, version: u32, place: Place) -> Sight {
-        let found = self.nodes.get(&(version, place)).copied();
+        let found = self.found.lowest(version, place);
         self.sight(found, |record| {
             record.version == version && record.place == place
         })
     }
 
     fn root(&self, version: u32) -> Sight {
-        let mut roots = self.roots.iter().copied();
-        let found = roots.find(|i| self.record(*i).stands_in(version));
-        self.sight(found, |record| {
+        let mut roots = self.found.roots();
+        let found = roots.find(|(_, root)| root.stands_in(version));
+        self.sight(found.map(|(i, _)| i), |record| {
             record.place == Place::EMPTY && record.stands_in(version)
         })
-    }
-
-    /// The child on a side of an inner record: its version and place.
-    fn child(record: &Record, right: bool) -> Option<(u32, Place)> {
-        let child = match record.body {
-            Body::Leaf { .. } => None,
-            Body::Inner {
-                left, right: other, ..
-            } => {
-                if right {
-                    other
-                } else {
-                    left
-                }
-            }
-        };
-        child.and_then(|child| Some((child.version, record.place.longer(right)?)))
     }
 
     /// A child that stands in its slot, or how it is missing.
@@ -143,10 +105,7 @@ impl Slots {
         let from = missing.len();
         let mut todo = vec![self.record(top)];
         while let Some(record) = todo.pop() {
-            for right in [false, true] {
-                let Some(child) = Slots::child(&record, right) else {
-                    continue;
-                };
+            for child in record.children().into_iter().flatten() {
                 if seen.insert(child) {
                     match self.step(child, wanted_in) {
                         Ok(below) => todo.push(below),
@@ -161,14 +120,9 @@ impl Slots {
     /// The kept versions at which a record's life begins or ends, oldest first: those from one up to the next have the same root and the same records.
     fn turns(&self, header: Header) -> BTreeMap<u32, i64> {
         let mut turns = BTreeMap::from([(header.oldest, 0)]);
-        let spoilt = self.spoilt.iter().map(|(_, record)| (record, 0));
-        for (record, one) in self
-            .records
-            .iter()
-            .flatten()
-            .map(|record| (record, 1))
-            .chain(spoilt)
-        {
+        let spoilt = self.spoilt.iter().map(|(_, record)| (*record, 0));
+        let records = self.found.records().map(|(_, record)| (record, 1));
+        for (record, one) in records.chain(spoilt) {
             let until = record.retired_since.unwrap_or(u32::MAX);
             if record.version <= header.latest && header.oldest < until && record.version < until {
                 *turns.entry(record.version.max(header.oldest)).or_default() += one;
@@ -259,7 +213,7 @@ pub(crate) fn met_at(store: &[u8], version: u32, position: u64) -> Option<Met> {
         if right {
             rest -= left;
         }
-        let Some(child) = Slots::child(&record, right) else {
+        let Some(child) = record.children()[usize::from(right)] else {
             let place = place.longer(right)?;
             return Some(Met::NoChild { place });
         };
@@ -292,7 +246,7 @@ pub(crate) fn missing_for(store: &[u8], version: u32, key: Key) -> Option<Missin
             .get(record.place.count() / 8)
             .is_some_and(|b| b >> (7 - record.place.count() % 8) & 1 == 1);
         passed.push((record, side));
-        let Some(child) = Slots::child(&record, side) else {
+        let Some(child) = record.children()[usize::from(side)] else {
             break;
         };
         match slots.step(child, version) {
@@ -311,7 +265,7 @@ pub(crate) fn missing_for(store: &[u8], version: u32, key: Key) -> Option<Missin
         }
         let turn = passed.iter().rev().filter(|(_, side)| *side != right);
         let Some(mut child) = turn
-            .filter_map(|(record, _)| Slots::child(record, right))
+            .filter_map(|(record, _)| record.children()[usize::from(right)])
             .next()
         else {
             continue;
@@ -321,7 +275,7 @@ pub(crate) fn missing_for(store: &[u8], version: u32, key: Key) -> Option<Missin
                 Ok(below) => below,
                 Err(missing) => return Some(missing),
             };
-            match Slots::child(&below, !right).or(Slots::child(&below, right)) {
+            match below.children()[usize::from(!right)].or(below.children()[usize::from(right)]) {
                 Some(next) => child = next,
                 None => break,
             }

@@ -40,6 +40,7 @@
 #![warn(missing_debug_implementations)]
 
 mod batch;
+mod calls;
 mod changes;
 mod counts;
 mod damage;
@@ -49,17 +50,21 @@ mod ffi;
 mod figures;
 mod finding;
 mod form;
+mod found;
 mod hex;
 mod index;
+mod lookup;
 mod message;
 mod moving;
 mod palette;
 mod proof;
+mod publishings;
 mod records;
 mod rescue;
 mod shelf;
 mod statement;
 mod store;
+mod united;
 mod words;
 
 pub use batch::{Batch, DoubledKey, BATCH_RECORDS};
@@ -73,20 +78,24 @@ pub use form::{
     old_store_bytes, store_bytes, CAPACITY_AT, HEADER_BYTES, MOST_SLOTS, OLD_SLOT_BYTES,
     RECORD_BYTES, SLOT_BYTES,
 };
+pub use found::Found;
 pub use hex::{from_hex, to_hex, HexError};
 pub use index::Index;
+pub use lookup::Lookup;
 pub use message::{read_message, write_message, Message, RawLeaf, ABSENCE_MESSAGE_BYTES, PRESENCE_MESSAGE_BYTES, RAW_KEY_BYTES, RAW_VALUE_BYTES};
 pub use palette::{Palette, RefusedAt, PALETTE_KEYS};
 pub use proof::{verify, verify_pocket, verify_many, Proof, POCKET_BYTES, PROOF_BYTES};
+pub use publishings::{publishings, Publishing};
 pub use records::{Body, Child, Place, Record};
 pub use rescue::{Rescued, Slot};
 pub use shelf::{
-    shelf_pieces, shelf_verify, Bits, Effect, Made, PartAt, PartFile, Pruned, RescuedShelf, Rounds, Shelf,
-    ShelfError,
+    shelf_pieces, shelf_verify, shelf_verify_pocket, Bits, Effect, Made, NewFolder, PartAt, PartFile, PartsAlone,
+    Pruned, RescuedShelf, Rounds, Shelf, ShelfError, ShelfRescue,
     LIST_FILE, ROUND_PARTS, SHELF_BITS, SHELF_FILE, SHELF_PROOF_BYTES,
 };
 pub use store::{Applied, Header, Store};
 pub use statement::{Seen, Statement, Verdict};
+pub use united::{Filled, RescuedFromTwo};
 pub use words::{Key, Root, Value};
 
 /// The version of the library that is linked: major, minor, patch.

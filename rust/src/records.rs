@@ -117,6 +117,23 @@ impl Record {
         }
     }
 
+    /// The SHA-256 of its message (docs/RULES.md): byte 1, key, value; or byte 0 and the hashes of its children, zeros for one that isn't there.
+    pub fn hash(&self) -> [u8; 32] {
+        let none = [0; 32];
+        let (first, left, right) = match self.body {
+            Body::Leaf { key, value } => (1, <[u8; 32]>::from(key), <[u8; 32]>::from(value)),
+            Body::Inner { left, right, .. } => (
+                0,
+                left.map_or(none, |child| child.hash),
+                right.map_or(none, |child| child.hash),
+            ),
+        };
+        let mut message = [first; crate::MESSAGE_BYTES];
+        message[1..33].copy_from_slice(&left);
+        message[33..].copy_from_slice(&right);
+        crate::sha256(&message)
+    }
+
     /// The grant of a leaf.
     pub fn grant(&self) -> Option<(Key, Value)> {
         match self.body {

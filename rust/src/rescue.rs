@@ -91,7 +91,8 @@ impl<B: AsRef<[u8]>> Store<B> {
     }
 }
 
-fn found(slot: &[u8]) -> Slot {
+/// What a slot's bytes are.
+pub(crate) fn found(slot: &[u8]) -> Slot {
     if records::zero(slot) {
         return Slot::Free;
     }

@@ -6,6 +6,7 @@ mod changing;
 mod check;
 mod error;
 mod files;
+mod moving;
 mod proof;
 mod publish;
 mod reading;
@@ -15,13 +16,13 @@ mod work;
 pub use bits::{Bits, SHELF_BITS};
 pub use changing::{Effect, Pruned};
 pub use error::ShelfError;
-pub use files::{PartFile, LIST_FILE, SHELF_FILE};
-pub use proof::{shelf_pieces, shelf_verify, SHELF_PROOF_BYTES};
+pub use files::{NewFolder, PartFile, LIST_FILE, SHELF_FILE};
+pub use proof::{shelf_pieces, shelf_verify, shelf_verify_pocket, SHELF_PROOF_BYTES};
 pub use publish::{Made, Rounds, ROUND_PARTS};
 pub use reading::PartAt;
-pub use rescue::RescuedShelf;
+pub use rescue::{PartsAlone, RescuedShelf, ShelfRescue};
 
-use crate::{Header, Store};
+use crate::{Header, Lookup, Store};
 use std::collections::BTreeMap;
 use std::path::{Path, PathBuf};
 
@@ -59,6 +60,10 @@ pub struct Shelf {
     header: Header,
     files: BTreeMap<u16, PartFile>,
     progress: fn(usize, usize),
+    /// Whether the stores in the folder are of the old form.
+    old: bool,
+    /// How the list is read, which every key's way begins with.
+    lookup: Lookup,
 }
 
 impl Shelf {
@@ -87,6 +92,11 @@ impl Shelf {
     /// The parts' files, by part.
     pub fn files(&self) -> impl Iterator<Item = &PartFile> {
         self.files.values()
+    }
+
+    /// Whether the stores in the folder are of the old form ([`Shelf::open_old`]).
+    pub fn is_old_form(&self) -> bool {
+        self.old
     }
 
     /// What is told how many of so many parts are done, by whichever thread did one.

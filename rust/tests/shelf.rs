@@ -1,8 +1,8 @@
 //! A shelf beside a plain map: what it holds in every kept version, its proofs, what a reader sees while a writer is at work, and what is refused.
 
 use grants::{
-    shelf_verify, Batch, Error, Key, Root, Rounds, Shelf, ShelfError, Value, BATCH_RECORDS,
-    MOST_VISITS,
+    shelf_verify, Batch, Error, Key, Root, Rounds, Shelf, ShelfError, ShelfRescue, Value,
+    BATCH_RECORDS, MOST_VISITS,
 };
 use std::collections::BTreeMap;
 use std::path::PathBuf;
@@ -241,4 +241,80 @@ fn rounds_are_as_few_as_there_may_be() {
     let turned = [&bytes[72..144], &bytes[..72]].concat();
     assert_eq!(Rounds::of(bits, &turned), Err(Error::BatchOrder));
     assert_eq!(Rounds::of(bits, &bytes[1..]), Err(Error::BatchForm));
+}
+
+/// A shelf of a few publishings, in a folder.
+fn published(folder: &Folder, bits: u32) -> Shelf {
+    let mut shelf = Shelf::create(&folder.0, bits, 256, 256).unwrap();
+    for (number, batch, _) in &history(5) {
+        shelf.publish(*number, batch).unwrap();
+    }
+    shelf
+}
+
+#[test]
+fn proofs_in_the_pocket_are_the_same_or_none() {
+    let folder = Folder::new("pocket");
+    let mut shelf = published(&folder, 3);
+    let (near, mut far) = (Key::from([0; 32]), [0; 32]);
+    far[5] = 0x80;
+    let mut batch = Batch::new();
+    batch.insert(near, [1; 32]).unwrap().insert(far, [2; 32]).unwrap();
+    let root = shelf.publish(90, &batch).unwrap().root;
+    let mut within = 0;
+    for n in 0..45 {
+        let proof = shelf.prove(90, key(n)).unwrap();
+        let full = shelf_verify(root, 3, key(n), &proof);
+        match shelf.prove_pocket(90, key(n)) {
+            Ok(short) => {
+                within += 1;
+                assert_eq!(short, proof);
+                assert_eq!(grants::shelf_verify_pocket(root, 3, key(n), &proof), full);
+            }
+            Err(e) => {
+                assert_eq!(e.refusal(), Some(Error::OutsidePocket));
+                let short = grants::shelf_verify_pocket(root, 3, key(n), &proof);
+                assert_eq!(short, Err(Error::OutsidePocket));
+            }
+        }
+        // In form and false: the same number as the full check's, but for 19.
+        let other = grants::shelf_verify_pocket([7; 32], 3, key(n), &proof);
+        assert!(matches!(other, Err(Error::ProofFails | Error::OutsidePocket)));
+        assert_eq!(shelf.finding(90, key(n), &proof).unwrap(), grants::Finding::Truth);
+    }
+    assert!(within > 20, "{within}");
+    for wrong in [near, Key::from(far)] {
+        let refused = shelf.prove_pocket(90, wrong).unwrap_err();
+        assert_eq!(refused.refusal(), Some(Error::OutsidePocket));
+    }
+    let proof = shelf.prove(90, key(1)).unwrap();
+    assert_eq!(shelf.finding(90, key(2), &proof).unwrap_err().refusal(), Some(Error::ProofFails));
+    assert_eq!(shelf.finding(91, key(1), &proof).unwrap_err().refusal(), Some(Error::VersionNotKept));
+    assert_eq!(shelf.finding(90, key(1), [1; 9]).unwrap_err().refusal(), Some(Error::ProofForm));
+}
+
+#[test]
+fn a_list_is_made_of_the_parts() {
+    for bits in [0, 3, 9] {
+        let (folder, to) = (Folder::new(&format!("alone-{bits}")), Folder::new(&format!("alone-to-{bits}")));
+        let shelf = published(&folder, bits);
+        std::fs::remove_file(folder.0.join(grants::LIST_FILE)).unwrap();
+        assert!(matches!(Shelf::open(&folder.0), Err(ShelfError::NoShelf { .. })));
+        let asked = ShelfRescue { folder: &folder.0, with: None, bits: None, oldest: 0, latest: 15, root: None };
+        assert_eq!(asked.latest_of_parts().unwrap()[0], 15);
+        let alone = asked.parts_alone().unwrap();
+        for (version, root, _) in &alone.publishings {
+            assert_eq!(shelf.root(*version).unwrap(), *root, "version {version}");
+        }
+        let root = shelf.root(15).unwrap();
+        let wrong = ShelfRescue { root: Some(Root::from([1; 32])), ..asked };
+        assert!(matches!(wrong.by_parts(&to.0), Err(ShelfError::OtherRoot { .. })));
+        let came = ShelfRescue { root: Some(root), ..asked }.by_parts(&to.0).unwrap();
+        assert!(came.rebuilt && came.root == root && came.first == 0);
+        let again = Shelf::open(&to.0).unwrap();
+        for (number, _, wanted) in &history(5) {
+            same(&again, *number, wanted);
+            assert_eq!(again.root(*number).unwrap(), shelf.root(*number).unwrap());
+        }
+    }
 }

@@ -141,7 +141,7 @@ def a_shelf_s_proofs():
     assert b"\nbits 3\n" in read("root.txt") and answered(0, "verify", "root.txt", present, "p").startswith("present")
     refused(2, "a shelf of 3 bits", "verify", "root.txt", present, "p", "--bits", 4)
     refused(31, "at most 12 bits", "verify", answered(0, "root", "m").strip(), present, "p", "--bits", 13)
-    refused(2, "no pocket profile", "prove", "m", present, "--pocket")
+    refused(2, "the SHA-256 of nothing that is known", "prove", "m", present, "--ics23")
     # Without them the proof is none.
     refused(20, "is no proof", "verify", answered(0, "root", "m").strip(), present, "p")
     # An empty version has no proof: its root is one.
@@ -452,9 +452,7 @@ def a_store_becomes_a_shelf():
     refused(3, "is there already", "shelf", "s", "m2", "--bits", 2)
     refused(2, "--bits B is missing", "shelf", "s", "n")
     refused(2, "goes with --bits", "format", "n", 20, "--slots", 30)
-    refused(3, "--bits makes one", "format", "m2", 20, "--force")
-    for words in (("show", "m2"), ("move", "m2", "--to", "old")):
-        refused(2, "takes a store alone", *words)
+    refused(3, "--bits with --force makes it afresh", "format", "m2", 20, "--force")
     assert not os.path.exists("n") and [f for f in os.listdir(".") if f.startswith(".")] == []
 
 

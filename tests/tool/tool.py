@@ -23,6 +23,9 @@ import rescues
 import publishing
 import later
 import shelf
+import shelf_life
+import rescue_with
+import table
 
 
 def toured(text):

@@ -23,6 +23,8 @@ pub enum ShelfError {
     OtherBits { key: Key },
     /// The name of the part's file says something else than its header and its counts.
     OtherName { part: u16 },
+    /// Two files of the part have another root each in a version, and there is no list to say which one counts.
+    TwoParts { part: u16, version: u32 },
     /// A rescue would give back a list with this root, which isn't the one that was signed.
     OtherRoot { root: Root },
     /// One publishing takes so many rounds: more than 1,024 records go to a part, or more than 1,024 parts change.
@@ -79,6 +81,10 @@ impl fmt::Display for ShelfError {
             ShelfError::OtherName { part } => {
                 write!(f, "the file of part {part:03x} is not what its name says")
             }
+            ShelfError::TwoParts { part, version } => write!(
+                f,
+                "two files of part {part:03x} have another root each in version {version}, and no list says which one counts: move one of them away"
+            ),
             ShelfError::OtherRoot { root } => write!(f, "its root is {root}"),
             ShelfError::Rounds { rounds } => write!(
                 f,

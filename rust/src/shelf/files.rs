@@ -1,9 +1,10 @@
 //! The folder of a shelf: 'shelf', a text with its bits and slots; 'list', a store; and for each part a file named by the numbers that it holds. A part is written as a
-//! new file and the list is replaced last, so that readers have the old shelf or the new one, whatever happens to the writer.
+//! new file and the list is replaced last, so that readers have the old shelf or the new one, whatever happens to the writer. The parts of a shelf whose stores are of the
+//! old form have other names, so the list's form says which files count.
 
 use super::{Bits, Bytes, Shelf, ShelfError};
 use crate::form::store_bytes;
-use crate::{Header, Store, MOST_SLOTS};
+use crate::{Header, Lookup, Store, MOST_SLOTS};
 use std::collections::BTreeMap;
 use std::fmt;
 use std::fs::{self, File, OpenOptions};
@@ -18,6 +19,8 @@ pub const SHELF_FILE: &str = "shelf";
 
 const HEAD: &str = "# A shelf of grant stores: how many bits of a key name its part, and how many slots a new part gets. Neither is changed by hand.\n";
 const NEW_LIST: &str = ".list.grants-new";
+/// How the names of files that are to get another's name end.
+const NEW: &str = ".grants-new";
 
 /// The file of a part, which its name tells apart: `part-0a3-7-2-3906` is part 0a3 with versions 2 to 7, and 3,906 grants in version 7.
 #[derive(Clone, Copy, Debug, PartialEq, Eq, PartialOrd, Ord)]
@@ -53,6 +56,23 @@ impl PartFile {
         (file.to_string() == name).then_some(file)
     }
 
+    /// Its name in a shelf of the old form: `old-0a3-7-2-3906`.
+    pub(super) fn old_name(&self) -> String {
+        self.to_string().replacen("part", "old", 1)
+    }
+
+    fn of_old(name: &str) -> Option<PartFile> {
+        PartFile::of(&format!("part-{}", name.strip_prefix("old-")?))
+    }
+
+    /// Its name by the form of the shelf's stores.
+    pub(super) fn name(&self, old: bool) -> String {
+        match old {
+            true => self.old_name(),
+            false => self.to_string(),
+        }
+    }
+
     /// Whether readers of this list may use it.
     fn within(&self, list: Header) -> bool {
         self.latest <= list.latest && self.oldest <= list.oldest
@@ -78,8 +98,11 @@ fn contents(open: &File) -> io::Result<Bytes> {
     Ok(Store::over(bytes))
 }
 
-/// The list, and the names that were there while it was the list.
-fn at_one_moment(folder: &Path) -> Result<(Bytes, Vec<PartFile>), ShelfError> {
+/// The list, and the names and the settings that were there while it was the list.
+fn at_one_moment(
+    folder: &Path,
+    old: bool,
+) -> Result<(Bytes, Vec<PartFile>, Settings), ShelfError> {
     let path = folder.join(LIST_FILE);
     loop {
         let open = match File::open(&path) {
@@ -91,9 +114,9 @@ fn at_one_moment(folder: &Path) -> Result<(Bytes, Vec<PartFile>), ShelfError> {
             Err(e) => return Err(file(&path)(e)),
         };
         let list = contents(&open).map_err(file(&path))?;
-        let names = names(folder)?;
+        let (names, settings) = (names(folder, old)?, settings(folder)?);
         if is_at(&open, &path) {
-            return Ok((list, names));
+            return Ok((list, names, settings));
         }
     }
 }
@@ -112,7 +135,7 @@ pub(super) fn synced(folder: &Path) -> Result<(), ShelfError> {
         .map_err(file(folder))
 }
 
-fn put(path: &Path, bytes: &[u8]) -> Result<File, ShelfError> {
+pub(super) fn put(path: &Path, bytes: &[u8]) -> Result<File, ShelfError> {
     let new = OpenOptions::new().write(true).create_new(true).open(path);
     let mut new = new.map_err(file(path))?;
     new.write_all(bytes)
@@ -121,8 +144,29 @@ fn put(path: &Path, bytes: &[u8]) -> Result<File, ShelfError> {
     Ok(new)
 }
 
+/// What the file 'shelf' says. Where a shelf is being made afresh, it also has the bits and slots that hold as soon as its list is the fresh one, in which nothing was published.
+#[derive(Clone, Copy)]
+pub(super) struct Settings {
+    own: (Bits, u32),
+    fresh: Option<(Bits, u32)>,
+}
+
+impl Settings {
+    pub fn of_list(self, list: Header) -> (Bits, u32) {
+        match self.fresh {
+            Some(fresh) if list.latest == 0 => fresh,
+            _ => self.own,
+        }
+    }
+
+    /// Those of a shelf in which something was published.
+    pub fn own(self) -> (Bits, u32) {
+        self.own
+    }
+}
+
 /// Bits and slots, by the lines that `create` writes.
-pub(super) fn settings(folder: &Path) -> Result<(Bits, u32), ShelfError> {
+pub(super) fn settings(folder: &Path) -> Result<Settings, ShelfError> {
     let no_shelf = |why| ShelfError::NoShelf {
         folder: folder.to_path_buf(),
         why,
@@ -135,33 +179,57 @@ pub(super) fn settings(folder: &Path) -> Result<(Bits, u32), ShelfError> {
         }
         Err(e) => return Err(file(&path)(e)),
     };
-    let number = |name: &str| {
-        let mut lines = text
-            .lines()
-            .filter_map(|line| line.strip_prefix(name)?.strip_prefix(' '));
-        lines.next().and_then(|digits| digits.parse::<u32>().ok())
+    let said = |name: &str| {
+        let mut lines = text.lines().filter_map(|line| line.strip_prefix(name)?.strip_prefix(' '));
+        lines.next().map(str::to_string)
     };
-    match (number("bits").map(Bits::new), number("slots")) {
-        (Some(Ok(bits)), Some(slots)) => Ok((bits, slots)),
-        _ => Err(no_shelf(
+    let both = |bits: &str, slots: &str| {
+        let bits = bits.parse().ok().and_then(|bits| Bits::new(bits).ok())?;
+        Some((bits, slots.parse().ok()?))
+    };
+    let own = said("bits").zip(said("slots")).and_then(|(bits, slots)| both(&bits, &slots));
+    let fresh = said("fresh");
+    let fresh = fresh.as_deref().and_then(|words| words.split_once(' ')).and_then(|(bits, slots)| both(bits, slots));
+    match own {
+        Some(own) => Ok(Settings { own, fresh }),
+        None => Err(no_shelf(
             "its file 'shelf' has no bits from 0 to 12, or no slots",
         )),
     }
 }
 
-/// Every part's file of a folder.
-pub(super) fn names(folder: &Path) -> Result<Vec<PartFile>, ShelfError> {
-    let mut names = vec![];
-    for entry in fs::read_dir(folder).map_err(file(folder))? {
-        let name = entry.map_err(file(folder))?.file_name();
-        names.extend(name.to_str().and_then(PartFile::of));
-    }
+/// Every part's file of a folder, of one form.
+pub(super) fn names(folder: &Path, old: bool) -> Result<Vec<PartFile>, ShelfError> {
+    let of = match old {
+        true => PartFile::of_old,
+        false => PartFile::of,
+    };
+    let mut names: Vec<PartFile> = all_names(folder)?.iter().filter_map(|name| of(name)).collect();
     names.sort();
     Ok(names)
 }
 
-fn settings_text(bits: Bits, slots: u32) -> String {
+fn all_names(folder: &Path) -> Result<Vec<String>, ShelfError> {
+    let mut names = vec![];
+    for entry in fs::read_dir(folder).map_err(file(folder))? {
+        let name = entry.map_err(file(folder))?.file_name();
+        names.extend(name.to_str().map(str::to_string));
+    }
+    Ok(names)
+}
+
+pub(super) fn settings_text(bits: Bits, slots: u32) -> String {
     format!("{HEAD}bits {}\nslots {slots}\n", bits.get())
+}
+
+/// Puts a text in the place of the file 'shelf'.
+fn put_settings(folder: &Path, text: &str) -> Result<(), ShelfError> {
+    let new = folder.join(".shelf.grants-new");
+    let _ = fs::remove_file(&new);
+    put(&new, text.as_bytes())?;
+    let path = folder.join(SHELF_FILE);
+    fs::rename(&new, &path).map_err(file(&path))?;
+    synced(folder)
 }
 
 impl Shelf {
@@ -226,9 +294,22 @@ impl Shelf {
 
     /// The shelf of a folder, as it is now. The list and its header are read, and the names of the parts' files. Refused: 1, 2 (the list).
     pub fn open(folder: &Path) -> Result<Shelf, ShelfError> {
-        let (bits, slots) = settings(folder)?;
-        let (list, names) = at_one_moment(folder)?;
+        Shelf::opened(folder, false)
+    }
+
+    /// A shelf whose stores are of the old form, as it would be moved over: each store is brought over where it is read, and what the folder has isn't changed. Refused: 1,
+    /// 2, 3 (the list, by the old form).
+    pub fn open_old(folder: &Path) -> Result<Shelf, ShelfError> {
+        Shelf::opened(folder, true)
+    }
+
+    fn opened(folder: &Path, old: bool) -> Result<Shelf, ShelfError> {
+        let (mut list, names, settings) = at_one_moment(folder, old)?;
+        if old {
+            list = list.move_over()?;
+        }
         let header = list.header()?;
+        let (bits, slots) = settings.of_list(header);
         let mut files = BTreeMap::new();
         let ours = |name: &PartFile| u32::from(name.part) < bits.parts() && name.within(header);
         // The newest of each part comes last.
@@ -244,23 +325,49 @@ impl Shelf {
             header,
             files,
             progress,
+            old,
+            lookup: Lookup::new(),
         })
+    }
+
+    /// Begins to make a shelf afresh in its folder, with other bits and slots, which hold from when an empty list takes the place of the one that is there; that is the caller's to
+    /// do, who holds the lock, and [`Shelf::clean`] ends it. Refused: 21, 1; and a folder that is no shelf.
+    pub fn begin_afresh(folder: &Path, bits: u32, slots: u32) -> Result<(), ShelfError> {
+        let (bits, (own, own_slots)) = (Bits::new(bits)?, settings(folder)?.own());
+        Store::with_capacity(slots)?;
+        let fresh = format!("fresh {} {slots}\n", bits.get());
+        put_settings(folder, &(settings_text(own, own_slots) + &fresh))
     }
 
     /// Removes what is of no use to this list: what a writer left that is no more, and parts that newer ones replaced. Only for who may write the shelf.
     pub fn clean(&self) -> Result<(), ShelfError> {
         let mut removed = false;
-        for name in names(&self.folder)? {
-            if self.files.get(&name.part) != Some(&name) {
-                let path = self.folder.join(name.to_string());
+        for name in all_names(&self.folder)? {
+            if self.is_left(&name) {
+                let path = self.folder.join(name);
                 fs::remove_file(&path).map_err(file(&path))?;
                 removed = true;
             }
         }
-        if removed {
-            synced(&self.folder)?;
+        if settings(&self.folder)?.fresh.is_some() {
+            return put_settings(&self.folder, &settings_text(self.bits, self.slots));
         }
-        Ok(())
+        match removed {
+            true => synced(&self.folder),
+            false => Ok(()),
+        }
+    }
+
+    /// Whether a file is a part's that this list has no use for, or was to get a part's name.
+    fn is_left(&self, name: &str) -> bool {
+        let (own, other) = match self.old {
+            true => (PartFile::of_old(name), PartFile::of(name)),
+            false => (PartFile::of(name), PartFile::of_old(name)),
+        };
+        let used = own.is_some_and(|own| self.files.get(&own.part) == Some(&own));
+        let named = name.strip_prefix('.').and_then(|name| name.strip_suffix(NEW));
+        let to_be = named.is_some_and(|name| PartFile::of(name).is_some());
+        to_be || other.is_some() || own.is_some() && !used
     }
 
     /// The bytes of a part's file, none where it has none. Where it was replaced since the shelf was opened, the newest one there.
@@ -268,13 +375,13 @@ impl Shelf {
         let Some(name) = self.files.get(&part) else {
             return Ok(None);
         };
-        let path = self.folder.join(name.to_string());
+        let path = self.folder.join(name.name(self.old));
         match read(&path) {
-            Ok(store) => return Ok(Some(store)),
+            Ok(store) => return self.brought_over(part, store).map(Some),
             Err(e) if e.kind() == io::ErrorKind::NotFound => {}
             Err(e) => return Err(file(&path)(e)),
         }
-        let newest = names(&self.folder)?
+        let newest = names(&self.folder, self.old)?
             .into_iter()
             .rfind(|name| name.part == part);
         let Some(newest) = newest else {
@@ -283,8 +390,17 @@ impl Shelf {
                 version: self.header.latest,
             });
         };
-        let path = self.folder.join(newest.to_string());
-        read(&path).map(Some).map_err(file(&path))
+        let path = self.folder.join(newest.name(self.old));
+        let store = read(&path).map_err(file(&path))?;
+        self.brought_over(part, store).map(Some)
+    }
+
+    /// A part as it is read, in the form of today.
+    fn brought_over(&self, part: u16, store: Bytes) -> Result<Bytes, ShelfError> {
+        match self.old {
+            true => store.move_over().map_err(ShelfError::of(part)),
+            false => Ok(store),
+        }
     }
 
     /// A part's new file, written and synced; no reader uses it before the list is replaced.
@@ -318,13 +434,9 @@ impl Shelf {
     /// How many slots a new part gets from now on.
     pub fn set_slots(&mut self, slots: u32) -> Result<(), ShelfError> {
         Store::with_capacity(slots)?;
-        let new = self.folder.join(".shelf.grants-new");
-        let _ = fs::remove_file(&new);
-        put(&new, settings_text(self.bits, slots).as_bytes())?;
-        let path = self.folder.join(SHELF_FILE);
-        fs::rename(&new, &path).map_err(file(&path))?;
+        put_settings(&self.folder, &settings_text(self.bits, slots))?;
         self.slots = slots;
-        synced(&self.folder)
+        Ok(())
     }
 }
 
@@ -357,6 +469,59 @@ fn named(new: &Path, folder: &Path) -> Result<(), ShelfError> {
     fs::rename(new, folder).map_err(file(folder))?;
     let above = folder.parent().filter(|p| !p.as_os_str().is_empty());
     synced(above.unwrap_or(Path::new(".")))
+}
+
+/// A folder that is filled under a name of its own before it gets the one that it is to have. Given up, it goes.
+#[derive(Debug)]
+pub struct NewFolder {
+    path: PathBuf,
+    named: bool,
+}
+
+impl NewFolder {
+    /// A new folder beside the place of another.
+    pub fn beside(folder: &Path) -> Result<NewFolder, ShelfError> {
+        let path = beside(folder);
+        fs::create_dir(&path).map_err(file(&path))?;
+        let named = false;
+        Ok(NewFolder { path, named })
+    }
+
+    pub fn path(&self) -> &Path {
+        &self.path
+    }
+
+    /// A file of it, written and synced.
+    pub fn put(&self, name: &str, bytes: &[u8]) -> Result<(), ShelfError> {
+        put(&self.path.join(name), bytes).map(drop)
+    }
+
+    /// A second name for a file that is never written into, or a copy where there can be no second name.
+    pub fn link(&self, from: &Path) -> Result<(), ShelfError> {
+        let to = self.path.join(from.file_name().unwrap_or_default());
+        match fs::hard_link(from, &to) {
+            Ok(()) => Ok(()),
+            Err(_) => {
+                let bytes = fs::read(from).map_err(file(from))?;
+                put(&to, &bytes).map(drop)
+            }
+        }
+    }
+
+    /// Gives it its name, if nothing but an empty folder has it.
+    pub fn rename(mut self, folder: &Path) -> Result<(), ShelfError> {
+        named(&self.path, folder)?;
+        self.named = true;
+        Ok(())
+    }
+}
+
+impl Drop for NewFolder {
+    fn drop(&mut self) {
+        if !self.named {
+            let _ = fs::remove_dir_all(&self.path);
+        }
+    }
 }
 
 /// The right to write a shelf, held by one process at a time: the lock is on the list, and goes on to the one that comes in its place.
@@ -404,7 +569,7 @@ impl Shelf {
     /// What the folder has now.
     pub fn again(&mut self) -> Result<(), ShelfError> {
         let progress = self.progress;
-        *self = Shelf::open(&self.folder)?;
+        *self = Shelf::opened(&self.folder, self.old)?;
         self.progress = progress;
         Ok(())
     }
@@ -424,6 +589,9 @@ mod tests {
         };
         assert_eq!(file.to_string(), "part-0a3-4294967295-2-3906");
         assert_eq!(PartFile::of("part-0a3-4294967295-2-3906"), Some(file));
+        assert_eq!(file.old_name(), "old-0a3-4294967295-2-3906");
+        assert_eq!(PartFile::of_old("old-0a3-4294967295-2-3906"), Some(file));
+        assert_eq!(PartFile::of_old("part-0a3-4294967295-2-3906"), None);
         for wrong in [
             "part-a3-7-2-1",
             "part-0A3-7-2-1",

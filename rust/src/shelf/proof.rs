@@ -1,4 +1,4 @@
-use crate::{ffi, proof, Error, Key, Palette, RefusedAt, Value, PROOF_BYTES};
+use crate::{ffi, proof, verify_pocket, Error, Key, Palette, RefusedAt, Value, PROOF_BYTES};
 
 /// The longest proof of a shelf has this many bytes: the list's, then a part's.
 pub const SHELF_PROOF_BYTES: usize = 2 * PROOF_BYTES;
@@ -23,6 +23,41 @@ pub fn shelf_verify(
     proof: impl AsRef<[u8]>,
 ) -> Result<Option<Value>, Error> {
     ffi::shelf_verify(root.as_ref(), bits, key.as_ref(), proof.as_ref()).map(proof::found)
+}
+
+/// The same within the pocket profile: a device checks the two records one after the other, each with [`verify_pocket`], and so each leaf that either
+/// shows has at most 32 steps. Refused: 12, 21, 10, 19, 11.
+///
+/// ```
+/// use grants::{shelf_verify_pocket, Error};
+///
+/// assert_eq!(shelf_verify_pocket([0; 32], 13, [0; 32], []), Err(Error::TooManyBits));
+/// assert_eq!(shelf_verify_pocket([0; 32], 12, [0; 32], []), Err(Error::ProofForm));
+/// ```
+pub fn shelf_verify_pocket(
+    root: impl AsRef<[u8]>,
+    bits: u32,
+    key: impl AsRef<[u8]>,
+    proof: impl AsRef<[u8]>,
+) -> Result<Option<Value>, Error> {
+    let proof = proof.as_ref();
+    let full = shelf_verify(root, bits, key, proof);
+    match full {
+        Ok(_) | Err(Error::ProofFails) => {}
+        Err(error) => return Err(error),
+    }
+    // Whether a record is outside the profile is said whatever root and key it is held against.
+    let (first, second) = records(proof);
+    let outside = |one: &[u8]| verify_pocket([0; 32], [0; 32], one) == Err(Error::OutsidePocket);
+    match outside(first) || outside(second) {
+        true => Err(Error::OutsidePocket),
+        false => full,
+    }
+}
+
+/// The first record of a shelf's proof, and what follows it.
+pub(super) fn records(proof: &[u8]) -> (&[u8], &[u8]) {
+    proof.split_at(record(proof))
 }
 
 /// The proofs of a shelf that stand one after the other, cut apart by the lengths and the kinds of their records: one record, and a second one where the first shows

@@ -1,11 +1,12 @@
 //! Reads: the list says which root a part has in a version, and what a part's file says is used only where it has that root.
 
+use super::proof::{records, shelf_verify};
 use super::work::each;
 use super::{Shelf, ShelfError};
 use crate::changes::Changes;
 use crate::figures::{Figures, RangeFigures};
 use crate::records::Record;
-use crate::{Error, Key, Palette, Proof, Root, Store, Value, MOST_VISITS, PALETTE_KEYS};
+use crate::{Error, Finding, Key, Lookup, Palette, Proof, Root, Store, Value, MOST_VISITS, PALETTE_KEYS};
 use std::collections::BTreeMap;
 
 /// A part in a version of the shelf: its store, and the version of its own that the shelf's reads as.
@@ -28,12 +29,13 @@ pub(super) fn grants(slots: &[Option<Record>], version: u32) -> BTreeMap<Key, Va
 impl Shelf {
     /// The root of a version: the one hash that is signed. Refused: 8, 3.
     pub fn root(&self, version: u32) -> Result<Root, ShelfError> {
-        Ok(self.list.root(version)?)
+        Ok(self.lookup.root(&self.list, version)?)
     }
 
     /// The root that the list has for a part in a version, none where the part has no grant there. Refused: 8, 3 or 17.
     pub fn part_root(&self, version: u32, part: u16) -> Result<Option<Root>, ShelfError> {
-        let value = self.list.get(version, self.bits.list_key(part))?;
+        let list_key = self.bits.list_key(part);
+        let value = self.lookup.get(&self.list, version, list_key)?;
         Ok(value.map(|value| Root::from(<[u8; 32]>::from(value))))
     }
 
@@ -170,6 +172,41 @@ impl Shelf {
             .map(|proofs| Proof::from_bytes(proofs.into_bytes()))
     }
 
+    /// The same within the pocket profile: each leaf that either record shows has at most 32 steps. Refused: 12, 8, 14, 3 or 17, 19.
+    pub fn prove_pocket(&self, version: u32, key: impl AsRef<[u8]>) -> Result<Proof, ShelfError> {
+        let part = self.part_of(key.as_ref())?;
+        let list_key = self.bits.list_key(part);
+        let mut proof = self.list.prove_pocket(version, list_key)?.into_bytes();
+        if let Some(at) = self.part_at(version, part)? {
+            let second = at.store.prove_pocket(at.version, key);
+            proof.extend(second.map_err(ShelfError::of(part))?.into_bytes());
+        }
+        Ok(Proof::from_bytes(proof))
+    }
+
+    /// What a proof for a key of a version is worth to whom has the shelf too, as [`Store::finding`] says it of a store's: the first record is held against the list, and where it
+    /// tells the truth and there is a second one, that against the part. Refused: 12, 3, 8, 14, 10, 11.
+    pub fn finding(
+        &self,
+        version: u32,
+        key: impl AsRef<[u8]>,
+        proof: impl AsRef<[u8]>,
+    ) -> Result<Finding, ShelfError> {
+        let part = self.part_of(key.as_ref())?;
+        // In form, and accepted against the list's root; then the two are held against their stores one by one.
+        shelf_verify(self.root(version)?, self.bits.get(), &key, &proof)?;
+        let (first, second) = records(proof.as_ref());
+        let of_list = self.list.finding(version, self.bits.list_key(part), first)?;
+        if of_list != Finding::Truth || second.is_empty() {
+            return Ok(of_list);
+        }
+        let Some(at) = self.part_at(version, part)? else {
+            return Err(ShelfError::LostPart { part, version });
+        };
+        let of_part = at.store.finding(at.version, key, second);
+        of_part.map_err(ShelfError::of(part))
+    }
+
     /// The proofs for several keys of a version, in the order asked, each as [`Shelf::prove`] gives it; a part is read once. Refused: 12 (more than
     /// [`PALETTE_KEYS`]), 8, 14, 3 or 17.
     pub fn palette(&self, version: u32, keys: &[Key]) -> Result<Palette, ShelfError> {
@@ -194,16 +231,14 @@ impl Shelf {
 
     /// The proofs of keys of one part: the list's record, then the part's where the part is in the list.
     fn proofs(&self, version: u32, part: u16, keys: &[Key]) -> Result<Vec<Vec<u8>>, ShelfError> {
-        let first = self
-            .list
-            .prove(version, self.bits.list_key(part))?
-            .into_bytes();
+        let list_key = self.bits.list_key(part);
+        let first = self.lookup.prove(&self.list, version, list_key)?;
+        let first = first.into_bytes();
         let Some(at) = self.part_at(version, part)? else {
             return Ok(vec![first; keys.len()]);
         };
-        let row = at
-            .store
-            .palette(at.version, keys)
+        let row = Lookup::new()
+            .palette(&at.store, at.version, keys)
             .map_err(ShelfError::of(part))?;
         Ok(row
             .proofs()

@@ -3,7 +3,6 @@
 use crate::args::{number, Args};
 use crate::book::{self, Book, Said};
 use crate::fail::Fail;
-use crate::held;
 pub use crate::kept::{read_kept, read_store, refused, Bytes, Kept, LENGTH_ADVICE};
 use crate::out::beside;
 use crate::plain::{counted, quoted, shown, words, Word};
@@ -11,6 +10,17 @@ use grants::{from_hex, to_hex, Error, HexError, Key};
 use std::cell::OnceCell;
 use std::collections::BTreeMap;
 use std::path::Path;
+
+/// The store of a command that writes it.
+pub fn writable(args: &Args) -> Result<&Path, Fail> {
+    let path = args.path(0);
+    if path.as_os_str() == "-" {
+        return Err(Fail::Usage(
+            "a store that is written must be a file, not standard input".to_string(),
+        ));
+    }
+    Ok(path)
+}
 
 /// The bytes of a key or root, however many they are: the library judges that.
 pub fn hex(what: &str, text: &str) -> Result<Vec<u8>, Fail> {
@@ -117,8 +127,7 @@ pub fn on_day(args: &Args, store: &Kept, path: &Path, what: &str, day: &str) -> 
     let book = Book::of(args, Some(path))?;
     let refused = store.refused(path);
     let header = store.header().map_err(&refused)?;
-    let slots = store.slots().map_err(&refused)?;
-    let spans = held::spans(header, &slots, []);
+    let spans = store.publishings().map_err(&refused)?;
     // The publishing that holds at oldest may be older than that.
     let eldest = spans[0].published.unwrap_or(header.oldest);
     let mut dated: BTreeMap<u32, i64> = BTreeMap::new();

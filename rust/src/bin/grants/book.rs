@@ -284,6 +284,15 @@ impl Book {
     }
 }
 
+/// Writes the book after the store, whose lock is held.
+pub fn write_book(book: &Book) -> Result<(), Fail> {
+    book.write().map_err(|fail| {
+        Fail::File(format!(
+            "{fail}; the store is changed all the same, its book is not"
+        ))
+    })
+}
+
 /// Refuses a `--book` that is one of these files: it would get lines of a book.
 pub fn is_none_of(args: &Args, given: &[&Path]) -> Result<(), Fail> {
     match args.value("--book").map(Path::new) {

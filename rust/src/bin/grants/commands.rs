@@ -1,8 +1,8 @@
 //! The commands that make one call of the library and say what came.
 
 use crate::args::{number, Args};
-use crate::asked::{key, read_kept, read_store, refused, version, Kept};
-use crate::book::{self, Book};
+use crate::asked::{key, read_kept, read_store, refused, version, writable};
+use crate::book::{self, write_book, Book};
 use crate::fail::Fail;
 use crate::files::{self, is_shelf, Locked, PROOF_LIMIT};
 use crate::finding::{self, Accepted};
@@ -18,28 +18,8 @@ use crate::proof::{proof_advice, proof_bytes};
 use crate::shelves;
 use crate::sizing::Plan;
 use crate::statement::{bits, known_root};
-use grants::{dates, to_hex, Error, Slot, Store};
+use grants::{dates, to_hex, Slot, Store};
 use std::path::Path;
-
-/// The store of a command that writes it.
-pub fn writable(args: &Args) -> Result<&Path, Fail> {
-    let path = args.path(0);
-    if path.as_os_str() == "-" {
-        return Err(Fail::Usage(
-            "a store that is written must be a file, not standard input".to_string(),
-        ));
-    }
-    Ok(path)
-}
-
-/// Writes the book after the store, whose lock is held.
-pub fn write_book(book: &Book) -> Result<(), Fail> {
-    book.write().map_err(|fail| {
-        Fail::File(format!(
-            "{fail}; the store is changed all the same, its book is not"
-        ))
-    })
-}
 
 pub fn format(args: &Args, out: &mut Out) -> Result<u8, Fail> {
     let path = writable(args)?;
@@ -51,7 +31,7 @@ pub fn format(args: &Args, out: &mut Out) -> Result<u8, Fail> {
     }
     if is_shelf(path) {
         return Err(Fail::File(format!(
-            "{} is a shelf: --bits makes one, in a folder that isn't there yet; nothing was changed",
+            "{} is a shelf: --bits with --force makes it afresh; nothing was changed",
             shown(path)
         )));
     }
@@ -115,10 +95,7 @@ pub fn check(args: &Args, out: &mut Out) -> Result<u8, Fail> {
     let path = args.path(0);
     let store = read_kept(path)?;
     let refused = store.refused(path);
-    store.check().map_err(|e| match (&store, e.refusal()) {
-        (Kept::Store(store), Some(Error::Unsound)) => missing::unsound(store, path),
-        _ => refused(e),
-    })?;
+    store.check().map_err(|e| missing::checked(&store, path, e))?;
     let header = store.header().map_err(&refused)?;
     out.answer(
         0,
@@ -211,11 +188,6 @@ fn message_options(args: &Args) -> Result<(), Fail> {
     }
 }
 
-/// A shelf's proof has two records, and the pocket's calls take one.
-fn no_pocket() -> Fail {
-    Fail::Usage("--pocket is for the proof of a store: a shelf has no pocket profile".to_string())
-}
-
 pub fn prove(args: &Args, out: &mut Out) -> Result<u8, Fail> {
     message_options(args)?;
     if args.has("--version") || args.has("--keys") {
@@ -239,10 +211,9 @@ pub fn prove(args: &Args, out: &mut Out) -> Result<u8, Fail> {
         return message::prove(args, out, &store, version, &key);
     }
     let refused = refused_read(&store, path, version, Some(&key));
-    let proof = match (args.has("--pocket"), &store) {
-        (true, Kept::Store(store)) => store.prove_pocket(version, &key).map_err(Into::into),
-        (true, Kept::Shelf(_)) => return Err(no_pocket()),
-        (false, store) => store.prove(version, &key),
+    let proof = match args.has("--pocket") {
+        true => store.prove_pocket(version, &key),
+        false => store.prove(version, &key),
     }
     .map_err(&refused)?;
     let bytes = proof.as_bytes();
@@ -306,20 +277,14 @@ pub fn verify(args: &Args, out: &mut Out) -> Result<u8, Fail> {
     let path = args.path(2);
     let proof = proof_bytes(files::read(path, PROOF_LIMIT)?)?;
     let value = match (args.has("--pocket"), bits) {
-        (true, Some(_)) => return Err(no_pocket()),
+        (true, Some(bits)) => grants::shelf_verify_pocket(&root, bits, &key, &proof),
         (true, None) => grants::verify_pocket(&root, &key, &proof),
         (false, Some(bits)) => grants::shelf_verify(&root, bits, &key, &proof),
         (false, None) => grants::verify(&root, &key, &proof),
     }
     .map_err(|e| Fail::Refused(e, proof_advice(e, path)))?;
     if let Some(store) = args.value("--against").map(Path::new) {
-        if bits.is_some() {
-            return Err(Fail::Usage(
-                "--against is for the proof of a store: hold each record of a shelf's proof against its own store"
-                    .to_string(),
-            ));
-        }
-        let of = Accepted { root: root.as_ref(), key: key.as_ref(), proof: &proof, value };
+        let of = Accepted { root: root.as_ref(), bits, key: key.as_ref(), proof: &proof, value };
         return finding::against(args, store, &of, out);
     }
     for name in ["--version", "--out"] {

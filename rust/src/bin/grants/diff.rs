@@ -125,9 +125,8 @@ fn versions(args: &Args, store: &Kept, path: &Path) -> Result<(u32, u32), Fail> 
         return Ok((version(args, 1, store, path)?, second));
     }
     let refused = store.refused(path);
-    let slots = store.slots().map_err(&refused)?;
+    let last = store.publishings().map_err(&refused)?;
     let header = store.header().map_err(&refused)?;
-    let last = held::spans(header, &slots, []);
     let last = last.last().map_or(header.oldest, |span| span.first);
     Ok((last.saturating_sub(1).max(header.oldest), latest))
 }

@@ -2,17 +2,13 @@
 //! looked at once more, rule by rule (docs/RULES.md, Sound), and nothing is promised of it.
 
 use crate::fail::Wrong;
-use crate::held::{hash, Bytes};
+use crate::held::Bytes;
 use crate::plain::{at, counted};
-use grants::{Body, Child, Header, Place, Record, Slot};
-use std::collections::HashMap;
+use grants::{Body, Child, Found, Header, Place, Record, Slot};
 
 struct Look {
     header: Header,
-    /// The records in form, by their slots.
-    records: Vec<Option<Record>>,
-    /// The lowest slot of each version and place.
-    lowest: HashMap<(u32, Place), usize>,
+    there: Found,
     /// How many leaves are below each record, itself among them.
     leaves: Vec<u64>,
     wrong: Vec<Wrong>,
@@ -23,7 +19,7 @@ pub fn of(store: &Bytes) -> Vec<Wrong> {
     let (Ok(header), Ok(slots)) = (store.header(), store.slots_found()) else {
         return vec![];
     };
-    let mut look = Look::new(header, &slots);
+    let mut look = Look::new(header, slots);
     look.alone();
     look.trees();
     look.wrong.sort_by_key(|wrong| wrong.slot);
@@ -31,29 +27,20 @@ pub fn of(store: &Bytes) -> Vec<Wrong> {
 }
 
 impl Look {
-    fn new(header: Header, slots: &[Slot]) -> Look {
+    fn new(header: Header, slots: Vec<Slot>) -> Look {
         let mut look = Look {
             header,
-            records: vec![],
-            lowest: HashMap::new(),
             leaves: vec![0; slots.len()],
             wrong: vec![],
+            there: Found::of(slots),
         };
-        for (i, slot) in slots.iter().enumerate() {
-            if *slot == Slot::OffForm {
-                look.says(i, "its bytes are no record".to_string());
-            }
-            look.records.push(match slot {
-                Slot::Record(record) => Some(*record),
-                Slot::Free | Slot::OffForm => None,
-            });
+        let off_form = look.there.slots.iter().zip(0..).filter(|(slot, _)| **slot == Slot::OffForm);
+        for i in off_form.map(|(_, i)| i).collect::<Vec<usize>>() {
+            look.says(i, "its bytes are no record".to_string());
         }
         for (i, record) in look.found() {
-            let first = *look
-                .lowest
-                .entry((record.version, record.place))
-                .or_insert(i);
-            if first != i {
+            let first = look.there.lowest(record.version, record.place);
+            if let Some(first) = first.filter(|first| *first != i) {
                 look.says(
                     i,
                     format!("its version and place are those of slot {first}"),
@@ -80,10 +67,7 @@ impl Look {
     }
 
     fn found(&self) -> Vec<(usize, Record)> {
-        let records = self.records.iter().enumerate();
-        records
-            .filter_map(|(i, record)| Some((i, (*record)?)))
-            .collect()
+        self.there.records().collect()
     }
 
     /// What a record says of its children, with their places and the slots that they are in.
@@ -96,7 +80,7 @@ impl Look {
             Some((
                 child,
                 place,
-                self.lowest.get(&(child.version, place)).copied(),
+                self.there.lowest(child.version, place),
             ))
         })
     }
@@ -162,17 +146,15 @@ impl Look {
                 );
             }
         }
-        let kids: Vec<[Option<usize>; 2]> = self
-            .records
-            .iter()
-            .map(|record| match record {
-                Some(record) => self.children(record).map(|child| child?.2),
+        let kids: Vec<[Option<usize>; 2]> = (0..self.there.slots.len())
+            .map(|i| match self.there.record(i) {
+                Some(record) => self.children(&record).map(|child| child?.2),
                 None => [None, None],
             })
             .collect();
         // In how many kept versions' trees a record is, and whether it was said that it is in one too many.
-        let mut versions = vec![0u64; self.records.len()];
-        let mut said = vec![false; self.records.len()];
+        let mut versions = vec![0u64; self.there.slots.len()];
+        let mut said = vec![false; self.there.slots.len()];
         for (first, last, root) in roots {
             let mut todo = vec![root];
             while let Some(i) = todo.pop() {
@@ -181,7 +163,7 @@ impl Look {
                     self.node(i);
                 }
                 versions[i] += u64::from(last - first) + 1;
-                let Some(record) = self.records[i] else {
+                let Some(record) = self.there.record(i) else {
                     continue;
                 };
                 let stands = record.stands_in(first) && record.stands_in(last);
@@ -201,7 +183,7 @@ impl Look {
                 continue;
             };
             let lives = u64::from(last - first) + 1;
-            let second = self.lowest.get(&(record.version, record.place)) != Some(&i);
+            let second = self.there.lowest(record.version, record.place) != Some(i);
             if versions[i] < lives && !said[i] && !second {
                 let which = match lives {
                     1 => format!("version {first}"),
@@ -221,7 +203,7 @@ impl Look {
 
     /// What a record of a tree says of those below it.
     fn node(&mut self, i: usize) {
-        let Some(record) = self.records[i] else {
+        let Some(record) = self.there.record(i) else {
             return;
         };
         let counts = match record.body {
@@ -241,7 +223,7 @@ impl Look {
         for ((child, count), side) in children.into_iter().zip(counts).zip(["left", "right"]) {
             let mut leaves = 0;
             if let Some((child, place, slot)) = child {
-                let Some((j, kid)) = slot.and_then(|j| Some((j, self.records[j]?))) else {
+                let Some((j, kid)) = slot.and_then(|j| Some((j, self.there.record(j)?))) else {
                     self.says(
                         i,
                         format!(
@@ -253,7 +235,7 @@ impl Look {
                     continue;
                 };
                 leaves = self.leaves[j];
-                if hash(&kid) != child.hash {
+                if kid.hash() != child.hash {
                     self.says(
                         j,
                         format!("its hash is not the one in slot {i}, the record above it"),

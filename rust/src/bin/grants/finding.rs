@@ -1,13 +1,13 @@
 //! `grants verify .. --against STORE --version VERSION`: whether a proof that is accepted tells the truth about that version, and what it would have cost if not.
 
 use crate::args::{number, Args};
-use crate::asked::{read_store, refused};
+use crate::asked::read_kept;
 use crate::json::object;
 use crate::out::{both_to_output, ABSENT};
 use crate::fail::Fail;
 use crate::files;
 use crate::out::Out;
-use crate::plain::shown;
+use crate::plain::{counted, shown};
 use grants::{to_hex, Finding, Value};
 use std::path::Path;
 
@@ -17,6 +17,8 @@ const FOUND: u8 = 4;
 /// What was asked with `--against`, of a proof that was accepted with this answer.
 pub struct Accepted<'a> {
     pub root: &'a [u8],
+    /// Those of the shelf that the proof is of; none for a store's.
+    pub bits: Option<u32>,
     pub key: &'a [u8],
     pub proof: &'a [u8],
     pub value: Option<Value>,
@@ -27,8 +29,17 @@ pub fn against(args: &Args, store: &Path, of: &Accepted<'_>, out: &mut Out) -> R
         return Err(Fail::Usage("--against STORE goes with --version VERSION".to_string()));
     };
     let version = number("VERSION", version)?;
-    let held = read_store(store)?;
-    let refusal = refused(&held, store);
+    let held = read_kept(store)?;
+    let refusal = held.refused(store);
+    let own_bits = held.shelf().map(|shelf| shelf.bits().get());
+    if own_bits != of.bits {
+        return Err(Fail::Usage(format!(
+            "the proof is of {}, and {} is {}",
+            kind(of.bits),
+            shown(store),
+            kind(own_bits)
+        )));
+    }
     let own = held.root(version).map_err(&refusal)?;
     if own.as_ref() != of.root {
         return Err(Fail::Usage(format!(
@@ -66,6 +77,10 @@ pub fn against(args: &Args, store: &Path, of: &Accepted<'_>, out: &mut Out) -> R
         ]),
         format_args!("{}\n{}", says(of), paragraph(&finding, version)),
     )
+}
+
+fn kind(bits: Option<u32>) -> String {
+    bits.map_or("a store".to_string(), |bits| format!("a shelf of {}", counted(bits as usize, "bit")))
 }
 
 fn status(finding: &Finding, of: &Accepted<'_>) -> u8 {
@@ -135,7 +150,7 @@ mod tests {
     /// No finding can be made under SHA-256, so the text is looked at with messages that are none.
     #[test]
     fn a_finding_is_a_text_for_sha256sum() {
-        let of = Accepted { root: &[1; 32], key: &[2; 32], proof: &[], value: None };
+        let of = Accepted { root: &[1; 32], bits: None, key: &[2; 32], proof: &[], value: None };
         let two = Finding::Two([1; 65], [0; 65]);
         let text = report(&two, 7, &of);
         assert!(text.contains("# version 7\n") && text.contains("# the proof says: absent\n"));

@@ -1,8 +1,7 @@
 //! The same versions in a store of another capacity: each publishing is made again under its own number, and its root compared.
 
 use crate::args::{number, Args};
-use crate::asked::{refused, Bytes};
-use crate::commands::writable;
+use crate::asked::{refused, Bytes, writable};
 use crate::fail::Fail;
 use crate::files::{is_shelf, Locked};
 use crate::held;
@@ -11,7 +10,7 @@ use crate::kept::{read_shelf, shelf_refused, trimmed};
 use crate::out::Out;
 use crate::plain::{counted, shown};
 use crate::progress;
-use grants::{Batch, Error, Shelf, Store};
+use grants::{Batch, Error, Shelf, Store, MOST_VISITS};
 use std::path::Path;
 
 pub fn grow(args: &Args, out: &mut Out) -> Result<u8, Fail> {
@@ -121,7 +120,7 @@ fn republished(store: &Bytes, mut fresh: Bytes) -> Result<Bytes, Cannot> {
     let header = store.header()?;
     // The oldest version in parts, the last of them under its own number.
     let mut oldest = Batch::new();
-    for (key, value) in held::grants(store, &slots, header.oldest)? {
+    for (key, value) in held::grants(store, &held::lookup(), &slots, header.oldest)? {
         let _ = oldest.insert(key, value);
     }
     if header.oldest > 0 {
@@ -139,16 +138,10 @@ fn republished(store: &Bytes, mut fresh: Bytes) -> Result<Bytes, Cannot> {
         fresh.prune(header.oldest)?;
     }
     same_root(store, &fresh, header.oldest)?;
-    let touched = held::touched(&slots);
-    for span in held::spans(header, &slots, []).iter().skip(1) {
-        let version = span.first;
-        let mut batch = Batch::new();
-        for (key, _, after) in held::changes(store, &touched, version)? {
-            let _ = match after {
-                Some(value) => batch.insert(key, value),
-                None => batch.delete(key),
-            };
-        }
+    for one in held::spans(header, &slots, []).iter().skip(1) {
+        let version = one.first;
+        // What a publishing changed is the library's list.
+        let batch = store.changes(version - 1, version, MOST_VISITS)?.to_batch();
         fresh.apply(version, &batch).map_err(|e| match e {
             Error::BatchForm => {
                 Cannot::Because(format!("version {version} changed more than one batch can"))

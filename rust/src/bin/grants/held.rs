@@ -1,37 +1,33 @@
 //! What the versions of a sound store hold. Records say when keys may have come and gone; the values are those that the library reads.
 
-use grants::{sha256, Body, Error, Header, Key, Place, Record, Store, Value};
+use grants::{Error, Key, Lookup, Place, Record, Store, Value};
 use std::collections::{BTreeMap, BTreeSet};
 
 /// A store as it was read.
 pub type Bytes = Store<Vec<u8>>;
 
-/// The SHA-256 of a record's message (docs/RULES.md).
-pub fn hash(record: &Record) -> [u8; 32] {
-    let none = [0; 32];
-    let (first, left, right) = match record.body {
-        Body::Leaf { key, value } => (1, <[u8; 32]>::from(key), <[u8; 32]>::from(value)),
-        Body::Inner { left, right, .. } => (
-            0,
-            left.map_or(none, |c| c.hash),
-            right.map_or(none, |c| c.hash),
-        ),
-    };
-    let mut message = [first; 65];
-    message[1..33].copy_from_slice(&left);
-    message[33..].copy_from_slice(&right);
-    sha256(&message)
-}
-
 pub type Grants = BTreeMap<Key, Value>;
 
+/// How a store is read in long work: by a table from when that pays. For measurements and tests, an environment variable does without.
+pub fn lookup() -> Lookup {
+    match std::env::var_os("GRANTS_NO_TABLE") {
+        Some(_) => Lookup::plain(),
+        None => Lookup::new(),
+    }
+}
+
 /// The grants of a version, by key.
-pub fn grants(store: &Bytes, slots: &[Option<Record>], version: u32) -> Result<Grants, Error> {
+pub fn grants(
+    store: &Bytes,
+    lookup: &Lookup,
+    slots: &[Option<Record>],
+    version: u32,
+) -> Result<Grants, Error> {
     let mut grants = Grants::new();
     let records = slots.iter().flatten();
     for record in records.filter(|record| record.stands_in(version)) {
         if let Some((key, _)) = record.grant() {
-            if let Some(value) = store.get(version, key)? {
+            if let Some(value) = lookup.get(store, version, key)? {
                 grants.insert(key, value);
             }
         }
@@ -56,62 +52,9 @@ pub fn touched(slots: &[Option<Record>]) -> BTreeMap<u32, BTreeSet<Key>> {
 }
 
 /// A key's value before and after.
-pub type Change = (Key, Option<Value>, Option<Value>);
+type Change = (Key, Option<Value>, Option<Value>);
 
-/// Kept versions that read alike: a publishing up to the version before the next one.
-pub struct Span {
-    pub first: u32,
-    pub last: u32,
-    /// The number of its root's record, which is before the first where that is the oldest kept version; none where it holds nothing, but the first one
-    /// where something stood before.
-    pub published: Option<u32>,
-}
-
-/// The kept versions, in spans. A publishing is found by its root's record, one that left nothing by the end of the root before it; latest is one
-/// too, and so are the numbers that someone else knows of. No number in between is looked at: thousands of millions may lie there.
-pub fn spans(
-    header: Header,
-    slots: &[Option<Record>],
-    known: impl IntoIterator<Item = u32>,
-) -> Vec<Span> {
-    let roots = || {
-        slots
-            .iter()
-            .flatten()
-            .filter(|record| record.place == Place::EMPTY)
-    };
-    let ends = roots()
-        .flat_map(|root| [Some(root.version), root.retired_since])
-        .flatten();
-    let kept = |version: &u32| header.oldest <= *version && *version <= header.latest;
-    let firsts: BTreeSet<u32> = [header.oldest, header.latest]
-        .into_iter()
-        .chain(ends)
-        .chain(known)
-        .filter(kept)
-        .collect();
-    let mut begins: BTreeMap<u32, u32> = BTreeMap::new();
-    for root in roots() {
-        begins.insert(root.version.max(header.oldest), root.version);
-    }
-    let lasts = firsts
-        .iter()
-        .skip(1)
-        .map(|next| next - 1)
-        .chain([header.latest]);
-    firsts
-        .iter()
-        .zip(lasts)
-        .map(|(&first, last)| Span {
-            first,
-            last,
-            published: begins
-                .get(&first)
-                .copied()
-                .or((first > header.oldest).then_some(first)),
-        })
-        .collect()
-}
+pub use grants::{publishings as spans, Publishing as Span};
 
 /// How many publishings a guess goes by.
 const LAST: usize = 10;
@@ -153,16 +96,17 @@ pub fn published(slots: &[Option<Record>], version: u32) -> u32 {
     root.map(|root| root.version).or(ended).unwrap_or(version)
 }
 
-/// What a version changed, where the one before it is kept too.
-pub fn changes(
+/// What a version changed, where the one before it is kept too. The library has a call for it, which checks the store each time; of hundreds of versions, reads by a table are much quicker.
+fn changes(
     store: &Bytes,
+    lookup: &Lookup,
     touched: &BTreeMap<u32, BTreeSet<Key>>,
     version: u32,
 ) -> Result<Vec<Change>, Error> {
     let mut changes = vec![];
     for key in touched.get(&version).into_iter().flatten() {
-        let before = store.get(version - 1, key)?;
-        let after = store.get(version, key)?;
+        let before = lookup.get(store, version - 1, key)?;
+        let after = lookup.get(store, version, key)?;
         if before != after {
             changes.push((*key, before, after));
         }
@@ -184,21 +128,25 @@ pub struct Ledger {
 
 impl Ledger {
     /// What a sound store has for these versions, ascending; before its oldest nothing is known, and after its latest nothing comes or goes.
-    pub fn of(store: &Bytes, versions: &[u32], oldest: u32) -> Result<Ledger, Error> {
-        let slots = store.slots()?;
+    pub fn of(
+        store: &Bytes,
+        slots: &[Option<Record>],
+        versions: &[u32],
+        oldest: u32,
+    ) -> Result<Ledger, Error> {
         let latest = store.header()?.latest;
         let mut ledger = Ledger::default();
         let first = versions.first().copied().unwrap_or(0);
-        ledger.records = records(&slots, first);
+        ledger.records = records(slots, first);
         for record in slots.iter().flatten() {
             *ledger.made.entry(record.version).or_default() += 1;
         }
-        let touched = touched(&slots);
+        let (touched, lookup) = (touched(slots), lookup());
         for version in versions {
-            let count = store.count((*version).min(latest))?;
+            let count = lookup.count(store, (*version).min(latest))?;
             ledger.grants.insert(*version, count);
             if *version > oldest && *version <= latest {
-                ledger.tallies.insert(*version, tally(store, &touched, *version)?);
+                ledger.tallies.insert(*version, tally(store, &lookup, &touched, *version)?);
             }
         }
         Ok(ledger)
@@ -229,11 +177,12 @@ impl Ledger {
 /// How many keys a version added, removed and gave another value.
 fn tally(
     store: &Bytes,
+    lookup: &Lookup,
     touched: &BTreeMap<u32, BTreeSet<Key>>,
     version: u32,
 ) -> Result<[usize; 3], Error> {
     let mut tally = [0; 3];
-    for change in changes(store, touched, version)? {
+    for change in changes(store, lookup, touched, version)? {
         match change {
             (_, None, Some(_)) => tally[0] += 1,
             (_, Some(_), None) => tally[1] += 1,

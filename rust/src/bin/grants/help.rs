@@ -38,7 +38,12 @@ STORE: the store; it is replaced as a whole and never written into.
 
 STORE.book: names, dates and messages, a text for people. Nothing is trusted in it that the library doesn't say.
 
-.STORE.grants-new: the new store while it is written; the next writer removes one that was left.";
+.STORE.grants-new: the new store while it is written; the next writer removes one that was left.
+
+DIR: a shelf. It has the text shelf, the store list, its book list.book, and a store for each part, named by its numbers as
+part-0a3-7-2-3906; those of a shelf of the old form are named old-0a3-7-2-3906.
+
+STORE.old, DIR.old: what `grants move` replaced.";
 
 const ENVIRONMENT: &str = "\
 GRANTS_AUTHOR: by whom a version is published, where --author doesn't say it; else USER, LOGNAME, or the name that the

@@ -7,10 +7,11 @@ use crate::held::{self, Grants, Ledger};
 use crate::plain::shown;
 use crate::progress;
 use grants::{
-    Changes, Error, Header, Key, Palette, Proof, RangeFigures, Record, Root, Shelf, ShelfError,
+    Changes, Error, Finding, Header, Key, Lookup, Palette, Publishing, Proof, RangeFigures, Record, Root, Shelf, ShelfError,
     Store, Value, OLD_SLOT_BYTES,
 };
 use std::collections::BTreeSet;
+use std::ops::Deref;
 use std::path::Path;
 
 /// What an editor does without a proof.
@@ -20,39 +21,68 @@ const EMPTY_ADVICE: &str =
 pub const LENGTH_ADVICE: &str = "Write it as 64 hex digits.";
 
 pub enum Kept {
-    Store(Bytes),
+    Store(Looked),
     Shelf(Shelf),
+}
+
+/// A store, and how it is read: long work makes itself a table.
+pub struct Looked {
+    store: Bytes,
+    lookup: Lookup,
+}
+
+impl From<Bytes> for Looked {
+    fn from(store: Bytes) -> Looked {
+        let lookup = held::lookup();
+        Looked { store, lookup }
+    }
+}
+
+impl Deref for Looked {
+    type Target = Bytes;
+
+    fn deref(&self) -> &Bytes {
+        &self.store
+    }
+}
+
+impl Looked {
+    pub fn into_store(self) -> Bytes {
+        self.store
+    }
 }
 
 /// What is read, wherever it is; of a shelf the list, and its parts when they are asked for.
 pub fn read_kept(path: &Path) -> Result<Kept, Fail> {
     match is_shelf(path) {
         true => read_shelf(path).map(Kept::Shelf),
-        false => files::read(path, STORE_LIMIT).map(|bytes| Kept::Store(Store::over(bytes))),
+        false => read_store(path).map(|store| Kept::Store(store.into())),
     }
 }
 
 pub fn read_shelf(path: &Path) -> Result<Shelf, Fail> {
-    let mut shelf = Shelf::open(path).map_err(|e| shelf_refused(None, path, e))?;
+    let mut shelf = Shelf::open(path).map_err(|e| opening(path, e))?;
     shelf.tell(progress::parts);
     Ok(shelf)
 }
 
-/// The store of a command that takes no shelf.
-pub fn read_store(path: &Path) -> Result<Bytes, Fail> {
-    match is_shelf(path) {
-        true => Err(no_shelves(path)),
-        false => files::read(path, STORE_LIMIT).map(Store::over),
+/// Why a shelf can't be opened; one whose stores are of the old form is known by its list.
+fn opening(path: &Path, error: ShelfError) -> Fail {
+    let old = |path: &Path| {
+        let list = files::read(&path.join(grants::LIST_FILE), STORE_LIMIT);
+        list.is_ok_and(|list| Store::over(list).is_old_form())
+    };
+    match error {
+        ShelfError::Refused { error: error @ (Error::Size | Error::Header), part: None } if old(path) => {
+            Fail::Refused(error, old_form(&trimmed(path), "shelf"))
+        }
+        error => shelf_refused(None, path, error),
     }
 }
 
-/// What is said where a command takes a store alone.
-pub fn no_shelves(path: &Path) -> Fail {
-    let name = trimmed(path);
-    Fail::Usage(format!(
-        "{name} is a shelf, and this command takes a store alone: the list ({name}/{}) or the file of one part is such a store",
-        grants::LIST_FILE
-    ))
+/// The bytes of a store.
+pub fn read_store(path: &Path) -> Result<Bytes, Fail> {
+    files::read(path, STORE_LIMIT).map(Store::over)
 }
 
 /// A folder's name without what follows it.
@@ -68,7 +98,7 @@ impl Kept {
     /// The store, or the list of a shelf: its publishings are those of the whole.
     pub fn first(&self) -> &Bytes {
         match self {
-            Kept::Store(store) => store,
+            Kept::Store(store) => &store.store,
             Kept::Shelf(shelf) => shelf.list(),
         }
     }
@@ -77,13 +107,21 @@ impl Kept {
         Ok(self.first().header()?)
     }
 
+    /// The publishings that are kept: those of a shelf are its list's.
+    pub fn publishings(&self) -> Result<Vec<Publishing>, ShelfError> {
+        Ok(self.first().publishings()?)
+    }
+
     /// The records that tell the publishings.
     pub fn slots(&self) -> Result<Vec<Option<Record>>, ShelfError> {
         Ok(self.first().slots()?)
     }
 
     pub fn root(&self, version: u32) -> Result<Root, ShelfError> {
-        Ok(self.first().root(version)?)
+        match self {
+            Kept::Store(looked) => Ok(looked.lookup.root(&looked.store, version)?),
+            Kept::Shelf(shelf) => shelf.root(version),
+        }
     }
 
     pub fn check(&self) -> Result<(), ShelfError> {
@@ -95,21 +133,36 @@ impl Kept {
 
     pub fn get(&self, version: u32, key: impl AsRef<[u8]>) -> Result<Option<Value>, ShelfError> {
         match self {
-            Kept::Store(store) => Ok(store.get(version, key)?),
+            Kept::Store(looked) => Ok(looked.lookup.get(&looked.store, version, key)?),
             Kept::Shelf(shelf) => shelf.get(version, key),
         }
     }
 
     pub fn prove(&self, version: u32, key: &[u8]) -> Result<Proof, ShelfError> {
         match self {
-            Kept::Store(store) => Ok(store.prove(version, key)?),
+            Kept::Store(looked) => Ok(looked.lookup.prove(&looked.store, version, key)?),
             Kept::Shelf(shelf) => shelf.prove(version, key),
+        }
+    }
+
+    pub fn prove_pocket(&self, version: u32, key: &[u8]) -> Result<Proof, ShelfError> {
+        match self {
+            Kept::Store(store) => Ok(store.prove_pocket(version, key)?),
+            Kept::Shelf(shelf) => shelf.prove_pocket(version, key),
+        }
+    }
+
+    /// What a proof is worth to whom has what it speaks of.
+    pub fn finding(&self, version: u32, key: &[u8], proof: &[u8]) -> Result<Finding, ShelfError> {
+        match self {
+            Kept::Store(store) => Ok(store.finding(version, key, proof)?),
+            Kept::Shelf(shelf) => shelf.finding(version, key, proof),
         }
     }
 
     pub fn palette(&self, version: u32, keys: &[Key]) -> Result<Palette, ShelfError> {
         match self {
-            Kept::Store(store) => Ok(store.palette(version, keys)?),
+            Kept::Store(looked) => Ok(looked.lookup.palette(&looked.store, version, keys)?),
             Kept::Shelf(shelf) => shelf.palette(version, keys),
         }
     }
@@ -124,14 +177,14 @@ impl Kept {
 
     pub fn count(&self, version: u32) -> Result<u64, ShelfError> {
         match self {
-            Kept::Store(store) => Ok(store.count(version)?),
+            Kept::Store(looked) => Ok(looked.lookup.count(&looked.store, version)?),
             Kept::Shelf(shelf) => shelf.count(version),
         }
     }
 
     pub fn at(&self, version: u32, position: u64) -> Result<(Key, Value), ShelfError> {
         match self {
-            Kept::Store(store) => Ok(store.at(version, position)?),
+            Kept::Store(looked) => Ok(looked.lookup.at(&looked.store, version, position)?),
             Kept::Shelf(shelf) => shelf.at(version, position),
         }
     }
@@ -150,23 +203,23 @@ impl Kept {
         }
     }
 
-    /// The grants of a version, by key, of what the library calls sound.
-    pub fn grants(&self, version: u32) -> Result<Grants, ShelfError> {
+    /// The grants of a version, by key, of what the library calls sound; the records are those of [`Kept::slots`].
+    pub fn grants(&self, slots: &[Option<Record>], version: u32) -> Result<Grants, ShelfError> {
         match self {
-            Kept::Store(store) => Ok(held::grants(store, &store.slots()?, version)?),
+            Kept::Store(looked) => Ok(held::grants(&looked.store, &looked.lookup, slots, version)?),
             Kept::Shelf(shelf) => Ok(shelf.grants(version)?.into_iter().collect()),
         }
     }
 
-    /// The kept versions in which a key may have become another; the oldest is one.
-    pub fn turns(&self, key: &[u8]) -> Result<BTreeSet<u32>, ShelfError> {
+    /// The kept versions in which a key may have become another; the oldest is one. The records are those of [`Kept::slots`].
+    pub fn turns(&self, slots: &[Option<Record>], key: &[u8]) -> Result<BTreeSet<u32>, ShelfError> {
         let Header { oldest, latest, .. } = self.header()?;
-        let slots = match self {
-            Kept::Store(store) => store.slots()?,
-            Kept::Shelf(shelf) => part_slots(shelf, key)?,
+        let touched = match self {
+            Kept::Store(_) => held::touched(slots),
+            Kept::Shelf(shelf) => held::touched(&part_slots(shelf, key)?),
         };
         let mut turns = BTreeSet::from([oldest]);
-        for (version, keys) in held::touched(&slots) {
+        for (version, keys) in touched {
             if version > oldest
                 && version <= latest
                 && keys.iter().any(|k| k.as_bytes()[..] == key[..])
@@ -177,14 +230,19 @@ impl Kept {
         Ok(turns)
     }
 
-    /// What came and went with each of these versions.
-    pub fn ledger(&self, versions: &[u32]) -> Result<Ledger, ShelfError> {
+    /// What came and went with each of these versions. The records are those of [`Kept::slots`].
+    pub fn ledger(
+        &self,
+        slots: &[Option<Record>],
+        versions: &[u32],
+    ) -> Result<Ledger, ShelfError> {
         let store = self.first();
-        let header = store.header()?;
-        let mut ledger = Ledger::of(store, versions, header.oldest)?;
+        let oldest = store.header()?.oldest;
+        let mut ledger = Ledger::of(store, slots, versions, oldest)?;
         if let Kept::Shelf(shelf) = self {
             ledger.keep_records();
-            for part in shelf.each_file(|at| Ledger::of(&at.store, versions, header.oldest))? {
+            let of = |store: &Bytes| Ledger::of(store, &store.slots()?, versions, oldest);
+            for part in shelf.each_file(|at| of(&at.store))? {
                 ledger.add(part);
             }
         }
@@ -229,7 +287,7 @@ pub fn refused(store: &Bytes, path: &Path) -> impl Fn(Error) -> Fail {
     let old = store.is_old_form();
     move |error| {
         let advice = match error {
-            Error::Size | Error::Header if old => old_form(&name),
+            Error::Size | Error::Header if old => old_form(&name, "store"),
             Error::Size => format!("{name} has {}: is it the right file, and whole?", bytes(length)),
             Error::Header => format!("{name} is no grant store, or its first 24 bytes are damaged: take another copy, or see what can be rescued (grants rescue)."),
             Error::Unsound | Error::Spoilt { .. } | Error::Lost => format!("{name} is damaged: take another copy, or see what can be rescued (grants rescue); `grants check` lists what is missing. Nothing was changed."),
@@ -312,14 +370,15 @@ fn room_advice(part: Option<u16>, name: &str, what: &str) -> String {
     format!("That is {what}. Prune versions that no one asks for any more (grants prune), {more}. {name} is as it was.")
 }
 
-/// Whether another list is there than the one that was read.
+/// Whether another list is there than the one that was read, of whatever form. One of the old form is read as it would be brought over, so its bytes tell nothing.
 fn replaced(shelf: &Shelf, path: &Path) -> bool {
-    Shelf::open(path).is_ok_and(|now| now.list().as_bytes() != shelf.list().as_bytes())
+    let now = files::read(&path.join(grants::LIST_FILE), STORE_LIMIT);
+    !shelf.is_old_form() && now.is_ok_and(|now| now != shelf.list().as_bytes())
 }
 
-/// What a store of the form before the counts is, and what brings it over.
-fn old_form(name: &str) -> String {
-    format!("{name} is a store of the old form (slots of {OLD_SLOT_BYTES} bytes); `grants move` brings it over.")
+/// What a store or shelf of the form before the counts is, and what brings it over.
+fn old_form(name: &str, what: &str) -> String {
+    format!("{name} is a {what} of the old form (slots of {OLD_SLOT_BYTES} bytes); `grants move` brings it over.")
 }
 
 fn bytes(length: usize) -> String {

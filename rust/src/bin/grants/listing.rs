@@ -205,7 +205,7 @@ pub fn log(args: &Args, out: &mut Out) -> Result<u8, Fail> {
     let mut spans = publishings(&store, &slots, header, &book).map_err(&refused)?;
     spans.drain(..spans.len().saturating_sub(last));
     let firsts: Vec<u32> = spans.iter().map(|span| span.first).collect();
-    let ledger = store.ledger(&firsts).map_err(&refused)?;
+    let ledger = store.ledger(&slots, &firsts).map_err(&refused)?;
     let widest = spans
         .iter()
         .map(|span| range(span).len())
@@ -325,7 +325,7 @@ fn listed(args: &Args) -> Result<Listed, Fail> {
     let count = store.count(version).map_err(&refused)?;
     let mut grants = match page {
         None => (0..)
-            .zip(store.grants(version).map_err(&refused)?)
+            .zip(store.grants(&slots, version).map_err(&refused)?)
             .map(|(position, (key, value))| (position, key, value))
             .collect(),
         Some(page) => page.read(&store, path, version, count)?,
@@ -522,7 +522,7 @@ pub fn history(args: &Args, out: &mut Out) -> Result<u8, Fail> {
     let book = Book::of(args, Some(path))?;
     let mut rows = vec![];
     let mut before = None;
-    for version in store.turns(&key).map_err(&refused)? {
+    for version in store.turns(&slots, &key).map_err(&refused)? {
         let value = store.get(version, &key).map_err(&refused)?;
         if before != Some(value) {
             let root = store.root(version).map_err(&refused)?;

@@ -60,8 +60,12 @@ fn leaves(proof: &[u8]) -> Vec<[[u8; 32]; 2]> {
     found
 }
 
+/// A message shows raw keys, and its check hashes them. The keys of a shelf's list are a part's bits and zeros, which nothing is known to hash to.
 fn no_message() -> Fail {
-    Fail::Usage("--ics23 is for the proof of a store: a shelf's two proofs are no message".to_string())
+    Fail::Usage(
+        "--ics23 is for the proof of a store: a message shows the raw key of every leaf, and those of a shelf's list, a part's bits and then zeros, are the SHA-256 of nothing that is known; give partners a root of a store of their own"
+            .to_string(),
+    )
 }
 
 /// `grants prove --ics23`: the message of one key.

@@ -4,8 +4,9 @@ use crate::asked::{refused, Bytes, Kept};
 use crate::fail::{Fail, Wrong};
 use crate::faults;
 use crate::json::Json;
+use crate::kept::{self, trimmed};
 use crate::plain::{at, counted, shown};
-use grants::{Error, Key, Met, Missing, ShelfError};
+use grants::{Error, Key, Met, Missing, Shelf, ShelfError, Store};
 use std::path::Path;
 
 /// What is done about a damaged store.
@@ -52,37 +53,72 @@ pub fn refused_read<'a>(
     version: u32,
     key: Option<&'a [u8]>,
 ) -> impl Fn(ShelfError) -> Fail + 'a {
-    move |error| match (store, error) {
-        (Kept::Store(store), ShelfError::Refused { error, .. }) => {
-            store_read(store, path, version, key)(error)
-        }
-        (_, error) => store.refused(path)(error),
+    move |error| {
+        let wants = match (store, &error) {
+            (Kept::Store(store), ShelfError::Refused { error, .. }) => {
+                store_read(store, &shown(path), version, key, *error)
+            }
+            (Kept::Shelf(shelf), ShelfError::Refused { error, part }) => {
+                shelf_read(shelf, path, version, key, *part, *error)
+            }
+            _ => None,
+        };
+        wants.unwrap_or_else(|| store.refused(path)(error))
     }
 }
 
-fn store_read<'a>(
-    store: &'a Bytes,
-    path: &'a Path,
+/// Which record a read of a store met that is lost or spoilt.
+fn store_read(
+    store: &Bytes,
+    name: &str,
     version: u32,
-    key: Option<&'a [u8]>,
-) -> impl Fn(Error) -> Fail + 'a {
-    move |error| {
-        if !matches!(error, Error::Lost | Error::Spoilt { .. }) {
-            return refused(store, path)(error);
+    key: Option<&[u8]>,
+    error: Error,
+) -> Option<Fail> {
+    if !matches!(error, Error::Lost | Error::Spoilt { .. }) {
+        return None;
+    }
+    // Of the root alone: any key's way begins there.
+    let key: Option<[u8; 32]> = key.map_or(Some([0; 32]), |key| key.try_into().ok());
+    let missing = store.missing_for(version, Key::from(key?));
+    let missing = missing.filter(|missing| missing.slot == error.slot())?;
+    Some(wants(error, name, version, missing))
+}
+
+/// The same of the list of a shelf, by the part's key there, or of the part.
+fn shelf_read(
+    shelf: &Shelf,
+    path: &Path,
+    version: u32,
+    key: Option<&[u8]>,
+    part: Option<u16>,
+    error: Error,
+) -> Option<Fail> {
+    let (store, name) = store_of(shelf, path, part)?;
+    let bits = shelf.bits();
+    let listed = key.and_then(|key| <[u8; 32]>::try_from(key).ok());
+    let listed = listed.map(|key| bits.list_key(bits.part_of(Key::from(key))));
+    let (version, key) = match part {
+        Some(_) => (version.min(store.header().ok()?.latest), key),
+        None => (version, listed.as_ref().map(|key| &key.as_bytes()[..])),
+    };
+    store_read(&store, &name, version, key, error)
+}
+
+/// A store of a shelf, the list or a part, and what it is called.
+fn store_of(shelf: &Shelf, path: &Path, part: Option<u16>) -> Option<(Bytes, String)> {
+    let shelf_name = trimmed(path);
+    match part {
+        Some(part) => Some((shelf.part(part).ok()??, format!("part {part:03x} of {shelf_name}"))),
+        None => {
+            let list = Store::over(shelf.list().as_bytes().to_vec());
+            Some((list, format!("the list of {shelf_name}")))
         }
-        // Of the root alone: any key's way begins there.
-        let key: Option<[u8; 32]> = key.map_or(Some([0; 32]), |key| key.try_into().ok());
-        let missing = key.and_then(|key| store.missing_for(version, Key::from(key)));
-        let Some(missing) = missing.filter(|missing| missing.slot == error.slot()) else {
-            return refused(store, path)(error);
-        };
-        wants(error, path, version, missing)
     }
 }
 
 /// Which record a version wants and can't find.
-fn wants(error: Error, path: &Path, version: u32, missing: Missing) -> Fail {
-    let name = shown(path);
+fn wants(error: Error, name: &str, version: u32, missing: Missing) -> Fail {
     let advice = format!("Version {version} of {name} wants {}, which is {}: {ADVICE}. `grants check` lists all that is missing.", named(&missing), harm(&missing));
     Fail::Damaged(error, advice, vec![missing], vec![])
 }
@@ -130,7 +166,7 @@ fn store_at<'a>(
         let damaged = matches!(error, Error::Lost | Error::Spoilt { .. } | Error::Unsound);
         let why = match damaged.then(|| store.met_at(version, position)).flatten() {
             Some(Met::Missing(missing)) if missing.slot == error.slot() => {
-                return wants(error, path, version, missing)
+                return wants(error, &name, version, missing)
             }
             Some(Met::NoChild { place }) => {
                 format!(
@@ -170,14 +206,28 @@ pub fn wrong_object(wrong: &Wrong) -> Json {
     ])
 }
 
-/// Check of an unsound store: all that is missing, and where nothing is, what is wrong.
-pub fn unsound(store: &Bytes, path: &Path) -> Fail {
+/// Check of an unsound store or shelf: of the store that isn't sound, all that is missing, and where nothing is, what is wrong.
+pub fn checked(store: &Kept, path: &Path, error: ShelfError) -> Fail {
+    match (store, &error) {
+        (Kept::Store(store), ShelfError::Refused { error: Error::Unsound, .. }) => {
+            unsound(store, &shown(path))
+        }
+        (Kept::Shelf(shelf), ShelfError::Refused { error: Error::Unsound, part }) => {
+            match store_of(shelf, path, *part) {
+                Some((store, name)) => unsound(&store, &name),
+                None => kept::shelf_refused(Some(shelf), path, error),
+            }
+        }
+        _ => store.refused(path)(error),
+    }
+}
+
+fn unsound(store: &Bytes, name: &str) -> Fail {
     let missing = store.missing().unwrap_or_default();
     let wrong = match missing.len() {
         0 => faults::of(store),
         _ => vec![],
     };
-    let name = shown(path);
     let what = match (missing.len(), &wrong[..]) {
         (0, []) => "No record is missing, but something is wrong".to_string(),
         (0, [one]) => format!("No record is missing, but one is wrong: {}", wrong_line(one)),

@@ -1,9 +1,8 @@
 //! The names in the book, listed and given.
 
 use crate::args::Args;
-use crate::asked::{hex, LENGTH_ADVICE};
+use crate::asked::{hex, LENGTH_ADVICE, writable};
 use crate::book::{self, Book};
-use crate::commands::writable;
 use crate::fail::Fail;
 use crate::files::Locked;
 use crate::json::{object, Json};

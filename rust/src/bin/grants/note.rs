@@ -1,13 +1,11 @@
 //! A line of the book for a version that has none: its writer was stopped between the store and the book, or ran without it.
 
 use crate::args::{number, Args};
-use crate::asked::Kept;
+use crate::asked::{Kept, writable};
 use crate::book::{self, Book, Entry, Said};
-use crate::commands::writable;
 
 use crate::fail::Fail;
 use crate::files::Locked;
-use crate::held;
 use crate::json::object;
 use crate::out::Out;
 use crate::plain::{quoted, shown};
@@ -27,7 +25,7 @@ pub fn note(args: &Args, out: &mut Out) -> Result<u8, Fail> {
     let message = args.said("--message")?.unwrap_or_default();
     let locked = Locked::take(args, path)?;
     let list = Store::over(locked.read()?);
-    let root = published_root(&Kept::Store(list), path, version)?;
+    let root = published_root(&Kept::Store(list.into()), path, version)?;
     book::is_none_of(args, &[path])?;
     let mut book = Book::of(args, Some(path))?;
     if let (Said::This(entry), false) = (book.said(version, root), args.has("--again")) {
@@ -66,9 +64,8 @@ pub fn note(args: &Args, out: &mut Out) -> Result<u8, Fail> {
 /// The root of what was published under a number, as long as a kept version reads as it.
 fn published_root(store: &Kept, path: &Path, version: u32) -> Result<Root, Fail> {
     let refused = store.refused(path);
-    let slots = store.slots().map_err(&refused)?;
+    let spans = store.publishings().map_err(&refused)?;
     let header = store.header().map_err(&refused)?;
-    let spans = held::spans(header, &slots, []);
     if let Some(span) = spans.iter().find(|span| span.published == Some(version)) {
         return store.root(span.first).map_err(&refused);
     }

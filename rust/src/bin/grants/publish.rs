@@ -1,9 +1,8 @@
 //! Publishing: a batch, or whatever makes the store hold the grants of a file.
 
 use crate::args::{number, Args};
-use crate::asked::{note, read_kept, refused, Bytes, Kept};
-use crate::book::{self, Book, Entry, Said};
-use crate::commands::{writable, write_book};
+use crate::asked::{note, read_kept, refused, Bytes, Kept, writable};
+use crate::book::{self, write_book, Book, Entry, Said};
 
 use crate::effect::{self, Ask, Effect};
 use crate::fail::Fail;
@@ -331,7 +330,7 @@ fn lost_line(made: &Made, book: &Book, store: &Path) -> Option<String> {
 /// Publishes, unless something holds it back, so that only the new file has to be put in its place. Where nothing is asked for, the root is the one that is there.
 fn make(args: &Args, kept: Kept, asked: &Asked, book: &Book, keep: bool) -> Result<Made, Fail> {
     let made = match kept {
-        Kept::Store(store) => made_store(args, store, asked)?,
+        Kept::Store(store) => made_store(args, store.into_store(), asked)?,
         Kept::Shelf(shelf) => made_shelf(args, &shelf, asked, keep)?,
     };
     let root = made.published.last().map_or(made.was.1, |made| made.root);
@@ -399,7 +398,7 @@ impl Drop for Cleaned<'_> {
 /// What a writer is at work on, under the lock and rid of what another one left.
 fn taken(path: &Path, locked: &Locked) -> Result<Kept, Fail> {
     if !is_shelf(path) {
-        return Ok(Kept::Store(Store::over(locked.read()?)));
+        return Ok(Kept::Store(Store::over(locked.read()?).into()));
     }
     let shelf = read_shelf(path)?;
     shelf.clean().map_err(|e| shelf_refused(Some(&shelf), path, e))?;
@@ -569,7 +568,8 @@ pub fn apply(args: &Args, out: &mut Out) -> Result<u8, Fail> {
 fn difference(store: &Kept, path: &Path, lines: lines::Lines) -> Result<Asked, Fail> {
     let refused = store.refused(path);
     let latest = store.header().map_err(&refused)?.latest;
-    let now = store.grants(latest).map_err(&refused)?;
+    let slots = store.slots().map_err(&refused)?;
+    let now = store.grants(&slots, latest).map_err(&refused)?;
     let mut batch = Batch::new();
     let mut wanted = held::Grants::new();
     for (key, value) in lines.batch.iter() {

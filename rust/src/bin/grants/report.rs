@@ -7,7 +7,6 @@ use crate::json::object;
 
 use crate::fail::Fail;
 use crate::files;
-use crate::held;
 use crate::json::Json;
 use crate::out::Out;
 use crate::picture;
@@ -40,11 +39,10 @@ fn rows(
     last: u32,
 ) -> Result<Vec<Row>, Fail> {
     let refused = store.refused(path);
-    let header = store.header().map_err(&refused)?;
-    let slots = store.slots().map_err(&refused)?;
+    let spans = store.publishings().map_err(&refused)?;
     let book = Book::of(args, Some(path))?;
     let mut rows = vec![];
-    for span in held::spans(header, &slots, []) {
+    for span in spans {
         let (first, last) = (span.first.max(range.first), span.last.min(last));
         let Some(figures) = range.of(first).filter(|_| first <= last) else {
             continue;

@@ -5,262 +5,14 @@ use crate::args::{number, Args};
 use crate::asked::{hex, read_store, refused, Bytes};
 use crate::fail::Fail;
 use crate::files;
-use crate::held::{self, hash};
+use crate::found::{Found, WHYS};
 use crate::json::{object, Json};
 use crate::out::Out;
-use crate::plain::{at, counted, shown};
-use crate::shelves;
-use grants::{to_hex, Body, Error, Place, Record, Rescued, Root, Slot};
-use std::collections::{BTreeMap, HashMap};
+use crate::plain::{counted, shown};
+use crate::shelf_rescue::{self, COMPARE};
+use grants::{to_hex, Error, Place, Publishing, Record, Rescued, RescuedFromTwo, Root};
+use std::collections::{BTreeMap, BTreeSet};
 use std::path::Path;
-
-pub const COMPARE: &str = "Compare it with the root that was signed: nothing else shows that no grant withdrawn since seems in force.";
-
-/// A whole tree: the greatest version in it, and how many grants.
-#[derive(Clone, Copy)]
-struct Whole {
-    greatest: u32,
-    grants: u64,
-}
-
-/// The records in form of a store with any contents, the lowest slot of each version and place.
-struct Found {
-    slots: Vec<Slot>,
-    lowest: HashMap<(u32, Place), usize>,
-    /// Each root record that a version may have, by its version.
-    roots: BTreeMap<u32, (usize, Record)>,
-    /// Whether the tree below a record is whole, and what is known of it then; or what is wrong first.
-    trees: HashMap<usize, Result<Whole, String>>,
-}
-
-impl Found {
-    fn of(slots: Vec<Slot>) -> Found {
-        let mut lowest = HashMap::new();
-        let mut roots = BTreeMap::new();
-        for (i, slot) in slots.iter().enumerate() {
-            if let Slot::Record(record) = slot {
-                lowest.entry((record.version, record.place)).or_insert(i);
-                if record.place == Place::EMPTY {
-                    roots.entry(record.version).or_insert((i, *record));
-                }
-            }
-        }
-        let trees = HashMap::new();
-        Found {
-            slots,
-            lowest,
-            roots,
-            trees,
-        }
-    }
-
-    fn record(&self, i: usize) -> Option<Record> {
-        match self.slots[i] {
-            Slot::Record(record) => Some(record),
-            _ => None,
-        }
-    }
-
-    fn node(&self, version: u32, place: Place) -> Option<(usize, Record)> {
-        let i = *self.lowest.get(&(version, place))?;
-        Some((i, self.record(i)?))
-    }
-
-    /// A version's root: the newest root record not above it, unless that one was retired by then; else why there is none.
-    fn root(&self, version: u32) -> Result<(usize, Record), String> {
-        let newest = self.roots.range(..=version).next_back();
-        let (_, (i, root)) =
-            newest.ok_or(format!("no root record of version {version} or before"))?;
-        match root.retired_since {
-            Some(since) if since <= version => Err(format!(
-                "the newest root record not above version {version}, that of {}, is retired since {since}",
-                root.version
-            )),
-            _ => Ok((*i, *root)),
-        }
-    }
-
-    /// What is known of the tree below a record, if it is whole.
-    fn whole(&mut self, i: usize, record: Record) -> Result<Whole, String> {
-        if let Some(known) = self.trees.get(&i) {
-            return known.clone();
-        }
-        let answer = self.whole_anew(record);
-        self.trees.insert(i, answer.clone());
-        answer
-    }
-
-    fn whole_anew(&mut self, record: Record) -> Result<Whole, String> {
-        let mut whole = Whole {
-            greatest: record.version,
-            grants: 1,
-        };
-        let (left, right, counts) = match record.body {
-            Body::Leaf { key, .. } => {
-                return match record.place.begins(key) {
-                    true => Ok(whole),
-                    false => Err(format!(
-                        "the key of the leaf at {} doesn't begin with its place",
-                        at(record.place)
-                    )),
-                };
-            }
-            Body::Inner {
-                left,
-                right,
-                counts,
-            } => (left, right, counts),
-        };
-        whole.grants = 0;
-        for (child, side) in [(left, false), (right, true)] {
-            let count = counts[usize::from(side)];
-            let counted = |grants: u64| match grants == u64::from(count) {
-                true => Ok(()),
-                false => Err(format!(
-                    "the record at {} counts {count} below its {} child, where there are {grants}",
-                    at(record.place),
-                    if side { "right" } else { "left" }
-                )),
-            };
-            let (Some(child), Some(place)) = (child, record.place.longer(side)) else {
-                counted(0)?;
-                continue;
-            };
-            let Some((j, kid)) = self.node(child.version, place) else {
-                return Err(format!(
-                    "the record of version {} at {} is lost",
-                    child.version,
-                    at(place)
-                ));
-            };
-            if hash(&kid) != child.hash {
-                return Err(format!(
-                    "the record of version {} at {} has another hash than the one above it says",
-                    child.version,
-                    at(place)
-                ));
-            }
-            if (left.is_none() || right.is_none()) && kid.grant().is_some() {
-                return Err(format!("the leaf at {} stands alone", at(place)));
-            }
-            let below = self.whole(j, kid)?;
-            counted(below.grants)?;
-            whole.greatest = whole.greatest.max(below.greatest);
-            whole.grants += below.grants;
-        }
-        Ok(whole)
-    }
-
-    /// Whether a version can be rescued alone, and if not, why.
-    fn stands(&mut self, version: u32) -> Result<(), String> {
-        let (i, root) = self.root(version)?;
-        let Whole { greatest, .. } = self
-            .whole(i, root)
-            .map_err(|why| format!("in the tree of {}, {why}", root.version))?;
-        match greatest <= version {
-            true => Ok(()),
-            false => Err(format!(
-                "the tree of {} has a record of version {greatest}",
-                root.version
-            )),
-        }
-    }
-
-    /// The nodes of a record's tree, by place.
-    fn nodes(&self, i: usize) -> HashMap<Place, usize> {
-        let mut nodes = HashMap::new();
-        let mut todo = vec![i];
-        while let Some(i) = todo.pop() {
-            let Some(record) = self.record(i) else {
-                continue;
-            };
-            nodes.insert(record.place, i);
-            if let Body::Inner { left, right, .. } = record.body {
-                for (child, side) in [(left, false), (right, true)] {
-                    if let (Some(child), Some(place)) = (child, record.place.longer(side)) {
-                        todo.extend(self.node(child.version, place).map(|(j, _)| j));
-                    }
-                }
-            }
-        }
-        nodes
-    }
-
-    /// Why a run that begins at `first` begins no earlier.
-    fn no_earlier(&mut self, first: u32, oldest: u32) -> String {
-        if first == oldest {
-            return format!("{oldest} is the oldest asked for");
-        }
-        let before = first - 1;
-        if before == 0 {
-            return "version 0 has no record".to_string();
-        }
-        if let Err(why) = self.stands(before) {
-            return format!("version {before} can't be rescued: {why}");
-        }
-        let roots = (self.root(before), self.root(first));
-        if let (Ok((a, _)), Ok((b, _))) = roots {
-            let earlier = self.nodes(a);
-            let lacking = self.nodes(b).into_iter().find(|(place, i)| {
-                earlier.get(place) != Some(i) && self.record(*i).is_some_and(|r| r.version < first)
-            });
-            if let Some(version) = lacking.and_then(|(_, i)| self.record(i)).map(|r| r.version) {
-                return format!(
-                    "the tree of {first} has a record of version {version} that the tree of {before} doesn't have"
-                );
-            }
-        }
-        format!("a record of the run's trees is newer than version {before}")
-    }
-
-    /// Which slots, in the order of `WHYS`, were left out.
-    fn left_out(&self, kept: &[Option<Record>], latest: u32) -> Vec<Vec<usize>> {
-        let mut reached = vec![false; self.slots.len()];
-        for (_, (i, _)) in self.roots.range(..=latest) {
-            let mut todo = vec![*i];
-            while let Some(i) = todo.pop() {
-                if std::mem::replace(&mut reached[i], true) {
-                    continue;
-                }
-                if let Some(Record {
-                    place,
-                    body: Body::Inner { left, right, .. },
-                    ..
-                }) = self.record(i)
-                {
-                    for (child, side) in [(left, false), (right, true)] {
-                        if let (Some(child), Some(place)) = (child, place.longer(side)) {
-                            todo.extend(self.node(child.version, place).map(|(j, _)| j));
-                        }
-                    }
-                }
-            }
-        }
-        let mut out = vec![vec![]; WHYS.len()];
-        for (i, slot) in self.slots.iter().enumerate() {
-            let why = match slot {
-                Slot::Free => continue,
-                Slot::Record(_) if kept[i].is_some() => continue,
-                Slot::OffForm => 0,
-                Slot::Record(r) if self.lowest.get(&(r.version, r.place)) != Some(&i) => 1,
-                Slot::Record(r) if r.version > latest => 2,
-                Slot::Record(_) if reached[i] => 3,
-                Slot::Record(_) => 4,
-            };
-            out[why].push(i);
-        }
-        out
-    }
-}
-
-/// Why a slot is left out.
-const WHYS: [&str; 5] = [
-    "off form",
-    "a second copy",
-    "newer than latest",
-    "only in versions before the run",
-    "of no tree",
-];
 
 /// '3, 7 to 9'.
 fn ranges(numbers: &[usize]) -> String {
@@ -297,14 +49,68 @@ impl Asked<'_> {
                 "a store that is written must be a file, not standard output".to_string(),
             ));
         }
-        let oldest = args.value("--oldest").map(|word| number("--oldest", word));
-        let signed = args.said("--root")?.map(|text| root_of(&text));
         Ok(Asked {
             to,
-            oldest: oldest.transpose()?.unwrap_or(0),
+            oldest: oldest(args)?,
             latest,
-            signed: signed.transpose()?,
+            signed: signed(args)?,
         })
+    }
+}
+
+/// The other copy of a rescue from two, and what was taken from which.
+struct With<'a> {
+    damaged: &'a Path,
+    other: &'a Path,
+    /// Whether it is the other copy that was filled up, so that slots are its slots.
+    from_other: bool,
+    taken: BTreeMap<usize, usize>,
+    /// The versions that came back by a root record that the other copy alone has.
+    by_other: Vec<u32>,
+}
+
+impl With<'_> {
+    fn lines(&self) -> String {
+        let (base, from) = match self.from_other {
+            true => (self.other, self.damaged),
+            false => (self.damaged, self.other),
+        };
+        let slots: BTreeSet<usize> = self.taken.values().copied().collect();
+        let slots: Vec<usize> = slots.into_iter().collect();
+        let mut lines = match (slots.len(), self.from_other) {
+            (0, false) => format!("\nnothing was taken from {}: it makes the run no longer", shown(self.other)),
+            (0, true) => format!("\nall of it is from {}", shown(self.other)),
+            (n, _) => format!(
+                "\nfrom {}: {}, its slot {}; the rest is from {}, whose slots these are",
+                shown(from),
+                counted(n, "record"),
+                ranges(&slots),
+                shown(base)
+            ),
+        };
+        if let [first, more @ ..] = &self.by_other[..] {
+            let versions = match more {
+                [] => format!("version {first} stands"),
+                more => format!("versions {first} and {} more stand", more.len()),
+            };
+            lines += &format!(
+                "\n{versions} by a root record that {} alone has: compare its root with the one that was signed",
+                shown(self.other)
+            );
+        }
+        lines
+    }
+
+    fn json(&self) -> Json {
+        let taken = self.taken.iter().map(|(slot, from)| {
+            object(vec![("slot", (*slot).into()), ("from", (*from).into())])
+        });
+        let by_other = self.by_other.iter().map(|version| (*version).into());
+        object(vec![
+            ("filled_up", if self.from_other { "other" } else { "damaged" }.into()),
+            ("taken", Json::List(taken.collect())),
+            ("by_other", Json::List(by_other.collect())),
+        ])
     }
 }
 
@@ -313,7 +119,7 @@ struct Came {
     store: Bytes,
     what: Rescued,
     root: Root,
-    spans: Vec<held::Span>,
+    spans: Vec<Publishing>,
     left_out: Vec<Vec<usize>>,
     no_earlier: String,
     newest: Option<u32>,
@@ -326,44 +132,123 @@ fn wrong_size(store: &Bytes, path: &Path) -> impl Fn(Error) -> Fail {
     }
 }
 
-/// Of a shelf.
-fn of_shelf(args: &Args, latest: u32, out: &mut Out) -> Result<u8, Fail> {
+/// The version that a rescue must end at, where it is said.
+fn latest(args: &Args) -> Result<Option<u32>, Fail> {
+    args.value("--latest").map(|word| number("--latest", word)).transpose()
+}
+
+fn oldest(args: &Args) -> Result<u32, Fail> {
     let oldest = args.value("--oldest").map(|word| number("--oldest", word));
-    let signed = args.said("--root")?.map(|text| root_of(&text));
-    shelves::rescue(args, latest, oldest.transpose()?.unwrap_or(0), signed.transpose()?, out)
+    Ok(oldest.transpose()?.unwrap_or(0))
+}
+
+fn signed(args: &Args) -> Result<Option<Root>, Fail> {
+    args.said("--root")?.map(|text| root_of(&text)).transpose()
+}
+
+/// Who named a file to write without the version that it is to end at did not get it.
+fn nothing_written(args: &Args) -> Result<(), Fail> {
+    match args.word(1) {
+        Some(_) => Err(Fail::Usage(format!(
+            "--latest is missing, the version that the rescue must end at: nothing was written. `grants rescue {}` lists the root records that are there",
+            shown(args.path(0))
+        ))),
+        None => Ok(()),
+    }
 }
 
 pub fn rescue(args: &Args, out: &mut Out) -> Result<u8, Fail> {
     let path = args.path(0);
-    if let Some(word) = args.value("--latest").filter(|_| files::is_shelf(path)) {
-        return of_shelf(args, number("--latest", word)?, out);
+    let latest = latest(args)?;
+    if shelf_rescue::is_asked(args) {
+        if let Some(latest) = latest {
+            let (oldest, signed) = (oldest(args)?, signed(args)?);
+            let asked = shelf_rescue::Asked { latest, oldest, signed };
+            return shelf_rescue::rescue(args, &asked, out);
+        }
+        if shelf_rescue::parts_alone(args) {
+            nothing_written(args)?;
+            return shelf_rescue::listed(args, out);
+        }
+    }
+    if let Some(name) = ["--parts-alone", "--bits"].into_iter().find(|name| args.has(name) && !files::is_shelf(path)) {
+        return Err(Fail::Usage(format!("{name} is for a shelf, and {} is none", shown(path))));
     }
     // The root records of a shelf are those of its list.
-    let store = read_store(&files::main_file(path))?;
+    let store = readable(&files::main_file(path), path)?;
+    let other = other(args, path)?;
+    let Some(latest) = latest else {
+        nothing_written(args)?;
+        return listed(args, store, other.as_ref(), out);
+    };
+    let asked = Asked::of(args, latest)?;
+    let (source, with) = together(store, path, other.as_ref(), &asked);
+    let mut found = Found::of(source.slots_found().map_err(wrong_size(&source, path))?);
+    let came = came(&source, path, &asked, &mut found)?;
+    let inputs: Vec<&Path> = [path].into_iter().chain(other.as_ref().map(|(other, _)| *other)).collect();
+    files::write(args, asked.to, came.store.as_bytes(), &inputs)?;
+    out.changed = true;
+    match out.json {
+        true => out.answer(0, came.json(&asked, with.as_ref()), ""),
+        false => out.answer(0, Json::Null, came.lines(&asked, with.as_ref())),
+    }
+}
+
+/// A store with any contents, but the length of one and today's form.
+fn readable(file: &Path, path: &Path) -> Result<Bytes, Fail> {
+    let store = read_store(file)?;
     if store.is_old_form() {
         let error = store.header().err().unwrap_or(Error::Size);
         return Err(refused(&store, path)(error));
     }
-    let mut found = Found::of(store.slots_found().map_err(wrong_size(&store, path))?);
-    let latest = args.value("--latest").map(|word| number("--latest", word));
-    let Some(latest) = latest.transpose()? else {
-        // Who named a file to write did not get it.
-        if args.word(1).is_some() {
-            return Err(Fail::Usage(format!(
-                "--latest is missing, the version that the rescue must end at: nothing was written. `grants rescue {}` lists the root records that are there",
-                shown(path)
-            )));
-        }
-        return listed(args, &mut found, out);
+    store.slots_found().map_err(wrong_size(&store, path))?;
+    Ok(store)
+}
+
+/// The other copy, where one is named.
+fn other<'a>(args: &'a Args, path: &Path) -> Result<Option<(&'a Path, Bytes)>, Fail> {
+    let Some(other) = args.value("--with").map(Path::new) else {
+        return Ok(None);
     };
-    let asked = Asked::of(args, latest)?;
-    let came = came(&store, path, &asked, &mut found)?;
-    files::write(args, asked.to, came.store.as_bytes(), &[path])?;
-    out.changed = true;
-    match out.json {
-        true => out.answer(0, came.json(&asked), ""),
-        false => out.answer(0, Json::Null, came.lines(&asked)),
+    if files::one_file(path, other) {
+        return Err(Fail::Usage(format!("{} is DAMAGED itself: name another copy", shown(other))));
     }
+    Ok(Some((other, readable(&files::main_file(other), other)?)))
+}
+
+/// What the library is handed: the store, or what gives the longest run of it and of another copy.
+fn together<'a>(
+    store: Bytes,
+    path: &'a Path,
+    other: Option<&'a (&'a Path, Bytes)>,
+    asked: &Asked,
+) -> (Bytes, Option<With<'a>>) {
+    let Some((name, copy)) = other else {
+        return (store, None);
+    };
+    // Where neither has it, the store's own troubles are told.
+    let Some(best) = store.rescue_with(copy, asked.oldest, asked.latest, asked.signed) else {
+        return (store, None);
+    };
+    let with = With {
+        damaged: path,
+        other: name,
+        from_other: best.from_other,
+        by_other: by_other(&store, &best),
+        taken: best.taken,
+    };
+    (best.source, Some(with))
+}
+
+/// The versions that came back by a root record that the store itself doesn't have.
+fn by_other(store: &Bytes, best: &RescuedFromTwo) -> Vec<u32> {
+    let own = Found::of(store.slots_found().unwrap_or_default()).roots;
+    let records = best.store.slots().unwrap_or_default();
+    let roots = records.iter().flatten().filter(|record| record.place == Place::EMPTY);
+    let news = roots.filter(|root| own.get(&root.version).is_none_or(|(_, own)| own.hash() != root.hash()));
+    let mut versions: Vec<u32> = news.map(|root| root.version).collect();
+    versions.sort_unstable();
+    versions
 }
 
 /// The rescue itself, and the root compared with the one that was signed; nothing is written yet.
@@ -388,12 +273,11 @@ fn came(store: &Bytes, path: &Path, asked: &Asked, found: &mut Found) -> Result<
             "the root of version {latest} would be {root}, not {signed}: this is not what was signed, and nothing was written. Take another copy, or another --latest"
         )));
     }
-    let header = rescued.header().map_err(sure)?;
     let kept = rescued.slots().map_err(sure)?;
     let newest = found.roots.range(..=latest).next_back();
     Ok(Came {
         root,
-        spans: held::spans(header, &kept, []),
+        spans: rescued.publishings().map_err(sure)?,
         left_out: found.left_out(&kept, latest),
         newest: newest.map(|(version, _)| *version),
         no_earlier: found.no_earlier(what.first, oldest),
@@ -403,7 +287,7 @@ fn came(store: &Bytes, path: &Path, asked: &Asked, found: &mut Found) -> Result<
 }
 
 impl Came {
-    fn json(&self, asked: &Asked) -> Json {
+    fn json(&self, asked: &Asked, with: Option<&With>) -> Json {
         let list = |why: usize| {
             self.left_out[why]
                 .iter()
@@ -417,7 +301,7 @@ impl Came {
                 ("root", root.map(|root| root.to_string()).into()),
             ])
         });
-        object(vec![
+        let mut fields: Vec<(&'static str, Json)> = vec![
             ("first", self.what.first.into()),
             ("latest", asked.latest.into()),
             ("root", self.root.to_string().into()),
@@ -432,10 +316,12 @@ impl Came {
                 "left_out",
                 Json::List((0..WHYS.len()).flat_map(list).collect()),
             ),
-        ])
+        ];
+        fields.extend(with.map(|with| ("with", with.json())));
+        object(fields)
     }
 
-    fn lines(&self, asked: &Asked) -> String {
+    fn lines(&self, asked: &Asked, with: Option<&With>) -> String {
         let (latest, what) = (asked.latest, &self.what);
         let mut lines = format!(
             "{}: versions {} to {latest} came back, {}\nno earlier: {}\nrecords: {} as they were, {} with another retired-since; {} left out",
@@ -451,6 +337,7 @@ impl Came {
         for (why, slots) in left_out.filter(|(_, s)| !s.is_empty()) {
             lines += &format!("\n  {why}: slot {}", ranges(slots));
         }
+        lines += &with.map(With::lines).unwrap_or_default();
         lines += &format!("\nroot of version {latest}: {}\n", self.root);
         lines += match asked.signed {
             Some(_) => "It is the root that was given.",
@@ -477,43 +364,82 @@ fn root_of(text: &str) -> Result<Root, Fail> {
     Ok(Root::from(bytes))
 }
 
-/// The root records that are there: which version could be the latest of a rescue.
-fn listed(args: &Args, found: &mut Found, out: &mut Out) -> Result<u8, Fail> {
-    let roots = found.roots.clone();
-    let mut rows = vec![];
-    let mut newest = None;
-    for (version, (slot, root)) in roots {
+/// A root record of a listing, and why its version can't be rescued, if it can't.
+struct Listed {
+    slot: usize,
+    root: Record,
+    why: Option<String>,
+    /// The copy that has another root for the version, and that root.
+    differs: Option<(String, [u8; 32])>,
+}
+
+/// The root records that are there, in the store or in it and another copy: which version could be the latest of a rescue.
+fn listed(
+    args: &Args,
+    store: Bytes,
+    other: Option<&(&Path, Bytes)>,
+    out: &mut Out,
+) -> Result<u8, Fail> {
+    let slots = |store: &Bytes| store.slots_found().unwrap_or_default();
+    let both = other.and_then(|(_, other)| store.filled_from(other, u32::MAX, None));
+    let mut found = Found::of(slots(both.as_ref().map_or(&store, |both| &both.store)));
+    let of = |name: &Path, store: &Bytes| (shown(name), Found::of(slots(store)).roots);
+    let copies = [of(args.path(0), &store)].into_iter().chain(other.map(|(name, other)| of(name, other)));
+    let copies: Vec<_> = copies.collect();
+    let mut rows: Vec<Listed> = vec![];
+    for (version, (slot, root)) in found.roots.clone() {
         let why = found.stands(version).err();
-        if why.is_none() {
-            newest = Some(version);
+        let roots = copies.iter().filter_map(|(name, roots)| Some((name, roots.get(&version)?.1.hash())));
+        let differs = roots.filter(|(_, own)| *own != root.hash()).map(|(name, own)| (name.clone(), own)).next();
+        rows.push(Listed { slot, root, why, differs });
+    }
+    match out.json {
+        true => {
+            let rows = rows.iter().map(|row| row.json(other.is_some()));
+            out.answer(0, object(vec![("roots", Json::List(rows.collect()))]), "")
         }
-        rows.push((version, slot, root, why));
+        false => out.answer(0, Json::Null, listed_lines(args, &rows, other.map(|(name, _)| *name))),
     }
-    if out.json {
-        let rows = rows.into_iter().map(|(version, slot, root, why)| {
-            object(vec![
-                ("version", version.into()),
-                ("slot", slot.into()),
-                ("root", to_hex(&hash(&root)).into()),
-                ("retired_since", root.retired_since.into()),
-                ("can_be_rescued", why.is_none().into()),
-                ("why_not", why.into()),
-            ])
-        });
-        return out.answer(0, object(vec![("roots", Json::List(rows.collect()))]), "");
+}
+
+impl Listed {
+    fn json(&self, of_two: bool) -> Json {
+        let mut fields: Vec<(&'static str, Json)> = vec![
+            ("version", self.root.version.into()),
+            ("slot", self.slot.into()),
+            ("root", to_hex(&self.root.hash()).into()),
+            ("retired_since", self.root.retired_since.into()),
+            ("can_be_rescued", self.why.is_none().into()),
+            ("why_not", self.why.clone().into()),
+        ];
+        if of_two {
+            let other = self.differs.as_ref().map(|(_, root)| to_hex(root));
+            fields.push(("other_root", other.into()));
+        }
+        object(fields)
     }
+}
+
+fn listed_lines(args: &Args, rows: &[Listed], other: Option<&Path>) -> String {
     let mut lines = counted(rows.len(), "root record");
-    for (version, _, root, why) in &rows {
-        let word = why.as_ref().map_or("can be rescued".to_string(), |why| {
+    lines += &other.map_or(String::new(), |other| format!(", with those of {}", shown(other)));
+    for row in rows {
+        let word = row.why.as_ref().map_or("can be rescued".to_string(), |why| {
             format!("can't be rescued: {why}")
         });
-        lines += &format!("\n{version}  {}  {word}", to_hex(&hash(root)));
+        lines += &format!("\n{}  {}  {word}", row.root.version, to_hex(&row.root.hash()));
+        if let Some((copy, root)) = &row.differs {
+            lines += &format!("\n   {copy} has another root for it, {}", to_hex(root));
+        }
     }
+    let newest = rows.iter().rev().find(|row| row.why.is_none());
     if let Some(newest) = newest {
+        let with = other.map_or(String::new(), |other| format!(" --with {}", shown(other)));
         lines += &format!(
-            "\nTo rescue: grants rescue {} OUT --latest {newest} --root HEX, with the root that was signed for that version",
-            shown(args.path(0))
+            "\nTo rescue: grants rescue {} OUT{with} --latest {} --root HEX, with the root that was signed for that version",
+            shown(args.path(0)),
+            newest.root.version
         );
     }
-    out.answer(0, Json::Null, lines)
+    lines
 }

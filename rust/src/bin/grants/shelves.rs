@@ -2,16 +2,17 @@
 
 use crate::args::{number, Args};
 use crate::asked::{read_kept, Bytes, Kept};
-use crate::book::{Book, Entry, Said};
+use crate::book::{self, write_book, Book, Entry, Said};
 use crate::fail::Fail;
-use crate::files::{already_there, Locked};
+use crate::files::{self, already_there, is_shelf, Locked};
 use crate::held::{self, Life, Span};
 use crate::json::{object, Json};
 use crate::kept::{read_shelf, shelf_refused, trimmed};
 use crate::out::Out;
 use crate::plain::counted;
 use grants::{
-    Batch, Bits, Error, Header, PartAt, Root, Rounds, Shelf, ShelfError, Slot, MOST_SLOTS,
+    dates, old_store_bytes, Batch, Bits, Error, Header, PartAt, Rounds, Shelf, ShelfError, Slot,
+    Store, LIST_FILE, MOST_SLOTS,
 };
 use std::collections::BTreeMap;
 use std::fs;
@@ -38,13 +39,18 @@ impl Wanted {
         };
         let there = already_there(&wanted.folder);
         let empty = fs::read_dir(&wanted.folder).is_ok_and(|mut files| files.next().is_none());
-        match there && !empty {
+        match there && !empty && !wanted.afresh(args) {
             true => Err(Fail::File(format!(
                 "{} is there already and was left alone: a shelf is made in a folder that isn't there yet",
                 trimmed(folder)
             ))),
             false => Ok(wanted),
         }
+    }
+
+    /// Whether a shelf that is there is to be made afresh.
+    fn afresh(&self, args: &Args) -> bool {
+        args.has("--force") && is_shelf(&self.folder)
     }
 
     fn made(&self) -> Result<Shelf, Fail> {
@@ -57,7 +63,7 @@ impl Wanted {
         ))
     }
 
-    fn judged(&self, made: Result<Shelf, ShelfError>) -> Result<Shelf, Fail> {
+    fn judged<T>(&self, made: Result<T, ShelfError>) -> Result<T, Fail> {
         made.map_err(|e| match e.refusal() {
             Some(error @ Error::Size) => Fail::Refused(
                 error,
@@ -76,14 +82,17 @@ impl Wanted {
 }
 
 pub fn format(args: &Args, path: &Path, out: &mut Out) -> Result<u8, Fail> {
-    if args.word(1).is_some() || args.has("--for") || args.has("--force") {
+    if args.word(1).is_some() || args.has("--for") {
         return Err(Fail::Usage(
-            "with --bits the slots are those of --slots, and a shelf is made where none is: CAPACITY, --for and --force are for a store"
+            "with --bits the slots are those of --slots: CAPACITY and --for are for a store"
                 .to_string(),
         ));
     }
     let wanted = Wanted::of(args, path)?;
-    let shelf = wanted.made()?;
+    let shelf = match wanted.afresh(args) {
+        true => remade(args, &wanted, out)?,
+        false => wanted.made()?,
+    };
     out.changed = true;
     let Wanted {
         bits,
@@ -108,6 +117,41 @@ pub fn format(args: &Args, path: &Path, out: &mut Out) -> Result<u8, Fail> {
             counted(slots as usize, "slot"),
         ),
     )
+}
+
+/// An empty shelf in the place of one that is there: from when its list is the empty one, it has the new bits and slots, and nothing that was there counts.
+fn remade(args: &Args, wanted: &Wanted, out: &mut Out) -> Result<Shelf, Fail> {
+    let folder = &wanted.folder;
+    let refused = |e: ShelfError| shelf_refused(None, folder, e);
+    let list = wanted.judged(Store::with_capacity(wanted.list_slots).map_err(Into::into))?;
+    book::is_none_of(args, &[&folder.join(LIST_FILE)])?;
+    Book::of(args, Some(folder))?.may_be_written()?;
+    let main = folder.join(LIST_FILE);
+    let mut locked = match already_there(&main) {
+        true => Some(Locked::take(args, folder)?),
+        false => None,
+    };
+    wanted.judged(Shelf::begin_afresh(folder, wanted.bits, wanted.slots))?;
+    let locked = match locked.take() {
+        Some(mut locked) => {
+            locked.replace(list.as_bytes())?;
+            locked
+        }
+        // Its list was lost.
+        None => {
+            files::create(&main, list.as_bytes())?;
+            Locked::take(args, folder)?
+        }
+    };
+    out.changed = true;
+    let shelf = Shelf::open(folder).map_err(refused)?;
+    shelf.clean().map_err(refused)?;
+    let mut book = Book::of(args, Some(folder))?;
+    if book.latest().is_some() && locked.still_holds(list.as_bytes()) {
+        book.add_fresh(dates::now());
+        write_book(&book)?;
+    }
+    Ok(shelf)
 }
 
 /// The list of a shelf that was pruned, and how many records were freed.
@@ -142,7 +186,7 @@ struct Filled {
     bytes: usize,
 }
 
-fn filled(part: u16, store: &Bytes, latest: u32) -> Result<Filled, Error> {
+fn filled(part: u16, store: &Bytes, latest: u32, old: bool) -> Result<Filled, Error> {
     let slots = store.slots_found()?;
     let free = slots.iter().filter(|slot| **slot == Slot::Free).count();
     Ok(Filled {
@@ -150,7 +194,10 @@ fn filled(part: u16, store: &Bytes, latest: u32) -> Result<Filled, Error> {
         used: slots.len() - free,
         free,
         grants: store.count(latest)?,
-        bytes: store.as_bytes().len(),
+        bytes: match old {
+            true => old_store_bytes(slots.len() as u32),
+            false => store.as_bytes().len(),
+        },
     })
 }
 
@@ -165,14 +212,13 @@ struct Fullness {
 
 impl Fullness {
     fn of(shelf: &Shelf) -> Result<Fullness, ShelfError> {
-        let header = shelf.header();
-        let slots = shelf.list().slots().ok();
+        let (header, old) = (shelf.header(), shelf.is_old_form());
         Ok(Fullness {
-            list: filled(0, shelf.list(), header.latest)?,
-            parts: shelf.each_file(|at: &PartAt| filled(at.part, &at.store, at.version))?,
+            list: filled(0, shelf.list(), header.latest, old)?,
+            parts: shelf.each_file(|at: &PartAt| filled(at.part, &at.store, at.version, old))?,
             header,
             kept: u64::from(header.latest - header.oldest) + 1,
-            publishings: slots.map(|slots| held::spans(header, &slots, []).len()),
+            publishings: shelf.list().publishings().ok().map(|all| all.len()),
         })
     }
 
@@ -195,7 +241,7 @@ impl Fullness {
     fn json(&self, shelf: &Shelf) -> Json {
         let fullest = self.fullest();
         object(vec![
-            ("form", "shelf".into()),
+            ("form", if shelf.is_old_form() { "old shelf" } else { "shelf" }.into()),
             ("bits", shelf.bits().get().into()),
             ("slots", shelf.slots().into()),
             ("parts", self.parts.len().into()),
@@ -222,8 +268,12 @@ impl Fullness {
         let among = gaps.map_or(String::new(), |n| format!(", {}", counted(n, "publishing")));
         [
             format!(
-                "form      a shelf of {}",
-                counted(shelf.bits().get() as usize, "bit")
+                "form      a shelf of {}{}",
+                counted(shelf.bits().get() as usize, "bit"),
+                match shelf.is_old_form() {
+                    true => ", old, slots of 120 bytes (grants move brings it over)",
+                    false => "",
+                }
             ),
             format!(
                 "parts     {} of {}, a new one with {}",
@@ -245,7 +295,11 @@ impl Fullness {
 }
 
 pub fn stat(path: &Path, out: &mut Out) -> Result<u8, Fail> {
-    let shelf = read_shelf(path)?;
+    // One of the old form is told of as what it is brought over.
+    let shelf = match Shelf::open_old(path) {
+        Ok(old) => old,
+        Err(_) => read_shelf(path)?,
+    };
     let full = Fullness::of(&shelf).map_err(|e| shelf_refused(Some(&shelf), path, e))?;
     match out.json {
         true => out.answer(0, full.json(&shelf), ""),
@@ -429,60 +483,4 @@ fn booked(args: &Args, source: &Kept, past: &Past, shelf: &Shelf) -> Result<(), 
         true => book.write(),
         false => Ok(()),
     }
-}
-
-/// The good versions of a damaged shelf, in another folder. Without --latest the list's root records are listed, as those of a store are.
-pub fn rescue(
-    args: &Args,
-    latest: u32,
-    oldest: u32,
-    signed: Option<Root>,
-    out: &mut Out,
-) -> Result<u8, Fail> {
-    let path = args.path(0);
-    let Some(to) = args.word(1).map(Path::new) else {
-        return Err(Fail::Usage(
-            "OUT is missing: the folder to make what is rescued in".to_string(),
-        ));
-    };
-    let to: PathBuf = to.components().collect();
-    if already_there(&to) {
-        return Err(Fail::File(format!(
-            "{} is there already and was left alone",
-            trimmed(&to)
-        )));
-    }
-    let came = Shelf::rescue(path, oldest, latest, &to, signed).map_err(|e| match e.refusal() {
-        Some(error @ Error::Header) => Fail::Refused(error, format!("--oldest {oldest} is above --latest {latest}.")),
-        Some(error) => Fail::Refused(error, format!("A run ends at --latest, and version {latest} can't be rescued: {e}. Nothing was written.")),
-        None => shelf_refused(None, path, e),
-    })?;
-    out.changed = true;
-    let compared = match signed {
-        Some(_) => "It is the root that was given.",
-        None => crate::rescue::COMPARE,
-    };
-    out.answer(
-        0,
-        object(vec![
-            ("first", came.first.into()),
-            ("latest", latest.into()),
-            ("root", came.root.to_string().into()),
-            ("root_compared", signed.is_some().into()),
-            ("parts", came.parts.into()),
-            ("same", Json::Number(came.same)),
-            ("other", Json::Number(came.other)),
-            ("out", Json::Number(came.out)),
-        ]),
-        format_args!(
-            "{}: versions {} to {latest} came back, {}\nrecords: {} as they were, {} with another retired-since; {} left out\nroot of version {latest}: {}\n{compared}",
-            trimmed(&to),
-            came.first,
-            counted(came.parts, "part"),
-            came.same,
-            came.other,
-            counted(came.out, "used slot"),
-            came.root
-        ),
-    )
 }

@@ -1,15 +1,16 @@
 //! The tree of a version, as text and as a graph. The store was checked: the records whose lifetime has the version are its tree, and a record
-//! stands below the one whose place is a bit shorter.
+//! stands below the one whose place is a bit shorter. Of a shelf, the tree of a part stands below the list's leaf that names its root.
 
 use crate::args::{number, Args};
-use crate::asked::{read_store, refused, version, Bytes, Kept};
+use crate::asked::{read_kept, version, Bytes, Kept};
 use crate::fail::Fail;
 use crate::files;
+use crate::held;
 use crate::json::Json;
 use crate::listing::ends;
 use crate::out::Out;
 use crate::plain::{counted, shown};
-use grants::{to_hex, Body, Child, Error, Key, Place, Record, Root, Value};
+use grants::{to_hex, Body, Child, Error, Key, Place, Record, Root, Shelf, ShelfError, Value};
 use std::collections::{BTreeMap, BTreeSet, HashSet};
 use std::fmt::Write as _;
 use std::io::Write as _;
@@ -21,6 +22,8 @@ struct Node {
     slot: usize,
     record: Record,
     grant: Option<(Key, Value)>,
+    /// Of a leaf of a shelf's list, the part whose root it has.
+    part: Option<u16>,
 }
 
 /// The records of one version by place, so a node comes before those below it and left before right.
@@ -30,6 +33,10 @@ struct Tree {
     /// How many grants it has, by the library.
     count: u64,
     nodes: BTreeMap<Place, Node>,
+    /// The part that it is the tree of; none for a store and for a shelf's list.
+    of: Option<u16>,
+    /// Of a shelf, the trees of its parts.
+    parts: BTreeMap<u16, Tree>,
 }
 
 impl Tree {
@@ -38,14 +45,28 @@ impl Tree {
         let root = self.nodes.get(&Place::EMPTY);
         root.map_or(self.version, |root| root.record.version)
     }
+
+    /// Its own records and those of its parts, each with what tells it from all others.
+    fn all(&self) -> impl Iterator<Item = (String, &Node)> + '_ {
+        let parts = self.parts.values();
+        let own = [self].into_iter().chain(parts);
+        own.flat_map(|tree| tree.nodes.values().map(|node| (tree.id(node), node)))
+    }
+
+    /// What tells a record from all others of a graph.
+    fn id(&self, node: &Node) -> String {
+        match self.of {
+            Some(part) => format!("p{part:03x}_{}", node.slot),
+            None => format!("s{}", node.slot),
+        }
+    }
 }
 
 /// How many records `dot` draws within seconds; its time grows much faster than their number.
 const MOST_DRAWN: usize = 1_000;
 
 fn may_be_drawn(trees: &[Tree]) -> Result<(), Fail> {
-    let slots = trees.iter().flat_map(|tree| tree.nodes.values());
-    let drawn: HashSet<usize> = slots.map(|node| node.slot).collect();
+    let drawn: HashSet<String> = trees.iter().flat_map(Tree::all).map(|(id, _)| id).collect();
     if drawn.len() <= MOST_DRAWN {
         return Ok(());
     }
@@ -57,13 +78,17 @@ fn may_be_drawn(trees: &[Tree]) -> Result<(), Fail> {
 
 pub fn show(args: &Args, out: &mut Out) -> Result<u8, Fail> {
     let path = args.path(0);
-    let kept = Kept::Store(read_store(path)?);
-    let store = kept.first();
-    let refused = refused(store, path);
-    let slots = store.slots().map_err(&refused)?;
+    let kept = read_kept(path)?;
+    let refused = kept.refused(path);
+    // Of a shelf each part's store is checked where its tree is read.
+    let slots = kept.slots().map_err(&refused)?;
     let mut trees = vec![];
     for version in versions(args, &kept, path)? {
-        trees.push(tree(store, &slots, version).map_err(&refused)?);
+        let mut tree = tree(kept.first(), &slots, version).map_err(|e| refused(e.into()))?;
+        if let Kept::Shelf(shelf) = &kept {
+            with_parts(&mut tree, shelf).map_err(&refused)?;
+        }
+        trees.push(tree);
     }
     let full = args.has("--full");
     let picture = args.value("--svg").map(Path::new);
@@ -115,6 +140,7 @@ fn versions(args: &Args, store: &Kept, path: &Path) -> Result<Vec<u32>, Fail> {
 }
 
 fn tree(store: &Bytes, slots: &[Option<Record>], version: u32) -> Result<Tree, Error> {
+    let lookup = held::lookup();
     let root = store.root(version)?;
     let count = store.count(version)?;
     let mut nodes = BTreeMap::new();
@@ -123,7 +149,7 @@ fn tree(store: &Bytes, slots: &[Option<Record>], version: u32) -> Result<Tree, E
             continue;
         };
         let grant = match record.grant() {
-            Some((key, _)) => store.get(version, key)?.map(|value| (key, value)),
+            Some((key, _)) => lookup.get(store, version, key)?.map(|value| (key, value)),
             None => None,
         };
         nodes.insert(
@@ -132,6 +158,7 @@ fn tree(store: &Bytes, slots: &[Option<Record>], version: u32) -> Result<Tree, E
                 slot,
                 record,
                 grant,
+                part: None,
             },
         );
     }
@@ -140,7 +167,24 @@ fn tree(store: &Bytes, slots: &[Option<Record>], version: u32) -> Result<Tree, E
         root,
         count,
         nodes,
+        of: None,
+        parts: BTreeMap::new(),
     })
+}
+
+/// Puts the trees of a shelf's parts below the leaves of its list.
+fn with_parts(list: &mut Tree, shelf: &Shelf) -> Result<(), ShelfError> {
+    for node in list.nodes.values_mut() {
+        node.part = node.grant.map(|(key, _)| shelf.bits().part_of(key));
+    }
+    let trees = shelf.each_part(list.version, |at| {
+        let mut part = tree(&at.store, &at.store.slots()?, at.version)?;
+        part.of = Some(at.part);
+        Ok((at.part, part))
+    })?;
+    list.parts = trees.into_iter().collect();
+    list.count = list.parts.values().map(|part| part.count).sum();
+    Ok(())
 }
 
 /// The nodes below a place, left then right, each with its bit.
@@ -159,10 +203,14 @@ fn text(tree: &Tree, full: bool) -> String {
             earlier => format!(" (published as {earlier})"),
         },
         counted(tree.count, "grant"),
-        counted(tree.nodes.len(), "record"),
+        match tree.parts.len() {
+            0 => counted(tree.nodes.len(), "record"),
+            parts => format!("{}, {}", counted(parts, "part"), counted(tree.all().count(), "record")),
+        },
         tree.root
     );
     if tree.nodes.contains_key(&Place::EMPTY) {
+        text.push_str("  ");
         draw(tree, Place::EMPTY, "  ", full, &mut text);
     }
     text
@@ -171,10 +219,13 @@ fn text(tree: &Tree, full: bool) -> String {
 /// The node's own line after what stands before it, then its children's lines behind `margin`.
 fn draw(tree: &Tree, place: Place, margin: &str, full: bool, text: &mut String) {
     let node = &tree.nodes[&place];
-    if place == Place::EMPTY {
-        text.push_str(margin);
-    }
     let _ = match node.grant {
+        Some((_, root)) if node.part.is_some() => write!(
+            text,
+            "part {:03x}, root {}",
+            node.part.unwrap_or(0),
+            ends(root.as_ref(), full)
+        ),
         Some((key, value)) => write!(
             text,
             "leaf {} = {}",
@@ -194,6 +245,10 @@ fn draw(tree: &Tree, place: Place, margin: &str, full: bool, text: &mut String) 
         let _ = write!(text, "{margin}{branch}{bit} ");
         draw(tree, child, &format!("{margin}{bar}"), full, text);
     }
+    if let Some(part) = node.part.and_then(|part| tree.parts.get(&part)) {
+        let _ = write!(text, "{margin}└─ ");
+        draw(part, Place::EMPTY, &format!("{margin}   "), full, text);
+    }
 }
 
 /// ' 2 + 1': how many grants are below the left and below the right child of an inner record.
@@ -205,6 +260,21 @@ fn below_it(record: &Record) -> String {
 }
 
 fn object(tree: &Tree) -> Json {
+    let mut fields: Vec<(&'static str, Json)> = vec![
+        ("version", tree.version.into()),
+        ("root", tree.root.to_string().into()),
+        ("grants", Json::Number(tree.count)),
+        ("records", records(tree)),
+    ];
+    if let Some(part) = tree.of {
+        fields.insert(0, ("part", u32::from(part).into()));
+    } else if !tree.parts.is_empty() {
+        fields.push(("parts", Json::List(tree.parts.values().map(object).collect())));
+    }
+    Json::Object(fields)
+}
+
+fn records(tree: &Tree) -> Json {
     let mut records = vec![];
     for (place, node) in &tree.nodes {
         let mut fields: Vec<(&'static str, Json)> = vec![
@@ -231,12 +301,7 @@ fn object(tree: &Tree) -> Json {
         }
         records.push(Json::Object(fields));
     }
-    Json::Object(vec![
-        ("version", tree.version.into()),
-        ("root", tree.root.to_string().into()),
-        ("grants", Json::Number(tree.count)),
-        ("records", Json::List(records)),
-    ])
+    Json::List(records)
 }
 
 const HEAD: &str = r#"digraph grants {
@@ -258,20 +323,11 @@ fn dot(trees: &[Tree], full: bool) -> String {
             tree.version,
             ends(tree.root.as_ref(), full)
         );
-        for (place, node) in &tree.nodes {
-            let slot = node.slot;
-            if drawn.insert(format!("{slot}")) {
-                let _ = writeln!(text, "  {}", shape(node, trees, full));
-            }
-            for (bit, child) in below(tree, *place) {
-                let below = tree.nodes[&child].slot;
-                if drawn.insert(format!("{slot}-{below}")) {
-                    let _ = writeln!(text, "  s{slot} -> s{below} [label=\" {bit}\"];");
-                }
-            }
+        for one in [tree].into_iter().chain(tree.parts.values()) {
+            graph(one, tree, trees, full, &mut drawn, &mut text);
         }
         if let Some(node) = tree.nodes.get(&Place::EMPTY) {
-            let _ = writeln!(text, "  v{} -> s{} [style=bold];", tree.version, node.slot);
+            let _ = writeln!(text, "  v{} -> {} [style=bold];", tree.version, tree.id(node));
         }
     }
     if trees.len() > 1 {
@@ -283,8 +339,46 @@ fn dot(trees: &[Tree], full: bool) -> String {
     text + "}\n"
 }
 
-fn shape(node: &Node, trees: &[Tree], full: bool) -> String {
-    let (slot, record) = (node.slot, &node.record);
+/// The records of one tree that aren't there yet, and the arrows from each to those below it; from a list's leaf to the root of its part.
+fn graph(
+    one: &Tree,
+    whole: &Tree,
+    trees: &[Tree],
+    full: bool,
+    drawn: &mut BTreeSet<String>,
+    text: &mut String,
+) {
+    for (place, node) in &one.nodes {
+        let id = one.id(node);
+        if drawn.insert(id.clone()) {
+            let _ = writeln!(text, "  {}", shape(&id, node, one.of, trees, full));
+        }
+        let mut arrow = |to: String, label: String| {
+            if drawn.insert(format!("{id}-{to}")) {
+                let _ = writeln!(text, "  {id} -> {to}{label};");
+            }
+        };
+        for (bit, child) in below(one, *place) {
+            arrow(one.id(&one.nodes[&child]), format!(" [label=\" {bit}\"]"));
+        }
+        let part = node.part.and_then(|part| whole.parts.get(&part));
+        if let Some((part, root)) = part.and_then(|p| Some((p, p.nodes.get(&Place::EMPTY)?))) {
+            arrow(part.id(root), String::new());
+        }
+    }
+}
+
+/// The last of the trees that has a record of this part, or of the list: by its number, what it made is told.
+fn last_of(trees: &[Tree], of: Option<u16>) -> Option<&Tree> {
+    let last = trees.last()?;
+    match of {
+        Some(part) => last.parts.get(&part),
+        None => Some(last),
+    }
+}
+
+fn shape(id: &str, node: &Node, of: Option<u16>, trees: &[Tree], full: bool) -> String {
+    let record = &node.record;
     let place = match record.place.count() {
         0 => "root".to_string(),
         count if count > 16 => format!("{count} bits"),
@@ -296,27 +390,30 @@ fn shape(node: &Node, trees: &[Tree], full: bool) -> String {
     };
     let head = format!("{place}\\nversion {}{since}", record.version);
     let several = trees.len() > 1;
-    let last = trees.last().map_or(0, |tree| tree.version);
-    let look = if several && !record.stands_in(last) {
+    let last = last_of(trees, of);
+    let newest = trees.last().map_or(0, Tree::published);
+    let look = if several && !last.is_some_and(|last| record.stands_in(last.version)) {
         "style=\"filled,dashed\", fillcolor=\"#f0f0f0\", fontcolor=\"#606060\""
-    } else if several
-        && trees
-            .last()
-            .is_some_and(|tree| tree.published() == record.version)
-    {
+    } else if several && newest == record.version {
         "fillcolor=\"#d8f0d8\""
     } else {
         "fillcolor=white"
     };
     match node.grant {
+        Some((_, root)) if node.part.is_some() => format!(
+            "{id} [shape=folder, label=\"{head}\\npart {:03x}\\nroot {}\", {look}];",
+            node.part.unwrap_or(0),
+            ends(root.as_ref(), full)
+        ),
         Some((key, value)) => format!(
-            "s{slot} [shape=box, label=\"{head}\\n{}\\n= {}\", {look}];",
+            "{id} [shape=box, label=\"{head}\\n{}\\n= {}\", {look}];",
             ends(key.as_ref(), full),
             ends(value.as_ref(), full)
         ),
         None => format!(
-            "s{slot} [shape=ellipse, label=\"{head}\\n{} grants\", {look}];",
-            below_it(record).trim()
+            "{id} [shape=ellipse, label=\"{head}\\n{} {}\", {look}];",
+            below_it(record).trim(),
+            if of.is_none() && trees.iter().any(|tree| !tree.parts.is_empty()) { "parts" } else { "grants" }
         ),
     }
 }

@@ -130,7 +130,7 @@ Some 6,000 grants fit one store.
 
 With --bits a shelf is made in the folder DIR, for more grants than that (docs/SCALE.md): grants whose keys begin with the same
 B bits, 0 to 12, are in one store, their part, and the list of parts is a store too, whose root is the one that is signed. Every
-command but move and show takes DIR where it takes STORE.",
+command takes DIR where it takes STORE. A shelf that is there is made afresh with --force: all that it holds is lost.",
         words: (1, 2),
         choices: &[
             JSON,
@@ -140,7 +140,7 @@ command but move and show takes DIR where it takes STORE.",
             BITS,
             SLOTS,
             LIST_SLOTS,
-            flag("--force", "make a fresh store of a file that is there; what it holds is lost"),
+            flag("--force", "make a fresh store of a file that is there, or a fresh shelf; what it holds is lost"),
             WAIT,
             BOOK,
             NO_BOOK,
@@ -271,7 +271,8 @@ shelf's is that of its list. STORE is only read; names, dates and messages come 
 Before inner records had counts, a store had slots of 120 bytes. This brings such a store over into the form of today, which
 the other commands take, or back again: slots, versions, roots and proofs stay as they are, and there and back gives the same
 bytes. Each publishing's root is compared before anything is written. STORE is replaced as a whole, and what it was is kept as
-STORE.old; with OUT it is only read, and its book is copied beside OUT.",
+STORE.old; with OUT it is only read, and its book is copied beside OUT. Of a shelf every part and the list are moved, all of them or
+none, and OUT is a folder that isn't there yet.",
         words: (1, 2),
         choices: &[
             JSON,
@@ -300,13 +301,24 @@ versions, and nothing in the store shows it.
 
 Without --latest nothing is written: it lists the root records that are there, with version and root, and whether each can
 be rescued.
-DAMAGED is only read, and may be -; it must have its whole length.",
+DAMAGED is only read, and may be -; it must have its whole length.
+
+With --with OTHER, another copy of the same store, older, newer or damaged too, what is lost here and whole there is taken from there: the
+longest run that the library gives of either copy, or of one filled up from the other. It says what was taken from where. Every version
+that DAMAGED has by itself keeps its root; where OTHER alone has a version's root record, compare its root with the signed one.
+
+Of a shelf, DAMAGED and OUT are folders. Where its list is lost, another one is made of its parts, for the versions that all of them
+have; without --latest the root that it had in each is listed. A part whose file is lost leaves no trace, so only a root that is the
+signed one counts.",
         words: (1, 2),
         choices: &[
             JSON,
             valued("--latest", "N", "the version that the run must end at"),
             valued("--oldest", "N", "no version before this one; else 0"),
             valued("--root", "HEX", "the root that was signed for the latest version; where it differs nothing is written"),
+            valued("--with", "OTHER", "another copy, from which is taken what is lost here and whole there"),
+            flag("--parts-alone", "of a shelf: make another list of its parts, though there is one"),
+            valued("--bits", "B", "of a shelf's parts: its bits, where the file that says them is lost"),
             FORCE,
         ],
         run: rescue::rescue,
