@@ -39,6 +39,8 @@ export const AT = {
 export const storeBytes = (capacity) => HEADER_BYTES + SLOT_BYTES * capacity;
 export const oldStoreBytes = (capacity) => HEADER_BYTES + OLD_SLOT_BYTES * capacity;
 
+export const sameBytes = (a, b) => a.length === b.length && a.every((byte, i) => byte === b[i]);
+
 // A number of 2 or 4 bytes; what lies past the end counts as zero.
 export const u16 = (bytes, at) => (bytes[at] ?? 0) + 256 * (bytes[at + 1] ?? 0);
 export const u32 = (bytes, at) => u16(bytes, at) + 65536 * u16(bytes, at + 2);

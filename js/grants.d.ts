@@ -52,6 +52,13 @@ export class Store {
   format(): void;
   /** Nothing where the store is sound. Refused: 1, 2, 3. */
   check(): void;
+  /** Checks the store, and makes a table of its records in memory by which reads find them in a few looks; it is kept with the store from then on, and no answer changes. `grants`, `history` and `palette`
+   * make it by themselves where that pays. Refused: 1, 2, 3. */
+  index(): void;
+  /** Wipes the store's memory and gives it back for another store; nothing can be asked of it from then on. An engine has room for some hundred stores at a time. */
+  close(): void;
+  /** Whether there is a table. */
+  readonly indexed: boolean;
   /** Publishes a version under a number, any above latest; changes may come in any order, bytes are taken as a batch. A version between two
    * publishings reads as the earlier one. Refused: 1, 2, 3, 4, 5, 18, 7. */
   apply(number: number, changes: Iterable<Change> | Bytes): Applied;
@@ -68,6 +75,12 @@ export class Store {
   /** The grant at a position of a version, 0 the one with the least key. A position has 64 bits: a number where that is exact, else a BigInt. Where it
    * isn't below `count` it is refused with 20. Refused: 1, 2, 8, 3 (of the root), 20, 3 or 17. */
   at(version: number, position: number | bigint): Grant;
+  /** All grants of a version of a sound store, in the order of keys. Refused: 1, 2, 3, 8. */
+  grants(version: number): Grant[];
+  /** The kept publishings of a sound store, the oldest first: `first` to `last` are the versions that read as it. Refused: 1, 2, 3. */
+  publishings(): Publishing[];
+  /** What became of a key: each kept version of a sound store from which it reads otherwise than before, the oldest kept one first. Refused: 12, 1, 2, 3. */
+  history(key: Bytes): Turn[];
   /** The proof that a key is in a version, or that it isn't, in at most so many bytes. Refused: 12, 1, 2, 8, 14, 3 or 17, 9. */
   prove(version: number, key: Bytes, most?: number): Uint8Array;
   /** What is found of a proof for a key in a version. 12, 1, 2, 3, 8, 14, 10, 11. */
@@ -88,6 +101,18 @@ export class Store {
 export interface Grant {
   key: Uint8Array;
   value: Uint8Array;
+}
+
+/** The versions that read as one publishing. */
+export interface Publishing {
+  first: number;
+  last: number;
+}
+
+/** A version from which a key has another value than before, null where it has none. */
+export interface Turn {
+  version: number;
+  value: Uint8Array | null;
 }
 
 /** What is counted over the tree of one version. */
@@ -171,6 +196,9 @@ export class Grants {
    * versions, and nothing else shows it. Refused: 1, 2 (oldest above latest), 3 (no version). */
   rescue(damaged: Bytes, oldest: number, latest: number): Promise<Rescued>;
 }
+
+/** Proofs of a shelf that stand one after the other, cut apart by the lengths and kinds of their records. Whether a piece is a proof, `shelfVerify` says. */
+export function shelfPieces(proofs: Uint8Array): Uint8Array[];
 
 /** Whether this engine has SIMD, which grants-verify-simd.wasm needs. */
 export function hasSimd(): boolean;

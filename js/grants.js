@@ -1,5 +1,5 @@
 // The calls of the grant store for Node, browsers and workers. What a store, a batch or a proof is worth is always the WebAssembly's word.
-import { AT, DELETE_KIND, DELETE_LENGTH, HEADER_BYTES, INSERT_KIND, LONGEST_MESSAGE, LONGEST_PROOF, MOST_SLOTS, OLD_FORM, OLD_SLOT_BYTES, RECORD_BYTES, SLOT_BYTES, isOldForm, oldStoreBytes, storeBytes, u16, u32 } from './form.js';
+import { AT, DELETE_KIND, DELETE_LENGTH, HEADER_BYTES, INNER_KIND, INSERT_KIND, LEAF_KIND, LONGEST_MESSAGE, LONGEST_PROOF, MOST_SLOTS, OLD_FORM, OLD_SLOT_BYTES, PRESENCE_KIND, RECORD_BYTES, SLOT_BYTES, isOldForm, oldStoreBytes, sameBytes, storeBytes, u16, u32 } from './form.js';
 import { REFUSALS } from './refusals.js';
 
 // What a number means in one call alone.
@@ -81,14 +81,19 @@ const room = (length) => ({ length, slice: true });
 
 const aligned = (at) => Math.ceil(at / 64) * 64;
 
-// An instance of the library and the memory that is its own: first the stack, then what is kept (a store), then what one call is lent.
+// An instance of the library and the memory that is its own: first the stack, then what is kept (a store, and its table where it has one), then what one call is lent.
 class Machine {
+  #instance;
   #exports;
   #start;
   #kept = 0;
+  // How many entries of 4 bytes the table has.
+  #entries = 0;
   #stopped = false;
+  #ended = false;
 
   constructor(instance) {
+    this.#instance = instance;
     this.#exports = instance.exports;
     this.#start = aligned(instance.exports.__heap_base.value);
   }
@@ -99,6 +104,7 @@ class Machine {
 
   // All memory up to an end, grown where it was shorter.
   #reach(end) {
+    if (this.#ended) throw new Error('this store was closed');
     const { memory } = this.#exports;
     const missing = end - memory.buffer.byteLength;
     if (missing > 0) memory.grow(Math.ceil(missing / 65536));
@@ -108,10 +114,49 @@ class Machine {
   keep(bytes) {
     this.#reach(this.#start + bytes.length).set(bytes, this.#start);
     this.#kept = bytes.length;
+    this.#entries = 0;
   }
 
-  kept() {
-    return this.#reach(0).slice(this.#start, this.#start + this.#kept);
+  // Wipes what is kept, and gives the instance for another; from then on nothing can be asked. None where a call was stopped in it.
+  end() {
+    this.#reach(0).fill(0, this.#start, this.#free());
+    [this.#kept, this.#entries, this.#ended] = [0, 0, true];
+    return this.#stopped ? undefined : this.#instance;
+  }
+
+  // Makes the table of the store that is kept. Where that is refused, there is none.
+  index() {
+    this.#entries = this.slots;
+    this.#reach(this.#free()).fill(0, this.#table(), this.#free());
+    try {
+      this.call('index', 'store', 'table');
+    } catch (refused) {
+      this.#entries = 0;
+      throw refused;
+    }
+  }
+
+  get indexed() {
+    return this.#entries > 0;
+  }
+
+  #table() {
+    return aligned(this.#start + this.#kept);
+  }
+
+  // Where what is kept ends.
+  #free() {
+    return this.#entries ? this.#table() + 4 * this.#entries : this.#start + this.#kept;
+  }
+
+  // What is kept of a store, or its first bytes.
+  kept(length = this.#kept) {
+    return this.#reach(0).slice(this.#start, this.#start + Math.min(length, this.#kept));
+  }
+
+  // How many whole slots the store that is kept has room for.
+  get slots() {
+    return Math.max(Math.floor((this.#kept - HEADER_BYTES) / SLOT_BYTES), 0);
   }
 
   // A view of what is kept, for the one call as its store.
@@ -119,14 +164,16 @@ class Machine {
     return [this.#start, BigInt(this.#kept)];
   }
 
-  // One call. Given: 'store', a number (of 64 bits a BigInt), bytes, an answer or room. What it wrote to answer and room, in their order.
+  // One call. Given: 'store', 'table', a number (of 64 bits a BigInt), bytes, an answer or room. What it wrote to answer and room, in their order.
   call(name, ...given) {
+    if (this.#ended) throw new Error('this store was closed');
     if (this.#stopped) throw new Error('an earlier call was stopped by the engine; make this anew');
     const words = [];
     const lent = [];
-    let end = this.#start + this.#kept;
+    let end = this.#free();
     for (const it of given) {
       if (it === 'store') words.push(...this.#lentStore());
+      else if (it === 'table') words.push(this.#table(), BigInt(this.#entries));
       else if (typeof it === 'number' || typeof it === 'bigint') words.push(it);
       else {
         // No two overlap, and none is empty, so that each has a place of its own.
@@ -149,7 +196,7 @@ class Machine {
       throw trap;
     } finally {
       // Nothing that one call was lent is there for the next.
-      memory.fill(0, this.#start + this.#kept, end);
+      memory.fill(0, this.#free(), end);
     }
     const [number, slot] = parted(said);
     // A store of the old form is refused for its size or its header; a rescue may find no version in it.
@@ -166,6 +213,12 @@ function found([flag, ...value]) {
 const ANSWER = 34;
 // No proof of the pocket profile is longer.
 const LONGEST_POCKET = 2296;
+
+// So many looks at a slot take as long as making a table, or longer: a read by scans looks at every slot, some times.
+const TABLE_PAYS = 16 * MOST_SLOTS;
+
+// So many instances of closed stores are kept for others.
+const MOST_IDLE = 16;
 
 // No comparison of two versions takes more visits.
 const MOST_VISITS = 32769;
@@ -196,10 +249,23 @@ export function batch(changes) {
 export class Store {
   #machine;
   #movedOver;
+  #back;
+  // Whether the library has called it sound. No call of ours on a sound store leaves another one.
+  #sound = false;
+  // Whether a table was asked for and refused.
+  #noTable = false;
 
-  constructor(machine, movedOver = false) {
+  // `back` takes the instance when the store is closed.
+  constructor(machine, back, movedOver = false) {
     this.#machine = machine;
+    this.#back = back;
     this.#movedOver = movedOver;
+  }
+
+  // Wipes the store's memory and gives it back for another store: an engine has room for some hundred at a time, and may be late to see that one isn't needed any more. Nothing can be asked of
+  // a store that was closed.
+  close() {
+    this.#back(this.#machine.end());
   }
 
   // A copy of the store's bytes.
@@ -209,9 +275,9 @@ export class Store {
 
   // What the header says; only `check` says whether the store is sound. Bytes too few for a header are refused as every call refuses them.
   #field(at) {
-    const bytes = this.bytes();
-    if (bytes.length < HEADER_BYTES) throw new Refused(1);
-    return u32(bytes, at);
+    const header = this.#machine.kept(HEADER_BYTES);
+    if (header.length < HEADER_BYTES) throw new Refused(1);
+    return u32(header, at);
   }
 
   get capacity() {
@@ -238,57 +304,135 @@ export class Store {
 
   // The store's bytes in the old form.
   movedBack() {
-    const slots = Math.floor(Math.max(this.bytes().length - HEADER_BYTES, 0) / SLOT_BYTES);
-    return this.#machine.call('back', 'store', room(oldStoreBytes(slots)))[0];
+    return this.#machine.call('back', 'store', room(oldStoreBytes(this.#machine.slots)))[0];
+  }
+
+  // A call by the table where there is one: it answers as the plain one, and a write leaves the table right.
+  #call(name, ...given) {
+    return this.#machine.indexed ? this.#machine.call(`${name}_indexed`, 'store', 'table', ...given) : this.#machine.call(name, 'store', ...given);
+  }
+
+  // Makes a table of the store's records in memory, by which reads find them in a few looks instead of looking at every slot; from then on it is kept with the store. No answer changes. The
+  // store is checked with it: 1, 2, 3.
+  index() {
+    if (this.#machine.indexed) return;
+    this.#machine.index();
+    this.#sound = true;
+  }
+
+  // Whether it has a table.
+  get indexed() {
+    return this.#machine.indexed;
+  }
+
+  // Before so many reads: the table, where the store is large enough that it pays and is sound. Where it isn't, reads go on without.
+  #expect(reads) {
+    if (this.#machine.indexed || this.#noTable || reads * this.#machine.slots < TABLE_PAYS) return;
+    try {
+      this.index();
+    } catch (refused) {
+      if (!(refused instanceof Refused)) throw refused;
+      this.#noTable = true;
+    }
   }
 
   format() {
-    this.#machine.call('format', 'store');
+    this.#call('format');
+    this.#sound = true;
+    this.#noTable = false;
   }
 
   check() {
     this.#machine.call('check', 'store');
+    this.#sound = true;
+  }
+
+  // The kept versions at which a wanted record begins or ends, with oldest and latest, ascending; of a store that the library has called sound: 1, 2, 3. A record stands
+  // at a place of the store's bytes.
+  #turns(wanted) {
+    if (!this.#sound) this.check();
+    const bytes = this.bytes();
+    const [oldest, latest] = [AT.oldest, AT.latest].map((field) => u32(bytes, field));
+    const turns = new Set([oldest, latest]);
+    for (let from = HEADER_BYTES; from < bytes.length; from += SLOT_BYTES) {
+      if (!wanted(bytes, from)) continue;
+      for (const field of [AT.version, AT.retiredSince]) {
+        const version = u32(bytes, from + field);
+        if (oldest <= version && version <= latest) turns.add(version);
+      }
+    }
+    return [...turns].sort((a, b) => a - b);
+  }
+
+  // The kept publishings of a sound store, the oldest first: `first` to `last` are the versions that read as it. They are found where a root begins or ends, and at
+  // latest; no number between is looked at. 1, 2, 3.
+  publishings() {
+    const firsts = this.#turns((bytes, from) => [LEAF_KIND, INNER_KIND].includes(u16(bytes, from + AT.kind)) && u16(bytes, from + AT.bitCount) === 0);
+    return firsts.map((first, i) => ({ first, last: i + 1 < firsts.length ? firsts[i + 1] - 1 : this.latest }));
+  }
+
+  // What became of a key: each kept version of a sound store from which it reads otherwise than before, the oldest first. Where to look is told by the
+  // leaves of the key; what is there, `get` says. 12, 1, 2, 3.
+  history(key) {
+    const asked = bytesOf(key);
+    if (asked.length !== 32) throw new Refused(12);
+    const rows = [];
+    const turns = this.#turns((bytes, from) => u16(bytes, from + AT.kind) === LEAF_KIND && asked.every((byte, i) => byte === bytes[from + AT.key + i]));
+    this.#expect(turns.length);
+    for (const version of turns) {
+      const value = this.get(version, asked).value ?? null;
+      if (rows.length === 0 || !sameBytes(rows.at(-1).value ?? [], value ?? [])) rows.push({ version, value });
+    }
+    return rows;
+  }
+
+  // All grants of a version of a sound store, in the order of keys. 1, 2, 3, 8.
+  grants(version) {
+    if (!this.#sound) this.check();
+    const length = this.count(version);
+    this.#expect(length);
+    return Array.from({ length }, (_, i) => this.at(version, i));
   }
 
   // Publishes under a number of the caller's, any above latest.
   apply(number, changes) {
-    const [wrote] = this.#machine.call('apply', 'store', versionOf(number), batch(changes), answer(40));
+    const [wrote] = this.#call('apply', versionOf(number), batch(changes), answer(40));
     return { version: u32(wrote, 0), root: wrote.slice(4, 36), newRecords: u32(wrote, 36) };
   }
 
   // Under the number after latest. Where there is none it is 0, which is never above latest; where there is no header, the call says so first.
   applyNext(changes) {
-    const bytes = this.bytes();
-    return this.apply(bytes.length < HEADER_BYTES ? 0 : (u32(bytes, AT.latest) + 1) % 2 ** 32, changes);
+    const header = this.#machine.kept(HEADER_BYTES);
+    return this.apply(header.length < HEADER_BYTES ? 0 : (u32(header, AT.latest) + 1) % 2 ** 32, changes);
   }
 
   prune(version) {
-    return u32(this.#machine.call('prune', 'store', versionOf(version), answer(4))[0], 0);
+    return u32(this.#call('prune', versionOf(version), answer(4))[0], 0);
   }
 
   root(version) {
-    return this.#machine.call('root', 'store', versionOf(version), answer(32))[0];
+    return this.#call('root', versionOf(version), answer(32))[0];
   }
 
   get(version, key) {
-    return found(this.#machine.call('get', 'store', versionOf(version), bytesOf(key), answer(33))[0]);
+    return found(this.#call('get', versionOf(version), bytesOf(key), answer(33))[0]);
   }
 
   // How many grants a version has: two counts of 32 bits summed, so a number says it exactly.
   count(version) {
-    const [wrote] = this.#machine.call('count', 'store', versionOf(version), answer(8));
+    const [wrote] = this.#call('count', versionOf(version), answer(8));
     return u32(wrote, 0) + 2 ** 32 * u32(wrote, 4);
   }
 
   // The grant at a position of a version, 0 the least key.
   at(version, position) {
-    const [wrote] = this.#machine.call('at', 'store', versionOf(version), positionOf(position), answer(64));
+    const [wrote] = this.#call('at', versionOf(version), positionOf(position), answer(64));
     return { key: wrote.slice(0, 32), value: wrote.slice(32) };
   }
 
   prove(version, key, most = LONGEST_PROOF) {
     if (!Number.isInteger(most) || most < 0) throw new RangeError('room is a whole number of bytes');
-    const [proof, length] = this.#machine.call('prove', 'store', versionOf(version), bytesOf(key), room(Math.min(most, LONGEST_PROOF)), answer(4));
+    const [proof, length] = this.#call('prove', versionOf(version), bytesOf(key), room(Math.min(most, LONGEST_PROOF)), answer(4));
     return proof.slice(0, u32(length, 0));
   }
 
@@ -322,7 +466,8 @@ export class Store {
   // The proofs for up to 256 keys, in the order asked, each as prove would give it. 12, 1, 2, 8, then of the first key refused 14, 3 or 17; then 9.
   palette(version, keys, most = LONGEST_PROOF * Math.min(keys.length, 256)) {
     if (!Number.isInteger(most) || most < 0) throw new RangeError('room is a whole number of bytes');
-    const [all, length] = this.#machine.call('palette', 'store', versionOf(version), keysOf(keys), room(Math.min(most, LONGEST_PROOF * 256)), answer(4));
+    this.#expect(keys.length);
+    const [all, length] = this.#call('palette', versionOf(version), keysOf(keys), room(Math.min(most, LONGEST_PROOF * 256)), answer(4));
     const proofs = [];
     for (let at = 0; at < u32(length, 0); at += proofs.at(-1).length) proofs.push(all.slice(at, at + u32(all, at)));
     return proofs;
@@ -332,7 +477,7 @@ export class Store {
   changes(first, second, limit = MOST_VISITS, most = Infinity) {
     if (most !== Infinity && (!Number.isInteger(most) || most < 0)) throw new RangeError('room is a whole number of bytes');
     // Each record of the list is another leaf of the store.
-    const longest = RECORD_BYTES * 2 * Math.max(Math.floor((this.bytes().length - HEADER_BYTES) / SLOT_BYTES), 0);
+    const longest = RECORD_BYTES * 2 * this.#machine.slots;
     const [list, records] = this.#machine.call('changes', 'store', versionOf(first), versionOf(second), versionOf(limit), room(Math.min(most, longest)), answer(4));
     const changed = [];
     for (let at = 0; at < RECORD_BYTES * u32(records, 0); at += RECORD_BYTES) {
@@ -349,6 +494,8 @@ export class Store {
 // The calls that need no store, and stores.
 export class Grants {
   #machine;
+  // Instances of stores that were closed.
+  #idle = [];
 
   constructor(module, instance) {
     this.module = module;
@@ -432,22 +579,27 @@ export class Grants {
     const machine = await this.#opened(bytes);
     const [target, wrote] = machine.call('rescue', 'store', versionOf(oldest), versionOf(latest), room(bytes.length), answer(16));
     machine.keep(target);
-    return { store: new Store(machine), first: u32(wrote, 0), same: u32(wrote, 4), other: u32(wrote, 8), out: u32(wrote, 12) };
+    return { store: this.#store(machine), first: u32(wrote, 0), same: u32(wrote, 4), other: u32(wrote, 8), out: u32(wrote, 12) };
   }
 
   // A store of any bytes, copied; `check` says whether it is sound. A sound one of the old form is moved over in memory, and `movedOver` says so.
   async open(bytes) {
     const given = bytesOf(bytes);
     const machine = await this.#opened(given);
-    if (!isOldForm(given)) return new Store(machine);
+    if (!isOldForm(given)) return this.#store(machine);
     try {
       const [moved] = machine.call('over', 'store', room(storeBytes((given.length - HEADER_BYTES) / OLD_SLOT_BYTES)));
       machine.keep(moved);
-      return new Store(machine, true);
+      return this.#store(machine, true);
     } catch (refused) {
       if (!(refused instanceof Refused)) throw refused;
-      return new Store(machine);
+      return this.#store(machine);
     }
+  }
+
+  #store(machine, movedOver) {
+    const back = (instance) => instance && this.#idle.length < MOST_IDLE && this.#idle.push(instance);
+    return new Store(machine, back, movedOver);
   }
 
   #whole(call) {
@@ -456,10 +608,26 @@ export class Grants {
 
   async #opened(bytes) {
     this.#whole('apply');
-    const machine = new Machine(await WebAssembly.instantiate(this.module));
+    const machine = new Machine(this.#idle.pop() ?? (await WebAssembly.instantiate(this.module)));
     machine.keep(bytes);
     return machine;
   }
+}
+
+// Proofs of a shelf that stand one after the other, cut apart by the lengths and the kinds of their records: one record, and a second one where the first shows a presence. Whether a piece is a
+// proof, `shelfVerify` says.
+export function shelfPieces(proofs) {
+  const end = (from) => {
+    const length = proofs.length - from < 4 ? 0 : u32(proofs, from);
+    return length < 4 || length > proofs.length - from ? proofs.length : from + length;
+  };
+  const pieces = [];
+  for (let from = 0; from < proofs.length; from += pieces.at(-1).length) {
+    const first = end(from);
+    const parted = first < proofs.length && u16(proofs, from + AT.kind) === PRESENCE_KIND;
+    pieces.push(proofs.slice(from, parted ? end(first) : first));
+  }
+  return pieces;
 }
 
 // Whether this engine has SIMD, which grants-verify-simd.wasm needs: whether it takes a module of one function that splats a byte.

@@ -1,7 +1,6 @@
 // What is drawn of a proof and of a store. Nothing here is a verdict: bytes are read for the eye alone.
-import { ABSENCE_BYTES, ABSENCE_KIND, AT, INNER_KIND, LEAF_KIND, PRESENCE_BYTES, PRESENCE_KIND, SLOT_BYTES, STEP_BYTES, storeBytes, u16, u32 } from '../../js/form.js';
+import { ABSENCE_BYTES, ABSENCE_KIND, AT, INNER_KIND, LEAF_KIND, PRESENCE_BYTES, PRESENCE_KIND, SLOT_BYTES, STEP_BYTES, sameBytes, storeBytes, u16, u32 } from '../../js/form.js';
 
-const sameBytes = (a, b) => a.length === b.length && a.every((byte, i) => byte === b[i]);
 const noHash = (hash) => hash.every((byte) => byte === 0);
 const compareBytes = (a, b) => {
   const at = a.findIndex((byte, i) => byte !== b[i]);
@@ -113,14 +112,6 @@ const rootsOf = (records) => [...records.values()].filter(({ place }) => place =
 export function treeOf(records, version) {
   const root = rootsOf(records).find((it) => it.version <= version && (it.retired === 0 || version < it.retired));
   return root && nodeOf(records, root.version, '');
-}
-
-// The publishings of a sound store, the oldest first, each with the versions that read as it. They are found where a root begins or ends, and at
-// latest; no number between is looked at.
-export function spansOf(records, oldest, latest) {
-  const ends = rootsOf(records).flatMap(({ version, retired }) => [version, retired]);
-  const firsts = [...new Set([oldest, latest, ...ends])].filter((v) => oldest <= v && v <= latest).sort((a, b) => a - b);
-  return firsts.map((first, i) => ({ first, last: i + 1 < firsts.length ? firsts[i + 1] - 1 : latest }));
 }
 
 // The leaves of a tree, from left to right.

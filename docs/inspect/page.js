@@ -1,31 +1,111 @@
 // The page: what is dropped, typed and clicked, the checker's verdicts, and the drawings.
-import { AT, OLD_FORM, u32 } from '../../js/form.js';
+import { AT, sameBytes, u32 } from '../../js/form.js';
 import { Refused, fromHex, load, toHex } from '../../js/grants.js';
-import { MOST_BYTES, kindOf } from './files.js';
-import { faultsOf, hashesOf, leavesOf, proofOf, recordsOf, spansOf, treeOf } from './drawing.js';
+import { bookOf, shownText } from './book.js';
+import { MOST_BYTES, MOST_KEYS, keyIn, kindOf, proofsIn } from './files.js';
+import { faultsOf, hashesOf, proofOf } from './drawing.js';
+import { at, calledBy, counted, element, shortHex, tableOf } from './elements.js';
+import { Held } from './held.js';
+import { byHand, publicKeyOf, signatureCheck, signatureOf } from './signature.js';
 
-const at = (id) => document.getElementById(id);
 const grants = await load(Uint8Array.from(atob(at('wasm').textContent.trim()), (c) => c.charCodeAt(0)));
-const short = (bytes) => `${toHex(bytes).slice(0, 8)}..${toHex(bytes).slice(-4)}`;
+let book = bookOf('');
 
-// An element with its class, its text or what is in it, and its attributes.
-function element(tag, { class: names, ...given } = {}, ...inside) {
-  const it = document.createElement(tag);
-  if (names) it.className = names;
-  for (const [name, value] of Object.entries(given)) it.setAttribute(name, value);
-  it.append(...inside.filter((x) => x !== undefined));
-  return it;
-}
+const hashBox = (names, label, hash) => element('span', { class: `box ${names}`, title: hash ? toHex(hash) : '' }, element('small', {}, label), hash ? element('span', { class: 'hex' }, shortHex(toHex(hash))) : '');
+const called = (bytes) => calledBy(book, (name) => grants.name(name), bytes);
 
-const hashBox = (names, label, hash) => element('span', { class: `box ${names}`, title: hash ? toHex(hash) : '' }, element('small', {}, label), hash ? element('span', { class: 'hex' }, short(hash)) : '');
-
-// Hex digits stand for a key, anything else for a name, whose SHA-256 is the key.
+// Hex digits stand for a key, anything else for a name, whose SHA-256 is the key; what the book gives the name is never asked for.
 function keyOf(text) {
   const quoted = /^"(.*)"$/.exec(text);
   if (!quoted && /^[0-9a-f]*$/i.test(text)) return { key: fromHex(text), taken: '' };
   const name = quoted ? quoted[1] : text;
   const key = grants.name(name);
-  return { key, taken: `the name “${name}”, so the key ${toHex(key)}` };
+  const other = book.meant.get(name)?.find((hex) => hex !== toHex(key));
+  return { key, taken: `the name “${shownText(name)}”, so the key ${toHex(key)}${other ? `; the book gives this name to another key, ${other}, which is not asked for` : ''}` };
+}
+
+// The statement that was dropped, with its file's name and its bytes, while its root stands in the field.
+let signed;
+let signing = { verdict: 'none' };
+let signingAsked = 0;
+
+// Whether these are the root and the bits of the statement.
+const isSigned = (root, bits) => signed !== undefined && sameBytes(signed.statement.root, root) && signed.statement.bits === bits;
+const isPast = ({ notAfter }) => notAfter !== null && Date.now() / 1000 > notAfter;
+const instant = (seconds) => new Date(seconds * 1000).toISOString().replace('.000Z', 'Z');
+
+// Who is shown to have signed the root that a verdict was given for. Where the statement says that it is not to be believed, that is the verdict.
+function standing(root, bits) {
+  const told = (kind, text) => {
+    at('standing').className = kind;
+    at('standing').textContent = text;
+  };
+  if (!isSigned(root, bits)) return told('note', 'Nothing here shows who signed this root.');
+  const name = shownText(signed.name);
+  const doubt = signing.verdict === 'fails' ? 'the signature does not hold' : isPast(signed.statement) ? 'past its date' : '';
+  if (doubt) {
+    at('reason').prepend(`Under this root alone: ${at('verdict').textContent}. `);
+    at('verdict').className = 'nothing';
+    at('verdict').textContent = doubt;
+    return told('bad', signing.verdict === 'fails' ? `The signature of ${name} does not hold, so nothing is to be believed by this root.` : `The statement ${name} of this root was good until ${instant(signed.statement.notAfter)}: get a newer one.`);
+  }
+  if (signing.verdict === 'holds') return told('good', `The root is that of version ${signed.statement.version} in ${name}, and its signature holds under the key ${signing.fingerprint}.`);
+  return told('note', `The root stands in ${name}; that anybody signed it is not shown.`);
+}
+
+function saySigned(kind, ...text) {
+  at('signed').className = kind;
+  at('signed').replaceChildren(...text);
+}
+
+// Asked anew with each change; a verdict that stands is given again with what came.
+async function checkSignature() {
+  await askSignature();
+  if (checked && signed) check();
+}
+
+// The signature of the statement, under the public key that stands in its field. What was asked before counts no more.
+async function askSignature() {
+  const mine = (signingAsked += 1);
+  signing = { verdict: 'none' };
+  const [signersText, signatureText] = ['signers', 'signature'].map((id) => at(id).value.trim());
+  if (signersText || signatureText) at('signing').open = true;
+  if (!signed) return saySigned('note', signersText || signatureText ? 'The statement is wanted too: drop the file that was signed.' : '');
+  if (!signersText || !signatureText) return saySigned('note', !signersText && !signatureText ? 'Its signature was not given, so that anybody signed it is not shown.' : `Its signature is not checked yet: ${signersText ? 'the signature' : 'the public key'} is wanted too.`);
+  const [signers, signature] = [publicKeyOf(new TextEncoder().encode(signersText)), signatureOf(new TextEncoder().encode(signatureText))];
+  if (signers.why) return saySigned('bad', `The public key is not taken: ${signers.why}.`);
+  if (signature.why) {
+    signing = { verdict: 'fails' };
+    return saySigned('bad', `The signature does not hold: ${signature.why}.`);
+  }
+  saySigned('note', 'Its signature is being checked.');
+  const came = await signatureCheck(globalThis.crypto?.subtle, signers, signature, signed.bytes);
+  if (mine !== signingAsked) return undefined;
+  signing = came;
+  if (came.verdict === 'fails') return saySigned('bad', `The signature does not hold: ${came.why}.`);
+  if (came.verdict === 'unable') return saySigned('bad', 'This browser has no Ed25519 for a page, so the signature is not checked. At a terminal: ', element('code', { class: 'hex' }, byHand(signature.form)));
+  return saySigned('good', `The signature of the statement holds, under the key ${came.fingerprint}${came.who ? `, in the list as ${shownText(came.who)}` : ''}. Compare that with what the publisher gave you by another way.`);
+}
+
+// What a statement says beside the root.
+function saySigner() {
+  const { statement, name } = signed;
+  const until = statement.notAfter === null ? ', without a date' : `, ${isPast(statement) ? 'past its date' : 'good until'} ${instant(statement.notAfter)}`;
+  at('stated').className = isPast(statement) ? 'bad' : 'note';
+  at('stated').textContent = `By ${shownText(name)} the root of version ${statement.version}${statement.bits === null ? '' : ` of a shelf of ${statement.bits} bits`}, made ${instant(statement.made)}${until}.`;
+}
+
+// Another root than the statement's has nothing of it.
+function setRoot(root, bits) {
+  at('root').value = toHex(root);
+  at('bits').value = bits ?? '';
+  if (!isSigned(root, bits)) unsigned();
+}
+
+function unsigned() {
+  signed = undefined;
+  at('stated').textContent = '';
+  return checkSignature();
 }
 
 function say(kind, verdict, reason) {
@@ -33,12 +113,13 @@ function say(kind, verdict, reason) {
   at('verdict').className = kind;
   at('verdict').textContent = verdict;
   at('reason').replaceChildren(...reason);
+  at('standing').textContent = '';
 }
 
 // One path, from the root down to the leaf.
 function drawn(path, hashes, root, failing) {
   const top = hashes.at(-1);
-  const meets = toHex(top) === toHex(root);
+  const meets = sameBytes(top, root);
   const list = element('ol', { class: 'path', 'aria-label': `${path.what}: from the root down to the leaf` });
   list.append(element('li', { class: 'top' }, element('span', { class: meets ? '' : 'bad' }, meets ? 'The hashes meet the root' : 'The hashes do not meet the root'), hashBox(meets ? 'mine' : 'fails', meets ? 'the root' : 'what the path leads to', top)));
   path.steps.map((step, i) => ({ step, i })).reverse().forEach(({ step: { side, sibling }, i }) => {
@@ -48,7 +129,7 @@ function drawn(path, hashes, root, failing) {
     list.append(element('li', { class: side === 1 ? 'right' : '' }, element('span', { class: failing.includes(i) ? 'bad' : 'note' }, `Step ${i + 1}${failing.includes(i) ? ': it fails here' : ''}`), element('span', { class: 'pair' }, ...(side === 0 ? [mine, other] : [other, mine]))));
   });
   list.append(element('li', {}, 'Leaf', hashBox('mine', 'key', path.key), hashBox('mine', 'value', path.value)));
-  return element('div', {}, element('h3', {}, `${path.what}: ${path.steps.length} ${path.steps.length === 1 ? 'step' : 'steps'}`), list);
+  return element('div', {}, element('h3', {}, `${path.what}: ${counted(path.steps.length, 'step')}`), list);
 }
 
 // One record: what is drawn of it, and why it doesn't hold.
@@ -86,156 +167,131 @@ function bitsOf(text) {
   return Number(text);
 }
 
+// Whether a verdict of the fields stands.
+let checked = false;
+
 // No verdict stands beside fields that it wasn't given for.
 function forget() {
-  for (const id of ['result', 'drawing']) at(id).hidden = true;
+  checked = false;
+  for (const id of ['result', 'drawing', 'row']) at(id).hidden = true;
   at('verdict').textContent = '';
   at('taken').textContent = '';
 }
 
-// The verdict of what stands in the fields.
-function check() {
-  let root, bits, key, proof;
-  forget();
+// The lines of the field of keys.
+const keyLines = () => at('key').value.split(/\r?\n/).map((line) => line.trim()).filter((line) => line !== '');
+
+// What one proof shows of one key: the checker's answer, or its refusal.
+function shownBy(root, bits, key, proof) {
   try {
-    bits = bitsOf(at('bits').value.trim());
-    root = fromHex(at('root').value.trim());
-    const asked = keyOf(at('key').value.trim());
-    key = asked.key;
-    at('taken').textContent = asked.taken;
-    proof = fromHex(at('proof').value.replace(/\s/g, ''));
-  } catch {
-    say('nothing', 'this proof shows nothing', ['Root and proof are written in hex digits, two for each byte; bits as a number.']);
-    return;
-  }
-  const empty = root.length === 32 && root.every((byte) => byte === 0) ? ' This root is that of no grants: signed, it shows by itself that nothing is granted, and there is no proof.' : '';
-  try {
-    const found = bits === null ? grants.verify(root, key, proof) : grants.shelfVerify(root, bits, key, proof);
-    draw(piecesOf(proof, root, key, bits), 0);
-    if (found.present) say('granted', 'granted', ['The grant stands, with the value ', element('span', { class: 'hex' }, toHex(found.value))]);
-    else say('not-granted', 'not granted', ['There is no such grant under this root.']);
+    return bits === null ? grants.verify(root, key, proof) : grants.shelfVerify(root, bits, key, proof);
   } catch (refused) {
     if (!(refused instanceof Refused)) throw refused;
-    const why = draw([10, 12, 21].includes(refused.number) ? [] : piecesOf(proof, root, key, bits), refused.number);
-    say('nothing', 'this proof shows nothing', [`Refused with ${refused.number}: ${refused.sentence}.${empty}`, ...why.map((line) => element('span', { class: 'bad', style: 'display:block' }, line))]);
+    return refused;
   }
 }
 
-let store;
-let records;
-let names = new Map();
-let shownVersion = 0;
+const SHOWS_NOTHING = 'this proof shows nothing';
 
-// The proof of a key in a version, by a click.
-function prove(version, key) {
-  at('root').value = toHex(store.root(version));
-  at('bits').value = '';
+function checkOne(root, bits, key, proof) {
+  const empty = root.length === 32 && root.every((byte) => byte === 0) ? ' This root is that of no grants: signed, it shows by itself that nothing is granted, and there is no proof.' : '';
+  const found = shownBy(root, bits, key, proof);
+  if (found instanceof Refused) {
+    const why = draw([10, 12, 21].includes(found.number) ? [] : piecesOf(proof, root, key, bits), found.number);
+    say('nothing', SHOWS_NOTHING, [`Refused with ${found.number}: ${found.sentence}.${empty}`, ...why.map((line) => element('span', { class: 'bad', style: 'display:block' }, line))]);
+    return;
+  }
+  draw(piecesOf(proof, root, key, bits), 0);
+  if (found.present) say('granted', 'granted', ['The grant stands, with the value ', element('span', { class: 'hex' }, toHex(found.value)), ...(book.names.has(toHex(found.value)) ? [', ', called(found.value)] : [])]);
+  else say('not-granted', 'not granted', ['There is no such grant under this root.']);
+  standing(root, bits);
+}
+
+// What each of several proofs shows of its key: of a store in one call, of a shelf one by one.
+function shownByAll(root, bits, keys, proofs) {
+  if (bits !== null) return proofs.map((proof, i) => shownBy(root, bits, keys[i], proof));
+  try {
+    return grants.verifyMany(root, keys, proofs);
+  } catch (refused) {
+    if (!(refused instanceof Refused)) throw refused;
+    return keys.map(() => refused);
+  }
+}
+
+function checkRow(root, bits, keys, proofs) {
+  const all = shownByAll(root, bits, keys, proofs);
+  const [granted, refused] = [all.filter((it) => it.present), all.filter((it) => it instanceof Refused)].map((list) => list.length);
+  const rest = all.length - granted - refused;
+  if (refused) say('nothing', `${refused} of ${counted(all.length, 'proof')} ${refused === 1 ? 'shows' : 'show'} nothing`, [`Of the others ${granted} show a grant, and ${rest} that there is none.`]);
+  else say(rest ? 'not-granted' : 'granted', [granted ? `${granted} granted` : '', rest ? `${rest} not granted` : ''].filter(Boolean).join(', '), ['Each key with what its proof shows:']);
+  const rows = all.map((it, i) => {
+    const verdict = it instanceof Refused ? element('span', { class: 'bad' }, `shows nothing: refused with ${it.number}, ${it.sentence}`) : element('span', { class: it.present ? 'granted' : 'not-granted' }, it.present ? 'granted' : 'not granted');
+    const button = element('button', { type: 'button', 'aria-label': `Draw proof ${i + 1}` }, 'Draw');
+    button.addEventListener('click', () => {
+      draw(it.number === 10 || it.number === 12 || it.number === 21 ? [] : piecesOf(proofs[i], root, keys[i], bits), it.number ?? 0);
+      at('drawing').prepend(element('p', { class: 'hex' }, `Proof ${i + 1}, for the key ${toHex(keys[i])}`));
+      at('drawing').scrollIntoView({ block: 'start' });
+    });
+    const drawable = ![10, 12, 21].includes(it.number);
+    return [`${i + 1}`, called(keys[i]), verdict, it.present ? called(it.value) : '', drawable ? button : ''];
+  });
+  at('row').hidden = false;
+  at('row').replaceChildren(tableOf(['', 'Key', 'Verdict', 'Value', 'Path'], rows));
+  standing(root, bits);
+}
+
+// The verdict of what stands in the fields.
+function check() {
+  let root, bits, keys, proof;
+  forget();
+  checked = true;
+  const lines = keyLines();
+  try {
+    bits = bitsOf(at('bits').value.trim());
+    root = fromHex(at('root').value.trim());
+    const asked = (lines.length ? lines : ['']).map(keyOf);
+    keys = asked.map(({ key }) => key);
+    at('taken').textContent = asked.map(({ taken }) => taken).filter(Boolean).slice(0, lines.length > 1 ? 0 : 1).join('');
+    proof = fromHex(at('proof').value.replace(/\s/g, ''));
+  } catch {
+    say('nothing', SHOWS_NOTHING, ['Root and proof are written in hex digits, two for each byte; bits as a number.']);
+    return;
+  }
+  const proofs = proofsIn(proof, bits);
+  const several = (why) => say('nothing', 'these proofs show nothing', [why]);
+  if (proofs.length > MOST_KEYS || lines.length > MOST_KEYS) several(`No more than ${MOST_KEYS} keys are asked for at once; here are ${counted(lines.length, 'key')} and ${counted(proofs.length, 'proof')}.`);
+  else if (proofs.length === 1 && lines.length <= 1) checkOne(root, bits, keys[0], proof);
+  else if (lines.length === 0) {
+    keys = proofs.map((it) => keyIn(it, bits));
+    at('key').value = keys.map(toHex).join('\n');
+    at('taken').textContent = 'These are the keys that the proofs themselves name.';
+    checkRow(root, bits, keys, proofs);
+  } else if (lines.length === 1) {
+    const which = proofs.findIndex((it) => sameBytes(keyIn(it, bits), keys[0]));
+    if (which < 0) several(`Of ${counted(proofs.length, 'proof')} none is for this key. (The proof of a shelf has two records: it wants the shelf’s bits.)`);
+    else {
+      at('taken').textContent += ` Of ${counted(proofs.length, 'proof')} this is number ${which + 1}.`;
+      checkOne(root, bits, keys[0], proofs[which]);
+    }
+  } else if (lines.length !== proofs.length) several(`Here are ${counted(lines.length, 'key')}, and ${counted(proofs.length, 'proof')}: one is wanted for each key, in the order of the keys.`);
+  else checkRow(root, bits, keys, proofs);
+}
+
+// The proof of a key in a version of the store, by a click.
+function prove(root, key, proof) {
+  setRoot(root, null);
   at('key').value = toHex(key);
-  at('proof').value = toHex(store.prove(version, key));
+  at('proof').value = toHex(proof);
   check();
   at('result').scrollIntoView({ block: 'start' });
   at('result').tabIndex = -1;
   at('result').focus();
 }
 
-// ' “chords sonata” = “read”', where the book has names.
-function named({ key, value }) {
-  const [of, to] = [key, value].map((bytes) => names.get(toHex(bytes)));
-  return of || to ? element('span', { class: 'named' }, ` “${of ?? '?'}” = “${to ?? '?'}”`) : '';
-}
+const fieldKey = () => (/^[0-9a-f]{64}$/i.test(at('key').value.trim()) ? at('key').value.trim() : undefined);
+const held = new Held({ grants, prove, book: () => book, key: fieldKey });
 
-// `made` is the number that the tree was published under: what has it is new there.
-function node(tree, version, made) {
-  const place = tree.place || 'root';
-  const look = tree.version === made ? 'new' : '';
-  if (tree.below) {
-    const below = tree.below.map((child, bit) => child && element('li', {}, `${bit} `, node(child, version, made)));
-    return element('span', {}, element('span', { class: look }, `inner node ${place}, ${tree.counts.join(' + ')} grants below, version ${tree.version}, slot ${tree.slot}`), element('ul', {}, ...below));
-  }
-  const button = element('button', { type: 'button', class: 'hex', title: toHex(tree.key) }, `prove ${short(tree.key)}`);
-  button.addEventListener('click', () => prove(version, tree.key));
-  return element('span', {}, button, ` = `, element('span', { class: `hex ${look}` }, `${short(tree.value)}`), named(tree), ` leaf ${place.length > 24 ? `${place.slice(0, 20)}.. (${place.length} bits)` : place}, version ${tree.version}, slot ${tree.slot}`);
-}
-
-// What became of the keys since the version before, which reads as the publishing before.
-function changes(version) {
-  const [before, now] = [version - 1, version].map((v) => new Map(leavesOf(treeOf(records, v)).map((leaf) => [toHex(leaf.key), toHex(leaf.value)])));
-  const lines = [];
-  for (const [key, value] of now) if (before.get(key) !== value) lines.push(`${before.has(key) ? 'changed' : 'added'} ${key.slice(0, 8)}..${key.slice(-4)}`);
-  for (const key of before.keys()) if (!now.has(key)) lines.push(`removed ${key.slice(0, 8)}..${key.slice(-4)}`);
-  return lines;
-}
-
-function show(version) {
-  shownVersion = version;
-  const tree = treeOf(records, version);
-  const since = version > store.oldest ? changes(version) : undefined;
-  at('tree').replaceChildren(
-    element('h2', { tabindex: '-1', id: 'tree-title' }, `The tree of version ${version}`),
-    element('p', { id: 'changes' }, since === undefined ? 'The version before it is not kept.' : since.length ? `Since version ${version - 1}: ${since.join(', ')}.` : `Since version ${version - 1} no grant changed.`),
-    tree ? element('div', { class: 'wide' }, node(tree, version, tree.version)) : element('p', {}, 'It holds no grant: its root is 32 zero bytes, and that is itself the proof.'),
-  );
-  at('tree-title').focus();
-}
-
-// What a read of the latest version meets in a store that isn't sound: which record is lost or spoilt.
-function met() {
-  const version = store.latest;
-  try {
-    store.root(version);
-    if (/^[0-9a-f]{64}$/i.test(at('key').value.trim())) store.get(version, at('key').value.trim());
-  } catch (refused) {
-    if (!(refused instanceof Refused)) throw refused;
-    if (refused.slot !== null) return ` In version ${version} the record in slot ${refused.slot} is spoilt.`;
-    if (refused.number === 17) return ` In version ${version} a record on the way to the key is lost.`;
-  }
-  return '';
-}
-
-const MOST_ROWS = 100;
-
-async function openStore(name, bytes) {
-  at('store').hidden = false;
-  at('store-title').textContent = `Store ${name}`;
-  at('tree').replaceChildren();
-  at('versions').replaceChildren();
-  store = await grants.open(bytes);
-  try {
-    store.check();
-  } catch (refused) {
-    if (!(refused instanceof Refused)) throw refused;
-    at('sound').className = 'bad';
-    const why = refused.oldForm ? ` By its size and its header ${OLD_FORM}.` : refused.number === 3 ? `${met()} What is whole in it can be rescued with the command line tool (grants rescue).` : '';
-    at('sound').textContent = `This store is not to be used. Refused with ${refused.number}: ${refused.sentence}.${why}`;
-    return;
-  }
-  records = recordsOf(store.bytes());
-  const { oldest, latest, capacity } = store;
-  at('sound').className = 'granted';
-  const moved = store.movedOver ? ' It is a store of the old form (slots of 120 bytes), and is shown as it was moved over in memory; the file is as it was.' : '';
-  at('sound').textContent = `Sound: versions ${oldest} to ${latest}, ${capacity} slots.${moved}`;
-  const body = element('tbody');
-  const spans = spansOf(records, oldest, latest);
-  for (const { first, last } of spans.slice(-MOST_ROWS).reverse()) {
-    const button = element('button', { type: 'button' }, first === last ? `version ${first}` : `version ${first} to ${last}`);
-    button.addEventListener('click', () => show(first));
-    body.append(element('tr', {}, element('td', {}, button), element('td', {}, `${store.count(first)}`), element('td', { class: 'hex' }, toHex(store.root(first)))));
-  }
-  const head = element('tr', {}, ...['Version', 'Grants', 'Root'].map((text) => element('th', { scope: 'col' }, text)));
-  at('versions').replaceChildren(element('div', { class: 'wide' }, element('table', {}, element('thead', {}, head), body)));
-  if (spans.length > MOST_ROWS) at('versions').append(element('p', { class: 'note' }, `The last ${MOST_ROWS} publishings are listed.`));
-}
-
-const notTaken = (name, why) => say('nothing', 'this file is not taken', [`${name}: ${why}`]);
-
-// What a root that was signed says beside the root. The signature itself is for the program that knows the key.
-function takeStatement({ version, root, bits, until }) {
-  at('root').value = root;
-  at('bits').value = bits;
-  const past = until && Date.now() > Date.parse(until);
-  at('stated').className = past ? 'bad' : 'note';
-  at('stated').textContent = `The root of version ${version}${bits === '' ? '' : ` of a shelf of ${bits} bits`}${until ? `, ${past ? 'past its date' : 'good until'} ${until}` : ''}. Its signature is not looked at here.`;
-}
+const notTaken = (name, why) => say('nothing', 'this file is not taken', [element('bdi', {}, `${shownText(name)}: ${why}`)]);
 
 // What an ICS 23 message was written from, where a file has one or its hex digits.
 function messageOf(bytes) {
@@ -250,58 +306,106 @@ function messageOf(bytes) {
   return undefined;
 }
 
+const PLAIN_NAME = /^[\p{L}\p{N}\p{P}\p{S} ]+$/u;
+
 // The key asked for stands in a message as it was before hashing: as a name where it is text, else its SHA-256 is the key.
 function takeMessage({ proof, asked }) {
   const text = new TextDecoder().decode(asked);
-  const isName = /^[\p{L}\p{N}\p{P}\p{S} ]+$/u.test(text) && toHex(grants.name(text)) === toHex(grants.sha256(asked));
+  const isName = PLAIN_NAME.test(text) && sameBytes(grants.name(text), grants.sha256(asked));
   at('key').value = isName ? `"${text}"` : toHex(grants.sha256(asked));
   at('proof').value = toHex(proof);
 }
+
+// Names stand in the field as they are, where a line of it can hold them.
+const takeKeys = (keys) => (at('key').value = keys.map(({ hex, name }) => hex ?? (PLAIN_NAME.test(name) ? `"${name}"` : toHex(grants.name(name)))).join('\n'));
 
 // A file is taken for what it is; one of hex digits for the bytes that they stand for.
 async function taken(file) {
   forget();
   if (file.size > MOST_BYTES) {
-    notTaken(file.name, `it has ${file.size} bytes, and no root, proof, book or store for this page has more than ${MOST_BYTES}.`);
+    notTaken(file.name, `it has ${file.size} bytes, and no file for this page has more than ${MOST_BYTES}.`);
     return false;
   }
-  const bytes = new Uint8Array(await file.arrayBuffer());
-  const message = messageOf(bytes);
-  if (message) {
-    takeMessage(message);
-    return true;
+  let bytes;
+  try {
+    bytes = new Uint8Array(await file.arrayBuffer());
+  } catch {
+    notTaken(file.name, 'it can’t be read. Is it a folder?');
+    return false;
   }
-  const it = kindOf(bytes);
-  if (it.kind === 'root' || it.kind === 'statement') at('stated').textContent = '';
-  if (it.kind === 'root') at('root').value = it.root;
-  else if (it.kind === 'statement') takeStatement(it);
-  else if (it.kind === 'store') await openStore(file.name, it.bytes);
-  else if (it.kind === 'book') takeNames(file.name, it.names);
+  const message = messageOf(bytes);
+  const it = message ? { kind: 'message' } : kindOf(bytes);
+  if (it.kind === 'message') takeMessage(message);
+  else if (it.kind === 'root') {
+    setRoot(fromHex(it.root), null);
+    await unsigned();
+  } else if (it.kind === 'statement') {
+    signed = { name: file.name, bytes: it.bytes, statement: it.statement };
+    setRoot(it.statement.root, it.statement.bits);
+    saySigner();
+    await checkSignature();
+  } else if (it.kind === 'signature' || it.kind === 'signers') {
+    at(it.kind).value = it.text;
+    await checkSignature();
+  } else if (it.kind === 'store') await held.open(file.name, it.bytes);
+  else if (it.kind === 'book') takeBook(file.name, it.book);
+  else if (it.kind === 'keys') takeKeys(it.keys);
   else if (it.kind === 'proof') at('proof').value = toHex(it.bytes);
-  else notTaken(file.name, 'it is neither a root, nor a proof, nor an ICS 23 message, nor a store, nor a book.');
+  else notTaken(file.name, it.why);
   return it.kind !== 'nothing';
 }
 
 // The names of a book are for the eye alone, and nothing is asked by them.
-function takeNames(name, given) {
-  names = given;
-  at('named').textContent = `${given.size} ${given.size === 1 ? 'name' : 'names'} from ${name}, which is not trusted: a name here is what that file says.`;
-  if (at('tree-title')) show(shownVersion);
+function takeBook(name, given) {
+  book = given;
+  const odd = given.unread ? ` ${counted(given.unread, 'line')} of it can’t be read, the first is line ${given.firstUnread}.` : '';
+  at('store').hidden = false;
+  at('named').textContent = `${counted(given.names.size, 'name')} from ${shownText(name)}, which is not trusted: a name here is what that file says, with the digits that it says it of; it is marked where the digits are not its SHA-256.${odd}`;
+  held.named();
 }
 
 async function takeAll(files) {
   let all = true;
   for (const file of files) all = (await taken(file)) && all;
   // What was not taken is said, and no verdict takes its place.
-  if (all && at('root').value && at('key').value && at('proof').value) check();
+  if (all && at('root').value && at('proof').value && (at('key').value || proofsIn(fromProof()).length > 1)) check();
 }
+
+const fromProof = () => {
+  try {
+    return fromHex(at('proof').value.replace(/\s/g, ''));
+  } catch {
+    return new Uint8Array(0);
+  }
+};
 
 at('ask').addEventListener('submit', (event) => {
   event.preventDefault();
   check();
 });
 at('ask').addEventListener('input', forget);
-at('root').addEventListener('input', () => (at('stated').textContent = ''));
+for (const id of ['root', 'bits']) at(id).addEventListener('input', unsigned);
+for (const id of ['signers', 'signature']) at(id).addEventListener('input', checkSignature);
+// The field of keys has several lines, and is a line as long as it has one.
+at('key').addEventListener('keydown', (event) => {
+  if (event.key !== 'Enter' || event.shiftKey || at('key').value.includes('\n')) return;
+  event.preventDefault();
+  at('ask').requestSubmit();
+});
+at('ask-history').addEventListener('submit', (event) => {
+  event.preventDefault();
+  const text = at('history-key').value.trim();
+  try {
+    held.history(keyOf(text).key);
+  } catch (error) {
+    at('history').replaceChildren();
+    at('history-said').textContent = error instanceof Refused || error instanceof TypeError ? 'A key is 64 hex digits; any other text is a name, whose SHA-256 is the key.' : error.message;
+  }
+});
+at('by-number').addEventListener('submit', (event) => {
+  event.preventDefault();
+  held.openVersion(at('number').value.trim());
+});
 at('file').addEventListener('change', (event) => takeAll(event.target.files));
 for (const kind of ['dragover', 'dragleave', 'drop']) {
   document.addEventListener(kind, (event) => {

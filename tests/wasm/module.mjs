@@ -242,6 +242,41 @@ async function memory(tally, grants, { lyrics, then, first }) {
   tally.equal('nothing is left of it', left(), false);
   for (let i = 0; i < 20; i += 1) own.sha256(long);
   tally.equal('memory after twenty more', size(), large);
+  // Of a store with a table: behind the two nothing is left either.
+  WebAssembly.instantiate = async (...given) => (seen = await instantiate(...given));
+  const tabled = await own.format(40);
+  WebAssembly.instantiate = instantiate;
+  tabled.index();
+  tabled.apply(1, [{ key: lyrics, value: lyrics }]);
+  tabled.palette(1, [lyrics, first.root]);
+  refused(() => tabled.prove(1, lyrics.slice(1)));
+  const end = (from, length) => Math.ceil(from / 64) * 64 + length;
+  const behind = end(end(seen.exports.__heap_base.value, storeBytes(40)), 4 * 40);
+  tally.equal('nothing is left behind a table', new Uint8Array(seen.exports.memory.buffer, behind).some((b) => b !== 0), false);
+  tally.equal('and the table is there', new Uint32Array(seen.exports.memory.buffer, behind - 160, 40).slice(0, 3).join(), '0,40,40');
+  // A closed store is wiped, its memory is another's, and nothing can be asked of it.
+  const { exports: held } = seen;
+  tabled.close();
+  tally.equal('nothing is left of a closed store', new Uint8Array(held.memory.buffer, held.__heap_base.value).some((b) => b !== 0), false);
+  const said = (call) => {
+    try {
+      return call();
+    } catch (error) {
+      return error.message;
+    }
+  };
+  for (const call of [() => tabled.bytes(), () => tabled.latest, () => tabled.get(1, lyrics), () => tabled.index(), () => tabled.close()]) tally.equal('a closed store', said(call), 'this store was closed');
+  let made = 0;
+  WebAssembly.instantiate = async (...given) => ((made += 1), instantiate(...given));
+  const next = await own.format(50);
+  for (let i = 0; i < 40; i += 1) {
+    const it = await own.open(next.bytes());
+    it.apply(1, [{ key: lyrics, value: lyrics }]);
+    tally.equal('a store after another', [it.get(1, lyrics).present, it.count(1), it.indexed], [true, 1, false]);
+    it.close();
+  }
+  WebAssembly.instantiate = instantiate;
+  tally.equal('its memory is another’s', made, 1);
   const [one, other] = [await own.format(3), await own.format(3)];
   one.apply(1, [{ key: lyrics, value: lyrics }]);
   tally.equal('two stores', [one.latest, other.latest], [1, 0]);
@@ -277,6 +312,103 @@ async function counting(tally, grants) {
   tally.equal('positions left over', [refused(() => most.at(1, 8589934589)), refused(() => most.at(1, 8589934590)), toHex(most.at(1, 0).key)], [3, 20, '00'.repeat(32)]);
   const none = await counted(0, 0);
   tally.equal('no counts', [none.count(1), refused(() => none.at(1, 0))], [0, 20]);
+}
+
+// Publishings, a key's history and a version's grants, beside a list that is kept along; refused where the store isn't sound.
+async function histories(tally, grants) {
+  const store = await grants.format(600);
+  const names = Array.from({ length: 12 }, (_, i) => toHex(grants.name(`${i}`)));
+  const [read, write] = ['read', 'write'].map((name) => toHex(grants.name(name)));
+  const kept = new Map([[0, new Map()]]);
+  // Numbers with gaps; each publishing changes three keys: another value, the same, none.
+  for (let version = 3, last = kept.get(0); version < 60; version += 1 + (version % 4)) {
+    const changes = [0, 1, 2].map((i) => [names[(version * (i + 2)) % 12], [read, write, null][(version + i) % 3]]);
+    const now = new Map(last);
+    for (const [key, value] of new Map(changes)) value === null ? now.delete(key) : now.set(key, value);
+    store.apply(version, [...new Map(changes)].map(([key, value]) => ({ key, value })));
+    kept.set(version, (last = now));
+  }
+  const readAs = (version) => kept.get([...kept.keys()].filter((it) => it <= version).at(-1));
+  const compared = (oldest) => {
+    const firsts = store.publishings().map(({ first }) => first);
+    tally.equal('publishings begin with oldest and end with latest', [firsts[0], store.publishings().at(-1).last], [oldest, store.latest]);
+    tally.holds('each goes on to the next', store.publishings().every(({ last }, i, all) => i + 1 === all.length || last + 1 === all[i + 1].first));
+    tally.holds('none is missed', [...kept.keys()].filter((it) => it >= oldest).every((it) => firsts.includes(it) || toHex(store.root(it)) === toHex(store.root(it - 1))));
+    for (let version = oldest; version <= store.latest; version += 7) {
+      tally.equal(`the grants of ${version}`, store.grants(version).map(({ key, value }) => `${toHex(key)} ${toHex(value)}`), [...readAs(version)].map(([key, value]) => `${key} ${value}`).sort());
+    }
+    for (const key of [...names, toHex(grants.name('no one'))]) {
+      const wanted = [];
+      for (let version = oldest; version <= store.latest; version += 1) {
+        const value = readAs(version).get(key) ?? null;
+        if (wanted.length === 0 || wanted.at(-1).value !== value) wanted.push({ version, value });
+      }
+      tally.equal('a history', store.history(key).map(({ version, value }) => ({ version, value: value && toHex(value) })), wanted);
+    }
+  };
+  compared(0);
+  store.prune(30);
+  compared(30);
+  tally.equal('a key of 31 bytes', refused(() => store.history('00'.repeat(31))), 12);
+  tally.equal('a version that is not kept', refused(() => store.grants(29)), 8);
+  const damaged = await grants.open(store.bytes().fill(255, storeBytes(1) + AT.key, storeBytes(1) + AT.key + 1));
+  for (const call of [() => damaged.publishings(), () => damaged.history(names[0]), () => damaged.grants(40)]) tally.equal('not of a damaged store', refused(call), 3);
+}
+
+// A store with a table beside its twin without one: every answer, every refusal and every byte.
+async function tables(tally, grants) {
+  const [plain, tabled] = [await grants.format(1500), await grants.format(1500)];
+  tabled.index();
+  tally.equal('who has a table', [plain.indexed, tabled.indexed], [false, true]);
+  const names = Array.from({ length: 60 }, (_, i) => toHex(grants.name(`${i}`)));
+  const values = ['read', 'write'].map((name) => toHex(grants.name(name)));
+  const said = (call) => {
+    try {
+      return JSON.stringify(call(), (_, it) => (it instanceof Uint8Array ? toHex(it) : it));
+    } catch (error) {
+      return error instanceof Refused ? `refused ${error.number} ${error.slot}` : error.constructor.name;
+    }
+  };
+  const same = (what, call) => tally.equal(what, said(() => call(tabled)), said(() => call(plain)));
+  const reads = (version) => {
+    for (const key of [...names.slice(0, 8), grants.name('no one'), '00'.repeat(31)]) for (const [what, call] of Object.entries({ get: (it) => it.get(version, key), prove: (it) => it.prove(version, key), short: (it) => it.prove(version, key, 100) })) same(`${what} by a table`, call);
+    for (const [what, call] of Object.entries({ root: (it) => it.root(version), count: (it) => it.count(version), at: (it) => [0, 1, 7].map((i) => said(() => it.at(version, i))), none: (it) => it.at(version, 10_000), palette: (it) => it.palette(version, names.slice(0, 20)), 'the grants': (it) => it.grants(version), changes: (it) => it.changes(version, it.latest) })) same(`${what} by a table`, call);
+  };
+  for (let round = 1, random = 7; round <= 14; round += 1) {
+    const changes = Array.from({ length: 9 }, () => {
+      random = (random * 1103515245 + 12345) % 2147483648;
+      return { key: names[random % 60], value: [...values, null][(random >> 8) % 3] };
+    }).filter(({ key }, i, all) => all.findIndex((it) => it.key === key) === i);
+    same('apply by a table', (it) => it.apply(3 * round, changes));
+    if (round % 5 === 0) same('prune by a table', (it) => it.prune(3 * round - 4));
+    // Refused, and nothing changes.
+    for (const call of [(it) => it.apply(3 * round, []), (it) => it.apply(3 * round + 1, new Uint8Array(71)), (it) => it.prune(3 * round + 1), (it) => it.apply(3 * round + 1, [changes[0], changes[0]])]) same('refused by a table', call);
+    tally.holds('the same bytes', toHex(plain.bytes()) === toHex(tabled.bytes()));
+    for (const version of [3 * round, 3 * round - 2, plain.oldest, 3 * round + 1]) reads(version);
+  }
+  same('publishings by a table', (it) => it.publishings());
+  for (const key of names.slice(0, 6)) same('a history by a table', (it) => it.history(key));
+  const full = Array.from({ length: 1024 }, (_, i) => ({ key: grants.name(`more ${i}`), value: values[0] }));
+  same('no room by a table', (it) => it.apply(100, full));
+  // Made fresh, it keeps its table; nothing of what it held is found.
+  same('made fresh', (it) => (it.format(), it.apply(1, full.slice(0, 300)), [it.count(1), it.root(1)]));
+  tally.equal('still by a table', [plain.indexed, tabled.indexed], [false, true]);
+  // Long work makes one by itself where it pays, and no answer shows it.
+  const large = await grants.open(plain.bytes());
+  tally.equal('not for a few reads', (large.palette(1, names.slice(0, 3)), large.get(1, names[0]), large.history(full[0].key), large.indexed), false);
+  tally.equal('for many', (large.grants(1), large.indexed), true);
+  const many = await grants.open(plain.bytes());
+  tally.equal('for a palette', [many.palette(1, full.slice(0, 256).map(({ key }) => key)).map(toHex).join(), many.indexed], [full.slice(0, 256).map(({ key }) => toHex(plain.prove(1, key))).join(), true]);
+  const small = await grants.format(40);
+  tally.equal('not for a small store', (small.apply(1, full.slice(0, 9)), small.grants(1), small.indexed), false);
+  // A damaged store has none, and reads what it can as before.
+  const damaged = () => grants.open(plain.bytes().fill(9, storeBytes(1), storeBytes(1) + 1));
+  const [one, two] = [await damaged(), await damaged()];
+  tally.equal('no table of a damaged store', [refused(() => one.index()), one.indexed], [3, false]);
+  for (const version of [0, 1, 2]) for (const { key } of full.slice(0, 40)) tally.equal('a damaged store reads as before', said(() => one.get(version, key)), said(() => two.get(version, key)));
+  tally.equal('nor for a palette', [said(() => two.palette(1, full.slice(0, 256).map(({ key }) => key))), two.indexed], [said(() => one.palette(1, full.slice(0, 256).map(({ key }) => key))), false]);
+  const few = await grants.open(new Uint8Array(5));
+  tally.equal('no table of five bytes', [refused(() => few.index()), few.indexed], [1, false]);
 }
 
 // A store of 20 slots, and one of 16, whose size a store of 15 slots has today.
@@ -323,6 +455,8 @@ export async function module(tally, grants) {
   await refusing(tally, grants, made);
   await rescuing(tally, grants);
   await counting(tally, grants);
+  await histories(tally, grants);
+  await tables(tally, grants);
   await oldForm(tally, grants);
   await memory(tally, grants, made);
   tally.equal('hex', toHex(fromHex('00ffAb')), '00ffab');

@@ -19,8 +19,10 @@ function* calls(bytes) {
       if (letter === 'l') return { letter, n: long() };
       const n = number();
       if (letter === 'n') return { letter, n };
-      const before = some(n);
-      return { letter, n, before, after: letter === 'r' ? before : some(n) };
+      // A table has entries of four bytes each.
+      const bytes = 'tk'.includes(letter) ? 4 * n : n;
+      const before = some(bytes);
+      return { letter, n, bytes, before, after: 'rt'.includes(letter) ? before : some(bytes) };
     });
     yield { name, given, answer: long() };
   }
@@ -34,10 +36,10 @@ const unsigned = (said) => (typeof said === 'bigint' ? said : said >>> 0);
 // One call over buffers between marked edges: whether all is as it was with the native library.
 function same(exports, { name, given, answer }) {
   let end = exports.__heap_base.value + EDGE;
-  const places = given.map(({ letter, n }) => {
+  const places = given.map(({ letter, bytes }) => {
     if (plain(letter)) return 0;
-    const at = end;
-    end += n + EDGE;
+    const at = 'tk'.includes(letter) ? Math.ceil(end / 4) * 4 : end;
+    end = at + bytes + EDGE;
     return at;
   });
   const missing = end - exports.memory.buffer.byteLength;
@@ -59,7 +61,7 @@ function same(exports, { name, given, answer }) {
   return (
     came === answer &&
     marked(exports.__heap_base.value, exports.__heap_base.value + EDGE) &&
-    given.every(({ letter, n, after }, i) => plain(letter) || (memory.compare(after, 0, n, places[i], places[i] + n) === 0 && marked(places[i] + n, places[i] + n + EDGE)))
+    given.every(({ letter, bytes, after }, i) => plain(letter) || (memory.compare(after, 0, bytes, places[i], places[i] + bytes) === 0 && marked(places[i] + bytes, places[i] + bytes + EDGE)))
   );
 }
 

@@ -1,5 +1,6 @@
 // What the types of js/ allow, and what they don't.
-import { load, Refused, type Found, type Store } from '../../js/grants.js';
+import { load, Refused, shelfPieces, type Found, type Store } from '../../js/grants.js';
+import { Shelf, type ShelfFile } from '../../js/shelf.js';
 import { Seen, Statement, type Verdict } from '../../js/statement.js';
 
 export async function shown(root: string, key: Uint8Array, proof: ArrayBuffer): Promise<string> {
@@ -17,9 +18,17 @@ export async function published(): Promise<number> {
   const grants = await load();
   const store: Store = await grants.format(20);
   const { version, newRecords } = store.apply(1, [{ key: '00', value: null }]);
+  store.index();
+  const tabled: boolean = store.indexed;
+  // @ts-expect-error whether there is a table is not set
+  store.indexed = tabled;
   const count: number = store.count(version);
   const grant = store.at(version, BigInt(count) - 1n);
   const least: Uint8Array = store.at(version, 0).key;
+  const held: string[] = store.grants(version).map((it) => String(it.value.length));
+  const since: number = store.publishings()[0].first + store.history(least)[0].version + held.length;
+  // @ts-expect-error a key has no value where it isn't granted
+  store.history(least)[0].value.length;
   const truth: boolean = store.finding(version, least, store.prove(version, least)).truth;
   const message: Uint8Array = grants.writeMessage(store.prove(version, least), '61', [{ key: '61', value: grant.value }]);
   const asked: Uint8Array = grants.readMessage(message).asked;
@@ -36,7 +45,7 @@ export async function published(): Promise<number> {
   const { store: rescued, first } = await grants.rescue(store.bytes(), 0, version);
   // @ts-expect-error a rescue ends at a version
   await grants.rescue(store.bytes(), 0);
-  return newRecords + first + rescued.latest + least.length + grant.value.length + Number(truth);
+  return since + newRecords + first + rescued.latest + least.length + grant.value.length + Number(truth);
 }
 
 export function judged(text: Uint8Array): Verdict | undefined {
@@ -46,4 +55,18 @@ export function judged(text: Uint8Array): Verdict | undefined {
   // @ts-expect-error a time is a number
   if (statement) new Seen().take(statement, 'now');
   return statement ? new Seen({ version: 2 }).take(statement, Date.now() / 1000) : undefined;
+}
+
+export async function shelved(files: ShelfFile[]): Promise<number> {
+  const grants = await load();
+  const shelf = await Shelf.open(grants, files);
+  const key = grants.name('x');
+  let sum = (await shelf.count(shelf.latest)) + shelfPieces(await shelf.prove(1, key)).length;
+  for await (const grant of shelf.grants(shelf.latest)) sum += grant.value.length;
+  const { root, gone } = await shelf.publish(shelf.latest + 1, [{ key, value: null }], (name: string, bytes: Uint8Array) => void [name, bytes]);
+  // @ts-expect-error who publishes says how files are written
+  await shelf.publish(shelf.latest + 1, []);
+  // @ts-expect-error a key is bytes
+  await shelf.get(1, '00');
+  return sum + root.length + gone.length;
 }

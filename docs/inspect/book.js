@@ -1,7 +1,13 @@
-// The book beside a store (docs/TOOL.md), read: names of keys and values, and for each published version its root, time, author and message. It is text for people.
+// The book beside a store (docs/TOOL.md), read: names of keys and values, and for each published version its root, time, author and message. It is text for people, and anybody may have written it.
+
+// No line that the tool writes is longer; a longer one is as good as one that can't be read.
+const MOST_LINE = 10_000;
+// What is shown of a name or a message at most.
+const MOST_SHOWN = 120;
 
 // The words of a line: { plain } or { quoted }; undefined where it can't be read.
-function wordsOf(line) {
+export function wordsOf(line) {
+  if (line.length > MOST_LINE) return undefined;
   const words = [];
   let rest = line;
   for (;;) {
@@ -20,27 +26,43 @@ function wordsOf(line) {
   }
 }
 
+export const linesOf = (text) => text.replace(/^\ufeff/, '').split(/\r?\n/);
+
+// A text of others as it is shown: what has no look of its own, or turns the letters around it, by its number; and no longer than a line.
+export function shownText(text) {
+  const letters = Array.from(text.slice(0, 2 * MOST_SHOWN + 2));
+  const plain = letters.slice(0, MOST_SHOWN).join('').replace(/[\p{C}\p{Zl}\p{Zp}]|(?! )\p{Zs}/gu, (letter) => `\\u{${letter.codePointAt(0).toString(16)}}`);
+  return letters.length > MOST_SHOWN ? `${plain}… (${text.length} characters)` : plain;
+}
+
 const HEX = /^[0-9a-f]{64}$/i;
 
-// What a book says: `names` of 32 bytes (by their hex digits), what each name `meant` (a list of hex digits), `entries` of each version, and how many lines it has that can't be read.
+// What a book says: `names` of 32 bytes (by their hex digits), what each name `meant` (a list of hex digits), `entries` of each version, how many lines it has that can't be read, and the first of them.
 export function bookOf(text) {
-  const book = { names: new Map(), meant: new Map(), entries: new Map(), unread: 0 };
-  for (const line of text.replace(/^\ufeff/, '').split(/\r?\n/)) {
+  const book = { names: new Map(), meant: new Map(), entries: new Map(), unread: 0, firstUnread: 0 };
+  linesOf(text).forEach((line, i) => {
     const words = wordsOf(line);
     const [what, first, second, third, fourth, fifth] = words ?? [];
     const time = (word) => (/^\d{4}-\d\d-\d\dT\d\d:\d\d:\d\dZ$/.test(word?.plain ?? '') ? Date.parse(word.plain) / 1000 : NaN);
-    if (words && words.length === 0) continue;
+    if (words && words.length === 0) return;
     if (words?.length === 3 && what.plain === 'name' && HEX.test(first.plain ?? '') && second.quoted !== undefined) {
       const hex = first.plain.toLowerCase();
       if (!book.names.has(hex)) book.names.set(hex, second.quoted);
-      book.meant.set(second.quoted, [...new Set([...(book.meant.get(second.quoted) ?? []), hex])]);
+      const meant = book.meant.get(second.quoted);
+      if (!meant) book.meant.set(second.quoted, [hex]);
+      // Two are as bad as many.
+      else if (meant.length === 1 && meant[0] !== hex) meant.push(hex);
     } else if (words?.length === 6 && what.plain === 'version' && /^\d{1,10}$/.test(first.plain ?? '') && HEX.test(second.plain ?? '') && !Number.isNaN(time(third)) && fourth.quoted !== undefined && fifth.quoted !== undefined) {
       const version = Number(first.plain);
       const entry = { version, root: second.plain.toLowerCase(), time: time(third), author: fourth.quoted, message: fifth.quoted };
-      book.entries.set(version, [...(book.entries.get(version) ?? []), entry]);
+      if (book.entries.has(version)) book.entries.get(version).push(entry);
+      else book.entries.set(version, [entry]);
     } else if (words?.length === 2 && what.plain === 'fresh' && !Number.isNaN(time(first))) book.entries.clear();
-    else book.unread += 1;
-  }
+    else {
+      book.unread += 1;
+      book.firstUnread ||= i + 1;
+    }
+  });
   return book;
 }
 
