@@ -1,5 +1,5 @@
-/* The library compiled for x86-64 and for x86-64-v3, without a C library: a store of four grants made, checked and proved, the proofs checked, and the roots and proofs hashed to one
-   line of digits. Compiled for the machine at hand it prints the same line. */
+/* The library compiled for x86-64 and for its levels, without a C library: a store of 100 grants made, checked and proved, the proofs checked one by one and in a row, some of them spoilt,
+   then all that was written hashed to one line of digits. Compiled for the machine at hand it prints the same line. */
 #include "grants.h"
 
 #if defined(__x86_64__) && defined(ALONE)
@@ -29,8 +29,39 @@ static void say(const char *bytes, size_t length) {
 static void leave(int status) { exit(status); }
 #endif
 
-enum { SLOTS = 400, KEYS = 100, RECORD = 72, LONGEST_PROOF = 17080 };
-static uint8_t store[GRANTS_SIZE(SLOTS)], batch[KEYS * RECORD], proof[LONGEST_PROOF], seen[64], digest[32];
+enum { SLOTS = 400, KEYS = 100, RECORD = 72, LONGEST_PROOF = 17080, ROW = 1 << 18, ANSWER = 34 };
+static uint8_t store[GRANTS_SIZE(SLOTS)], batch[KEYS * RECORD], keys[KEYS * 32], proof[LONGEST_PROOF], row[ROW], answers[KEYS * ANSWER], seen[64], digest[32];
+
+/* What was seen so far, and these bytes. */
+static void see(const uint8_t *bytes, size_t length) {
+    grants_sha256(bytes, length, seen + 32);
+    grants_sha256(seen, 64, digest);
+    for (int j = 0; j < 32; j++) seen[j] = digest[j];
+}
+
+/* The row of all keys' proofs, every seventh spoilt: each answer as the single call's. */
+static int in_a_row(const uint8_t *root) {
+    uint8_t length[4], found[33];
+    if (GRANTS_NUMBER(grants_palette(store, sizeof store, 1, keys, sizeof keys, row, sizeof row, length))) return 7;
+    size_t size = length[0] | (size_t)length[1] << 8 | (size_t)length[2] << 16, at = 0;
+    for (int i = 0; i < KEYS; i++) {
+        if (i % 7 == 0) row[at + 20] ^= 1;
+        at += row[at] | (size_t)row[at + 1] << 8;
+    }
+    if (at != size || grants_verify_many(root, 32, keys, sizeof keys, row, size, answers, sizeof answers)) return 8;
+    at = 0;
+    for (int i = 0; i < KEYS; i++) {
+        size_t piece = row[at] | (size_t)row[at + 1] << 8;
+        for (int j = 0; j < 33; j++) found[j] = 0;
+        if (grants_verify(root, 32, keys + 32 * i, 32, row + at, piece, found) != answers[ANSWER * i] || (answers[ANSWER * i] == 0) != (i % 7 != 0)) return 9;
+        for (int j = 0; j < 33; j++)
+            if (found[j] != answers[ANSWER * i + 1 + j]) return 10;
+        at += piece;
+    }
+    see(row, size);
+    see(answers, sizeof answers);
+    return 0;
+}
 
 static int tried(void) {
     uint8_t answer[40], length[4], found[33];
@@ -47,14 +78,16 @@ static int tried(void) {
         if (grants_verify(answer + 4, 32, key, 32, proof, size, found) || !found[0] || found[1] != (uint8_t)i) return 5;
         proof[size - 1] ^= 1;
         if (grants_verify(answer + 4, 32, key, 32, proof, size, found) != 11) return 6;
-        /* What was seen so far, and this proof. */
-        grants_sha256(proof, size, seen + 32);
-        grants_sha256(seen, 64, digest);
-        for (int j = 0; j < 32; j++) seen[j] = digest[j];
+        see(proof, size);
+        for (int j = 0; j < 32; j++) keys[32 * i + j] = key[j];
     }
-    for (int j = 0; j < 32; j++) seen[32 + j] = answer[4 + j];
-    grants_sha256(seen, 64, digest);
-    return 0;
+    see(answer, sizeof answer);
+    see(store, sizeof store);
+    int status = in_a_row(answer + 4);
+    /* A spoilt record, which check finds. */
+    store[24 + 128 * 3 + 60] ^= 1;
+    if (!status && grants_check(store, sizeof store) != 3) return 11;
+    return status;
 }
 
 static int told(void) {
