@@ -63,7 +63,7 @@ export class Browser {
       if (await this.ask(expression).catch(() => false)) return;
       await new Promise((done) => setTimeout(done, 50));
     }
-    throw new Error(`it never came: ${expression}`);
+    throw new Error(`it never came: ${expression}; the page says: ${await this.ask(`document.body.innerText.slice(0, 600)`).catch(String)}`);
   }
 
   async press(key, code = key, text) {
@@ -73,9 +73,18 @@ export class Browser {
     await this.send('Input.dispatchKeyEvent', { type: 'keyUp', ...given, text: undefined });
   }
 
+  // Drops files on the page. A browser may lose such an event while it is busy with another, so it is sent again until the page had one more.
   async drop(...files) {
     const data = { items: [], files, dragOperationsMask: 1 };
-    for (const type of ['dragEnter', 'dragOver', 'drop']) await this.send('Input.dispatchDragEvent', { type, x: 60, y: 60, data });
+    const before = await this.ask(`window.hadDrops ??= (document.addEventListener('drop', () => { window.hadDrops += 1; }, true), 0)`);
+    for (let i = 0; i < 5; i += 1) {
+      for (const type of ['dragEnter', 'dragOver', 'drop']) await this.send('Input.dispatchDragEvent', { type, x: 60, y: 60, data });
+      for (let j = 0; j < 100; j += 1) {
+        if ((await this.ask('window.hadDrops')) > before) return;
+        await new Promise((done) => setTimeout(done, 50));
+      }
+    }
+    throw new Error(`the page never had what was dropped: ${files.join(', ')}`);
   }
 
   // The roles and names that a screen reader is given.
