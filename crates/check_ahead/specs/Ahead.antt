@@ -1,26 +1,31 @@
 -- Links whose records are hashed ahead. Assumes nothing.
 use Prim.Native.Nat.{ℕ, _≤_, _<_}
+use mathlib.Core.List.{List}
+use lib.ListN.{getD}
 use Rattle.terms.specs.declared.Form.{Form}
 use Rattle.terms.specs.Bits.{Bytes}
 use Rattle.sha256.specs.Sha256.{sha256}
 use Rattle.nodehash.specs.Words.{message}
-use Rattle.nodehash_four.specs.declared.Message.{Message}
+use Rattle.nodehash_eight.specs.declared.Message.{Message}
+use Rattle.sha256_eight.specs.Each.{Each}
 use Rattle.layout.specs.Stores.{Has}
 use Rattle.check_hash.specs.Known.{linkSlot, HashIs}
-use Rattle.check_ahead.specs.declared.Ahead as declared
-use Rattle.check_ahead.specs.declared.Four as declared-four
 
--- A link of the store, and a slot of it.
-pub record Fits (fm : Form) (s : Bytes) (x : declared.Ahead) : Type 0 where
-  pub child : Has fm s (x .slot)
-  pub some : 1 ≤ x .link
-  pub parent : Has fm s (linkSlot (x .link))
+-- A link of the store.
+pub record LinkFits (fm : Form) (s : Bytes) (link : ℕ) : Type 0 where
+  pub some : 1 ≤ link
+  pub parent : Has fm s (linkSlot link)
 
-pub record AllFit (fm : Form) (s : Bytes) (x : declared-four.Four) : Type 0 where
-  pub a : Fits fm s (x .a)
-  pub b : Fits fm s (x .b)
-  pub c : Fits fm s (x .c)
-  pub d : Fits fm s (x .d)
+-- Eight slots of the store, and eight links.
+abbrev pub AllSlots : Form → Bytes → List ℕ → Type 0
+AllSlots fm s slots = Each 8 (λ _ c. Has fm s c) 0 slots
+
+abbrev pub AllLinks : Form → Bytes → List ℕ → Type 0
+AllLinks fm s links = Each 8 (λ _ k. LinkFits fm s k) 0 links
+
+-- The hash of the record in slot l of eight.
+abbrev pub HashAt : Form → Bytes → List ℕ → ℕ → Bytes → Type 0
+HashAt fm s slots l hash = HashIs fm s (getD slots l 0) hash
 
 -- The hash of the record in slot c is that of this message.
 pub record MessageOf (fm : Form) (s : Bytes) (c : ℕ) (m : Message) : Type 0 where

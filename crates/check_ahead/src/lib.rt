@@ -1,12 +1,14 @@
-// Hashes ahead of the links: four records at a time are hashed side by side, and the links that store them are known when the links are
+// Hashes ahead of the links: eight records at a time are hashed side by side, and the links that store them are known when the links are
 // looked at one by one. Which records are taken is a guess of anyone's; what is entered is right.
 use check_hash::stored;
 use hash::Hash;
 use hash::hash_at;
 use hash::same_hash;
 use layout::sizes::LEAF_KIND;
-use nodehash_four::Message;
-use nodehash_four::four_hashes;
+use nodehash_eight::Message;
+use nodehash_eight::eight_hashes;
+use nodehash_eight::hash_in;
+use nodehash_eight::put_message;
 use slots::child_hash;
 use slots::grant_of;
 use store::child_version_at;
@@ -25,36 +27,8 @@ ghost use Rattle.layout.specs.Headers.{sizeRight};
 ghost use Rattle.layout.specs.Stores.{Has};
 ghost use Rattle.check_pass.specs.Passes.{Room, Passed};
 ghost use Rattle.check_hash.specs.Known.{HashIs, Known};
-ghost use Rattle.check_ahead.specs.Ahead.{Fits, AllFit, MessageOf};
-
-// A link, and the slot in which its child is guessed.
-struct Ahead {
-    slot: usize,
-    link: u16,
-}
-
-// Four of them, of which the last `many` wait to be entered.
-struct Four {
-    a: Ahead,
-    b: Ahead,
-    c: Ahead,
-    d: Ahead,
-    many: usize,
-}
-
-// None wait; the first link and the first slot stand in for all four.
-fn none() -> Four
-    ensures { λ r. ⌜ (r .many ≡ 0) × ((f : Form) (s : Bytes) → Has f s 0 → AllFit f s r) ⌝ }
-{
-    let first = Ahead { slot: 0, link: 1 };
-    Four {
-        a: first,
-        b: first,
-        c: first,
-        d: first,
-        many: 0,
-    }
-}
+ghost use Rattle.nodehash_eight.specs.Eight.{Lanes};
+ghost use Rattle.check_ahead.specs.Ahead.{LinkFits, AllSlots, AllLinks, MessageOf, HashAt};
 
 fn wide(x: u16) -> usize {
     x as usize
@@ -84,55 +58,56 @@ fn message_of(form: Form, store: &[u8], c: usize) -> Message
 }
 
 // Whether the link stores the hash of its record; then it is known to.
-fn enter(form: Form, store: &[u8], at: Ahead, hash: Hash, known: &mut [u16; 16384]) -> bool
-    requires { ⌜ Fits form (now store) at × HashIs form (now store) (at .slot) (hashBytes hash) × Known form (now store) (now known) ⌝ }
+fn enter(
+    form: Form,
+    store: &[u8],
+    c: usize,
+    link: u16,
+    hash: Hash,
+    known: &mut [u16; 16384],
+) -> bool
+    requires { ⌜ Has form (now store) c × LinkFits form (now store) link × HashIs form (now store) c (hashBytes hash) × Known form (now store) (now known) ⌝ }
     ensures { λ _. ⌜ Known form (now (store .entry)) (now (known .exit)) ⌝ }
 {
-    if !same_hash(stored(form, store, at.link), hash) {
+    if !same_hash(stored(form, store, link), hash) {
         return false;
     }
-    let c = at.slot;
-    known[c] = at.link;
+    known[c] = link;
     true
 }
 
-// Four links at once; the first that stores another hash ends it.
-fn enter_four(form: Form, store: &[u8], four: Four, known: &mut [u16; 16384]) -> bool
-    requires { ⌜ AllFit form (now store) four × Known form (now store) (now known) ⌝ }
-    ensures { λ _. ⌜ Known form (now (store .entry)) (now (known .exit)) ⌝ }
+// The messages of the records in eight slots, each in its own lane.
+fn messages_of(form: Form, store: &[u8], slots: &[usize; 8]) -> [u32; 136]
+    requires { ⌜ AllSlots form (now store) (now slots) ⌝ }
+    ensures { λ r. ⌜ Lanes 8 (HashAt form (now (store .entry)) (now (slots .entry))) r ⌝ }
 {
-    let ma = message_of(form, store, four.a.slot);
-    let mb = message_of(form, store, four.b.slot);
-    let mc = message_of(form, store, four.c.slot);
-    let md = message_of(form, store, four.d.slot);
-    let h = four_hashes(ma, mb, mc, md);
-    if !enter(form, store, four.a, h.a, known) {
-        return false;
+    let mut x = [0u32; 136];
+    for l in 0..8 {
+        let m = message_of(form, store, slots[l]);
+        put_message(&mut x, l, m);
     }
-    if !enter(form, store, four.b, h.b, known) {
-        return false;
-    }
-    if !enter(form, store, four.c, h.c, known) {
-        return false;
-    }
-    enter(form, store, four.d, h.d, known)
+    x
 }
 
-// The last three, and one more; how many wait.
-fn shifted(four: Four, next: Ahead) -> Four
-    requires { ⌜ four .many < 4 ⌝ }
-    ensures { λ r. ⌜ (r .a ≡ four .b) × (r .b ≡ four .c) × (r .c ≡ four .d) × (r .d ≡ next) × (r .many ≡ four .many + 1) ⌝ }
+// Eight links at once, each with the slot in which its child is guessed; the first that stores another hash ends it.
+fn enter_eight(
+    form: Form,
+    store: &[u8],
+    slots: &[usize; 8],
+    links: &[u16; 8],
+    known: &mut [u16; 16384],
+) -> bool
+    requires { ⌜ AllSlots form (now store) (now slots) × AllLinks form (now store) (now links) × Known form (now store) (now known) ⌝ }
+    ensures { λ _. ⌜ Known form (now (store .entry)) (now (known .exit)) ⌝ }
 {
-    let a = four.b;
-    let b = four.c;
-    let c = four.d;
-    Four {
-        a,
-        b,
-        c,
-        d: next,
-        many: four.many + 1,
+    let x = messages_of(form, store, slots);
+    let h = eight_hashes(&x);
+    for l in 0..8 {
+        if !enter(form, store, slots[l], links[l], hash_in(&h, l), known) {
+            return false;
+        }
     }
+    true
 }
 
 // Whether link w + 1 names a child, guessed in a slot c whose hash no link is known to store.
@@ -153,51 +128,74 @@ fn is_wanted(form: Form, store: &[u8], n: usize, w: usize, c: usize, known: &[u1
     known[c] == 0
 }
 
-// Link w + 1, whose child is guessed in slot c, with those that wait: where four do, they are entered. Four still wait where that failed.
+// Link w + 1 with those that wait, where it is wanted and its child is guessed in slot c; how many wait then.
 fn taken(
     form: Form,
     store: &[u8],
     n: usize,
     w: usize,
     c: usize,
-    four: Four,
-    known: &mut [u16; 16384],
-) -> Four
-    requires { ⌜ Room form (now store) n × (w < 2 * n) × AllFit form (now store) four × (four .many < 4) × Known form (now store) (now known) ⌝ }
-    ensures { λ _. ⌜ Known form (now (store .entry)) (now (known .exit)) ⌝ }
-    ensures { λ r. ⌜ AllFit form (now (store .entry)) r × (r .many ≤ 4) ⌝ }
+    many: usize,
+    known: &[u16; 16384],
+    slots: &mut [usize; 8],
+    links: &mut [u16; 8],
+) -> usize
+    requires { ⌜ Room form (now store) n × (w < 2 * n) × (many < 8) × AllSlots form (now store) (now slots) × AllLinks form (now store) (now links) ⌝ }
+    ensures { λ _. ⌜ AllSlots form (now (store .entry)) (now (slots .exit)) × AllLinks form (now (store .entry)) (now (links .exit)) ⌝ }
+    ensures { λ r. ⌜ r ≤ 8 ⌝ }
 {
     if !is_wanted(form, store, n, w, c, known) {
-        return four;
+        return many;
     }
-    let next = Ahead {
-        slot: c,
-        link: w as u16 + 1,
-    };
-    let mut waiting = shifted(four, next);
-    if waiting.many != 4 {
-        return waiting;
+    slots[many] = c;
+    links[many] = w as u16 + 1;
+    many + 1
+}
+
+// The next eight links that are wanted, from link w + 1 on, and where those after them begin; 0 where there are no eight.
+fn next_eight(
+    form: Form,
+    store: &[u8],
+    n: usize,
+    guess: &[u16; 32768],
+    known: &[u16; 16384],
+    from: usize,
+    slots: &mut [usize; 8],
+    links: &mut [u16; 8],
+) -> usize
+    requires { ⌜ Room form (now store) n × AllSlots form (now store) (now slots) × AllLinks form (now store) (now links) ⌝ }
+    ensures { λ _. ⌜ AllSlots form (now (store .entry)) (now (slots .exit)) × AllLinks form (now (store .entry)) (now (links .exit)) ⌝ }
+    ensures { λ r. ⌜ (0 < r → from < r) ⌝ }
+{
+    let mut w = from;
+    let mut many = 0;
+    while w < 2 * n {
+        many = taken(form, store, n, w, wide(guess[w]), many, known, slots, links);
+        w += 1;
+        if many == 8 {
+            return w;
+        }
     }
-    if enter_four(form, store, waiting, known) {
-        waiting.many = 0;
-    }
-    waiting
+    0
 }
 
 // The links in their order, as long as each stores the hash of the record that is guessed. Where one doesn't, the look at the links one by one
-// ends there too.
+// ends there too; the last few are left to it.
 pub fn hash_ahead(form: Form, store: &[u8], guess: &[u16; 32768], known: &mut [u16; 16384])
     requires { ⌜ (sizeRight form (length (now store)) ≡ true) × Known form (now store) (now known) ⌝ }
     ensures { λ _. ⌜ Known form (now (store .entry)) (now (known .exit)) ⌝ }
 {
     let n = slot_count(form, store);
-    let mut four = none();
+    let mut slots = [0usize; 8];
+    let mut links = [1u16; 8];
     let mut w = 0;
     while w < 2 * n {
-        four = taken(form, store, n, w, wide(guess[w]), four, known);
-        if four.many == 4 {
+        w = next_eight(form, store, n, guess, known, w, &mut slots, &mut links);
+        if w == 0 {
             return;
         }
-        w += 1;
+        if !enter_eight(form, store, &slots, &links, known) {
+            return;
+        }
     }
 }

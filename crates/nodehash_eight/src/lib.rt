@@ -1,18 +1,49 @@
 // The hashes of eight nodes side by side: two runs over eight lanes.
 use hash::Hash;
-use hash::no_hash;
 use nodehash::first_words;
 use nodehash::last_word;
-use nodehash_four::Message;
-use sha256::State;
 use sha256::Words;
 use sha256::start;
 use sha256::to_hash;
 use sha256_eight::compress_eight;
+use sha256_eight::put_value;
+use sha256_eight::put_words;
+use sha256_eight::value_in;
 ghost use mathlib.Core.Path.{_≡_};
-ghost use Prim.Native.Nat.{ℕ, _+_, _*_, _%_, _<_};
+ghost use Prim.Native.Nat.{_<_};
+ghost use lib.ListN.{length};
+ghost use Rattle.hash.specs.Hash.{hashBytes};
+ghost use Rattle.sha256.specs.Sha256.{sha256, stateBytes};
 ghost use Rattle.sha256_second_start.specs.Second.{secondBlock};
-ghost use Rattle.nodehash_eight.specs.Eight.{Kinds, FirstBlocks, SecondBlocks, Digests, AllHashed};
+ghost use Rattle.sha256_eight.specs.Lanes.{valueIn};
+ghost use Rattle.nodehash.specs.Words.{message};
+ghost use Rattle.nodehash_eight.specs.Eight.{Put, Starts, SecondBlocks, AllHashed};
+
+// A message of 65 bytes: a byte that tells its kind, and two hashes.
+pub struct Message {
+    pub kind: u64,
+    pub left: Hash,
+    pub right: Hash,
+}
+
+// Lane l has this message: its first block, and after the eight blocks the first word of its second, whose others are known.
+pub fn put_message(x: &mut [u32; 136], l: usize, m: Message)
+    requires { ⌜ (length (now x) ≡ 136) × (l < 8) × (m .kind < 256) ⌝ }
+    ensures { λ _. ⌜ Put (now (x .entry)) (now (x .exit)) l (sha256 (message (m .kind) (m .left) (m .right))) ⌝ }
+{
+    put_words(x, l, first_words(m.kind, m.left, m.right));
+    x[128 + l] = last_word(m.right.d);
+}
+
+fn starts() -> [u32; 64]
+    ensures { λ r. ⌜ Starts 8 r ⌝ }
+{
+    let mut r = [0u32; 64];
+    for l in 0..8 {
+        put_value(&mut r, l, start());
+    }
+    r
+}
 
 // The words of a second block, from the first of them.
 fn second_words(w: u32) -> Words
@@ -38,44 +69,30 @@ fn second_words(w: u32) -> Words
     }
 }
 
-fn first_blocks(m: [Message; 8]) -> [Words; 8]
-    requires { ⌜ Kinds m ⌝ }
-    ensures { λ r. ⌜ FirstBlocks m 8 r ⌝ }
+fn second_blocks(x: &[u32; 136]) -> [u32; 136]
+    ensures { λ r. ⌜ SecondBlocks (now (x .entry)) 8 r ⌝ }
 {
-    let mut r = [second_words(0); 8];
+    let mut r = [0u32; 136];
     for l in 0..8 {
-        let v = m[l];
-        r[l] = first_words(v.kind, v.left, v.right);
+        put_words(&mut r, l, second_words(x[128 + l]));
     }
     r
 }
 
-fn second_blocks(m: [Message; 8]) -> [Words; 8]
-    ensures { λ r. ⌜ SecondBlocks m 8 r ⌝ }
+// The hash values of eight messages.
+pub fn eight_hashes(x: &[u32; 136]) -> [u32; 64]
+    ensures { λ r. ⌜ AllHashed (now (x .entry)) r ⌝ }
 {
-    let mut r = [second_words(0); 8];
-    for l in 0..8 {
-        let v = m[l];
-        r[l] = second_words(last_word(v.right.d));
-    }
-    r
+    let z = starts();
+    let s = compress_eight(&z, x);
+    let y = second_blocks(x);
+    compress_eight(&s, &y)
 }
 
-fn digests(s: [State; 8]) -> [Hash; 8]
-    ensures { λ r. ⌜ Digests s 8 r ⌝ }
+// The hash of lane l.
+pub fn hash_in(s: &[u32; 64], l: usize) -> Hash
+    requires { ⌜ l < 8 ⌝ }
+    ensures { λ r. ⌜ hashBytes r ≡ stateBytes (valueIn (now (s .entry)) l) ⌝ }
 {
-    let mut r = [no_hash(); 8];
-    for l in 0..8 {
-        r[l] = to_hash(s[l]);
-    }
-    r
-}
-
-pub fn eight_hashes(m: [Message; 8]) -> [Hash; 8]
-    requires { ⌜ Kinds m ⌝ }
-    ensures { λ r. ⌜ AllHashed m 8 r ⌝ }
-{
-    let z = start();
-    let s = compress_eight([z; 8], first_blocks(m));
-    digests(compress_eight(s, second_blocks(m)))
+    to_hash(value_in(s, l))
 }

@@ -1,8 +1,9 @@
 // Eight compressions side by side: a loop whose turns don't hang on each other, which the compiler makes one run over eight lanes, or two
-// runs over four. Its rounds are functions of their own, each with one caller, so that they are in the loop: `sha256_four` has its own.
+// runs over four. Its rounds are functions of their own, each with one caller, so that they are in the loop. The words of the lanes stand side by
+// side too, word k of lane l at 8k + l, so that a vector is read and written at once.
 ghost use mathlib.Core.Path.{_≡_};
 ghost use Prim.Native.Nat.{_<_};
-ghost use Rattle.sha256_four.specs.Four.{Compressed};
+ghost use Rattle.sha256_eight.specs.Lanes.{wordsIn, valueIn, valueList, wordList, spread, Compressed};
 ghost use Rattle.sha256.specs.Rolling.{rolls, turns, folded};
 use sha256::Rolled;
 use sha256::State;
@@ -223,13 +224,94 @@ fn compress_lane(s: State, x: Words) -> State
     add_state(lane_rounds(s, x), s)
 }
 
-// The hash values after one block more of each of eight messages.
-pub fn compress_eight(s: [State; 8], x: [Words; 8]) -> [State; 8]
-    ensures { λ r. ⌜ Compressed s x 8 r ⌝ }
+// The words of lane l.
+fn words_in(x: &[u32; 136], l: usize) -> Words
+    requires { ⌜ l < 8 ⌝ }
+    ensures { λ r. ⌜ r ≡ wordsIn (now (x .entry)) l ⌝ }
 {
-    let mut r = s;
+    Words {
+        w0: x[0 + l],
+        w1: x[8 + l],
+        w2: x[16 + l],
+        w3: x[24 + l],
+        w4: x[32 + l],
+        w5: x[40 + l],
+        w6: x[48 + l],
+        w7: x[56 + l],
+        w8: x[64 + l],
+        w9: x[72 + l],
+        w10: x[80 + l],
+        w11: x[88 + l],
+        w12: x[96 + l],
+        w13: x[104 + l],
+        w14: x[112 + l],
+        w15: x[120 + l],
+    }
+}
+
+// The hash value of lane l.
+pub fn value_in(s: &[u32; 64], l: usize) -> State
+    requires { ⌜ l < 8 ⌝ }
+    ensures { λ r. ⌜ r ≡ valueIn (now (s .entry)) l ⌝ }
+{
+    State {
+        a: s[0 + l],
+        b: s[8 + l],
+        c: s[16 + l],
+        d: s[24 + l],
+        e: s[32 + l],
+        f: s[40 + l],
+        g: s[48 + l],
+        h: s[56 + l],
+    }
+}
+
+// Lane l gets the hash value v.
+pub fn put_value(s: &mut [u32; 64], l: usize, v: State)
+    requires { ⌜ l < 8 ⌝ }
+    ensures { λ _. ⌜ now (s .exit) ≡ spread (now (s .entry)) l 0 (valueList v) ⌝ }
+{
+    s[0 + l] = v.a;
+    s[8 + l] = v.b;
+    s[16 + l] = v.c;
+    s[24 + l] = v.d;
+    s[32 + l] = v.e;
+    s[40 + l] = v.f;
+    s[48 + l] = v.g;
+    s[56 + l] = v.h;
+}
+
+// Lane l gets the words of a block.
+pub fn put_words(x: &mut [u32; 136], l: usize, v: Words)
+    requires { ⌜ l < 8 ⌝ }
+    ensures { λ _. ⌜ now (x .exit) ≡ spread (now (x .entry)) l 0 (wordList v) ⌝ }
+{
+    x[0 + l] = v.w0;
+    x[8 + l] = v.w1;
+    x[16 + l] = v.w2;
+    x[24 + l] = v.w3;
+    x[32 + l] = v.w4;
+    x[40 + l] = v.w5;
+    x[48 + l] = v.w6;
+    x[56 + l] = v.w7;
+    x[64 + l] = v.w8;
+    x[72 + l] = v.w9;
+    x[80 + l] = v.w10;
+    x[88 + l] = v.w11;
+    x[96 + l] = v.w12;
+    x[104 + l] = v.w13;
+    x[112 + l] = v.w14;
+    x[120 + l] = v.w15;
+}
+
+// The hash values after one block more of each of eight messages.
+pub fn compress_eight(s: &[u32; 64], x: &[u32; 136]) -> [u32; 64]
+    ensures { λ r. ⌜ Compressed (now (s .entry)) (now (x .entry)) 8 r ⌝ }
+{
+    let mut r = [0u32; 64];
     for l in 0..8 {
-        r[l] = compress_lane(s[l], x[l]);
+        let v = compress_lane(value_in(s, l), words_in(x, l));
+        put_value(&mut r, l, v);
     }
     r
 }

@@ -9,10 +9,9 @@ use Rattle.terms.specs.Bits.{Bytes}
 use Rattle.hash.specs.declared.Hash.{Hash}
 use Rattle.hash.specs.Hash.{hashBytes}
 use Rattle.verify_neighbours.specs.Neighbours.{leads}
-use Rattle.nodehash_four.specs.declared.Message.{Message}
 use Rattle.sha256_eight.specs.Each.{Each}
 use Rattle.nodehash_eight.specs.Eight.{noHash}
-use Rattle.verify_one.specs.Lane.{from, Lies, LeafOf, StepOf, topOf, Under, EntryOf}
+use Rattle.verify_one.specs.Lane.{from, Lies, LeafHash, StepHash, topOf, Under, EntryOf}
 
 abbrev pub LiesAt : Bytes → ℕ → ℕ → Type 0
 LiesAt p i a = Lies p a
@@ -22,11 +21,11 @@ abbrev pub AllLie : Bytes → ℕ → List ℕ → Type 0
 AllLie p n at = Each n (LiesAt p) 0 at
 
 -- Lane l of each kind, at the places of `at`.
-abbrev pub LeafAt : Bytes → List ℕ → ℕ → Message → Type 0
-LeafAt p at l m = LeafOf (from p (getD at l 0)) m
+abbrev pub LeafAt : Bytes → List ℕ → ℕ → Bytes → Type 0
+LeafAt p at l hash = LeafHash (from p (getD at l 0)) hash
 
-abbrev pub StepIn : Bytes → List ℕ → ℕ → List Hash → ℕ → Message → Type 0
-StepIn p at i h l m = StepOf (from p (getD at l 0)) i (getD h l noHash) m
+abbrev pub StepIn : Bytes → List ℕ → ℕ → List Hash → ℕ → Bytes → Type 0
+StepIn p at i h l hash = StepHash (from p (getD at l 0)) i (getD h l noHash) hash
 
 abbrev pub UnderAt : Bytes → List ℕ → ℕ → ℕ → Hash → Type 0
 UnderAt p at i l h = Under (from p (getD at l 0)) i h

@@ -16,7 +16,7 @@ use Rattle.proofrecords.specs.ProofBytes.{stepCount, stepsIn}
 use Rattle.proofrecords.specs.Steps.{Room, stepAt}
 use Rattle.verify_path.specs.Paths.{topAfter}
 use Rattle.verify_neighbours.specs.Neighbours.{leads}
-use Rattle.nodehash_four.specs.declared.Message.{Message}
+use Rattle.nodehash_eight.specs.declared.Message.{Message}
 
 -- The bytes from the record's first byte a on.
 abbrev pub from : Bytes → ℕ → Bytes
@@ -30,15 +30,21 @@ Lies p a = Room (stepCount (from p a)) (from p a)
 abbrev pub digestOf : Message → Bytes
 digestOf m = sha256 (message (m .kind) (m .left) (m .right))
 
--- The message of a record's leaf.
+-- The hash of a record's leaf, and of the parent that step i of a record leads to from hash h, where the record has step i.
+abbrev pub LeafHash : Bytes → Bytes → Type 0
+LeafHash x hash = hash ≡ leafHash (slice 8 32 x) (slice 40 32 x)
+
+abbrev pub StepHash : Bytes → ℕ → Hash → Bytes → Type 0
+StepHash x i h hash = i < stepCount x → hash ≡ parentHash leafHash innerHash (hashBytes h) (stepAt i x)
+
+-- The messages of both.
 pub record LeafOf (x : Bytes) (m : Message) : Type 0 where
   pub small : m .kind < 256
-  pub digest : digestOf m ≡ leafHash (slice 8 32 x) (slice 40 32 x)
+  pub digest : LeafHash x (digestOf m)
 
--- The message of the parent that step i of a record leads to from hash h, where the record has step i.
 pub record StepOf (x : Bytes) (i : ℕ) (h : Hash) (m : Message) : Type 0 where
   pub small : m .kind < 256
-  pub digest : i < stepCount x → digestOf m ≡ parentHash leafHash innerHash (hashBytes h) (stepAt i x)
+  pub digest : StepHash x i h (digestOf m)
 
 -- The hash at the top of all steps of a record.
 abbrev pub topOf : Bytes → Bytes

@@ -11,7 +11,7 @@ use fields::get_u16;
 use hash::Hash;
 use hash::hash_at;
 use hash::same_hash;
-use nodehash_four::Message;
+use nodehash_eight::Message;
 use proofrecords::KEY_AT;
 use proofrecords::STEPS_AT;
 use proofrecords::VALUE_AT;

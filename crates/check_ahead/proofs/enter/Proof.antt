@@ -11,7 +11,7 @@ use Rattle.check_ahead.proofs.enter.Statement.{statement}
 use Rattle.check_ahead.proofs.enter.Tie as tie
 
 stored-requires : tie.Need-stored-requires
-stored-requires c κs = (c .before .pre .0 .some, c .before .pre .0 .parent)
+stored-requires c κs = (c .before .pre .1 .some, c .before .pre .1 .parent)
 
 same-hash-requires : tie.Need-same-hash-requires
 same-hash-requires c κs = search needs
@@ -20,13 +20,20 @@ returns : tie.Need-returns
 returns c = search needs
 
 mul-known : tie.Need-mul-known
-mul-known c = omega (arith, slot-small {s = c .before .before .before .before .args .store .now} (c .before .before .before .before .pre .0 .child))
+mul-known c = let s = c .before .before .before .before in omega (arith, slot-small {s = s .args .store .now} (s .pre .0))
 
 element-write-known : tie.Need-element-write-known
-element-write-known c = omega (arith, slot-small {s = c .before .before .before .before .args .store .now} (c .before .before .before .before .pre .0 .child))
+element-write-known c = let s = c .before .before .before .before in omega (arith, slot-small {s = s .args .store .now} (s .pre .0))
 
 returns-2 : tie.Need-returns-2
-returns-2 c = known-set (c .before .before .before .before .args .store .now) (c .before .before .before .before .args .known .now) (c .before .before .before .before .args .at .slot) (c .before .before .before .before .args .at .link) (c .before .before .before .before .pre .2) (record { has = c .before .before .before .before .pre .0 .parent; hash = λ r a. c .before .before .before .before .pre .1 r a ∙ sym (same-bytes (hashBytes (c .before .before .stored .result)) (hashBytes (c .before .before .before .before .args .hash)) (sym (c .before .same-hash .ensures) ∙ not-false (c .before .same-hash .result) (c .if1 .left))) ∙ c .before .before .stored .ensures })
+returns-2 c =
+    let s = c .before .before .before .before in
+    let a = s .args in
+    let same = sym (c .before .same-hash .ensures) ∙ not-false (c .before .same-hash .result) (c .if1 .left) in
+    known-set (a .store .now) (a .known .now) (a .c) (a .link) (s .pre .3) (record {
+      has = s .pre .1 .parent;
+      hash = λ r x. s .pre .2 r x ∙ sym (same-bytes (hashBytes (c .before .before .stored .result)) (hashBytes (a .hash)) same) ∙ c .before .before .stored .ensures;
+    })
 
 pub enter-spec : {M : Type 1} → statement M
 enter-spec =

@@ -1,55 +1,68 @@
--- `check_ahead::hash_ahead` meets its contract: what was known stays known, link by link. Assumes nothing.
-use native.Mathlib.Omega.{arith}
+-- `check_ahead::hash_ahead` meets its contract: what was known stays known, eight links after eight. Assumes nothing.
 use Prim.Native.Nat.{_-_, _*_}
+use native.Mathlib.Omega.{arith}
 use borrow.Author.Needs.{needs}
-use Rattle.check_ahead.proofs.Waiting.{room-small, first-has, Going}
+use Rattle.check_ahead.proofs.Waiting.{room-small, first-slots, first-links, Going}
 use Rattle.check_ahead.proofs.hash_ahead.Statement.{statement}
 use Rattle.check_ahead.proofs.hash_ahead.Tie as tie
 
 abbrev Inv-loop : tie.InvT-loop
-Inv-loop form store guess known₀ n four₀ w₀ known four w = Going form store n known four
+Inv-loop form store guess known₀ n slots₀ links₀ w₀ known slots links w = Going form store n known slots links
 
 abbrev μ-loop : tie.MeasureT-loop
-μ-loop form store guess known₀ n four₀ w₀ known four w = 2 * n - w
+μ-loop form store guess known₀ n slots₀ links₀ w₀ known slots links w = 2 * n - w
 
 slot-count-requires : tie.Need-slot-count-requires Inv-loop μ-loop
 slot-count-requires c κs = c .before .pre .0
 
-none-requires : tie.Need-none-requires Inv-loop μ-loop
-none-requires c κs = search needs
-
 loop-holds : tie.Need-loop-holds Inv-loop μ-loop
-loop-holds c = record { room = record { size = c .before .before .before .pre .0; many = c .before .slot-count .ensures }; known = c .before .before .before .pre .1; fits = c .none .ensures .1 _ (c .before .before .before .args .store .now) (first-has (c .before .before .before .args .store .now) (c .before .before .before .pre .0)); few = omega (arith, c .none .ensures .0) }
+loop-holds c =
+    let s = c .before .before in
+    record {
+      room = record { size = s .pre .0; many = c .slot-count .ensures };
+      known = s .pre .1;
+      fit = first-slots (s .args .store .now) (s .pre .0);
+      tied = first-links (s .args .store .now) (s .pre .0);
+    }
 
 mul-loop : tie.Need-mul-loop Inv-loop μ-loop
 mul-loop c = omega (arith, room-small (c .loop .inv .room))
 
-mul-wide : tie.Need-mul-wide Inv-loop μ-loop
-mul-wide c = omega (arith, room-small (c .before .loop .inv .room))
-
-element-copy-out-wide : tie.Need-element-copy-out-wide Inv-loop μ-loop
-element-copy-out-wide c = omega (arith, room-small (c .before .loop .inv .room), c .loop-test .taken)
-
-wide-requires : tie.Need-wide-requires Inv-loop μ-loop
-wide-requires c κs = search needs
-
-taken-requires : tie.Need-taken-requires Inv-loop μ-loop
-taken-requires c κs = (c .before .before .before .before .loop .inv .room, c .before .before .before .loop-test .taken, c .before .before .before .before .loop .inv .fits, c .before .before .before .before .loop .inv .few, c .before .before .before .before .loop .inv .known)
+next-eight-requires : tie.Need-next-eight-requires Inv-loop μ-loop
+next-eight-requires c κs =
+    let i = c .before .before .before .before .loop .inv in
+    (i .room, i .fit, i .tied)
 
 returns : tie.Need-returns Inv-loop μ-loop
-returns c = c .before .before .taken .ensures .0
+returns c =
+    let t = c .before .before .before .before .before in
+    t .before .loop .inv .known
 
-add-w : tie.Need-add-w Inv-loop μ-loop
-add-w c = omega (arith, room-small (c .before .before .before .before .before .before .before .loop .inv .room), c .before .before .before .before .before .before .loop-test .taken)
-
-loop-less : tie.Need-loop-less Inv-loop μ-loop
-loop-less c = omega (arith, room-small (c .before .before .before .before .before .before .before .loop .inv .room), c .before .before .before .before .before .before .loop-test .taken)
-
-loop-again : tie.Need-loop-again Inv-loop μ-loop
-loop-again c = record { room = c .before .before .before .before .before .before .before .loop .inv .room; known = c .before .before .taken .ensures .0; fits = c .before .before .taken .ensures .1 .0; few = omega (arith, c .before .before .taken .ensures .1 .1, c .if1 .left) }
+enter-eight-requires : tie.Need-enter-eight-requires Inv-loop μ-loop
+enter-eight-requires c κs =
+    let e = c .before .before .before .before in
+    let t = e .before .before .before .before .before in
+    (e .next-eight .ensures .0 .0, e .next-eight .ensures .0 .1, t .loop .inv .known)
 
 returns-2 : tie.Need-returns-2 Inv-loop μ-loop
-returns-2 c = c .before .loop .inv .known
+returns-2 c = c .before .enter-eight .ensures
+
+loop-less : tie.Need-loop-less Inv-loop μ-loop
+loop-less c =
+    let d = c .before .before .before .before .before in
+    let e = d .before in
+    let t = e .before .before .before .before in
+    omega (arith, t .loop-test .taken, e .next-eight .ensures .1 (omega (arith, d .if1 .left)))
+
+loop-again : tie.Need-loop-again Inv-loop μ-loop
+loop-again c =
+    let e = c .before .before .before .before .before in
+    let t = e .before .before .before .before .before in
+    let n = e .before .next-eight .ensures .0 in
+    record { room = t .before .loop .inv .room; known = c .before .enter-eight .ensures; fit = n .0; tied = n .1 }
+
+returns-3 : tie.Need-returns-3 Inv-loop μ-loop
+returns-3 c = c .before .loop .inv .known
 
 pub hash-ahead-spec : {M : Type 1} → statement M
 hash-ahead-spec =
@@ -58,15 +71,12 @@ hash-ahead-spec =
     Inv-loop
     μ-loop
     slot-count-requires
-    none-requires
     loop-holds
     mul-loop
-    mul-wide
-    element-copy-out-wide
-    wide-requires
-    taken-requires
+    next-eight-requires
     returns
-    add-w
+    enter-eight-requires
+    returns-2
     loop-less
     loop-again
-    returns-2)
+    returns-3)

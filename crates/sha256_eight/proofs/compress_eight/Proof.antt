@@ -1,17 +1,17 @@
--- Each turn compresses one block and leaves the others.
--- Assumes nothing.
-use Prim.Native.Nat.{ℕ, _≤_, _-_}
-use mathlib.Core.Path.{_≡_}
-use lib.ListN.{length, length-set}
+-- Each turn compresses one block and leaves the others. Assumes nothing.
+use Prim.Native.Nat.{_≤_, _-_}
+use mathlib.Core.Path.{_≡_, ap₂, _∙_}
+use lib.ListN.{length}
 use native.Mathlib.Omega.{arith}
 use borrow.Author.Needs.{needs}
-use Rattle.sha256_four.specs.Four.{Compressed}
-use Rattle.sha256_four.proofs.Lanes.{one-more}
+use Rattle.sha256.specs.Rolling.{folded}
+use Rattle.sha256_eight.specs.Lanes.{valueIn, wordsIn, valueList, Compressed}
+use Rattle.sha256_eight.proofs.Spread.{spread-long, value-more}
 use Rattle.sha256_eight.proofs.compress_eight.Statement.{statement}
 use Rattle.sha256_eight.proofs.compress_eight.Tie as tie
 
 abbrev Inv-loop : tie.InvT-loop
-Inv-loop s x r₀ l₀ r l = (l ≤ 8) × (length r ≡ 8) × Compressed s x l r
+Inv-loop s x r₀ l₀ r l = (l ≤ 8) × (length r ≡ 64) × Compressed s x l r
 
 abbrev μ-loop : tie.MeasureT-loop
 μ-loop s x r₀ l₀ r l = 8 - l
@@ -19,26 +19,17 @@ abbrev μ-loop : tie.MeasureT-loop
 loop-holds : tie.Need-loop-holds Inv-loop μ-loop
 loop-holds c = (omega arith, search needs, λ i h. absurd (omega arith))
 
-mul-compress-lane : tie.Need-mul-compress-lane Inv-loop μ-loop
-mul-compress-lane c = search needs
+value-in-requires : tie.Need-value-in-requires Inv-loop μ-loop
+value-in-requires c κs = search needs
 
-array-copy-out-compress-lane : tie.Need-array-copy-out-compress-lane Inv-loop μ-loop
-array-copy-out-compress-lane c = search needs
-
-mul-compress-lane-2 : tie.Need-mul-compress-lane-2 Inv-loop μ-loop
-mul-compress-lane-2 c = search needs
-
-array-copy-out-compress-lane-2 : tie.Need-array-copy-out-compress-lane-2 Inv-loop μ-loop
-array-copy-out-compress-lane-2 c = search needs
+words-in-requires : tie.Need-words-in-requires Inv-loop μ-loop
+words-in-requires c κs = search needs
 
 compress-lane-requires : tie.Need-compress-lane-requires Inv-loop μ-loop
 compress-lane-requires c κs = search needs
 
-mul-r : tie.Need-mul-r Inv-loop μ-loop
-mul-r c = search needs
-
-array-set-from-r : tie.Need-array-set-from-r Inv-loop μ-loop
-array-set-from-r c = search needs
+put-value-requires : tie.Need-put-value-requires Inv-loop μ-loop
+put-value-requires c κs = search needs
 
 add-l : tie.Need-add-l Inv-loop μ-loop
 add-l c = search needs
@@ -48,9 +39,16 @@ loop-less c = search needs
 
 loop-again : tie.Need-loop-again Inv-loop μ-loop
 loop-again c =
-    let before = c .before .before .before .before in
-    let start = before .before .args in
-    (omega arith, simp length-set (before .loop .inv .1), one-more (start .t1) (before .loop .r) (start .t2) (before .loop .l) _ (omega arith) (before .loop .inv .2) (c .compress-lane .ensures))
+    let b = c .before .before in
+    let w = b .compress-lane in
+    let t = b .before .before .before .before in
+    let a = t .before .args in
+    let e = c .put-value .ensures in (
+      omega arith,
+      rw (e, spread-long (t .loop .r) (t .loop .l) 0 (valueList (w .result))) (t .loop .inv .1),
+      rw e (value-more (λ i v. v ≡ folded (valueIn (a .s .now) i) (wordsIn (a .x .now) i)) (t .loop .r) (t .loop .l) (w .result) (omega arith) (t .loop .inv .1) (t .loop .inv .2)
+          (w .ensures ∙ ap₂ folded (b .before .before .value-in .ensures) (b .before .words-in .ensures))),
+    )
 
 returns : tie.Need-returns Inv-loop μ-loop
 returns c =
@@ -64,13 +62,10 @@ compress-eight-spec =
     Inv-loop
     μ-loop
     loop-holds
-    mul-compress-lane
-    array-copy-out-compress-lane
-    mul-compress-lane-2
-    array-copy-out-compress-lane-2
+    value-in-requires
+    words-in-requires
     compress-lane-requires
-    mul-r
-    array-set-from-r
+    put-value-requires
     add-l
     loop-less
     loop-again
