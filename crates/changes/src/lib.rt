@@ -3,8 +3,8 @@
 use changes_put::ITEM_SIZE;
 use changes_top::root_top;
 use changes_walk::Walked;
-use changes_walk::walk_trees;
-use check_store::check;
+use changes_walk::walk;
+use check_store::check_with;
 use place::Place;
 use read_open::Opened;
 use read_open::open;
@@ -21,8 +21,15 @@ pub enum Compared {
     Listed(u32),
 }
 
-// Compares two versions of a sound store.
-fn changes_sound(store: &[u8], first: u32, second: u32, limit: u32, room: &mut [u8]) -> Compared
+// Compares two versions of a sound store, of which check left its guesses.
+fn changes_sound(
+    store: &[u8],
+    guess: &[u16; 32768],
+    first: u32,
+    second: u32,
+    limit: u32,
+    room: &mut [u8],
+) -> Compared
     requires { ⌜ SoundBytes (now store) ⌝ }
     ensures { λ r. ⌜ Compares first second limit (now (store .entry)) (now (room .entry)) (comparedSays r) (now (room .exit)) ⌝ }
 {
@@ -35,10 +42,9 @@ fn changes_sound(store: &[u8], first: u32, second: u32, limit: u32, room: &mut [
     let top = Place::top();
     let old = root_top(store, first, top);
     let new = root_top(store, second, top);
-    let Walked::Done { budget: _, next: n } = walk_trees(
+    let Walked::Done { budget: _, next: n } = walk(
         store,
-        first,
-        second,
+        guess,
         top,
         old,
         new,
@@ -52,17 +58,19 @@ fn changes_sound(store: &[u8], first: u32, second: u32, limit: u32, room: &mut [
     if room.len() / ITEM_SIZE < n {
         return Compared::Refused(NO_ROOM);
     }
-    walk_trees(store, first, second, top, old, new, limit, true, room, 0);
-    Compared::Listed(n as u32)
+    walk(store, guess, top, old, new, limit, true, room, 0);
+    let many = n as u32;
+    Compared::Listed(many)
 }
 
 // Compares two versions of a store, where check accepts it; refused, nothing is written.
 pub fn changes(store: &[u8], first: u32, second: u32, limit: u32, room: &mut [u8]) -> Compared
     ensures { λ r. ⌜ Compares first second limit (now (store .entry)) (now (room .entry)) (comparedSays r) (now (room .exit)) ⌝ }
 {
-    let refusal = check(Form::Counted, store);
+    let mut guess = [0u16; 32768];
+    let refusal = check_with(Form::Counted, store, &mut guess);
     if refusal != 0 {
         return Compared::Refused(refusal);
     }
-    changes_sound(store, first, second, limit, room)
+    changes_sound(store, &guess, first, second, limit, room)
 }

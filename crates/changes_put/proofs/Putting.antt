@@ -194,7 +194,7 @@ NoLeaf t = OneOf (0 ∷ 2 ∷ []) (tagOf top-type.the-type t)
 no-leaf : (s : Bytes) (t : top.Top) → NoLeaf t → leafOf s t ≡ []
 no-leaf s Nothing h = refl
 no-leaf s (Leaf i) h = absurd (⊎-elim (λ e. omega arith) (λ e. omega arith) h)
-no-leaf s (Inner v l r) h = refl
+no-leaf s (Inner i v l r) h = refl
 
 module _ (s : Bytes) (first second : top.Top) where
   pub no-leaves : NoLeaf first → NoLeaf second → endItems s first second ≡ []

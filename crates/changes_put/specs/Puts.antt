@@ -23,7 +23,7 @@ grantOf g = grant (take 32 g) (drop 32 g)
 abbrev pub leafOf : Bytes → top.Top → List Grant
 leafOf s Nothing = []
 leafOf s (Leaf i) = grantAt i s ∷ []
-leafOf s (Inner v l r) = []
+leafOf s (Inner i v l r) = []
 
 -- The records for two leaves, and for two tops.
 unfoldable pub twoItems : Bytes → ℕ → ℕ → List Item
@@ -46,7 +46,7 @@ pub record Fits (writes : Bool) (n at : ℕ) (room : Bytes) : Type 0 where
 abbrev pub LeafIn : Bytes → top.Top → Type 0
 LeafIn s Nothing = Unit {0}
 LeafIn s (Leaf i) = SlotWithin counted i s
-LeafIn s (Inner v l r) = Unit {0}
+LeafIn s (Inner i v l r) = Unit {0}
 
 -- Two tops, and room for what changed between them.
 pub record Ends (s : Bytes) (first second : top.Top) (writes : Bool) (at : ℕ) (room : Bytes) : Type 0 where

@@ -87,7 +87,7 @@ module _ (s : Bytes) (size : sizeRight counted (length s) ≡ true) (bytes : All
         where
           go : (b : Bool) → isLeaf (slotIn counted i s) ≡ b →
               TopSays s p (treeOn (recordIn (slotIn counted i s) (cond b (leafIn (slotIn counted i s)) (innerIn (slotIn counted i s)))))
-              (cond b (Leaf i) (Inner (versionIn (slotIn counted i s)) (leftIn (slotIn counted i s) .version) (rightIn (slotIn counted i s) .version)))
+              (cond b (Leaf i) (Inner i (versionIn (slotIn counted i s)) (leftIn (slotIn counted i s) .version) (rightIn (slotIn counted i s) .version)))
           go true e = record { right = inside; tree = refl }
           go false e = record { right = short e; tree = refl }
 
@@ -154,7 +154,7 @@ unfolding topIn
 leaf-top s i q d e = rw (ap isLeaf (sym q) ∙ sym d ∙ e)
 
 pub inner-top : (s : Bytes) (i : ℕ) {x : Bytes} {v l r : ℕ} {b : Bool} → x ≡ slotIn counted i s → b ≡ isLeaf x → b ≡ false → v ≡ versionIn (slotIn counted i s) →
-    l ≡ leftIn (slotIn counted i s) .version → r ≡ rightIn (slotIn counted i s) .version → Inner v l r ≡ topIn i s
+    l ≡ leftIn (slotIn counted i s) .version → r ≡ rightIn (slotIn counted i s) .version → Inner i v l r ≡ topIn i s
 unfolding topIn
 inner-top s i q d e f g h = rw (ap isLeaf (sym q) ∙ sym d ∙ e, f, g, h)
 
@@ -166,10 +166,10 @@ bit-comm false false = refl
 
 -- what is compared at the longer place: the child
 module _ (s : Bytes) (p q : place.Place) (b : Side) (grown : Grown b p q) where
-  pub kid-below : {t : declared.Top} {v l r : ℕ} (w : ℕ) (x : declared.Top) → t ≡ Inner v l r → w ≡ cond b r l → TopSays s q (treeHere s q w) x →
+  pub kid-below : {t : declared.Top} {i v l r : ℕ} (w : ℕ) (x : declared.Top) → t ≡ Inner i v l r → w ≡ cond b r l → TopSays s q (treeHere s q w) x →
       TopSays s q (under (p .count) b (topTree s p t)) x
   unfolding treeHere
-  kid-below {t} {v} {l} {r} w x e f h =
+  kid-below {t} {i} {v} {l} {r} w x e f h =
       let n : 256 - q .count ≡ 255 - p .count = omega (arith, grown .count) in
       subst (λ u. TopSays s q u x)
       (ap₂ (λ m k. treeFrom m (storeOf s .slots) w k) n (grown .place)
@@ -178,7 +178,7 @@ module _ (s : Bytes) (p q : place.Place) (b : Side) (grown : Grown b p q) where
       h
     where
       go : (c : Side) → w ≡ cond c r l →
-          treeFrom (255 - p .count) (storeOf s .slots) w (longer c (placeOf p)) ≡ under (p .count) c (topTree s p (Inner v l r))
+          treeFrom (255 - p .count) (storeOf s .slots) w (longer c (placeOf p)) ≡ under (p .count) c (topTree s p (Inner i v l r))
       go true g = ap (λ m. treeFrom (255 - p .count) (storeOf s .slots) m (longer true (placeOf p))) g
       go false g = ap (λ m. treeFrom (255 - p .count) (storeOf s .slots) m (longer false (placeOf p))) g
 
@@ -223,25 +223,25 @@ pub neither-inner : (t u : declared.Top) → NoInner t → NoInner u → DeeperS
 unfolding noDeeper
 neither-inner Nothing Nothing a b s p = refl
 neither-inner Nothing (Leaf j) a b s p = refl
-neither-inner Nothing (Inner w m q) a b s p = absurd (⊎-elim (λ e. omega arith) (λ e. omega arith) b)
+neither-inner Nothing (Inner j w m q) a b s p = absurd (⊎-elim (λ e. omega arith) (λ e. omega arith) b)
 neither-inner (Leaf i) Nothing a b s p = refl
 neither-inner (Leaf i) (Leaf j) a b s p = or-true (eqb (versionIn (slotIn counted i s)) (versionIn (slotIn counted j s)))
-neither-inner (Leaf i) (Inner w m q) a b s p = absurd (⊎-elim (λ e. omega arith) (λ e. omega arith) b)
-neither-inner (Inner v l r) u a b s p = absurd (⊎-elim (λ e. omega arith) (λ e. omega arith) a)
+neither-inner (Leaf i) (Inner j w m q) a b s p = absurd (⊎-elim (λ e. omega arith) (λ e. omega arith) b)
+neither-inner (Inner i v l r) u a b s p = absurd (⊎-elim (λ e. omega arith) (λ e. omega arith) a)
 
-pub second-inner : (t u : declared.Top) {w m q : ℕ} → NoInner t → u ≡ Inner w m q → DeeperSays t u false
+pub second-inner : (t u : declared.Top) {j w m q : ℕ} → NoInner t → u ≡ Inner j w m q → DeeperSays t u false
 unfolding noDeeper
 second-inner Nothing u a e s p = ap (λ x. noDeeper vnone (topTree s p x)) (sym e)
 second-inner (Leaf i) u a e s p = ap (λ x. noDeeper (topTree s p (Leaf i)) (topTree s p x)) (sym e)
-second-inner (Inner v l r) u a e s p = absurd (⊎-elim (λ e. omega arith) (λ e. omega arith) a)
+second-inner (Inner i v l r) u a e s p = absurd (⊎-elim (λ e. omega arith) (λ e. omega arith) a)
 
-pub first-inner : (t u : declared.Top) {v l r : ℕ} → t ≡ Inner v l r → NoInner u → DeeperSays t u false
+pub first-inner : (t u : declared.Top) {i v l r : ℕ} → t ≡ Inner i v l r → NoInner u → DeeperSays t u false
 unfolding noDeeper
 first-inner t Nothing e b s p = ap (λ x. noDeeper (topTree s p x) vnone) (sym e)
 first-inner t (Leaf j) e b s p = ap (λ x. noDeeper (topTree s p x) (topTree s p (Leaf j))) (sym e)
-first-inner t (Inner w m q) e b s p = absurd (⊎-elim (λ e. omega arith) (λ e. omega arith) b)
+first-inner t (Inner j w m q) e b s p = absurd (⊎-elim (λ e. omega arith) (λ e. omega arith) b)
 
-pub both-inner : (t u : declared.Top) {v l r w m q : ℕ} → t ≡ Inner v l r → u ≡ Inner w m q → DeeperSays t u (eqb v w)
+pub both-inner : (t u : declared.Top) {i v l r j w m q : ℕ} → t ≡ Inner i v l r → u ≡ Inner j w m q → DeeperSays t u (eqb v w)
 unfolding noDeeper
-both-inner t u {v} {l} {r} {w} {m} {q} e f s p =
+both-inner t u {v = v} {w = w} e f s p =
     or-false (eqb v w) ∙ ap₂ (λ x y. noDeeper (topTree s p x) (topTree s p y)) (sym e) (sym f)

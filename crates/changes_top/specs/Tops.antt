@@ -26,7 +26,7 @@ grantAt i s = grant (keyIn (slotIn counted i s)) (valueIn (slotIn counted i s))
 unfoldable pub topIn : ℕ → Bytes → declared.Top
 topIn i s =
     cond (isLeaf (slotIn counted i s)) (Leaf i)
-    (Inner (versionIn (slotIn counted i s)) (leftIn (slotIn counted i s) .version) (rightIn (slotIn counted i s) .version))
+    (Inner i (versionIn (slotIn counted i s)) (leftIn (slotIn counted i s) .version) (rightIn (slotIn counted i s) .version))
 
 -- The tree that is read on from a version and place.
 unfoldable pub treeHere : Bytes → place.Place → ℕ → VTree
@@ -36,7 +36,7 @@ treeHere s p v = treeFrom (256 - p .count) (storeOf s .slots) v (placeOf p)
 abbrev pub topTree : Bytes → place.Place → declared.Top → VTree
 topTree s p Nothing = vnone
 topTree s p (Leaf i) = vleaf (versionIn (slotIn counted i s)) (grantAt i s)
-topTree s p (Inner v l r) =
+topTree s p (Inner i v l r) =
     vinner v (treeFrom (255 - p .count) (storeOf s .slots) l (longer left (placeOf p)))
     (treeFrom (255 - p .count) (storeOf s .slots) r (longer right (placeOf p)))
 
@@ -44,7 +44,7 @@ topTree s p (Inner v l r) =
 abbrev pub TopRight : Bytes → place.Place → declared.Top → Type 0
 TopRight s p Nothing = Unit {0}
 TopRight s p (Leaf i) = i < roomOf counted (length s)
-TopRight s p (Inner v l r) = p .count < 256
+TopRight s p (Inner i v l r) = p .count < 256
 
 -- What was read is the top of a tree.
 pub record TopSays (s : Bytes) (p : place.Place) (t : VTree) (r : declared.Top) : Type 0 where

@@ -1,6 +1,7 @@
 // What two trees are compared by at a place, read from lent memory, document 02, request 2026-01: the node there, or a leaf from further up
 // whose key goes there.
 use changes_guess::find_near;
+use changes_guess::guess_of;
 use lookup::Found;
 use lookup::find_root;
 use place::Place;
@@ -28,8 +29,13 @@ pub enum Top {
     Nothing,
     // The slot of a leaf.
     Leaf(usize),
-    // An inner node, with the versions of its children.
-    Inner { version: u32, left: u32, right: u32 },
+    // An inner node, with its slot and the versions of its children.
+    Inner {
+        slot: usize,
+        version: u32,
+        left: u32,
+        right: u32,
+    },
 }
 
 // The node whose record is in slot i.
@@ -45,6 +51,7 @@ fn top_in(store: &[u8], i: usize) -> Top
     let left = child_version_at(Form::Counted, store, i, false);
     let right = child_version_at(Form::Counted, store, i, true);
     Top::Inner {
+        slot: i,
         version,
         left,
         right,
@@ -63,25 +70,25 @@ pub fn root_top(store: &[u8], version: u32, top: Place) -> Top
     top_in(store, i)
 }
 
-// The child of a version at its place; version 0 is no child.
-fn top_at(store: &[u8], guesses: &[u16; 16384], version: u32, place: Place) -> Top
+// The child of a version at its place, which is guessed to stand in slot i; version 0 is no child.
+fn top_at(store: &[u8], i: usize, version: u32, place: Place) -> Top
     requires { ⌜ ((sizeRight Form.Counted (length (now store)) ≡ true) × Apart (storeOf (now store))) × Proper place ⌝ }
     ensures { λ r. ⌜ TopSays (now (store .entry)) place (treeHere (now (store .entry)) place version) r ⌝ }
 {
     if version == 0 {
         return Top::Nothing;
     }
-    let found = find_near(store, guesses, version, place);
-    let Found::At(i) = found else {
+    let found = find_near(store, i, version, place);
+    let Found::At(j) = found else {
         return Top::Nothing;
     };
-    top_in(store, i)
+    top_in(store, j)
 }
 
-// What is compared at a longer place, below a place with this top.
+// What is compared at a longer place, below a place with this top; `guess` has a slot for each child of each slot.
 pub fn below(
     store: &[u8],
-    guesses: &[u16; 16384],
+    guess: &[u16; 32768],
     place: Place,
     top: Top,
     right: bool,
@@ -99,14 +106,15 @@ pub fn below(
             Top::Nothing
         }
         Top::Inner {
+            slot: i,
             version: _,
             left: l,
             right: r,
         } => {
             if right {
-                return top_at(store, guesses, r, longer);
+                return top_at(store, guess_of(guess, i, true), r, longer);
             }
-            top_at(store, guesses, l, longer)
+            top_at(store, guess_of(guess, i, false), l, longer)
         }
     }
 }
@@ -116,12 +124,14 @@ pub fn no_deeper(first: Top, second: Top) -> bool
     ensures { λ r. ⌜ DeeperSays first second r ⌝ }
 {
     let Top::Inner {
+        slot: _,
         version: v,
         left: _,
         right: _,
     } = first
     else {
         let Top::Inner {
+            slot: _,
             version: _,
             left: _,
             right: _,
@@ -132,6 +142,7 @@ pub fn no_deeper(first: Top, second: Top) -> bool
         return false;
     };
     let Top::Inner {
+        slot: _,
         version: w,
         left: _,
         right: _,

@@ -35,19 +35,19 @@ use Rattle.changes_walk.specs.declared.Walked.the-variants.{Passed, Done
 held-leaf : (s : Bytes) (p : place.Place) (t : top.Top) → held (topTree s p t) ≡ leafOf s t
 held-leaf s p Nothing = refl
 held-leaf s p (Leaf i) = refl
-held-leaf s p (Inner v l r) = refl
+held-leaf s p (Inner i v l r) = refl
 
 leaf-in : (s : Bytes) (p : place.Place) (t : top.Top) → sizeRight counted (length s) ≡ true → TopRight s p t → LeafIn s t
 leaf-in s p Nothing z h = tt
 leaf-in s p (Leaf i) z h = slot-fits counted s z i h
-leaf-in s p (Inner v l r) z h = tt
+leaf-in s p (Inner i v l r) z h = tt
 
 leaf-long : (s : Bytes) (p : place.Place) (t : top.Top) → sizeRight counted (length s) ≡ true → TopRight s p t → All Long32 (held (topTree s p t))
 unfolding grantAt
 leaf-long s p Nothing z h = tt
 leaf-long s p (Leaf i) z h =
     let l = size-long counted (slotIn counted i s) (slot-long counted i s (slot-fits counted s z i h)) in ((key-long (slotIn counted i s) l, value-long (slotIn counted i s) l), tt)
-leaf-long s p (Inner v l r) z h = tt
+leaf-long s p (Inner i v l r) z h = tt
 
 -- two lists of records, one after the other
 pub bytes-append : (xs ys : List Item) → listBytes (xs ++ ys) ≡ listBytes xs ++ listBytes ys
@@ -134,9 +134,9 @@ module _ (s : Bytes) (p : place.Place) (first second : top.Top) (h : Here s p fi
         none false e = absurd (true≢false e)
 
         go : (t u : top.Top) → TopRight s p t → TopRight s p u → noDeeper (topTree s p t) (topTree s p u) ≡ false → p .count < 256
-        go (Inner v l r) u a b e = a
-        go Nothing (Inner v l r) a b e = b
-        go (Leaf i) (Inner v l r) a b e = b
+        go (Inner i v l r) u a b e = a
+        go Nothing (Inner i v l r) a b e = b
+        go (Leaf i) (Inner j v l r) a b e = b
         go Nothing Nothing a b e = absurd (true≢false e)
         go Nothing (Leaf j) a b e = absurd (true≢false e)
         go (Leaf i) Nothing a b e = absurd (true≢false e)

@@ -1,5 +1,4 @@
 // Two trees of a store walked together from a place on, document 02, request 2026-01.
-use changes_guess::guess_both;
 use changes_put::put_ends;
 use changes_top::Top;
 use changes_top::below;
@@ -15,11 +14,11 @@ pub enum Walked {
     Done { budget: u32, next: usize },
 }
 
-// Walks two trees from a place on. A visit takes one from the budget, and with no budget left the walk stops; so the visits counted bound the
-// work. Records of the list are put from number `at` on if it writes, else only counted.
-fn walk(
+// Walks two trees from a place on, by check's guesses of the children's slots. A visit takes one from the budget, and with no budget left the walk stops;
+// so the visits counted bound the work. Records of the list are put from number `at` on if it writes, else only counted.
+pub fn walk(
     store: &[u8],
-    guesses: &[u16; 16384],
+    guess: &[u16; 32768],
     place: Place,
     first: Top,
     second: Top,
@@ -40,11 +39,11 @@ fn walk(
         return Walked::Done { budget: rest, next };
     }
     let left = place.left();
-    let first_left = below(store, guesses, place, first, false, left);
-    let second_left = below(store, guesses, place, second, false, left);
+    let first_left = below(store, guess, place, first, false, left);
+    let second_left = below(store, guess, place, second, false, left);
     let done = walk(
         store,
-        guesses,
+        guess,
         left,
         first_left,
         second_left,
@@ -57,11 +56,11 @@ fn walk(
         return Walked::Passed;
     };
     let right = place.right();
-    let first_right = below(store, guesses, place, first, true, right);
-    let second_right = below(store, guesses, place, second, true, right);
+    let first_right = below(store, guess, place, first, true, right);
+    let second_right = below(store, guess, place, second, true, right);
     walk(
         store,
-        guesses,
+        guess,
         right,
         first_right,
         second_right,
@@ -69,37 +68,5 @@ fn walk(
         writes,
         room,
         n,
-    )
-}
-
-// The same, with guesses where the nodes of the two versions stand. They are made anew for each walk, so that no caller of check has room for them in
-// its own frame.
-pub fn walk_trees(
-    store: &[u8],
-    old: u32,
-    new: u32,
-    place: Place,
-    first: Top,
-    second: Top,
-    budget: u32,
-    writes: bool,
-    room: &mut [u8],
-    at: usize,
-) -> Walked
-    requires { ⌜ Goes (now store) place first second budget writes (now room) at ⌝ }
-    ensures { λ r. ⌜ WalkSays (now (store .entry)) place first second budget writes (now (room .entry)) at r (now (room .exit)) ⌝ }
-{
-    let mut guesses = [0u16; 16384];
-    guess_both(store, old, new, &mut guesses);
-    walk(
-        store,
-        &guesses,
-        place,
-        first,
-        second,
-        budget,
-        writes,
-        room,
-        at,
     )
 }

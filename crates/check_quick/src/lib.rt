@@ -110,8 +110,9 @@ fn linked(form: Form, store: &[u8], kept: Kept, guess: &[u16; 32768]) -> Look
     Look::Fine
 }
 
-// Whether each slot passes; own fields first, so that no spoiled slot stands beside a right one in the order.
-pub fn quick(form: Form, store: &[u8], kept: Kept) -> Look
+// Whether each slot passes; own fields first, so that no spoiled slot stands beside a right one in the order. The guesses of the children's slots stay in
+// the caller's room.
+pub fn quick_with(form: Form, store: &[u8], kept: Kept, guess: &mut [u16; 32768]) -> Look
     requires { ⌜ Keeps form (now store) kept ⌝ }
     ensures { λ r. ⌜ Sure r (slotsTest leafHash innerHash (storeIn form (now (store .entry))) ≡ true) ⌝ }
 {
@@ -120,10 +121,18 @@ pub fn quick(form: Form, store: &[u8], kept: Kept) -> Look
     if i < n {
         return Look::Suspect(i);
     }
-    let mut guess = [0u16; 32768];
-    let first = alone(form, store, kept, &mut guess);
+    let first = alone(form, store, kept, guess);
     match first {
-        Look::Fine => linked(form, store, kept, &guess),
+        Look::Fine => linked(form, store, kept, guess),
         Look::Suspect(i) => Look::Suspect(i),
     }
+}
+
+// The same with room of its own for the guesses.
+pub fn quick(form: Form, store: &[u8], kept: Kept) -> Look
+    requires { ⌜ Keeps form (now store) kept ⌝ }
+    ensures { λ r. ⌜ Sure r (slotsTest leafHash innerHash (storeIn form (now (store .entry))) ≡ true) ⌝ }
+{
+    let mut guess = [0u16; 32768];
+    quick_with(form, store, kept, &mut guess)
 }

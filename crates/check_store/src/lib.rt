@@ -3,6 +3,7 @@
 use check_kin::Kept;
 use check_quick::Look;
 use check_quick::quick;
+use check_quick::quick_with;
 use check_slot::each_passes;
 use check_slot::slot_passes;
 use layout::Header;
@@ -63,4 +64,24 @@ pub fn check(form: Form, store: &[u8]) -> u32
             0
         }
     }
+}
+
+// The same, and where it is 0 check's guesses of the slots of the children that records name are left in the caller's room; nothing is promised of them.
+pub fn check_with(form: Form, store: &[u8], guess: &mut [u16; 32768]) -> u32
+    ensures { λ r. ⌜ Checked form (now (store .entry)) r ⌝ }
+{
+    let header = read_header(form, store);
+    let Header::Accepted {
+        capacity: _,
+        oldest,
+        latest,
+    } = header
+    else {
+        return check(form, store);
+    };
+    let versions = Kept { oldest, latest };
+    let Look::Fine = quick_with(form, store, versions, guess) else {
+        return check(form, store);
+    };
+    0
 }

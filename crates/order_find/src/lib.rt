@@ -1,6 +1,5 @@
 // Finding a node by an ordered table: the search halves for the first entry that isn't before the node, so of slots with the same node the lowest is found.
 use lookup::Found;
-use lookup::find;
 use order_look::Look;
 use order_look::compared;
 use place::Place;
@@ -13,7 +12,7 @@ ghost use Rattle.place.specs.Place.{placeOf, Proper};
 ghost use Rattle.layout.specs.Headers.{sizeRight};
 ghost use Rattle.layout.specs.Stores.{storeOf};
 ghost use Rattle.lookup.specs.Lookup.{FoundIn};
-ghost use Rattle.ordered.specs.Ordered.{nodeKey, Ordered, Guide};
+ghost use Rattle.ordered.specs.Ordered.{nodeKey, Ordered};
 ghost use Rattle.order_find.specs.Finds.{NoLower, First};
 
 fn wide(x: u16) -> usize
@@ -61,21 +60,4 @@ pub fn find_by(store: &[u8], table: &[u16; 16384], many: usize, version: u32, pl
         Look::After => Found::Nothing,
         Look::Same => Found::At(i),
     }
-}
-
-// The same by a table that may have no entries: then by a scan.
-pub fn find_with(
-    store: &[u8],
-    table: &[u16; 16384],
-    many: usize,
-    version: u32,
-    place: Place,
-) -> Found
-    requires { ⌜ (sizeRight Form.Counted (length (now store)) ≡ true) × Guide (storeOf (now store) .slots) (now table) many × Proper place ⌝ }
-    ensures { λ r. ⌜ FoundIn (storeOf (now (store .entry)) .slots) version (placeOf place) r ⌝ }
-{
-    if many == 0 {
-        return find(Form::Counted, store, version, place);
-    }
-    find_by(store, table, many, version, place)
 }

@@ -11,9 +11,6 @@ const PALETTE_BAR: f64 = 12.0;
 /// The aim is 6, which most stores keep.
 const RESCUE_BAR: f64 = 10.0;
 const CHANGES_BAR: f64 = 4.0;
-/// Slots are guessed by place and version where two versions are compared, and versions can be picked against that: no bar but that of today.
-const COLLIDING: &str = "versions-that-collide";
-const COLLIDING_BAR: f64 = 30.0;
 
 /// Publishes these keys with one value; whether they fit.
 fn published(s: &mut [u8], keys: &mut [Bytes32], value: u8) -> bool {
@@ -78,15 +75,11 @@ fn plain(random: &mut Random, capacity: usize, size: usize) -> (Vec<u8>, Vec<Byt
 
 /// One tree of so many grants with so many roots over it.
 fn roots(random: &mut Random, grants: usize, roots: u32) -> (Vec<u8>, Vec<Bytes32>) {
-    let mut all: Vec<(Bytes32, Bytes32)> = (0..grants).map(|_| (random.hash(), random.hash())).collect();
-    all.sort();
-    let mut records = second::tree::placing(&second::tree::make(&all, 1, &|_, _| None));
+    let all = self::grants(random, grants);
+    let mut records = tree_under(&all, &|_| 1);
     let root = records.pop().unwrap();
     records.extend((1..=roots).map(|v| Record { version: v, retired: if v == roots { 0 } else { v + 1 }, ..root }));
-    let mut s = cases::fresh(CAPACITY, 1, roots);
-    assert!(records.len() <= CAPACITY);
-    records.iter().enumerate().for_each(|(i, r)| put_slot(&mut s, i, &slot_bytes(r)));
-    (s, (0..256).map(|i| if i % 2 == 0 { all[random.below(all.len())].0 } else { random.hash() }).collect())
+    (holding(&records, 1, roots), (0..256).map(|i| if i % 2 == 0 { all[random.below(all.len())].0 } else { random.hash() }).collect())
 }
 
 /// What `guess::spread` adds up of a place; 40,503 times the version is added to it.
@@ -98,34 +91,58 @@ fn mixed_place(place: &Place) -> u32 {
     front.wrapping_add(back.wrapping_mul(65_599)).wrapping_add((place.count as u32).wrapping_mul(16_777_619))
 }
 
-/// One tree, its records under versions that a hash of place and version takes to one number: sound, though no history gives it.
-fn collided(random: &mut Random) -> (Vec<u8>, Vec<Bytes32>) {
-    let mut all: Vec<(Bytes32, Bytes32)> = (0..6_500).map(|_| (random.hash(), random.hash())).collect();
-    all.sort();
-    let mut records = second::tree::placing(&second::tree::make(&all, 1, &|_, _| None));
-    let latest = u32::MAX - 1;
+/// A version from 1 to `latest` that `guess::spread` takes with the place to a number near 0, so that guesses by it collide.
+fn colliding(place: &Place, latest: u32) -> u32 {
     // The inverse of 40,503 modulo 2 to the 32.
     let inverse = (0..5).fold(1u32, |x, _| x.wrapping_mul(2u32.wrapping_sub(40_503u32.wrapping_mul(x))));
-    let under = |p: &Place| {
-        let sums = 0u32..;
-        sums.map(|sum| sum.wrapping_sub(mixed_place(p)).wrapping_mul(inverse)).find(|&v| v != 0 && v <= latest).unwrap()
-    };
-    let versions: Vec<u32> = records.iter().map(|r| under(&r.place)).collect();
-    let at: std::collections::HashMap<(usize, Bytes32), u32> = records.iter().zip(&versions).map(|(r, v)| ((r.place.count, r.place.bits), *v)).collect();
-    for (r, v) in records.iter_mut().zip(&versions) {
+    let sums = 0u32..;
+    sums.map(|sum| sum.wrapping_sub(mixed_place(place)).wrapping_mul(inverse)).find(|&v| v != 0 && v <= latest).unwrap()
+}
+
+fn grants(random: &mut Random, many: usize) -> Vec<(Bytes32, Bytes32)> {
+    let mut all: Vec<(Bytes32, Bytes32)> = (0..many).map(|_| (random.hash(), random.hash())).collect();
+    all.sort();
+    all
+}
+
+/// The records of one tree, each under the version that its place gets.
+fn tree_under(all: &[(Bytes32, Bytes32)], under: &dyn Fn(&Place) -> u32) -> Vec<Record> {
+    let mut records = second::tree::placing(&second::tree::make(all, 1, &|_, _| None));
+    for r in &mut records {
         let place = r.place;
-        r.version = *v;
+        r.version = under(&place);
         if let Body::Inner(children) = &mut r.body {
             for (side, c) in children.iter_mut().enumerate().filter(|(_, c)| c.version != 0) {
-                let below = place.longer(side == 1);
-                c.version = at[&(below.count, below.bits)];
+                c.version = under(&place.longer(side == 1));
             }
         }
     }
-    let mut s = cases::fresh(CAPACITY, latest, latest);
+    records
+}
+
+fn holding(records: &[Record], oldest: u32, latest: u32) -> Vec<u8> {
+    let mut s = cases::fresh(CAPACITY, oldest, latest);
     assert!(records.len() <= CAPACITY);
     records.iter().enumerate().for_each(|(i, r)| put_slot(&mut s, i, &slot_bytes(r)));
+    s
+}
+
+/// One tree, its records under versions that a hash of place and version takes to one number: sound, though no history gives it.
+fn collided(random: &mut Random) -> (Vec<u8>, Vec<Bytes32>) {
+    let all = grants(random, 6_500);
+    let latest = u32::MAX - 1;
+    let s = holding(&tree_under(&all, &|p| colliding(p, latest)), latest, latest);
     (s, (0..256).map(|i| if i % 2 == 0 { all[random.below(all.len())].0 } else { random.hash() }).collect())
+}
+
+/// Two trees of the same keys, every value another, with no record in both: the most that a comparison visits in a full store.
+fn two_trees(random: &mut Random, under: &dyn Fn(&Place) -> u32, oldest: u32) -> Vec<u8> {
+    let old = grants(random, 3_250);
+    let new: Vec<(Bytes32, Bytes32)> = old.iter().map(|(k, _)| (*k, random.hash())).collect();
+    let mut records = tree_under(&old, under);
+    records.iter_mut().for_each(|r| r.retired = oldest + 1);
+    records.extend(tree_under(&new, &|_| oldest + 1));
+    holding(&records, oldest, oldest + 1)
 }
 
 fn best(turns: usize, processor: &dyn Fn(&mut dyn FnMut()) -> f64, call: &mut dyn FnMut()) -> f64 {
@@ -162,6 +179,34 @@ pub fn pairs() {
     assert!(a == b, "the second program's rescue of a store with pairs");
 }
 
+/// Prints a figure beside its bar; whether it keeps it.
+fn within(what: &str, took: f64, check: f64, bar: f64, on: &str) -> bool {
+    println!("bar {what} {:.1} bar {bar} ({took:.1}ms, check {check:.2}ms) on {on}", took / check);
+    if took > bar * check {
+        println!("{what} takes more than {bar} times check on {on}");
+    }
+    took <= bar * check
+}
+
+/// What the oldest version and the latest are compared in; with `beside`, the list beside the second program's.
+fn compared(processor: &dyn Fn(&mut dyn FnMut()) -> f64, s: &[u8], beside: bool) -> f64 {
+    let store = second::bytes::store(s).unwrap();
+    let (oldest, latest) = (store.oldest.max(1), store.latest);
+    let limit = 1_000_000;
+    let mut changed = vec![0; 72 * CAPACITY];
+    let took = best(3, processor, &mut || assert!(ours::changes(s, oldest, latest, limit, &mut changed).is_ok()));
+    if beside {
+        let mut other = vec![0; changed.len()];
+        assert!(second::changes(s, oldest, latest, limit, &mut other).is_ok());
+        assert!(changed == other, "the second program's list of changes");
+    }
+    took
+}
+
+fn checked(processor: &dyn Fn(&mut dyn FnMut()) -> f64, s: &[u8]) -> f64 {
+    best(5, processor, &mut || assert_eq!(ours::check(s), Ok(())))
+}
+
 /// Prints each figure beside its bar, and gives how many keep it and how many don't.
 pub fn bars(processor: &dyn Fn(&mut dyn FnMut()) -> f64) -> (usize, usize) {
     let mut random = Random(47);
@@ -171,11 +216,11 @@ pub fn bars(processor: &dyn Fn(&mut dyn FnMut()) -> f64) -> (usize, usize) {
         ("8000-versions", roots(&mut random, 3_300, 8_000)),
         ("random-keys", plain(&mut random, CAPACITY, 75)),
         ("one-version", roots(&mut random, 6_650, 1)),
-        (COLLIDING, collided(&mut random)),
+        ("versions-that-collide", collided(&mut random)),
     ];
     let shuffled: Vec<_> = stores.clone()[..3].iter().map(|(name, (s, asked))| (*name, (cases::scattered(&mut random, s, CAPACITY - cases::taken(s)), asked.clone()))).collect();
     let placed = stores.into_iter().map(|x| ("in-order", x)).chain(shuffled.into_iter().map(|x| ("shuffled", x)));
-    let (mut kept, mut broken) = (0, 0);
+    let mut keeps = vec![];
     for (order, (name, (s, asked))) in placed {
         let store = second::bytes::store(&s).unwrap();
         let (oldest, latest) = (store.oldest.max(1), store.latest);
@@ -187,7 +232,7 @@ pub fn bars(processor: &dyn Fn(&mut dyn FnMut()) -> f64) -> (usize, usize) {
             room
         };
         let singles: Vec<u8> = list[..16 * 32].chunks(32).flat_map(single).collect();
-        let check = best(5, processor, &mut || assert_eq!(ours::check(&s), Ok(())));
+        let check = checked(processor, &s);
         let mut room = vec![0; 256 * 17_080];
         let palette = best(3, processor, &mut || assert!(ours::palette(&s, latest, &list, &mut room).is_ok()));
         assert!(room.starts_with(&singles), "the proofs of single calls, one after the other");
@@ -200,25 +245,22 @@ pub fn bars(processor: &dyn Fn(&mut dyn FnMut()) -> f64) -> (usize, usize) {
             assert!(second::rescue::rescue(&s, oldest, latest, &mut other).is_ok());
             assert!(target == other, "the second program's rescue");
         }
-        let limit = 1_000_000;
-        let mut changed = vec![0; 72 * CAPACITY];
-        let changes = best(3, processor, &mut || assert!(ours::changes(&s, oldest, latest, limit, &mut changed).is_ok()));
-        if beside {
-            let mut other = vec![0; changed.len()];
-            assert!(second::changes(&s, oldest, latest, limit, &mut other).is_ok());
-            assert!(changed == other, "the second program's list of changes");
-        }
+        let changes = compared(processor, &s, beside);
         let on = format!("{name}-{order}, {} used, {} versions", cases::taken(&s), latest + 1 - oldest);
-        let changes_bar = if name == COLLIDING { COLLIDING_BAR } else { CHANGES_BAR };
-        for (what, took, bar) in [("palette-256-keys", palette, PALETTE_BAR), ("rescue", rescue, RESCUE_BAR), ("changes", changes, changes_bar)] {
-            println!("bar {what} {:.1} bar {bar} ({took:.1}ms, check {check:.2}ms) on {on}", took / check);
-            if took <= bar * check {
-                kept += 1;
-            } else {
-                broken += 1;
-                println!("{what} takes more than {bar} times check on {on}");
-            }
+        for (what, took, bar) in [("palette-256-keys", palette, PALETTE_BAR), ("rescue", rescue, RESCUE_BAR), ("changes", changes, CHANGES_BAR)] {
+            keeps.push(within(what, took, check, bar, &on));
         }
     }
-    (kept, broken)
+    let oldest = u32::MAX - 2;
+    let plain = two_trees(&mut random, &|_| 1, 1);
+    let collided = two_trees(&mut random, &|p| colliding(p, oldest), oldest);
+    for (name, s) in [("two-trees", plain), ("two-trees-that-collide", collided)] {
+        let shuffled = cases::scattered(&mut random, &s, CAPACITY - cases::taken(&s));
+        for (order, s) in [("in-order", s), ("shuffled", shuffled)] {
+            let took = compared(processor, &s, order == "in-order");
+            keeps.push(within("changes", took, checked(processor, &s), CHANGES_BAR, &format!("{name}-{order}, {} used", cases::taken(&s))));
+        }
+    }
+    let kept = keeps.iter().filter(|k| **k).count();
+    (kept, keeps.len() - kept)
 }

@@ -6,14 +6,15 @@ use borrow.Author.Needs.{needs}
 use Rattle.changes.proofs.changes.Statement.{statement}
 use Rattle.changes.proofs.changes.Tie as tie
 
-check-requires : tie.Need-check-requires
-check-requires c κs = search needs
+check-with-requires : tie.Need-check-with-requires
+check-with-requires c κs = search needs
 
 returns : tie.Need-returns
-returns c = refused-by-check (checked-refuses (c .before .check .ensures) (c .if1 .taken))
+returns c = refused-by-check (checked-refuses (c .before .check-with .ensures) (c .if1 .taken))
 
 changes-sound-requires : tie.Need-changes-sound-requires
-changes-sound-requires c κs = checked-sound (c .before .before .check .ensures) (c .before .if1 .left)
+changes-sound-requires c κs =
+    let fine = c .before .before in checked-sound (fine .before .check-with .ensures) (fine .if1 .left)
 
 same-length : tie.Need-same-length
 same-length c = search needs
@@ -23,4 +24,4 @@ returns-2 c = search needs
 
 pub changes-spec : {M : Type 1} → statement M
 changes-spec =
-    tie.close (tie.spec check-requires returns changes-sound-requires same-length returns-2)
+    tie.close (tie.spec check-with-requires returns changes-sound-requires same-length returns-2)

@@ -63,8 +63,8 @@ root-top-requires-2 c κs =
     let start = tp .before .before .before .before .before .before .before .before .before in
     (sound-size (start .pre), tp .top .ensures)
 
-walk-trees-requires : tie.Need-walk-trees-requires
-walk-trees-requires c κs =
+walk-requires : tie.Need-walk-requires
+walk-requires c κs =
     let r2 = c .before in
     let r1 = r2 .before in
     let tp = r1 .before in
@@ -103,8 +103,8 @@ returns-3 c =
     let a = start .args in
     let w = start .pre in
     let s = a .store .now in
-    let x = wk .walk-trees .last .1 .1 .1 .1 .1 .1 .1 .1 .0 in
-    let q = subst (λ z. WalkSays s (tp .top .result) (r1 .root-top .result) (r2 .root-top2 .result) (a .limit) false (a .room .now) 0 z x) (c .enum-told5 .given .1) (wk .walk-trees .ensures) in
+    let x = wk .walk .last .1 .1 .1 .1 .1 .1 .1 .0 in
+    let q = subst (λ z. WalkSays s (tp .top .result) (r1 .root-top .result) (r2 .root-top2 .result) (a .limit) false (a .room .now) 0 z x) (c .enum-told5 .given .1) (wk .walk .ensures) in
     limit-passed w (a .first) (a .second) (a .limit) (a .room .now) (is-kept w (a .first) (o1 .«open» .result) (o1 .«open» .ensures) (t1 .enum-told .given .1)) (is-kept w (a .second) (o2 .open2 .result) (o2 .open2 .ensures) (t2 .enum-told3 .given .1))
     (tp .top .ensures) (r1 .root-top .ensures) (r2 .root-top2 .ensures) x q
 
@@ -126,14 +126,14 @@ returns-4 c =
     let a = start .args in
     let w = start .pre in
     let s = a .store .now in
-    let x = wk .walk-trees .last .1 .1 .1 .1 .1 .1 .1 .1 .0 in
-    let q = subst (λ z. WalkSays s (tp .top .result) (r1 .root-top .result) (r2 .root-top2 .result) (a .limit) false (a .room .now) 0 z x) (nn .n .given .1) (wk .walk-trees .ensures) in
+    let x = wk .walk .last .1 .1 .1 .1 .1 .1 .1 .0 in
+    let q = subst (λ z. WalkSays s (tp .top .result) (r1 .root-top .result) (r2 .root-top2 .result) (a .limit) false (a .room .now) 0 z x) (nn .n .given .1) (wk .walk .ensures) in
     list-too-long w (a .first) (a .second) (a .limit) (a .room .now) (is-kept w (a .first) (o1 .«open» .result) (o1 .«open» .ensures) (t1 .enum-told .given .1)) (is-kept w (a .second) (o2 .open2 .result) (o2 .open2 .ensures) (t2 .enum-told3 .given .1))
     (tp .top .ensures) (r1 .root-top .ensures) (r2 .root-top2 .ensures)
     (nn .n .given .0 .0) (nn .n .given .0 .1 .0) x q (c .if1 .taken)
 
-walk-trees-requires-2 : tie.Need-walk-trees-requires-2
-walk-trees-requires-2 c κs =
+walk-requires-2 : tie.Need-walk-requires-2
+walk-requires-2 c κs =
     let i1 = c .before in
     let nn = i1 .before .before in
     let wk = nn .before .before .before .before in
@@ -148,14 +148,14 @@ walk-trees-requires-2 c κs =
     let a = start .args in
     let w = start .pre in
     let s = a .store .now in
-    let x = wk .walk-trees .last .1 .1 .1 .1 .1 .1 .1 .1 .0 in
-    let q = subst (λ z. WalkSays s (tp .top .result) (r1 .root-top .result) (r2 .root-top2 .result) (a .limit) false (a .room .now) 0 z x) (nn .n .given .1) (wk .walk-trees .ensures) in
+    let x = wk .walk .last .1 .1 .1 .1 .1 .1 .1 .0 in
+    let q = subst (λ z. WalkSays s (tp .top .result) (r1 .root-top .result) (r2 .root-top2 .result) (a .limit) false (a .room .now) 0 z x) (nn .n .given .1) (wk .walk .ensures) in
     may-write w (a .first) (a .second) (a .limit) (a .room .now) (is-kept w (a .first) (o1 .«open» .result) (o1 .«open» .ensures) (t1 .enum-told .given .1)) (is-kept w (a .second) (o2 .open2 .result) (o2 .open2 .ensures) (t2 .enum-told3 .given .1))
     (tp .top .ensures) (r1 .root-top .ensures) (r2 .root-top2 .ensures)
     (nn .n .given .0 .0) (nn .n .given .0 .1 .0) x q (λ h. omega (arith, h, i1 .if1 .left)) (omega (arith, start .fits))
 
-cast-t21 : tie.Need-cast-t21
-cast-t21 c =
+cast-many : tie.Need-cast-many
+cast-many c =
     let nn = c .before .before .before .before .before .before in
     let wk = nn .before .before .before .before in
     let r2 = wk .before .before in
@@ -169,8 +169,8 @@ cast-t21 c =
     let a = start .args in
     let w = start .pre in
     let s = a .store .now in
-    let x = wk .walk-trees .last .1 .1 .1 .1 .1 .1 .1 .1 .0 in
-    let q = subst (λ z. WalkSays s (tp .top .result) (r1 .root-top .result) (r2 .root-top2 .result) (a .limit) false (a .room .now) 0 z x) (nn .n .given .1) (wk .walk-trees .ensures) in
+    let x = wk .walk .last .1 .1 .1 .1 .1 .1 .1 .0 in
+    let q = subst (λ z. WalkSays s (tp .top .result) (r1 .root-top .result) (r2 .root-top2 .result) (a .limit) false (a .room .now) 0 z x) (nn .n .given .1) (wk .walk .ensures) in
     omega (
       arith,
       list-small w (a .first) (a .second) (a .limit) (a .room .now) (is-kept w (a .first) (o1 .«open» .result) (o1 .«open» .ensures) (t1 .enum-told .given .1)) (is-kept w (a .second) (o2 .open2 .result) (o2 .open2 .ensures) (t2 .enum-told3 .given .1))
@@ -199,11 +199,11 @@ returns-5 c =
     let a = start .args in
     let w = start .pre in
     let s = a .store .now in
-    let x = wk .walk-trees .last .1 .1 .1 .1 .1 .1 .1 .1 .0 in
-    let q = subst (λ z. WalkSays s (tp .top .result) (r1 .root-top .result) (r2 .root-top2 .result) (a .limit) false (a .room .now) 0 z x) (nn .n .given .1) (wk .walk-trees .ensures) in
+    let x = wk .walk .last .1 .1 .1 .1 .1 .1 .1 .0 in
+    let q = subst (λ z. WalkSays s (tp .top .result) (r1 .root-top .result) (r2 .root-top2 .result) (a .limit) false (a .room .now) 0 z x) (nn .n .given .1) (wk .walk .ensures) in
     list-written w (a .first) (a .second) (a .limit) (a .room .now) (is-kept w (a .first) (o1 .«open» .result) (o1 .«open» .ensures) (t1 .enum-told .given .1)) (is-kept w (a .second) (o2 .open2 .result) (o2 .open2 .ensures) (t2 .enum-told3 .given .1))
     (tp .top .ensures) (r1 .root-top .ensures) (r2 .root-top2 .ensures)
-    (nn .n .given .0 .0) (nn .n .given .0 .1 .0) x q (λ h. omega (arith, h, i1 .if1 .left)) (omega (arith, start .fits)) (w2 .walk-trees2 .result) _ (w2 .walk-trees2 .ensures)
+    (nn .n .given .0 .0) (nn .n .given .0 .1 .0) x q (λ h. omega (arith, h, i1 .if1 .left)) (omega (arith, start .fits)) (w2 .walk2 .result) _ (w2 .walk2 .ensures)
     (all-of Byte s 0 (λ i _. omega (arith, shared .shared-slice-known .given i)))
 
 pub changes-sound-spec : {M : Type 1} → statement M
@@ -221,14 +221,14 @@ changes-sound-spec =
     top-requires
     root-top-requires
     root-top-requires-2
-    walk-trees-requires
+    walk-requires
     enum-known-n
     enum-told-5
     same-length
     returns-3
     same-length-2
     returns-4
-    walk-trees-requires-2
-    cast-t21
+    walk-requires-2
+    cast-many
     same-length-3
     returns-5)

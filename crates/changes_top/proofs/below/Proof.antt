@@ -39,16 +39,23 @@ returns c =
 enum-known-top-2 : tie.Need-enum-known-top-2
 enum-known-top-2 c = search needs
 
+guess-of-requires : tie.Need-guess-of-requires
+guess-of-requires c κs = search needs
+
 top-at-requires : tie.Need-top-at-requires
 top-at-requires c κs = search needs
 
 returns-2 : tie.Need-returns-2
 returns-2 c =
-    let c3 = c .before .before .before in
-    let e = c3 .before .before .before in
+    let side = c .before .before in
+    let inner = side .before .before in
+    let e = inner .before .before .before in
     let a = e .args in
-    kid-below (a .store .now) (a .place) (a .longer) (a .right) (e .pre .3) _ (c .top-at .result) (c3 .top2 .given .1)
-    (rw (c .before .if2 .taken)) (c .top-at .ensures)
+    kid-below (a .store .now) (a .place) (a .longer) (a .right) (e .pre .3) _ (c .top-at .result) (inner .top2 .given .1)
+    (rw (side .if2 .taken)) (c .top-at .ensures)
+
+guess-of-requires-2 : tie.Need-guess-of-requires-2
+guess-of-requires-2 c κs = search needs
 
 top-at-requires-2 : tie.Need-top-at-requires-2
 top-at-requires-2 c κs = search needs
@@ -70,11 +77,12 @@ returns-4 c =
 
 returns-5 : tie.Need-returns-5
 returns-5 c =
-    let c3 = c .before .before .before in
-    let e = c3 .before .before .before in
+    let side = c .before .before in
+    let inner = side .before .before in
+    let e = inner .before .before .before in
     let a = e .args in
-    kid-below (a .store .now) (a .place) (a .longer) (a .right) (e .pre .3) _ (c .top-at2 .result) (c3 .top2 .given .1)
-    (rw (c .before .if2 .left)) (c .top-at2 .ensures)
+    kid-below (a .store .now) (a .place) (a .longer) (a .right) (e .pre .3) _ (c .top-at2 .result) (inner .top2 .given .1)
+    (rw (side .if2 .left)) (c .top-at2 .ensures)
 
 pub below-spec : {M : Type 1} → statement M
 below-spec =
@@ -87,8 +95,10 @@ below-spec =
     key-bit-requires
     returns
     enum-known-top-2
+    guess-of-requires
     top-at-requires
     returns-2
+    guess-of-requires-2
     top-at-requires-2
     returns-3
     returns-4

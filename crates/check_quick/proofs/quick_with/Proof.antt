@@ -1,4 +1,4 @@
--- `check_quick::quick` meets its contract: the passes together. Assumes nothing.
+-- `check_quick::quick_with` meets its contract: the passes together. Assumes nothing.
 use native.Mathlib.Omega.{arith}
 use lib.ListN.{length}
 use Rattle.layout.specs.Sizes.{roomOf}
@@ -7,8 +7,8 @@ use Rattle.check_seen.specs.Seen.{OwnAt}
 use Rattle.check_pass.proofs.Passes.{each-below}
 use Rattle.check_quick.proofs.Fine.{sure-map, sure-is, all-fine}
 use borrow.Author.Needs.{needs}
-use Rattle.check_quick.proofs.quick.Statement.{statement}
-use Rattle.check_quick.proofs.quick.Tie as tie
+use Rattle.check_quick.proofs.quick_with.Statement.{statement}
+use Rattle.check_quick.proofs.quick_with.Tie as tie
 
 slot-count-requires : tie.Need-slot-count-requires
 slot-count-requires c κs = c .before .pre .size
@@ -63,8 +63,8 @@ returns-2 c =
 returns-3 : tie.Need-returns-3
 returns-3 c = tt
 
-pub quick-spec : {M : Type 1} → statement M
-quick-spec =
+pub quick-with-spec : {M : Type 1} → statement M
+quick-with-spec =
     tie.close
     (tie.spec
     slot-count-requires
