@@ -17,9 +17,11 @@ use Rattle.store.proofs.Slots.{slot-long, slot-bytes, slot-within, slot-is}
 use Rattle.lookup.proofs.Matching.{version-is, count-is, bits-are}
 use Rattle.ordered.specs.Ordered.{nodeKey, slotKey, keyNo, InForm, Ahead}
 use Rattle.ordered.proofs.Ordered.{key-of}
-use Rattle.order_look.specs.Looks.{headKey, keyIn, Formed}
+use Rattle.order_look.specs.declared.Look as declared
+use Rattle.order_look.specs.declared.Look.the-variants.{Before, After, Same}
+use Rattle.order_look.specs.Looks.{headKey, keyIn, BytesStand, VersionsStand, Formed}
 
-before-longer : (xs ys us ws : Bytes) → length xs ≡ length ys → before xs ys ≡ true → before (xs ++ us) (ys ++ ws) ≡ true
+pub before-longer : (xs ys us ws : Bytes) → length xs ≡ length ys → before xs ys ≡ true → before (xs ++ us) (ys ++ ws) ≡ true
 before-longer [] [] us ws l e = absurd (false≢true e)
 before-longer [] (y ∷ ys) us ws l e = absurd (omega arith)
 before-longer (x ∷ xs) [] us ws l e = absurd (omega arith)
@@ -31,7 +33,7 @@ before-longer (x ∷ xs) (y ∷ ys) us ws l e = go (ltb x y) (eqb x y) (before-l
     go false true h f = h f
     go false false h f = absurd (false≢true f)
 
-before-common : (xs us ws : Bytes) → before us ws ≡ true → before (xs ++ us) (xs ++ ws) ≡ true
+pub before-common : (xs us ws : Bytes) → before us ws ≡ true → before (xs ++ us) (xs ++ ws) ≡ true
 before-common [] us ws e = e
 before-common (x ∷ xs) us ws e = rw (le-ltb x x (omega arith), eq-eqb x x refl) (before-common xs us ws e)
 
@@ -44,7 +46,7 @@ module _ (c d : ℕ) (x y : Bytes) (v w : ℕ) where
   unfolding headKey
   by-bits e l f = rw (le-ltb c d (omega arith), eq-eqb c d e) (before-longer x y (v ∷ []) (w ∷ []) l f)
 
-  pub by-version : c ≡ d → x ≡ y → v < w → before (headKey c x v) (headKey d y w) ≡ true
+  by-version : c ≡ d → x ≡ y → v < w → before (headKey c x v) (headKey d y w) ≡ true
   unfolding headKey
   by-version e f l =
       rw (le-ltb c d (omega arith), eq-eqb c d e)
@@ -52,6 +54,12 @@ module _ (c d : ℕ) (x y : Bytes) (v w : ℕ) where
 
   pub all-same : c ≡ d → x ≡ y → v ≡ w → headKey c x v ≡ headKey d y w
   all-same e f g = rw (e, f, g)
+
+-- Of the same bit count and bits, the versions decide.
+pub by-versions : (c d : ℕ) (x y : Bytes) (v w : ℕ) → c ≡ d → x ≡ y → (r : declared.Look) → VersionsStand r v w → BytesStand r (headKey c x v) (headKey d y w)
+by-versions c d x y v w e f Before l = by-version c d x y v w e f l
+by-versions c d x y v w e f After l = by-version d c y x w v (sym e) (sym f) l
+by-versions c d x y v w e f Same l = all-same c d x y v w e f l
 
 module _ {s : Bytes} {i : ℕ} (b : All Byte s) (has : Has counted s i) where
   -- The key of a slot in form is the one that its bytes say.

@@ -20,11 +20,21 @@ headKey c b v = c ∷ (b ++ (v ∷ []))
 abbrev pub keyIn : Bytes → Bytes
 keyIn x = headKey (countIn x) (bitsIn x) (versionIn x)
 
+-- How byte strings stand to each other.
+abbrev pub BytesStand : declared.Look → Bytes → Bytes → Type 0
+BytesStand Before x y = before x y ≡ true
+BytesStand After x y = before y x ≡ true
+BytesStand Same x y = x ≡ y
+
+-- How versions stand to each other.
+abbrev pub VersionsStand : declared.Look → ℕ → ℕ → Type 0
+VersionsStand Before v w = v < w
+VersionsStand After v w = w < v
+VersionsStand Same v w = v ≡ w
+
 -- How the key of a slot's bytes stands to a key.
 abbrev pub Stands : declared.Look → Bytes → Bytes → Type 0
-Stands Before x key = before (keyIn x) key ≡ true
-Stands After x key = before key (keyIn x) ≡ true
-Stands Same x key = keyIn x ≡ key
+Stands r x key = BytesStand r (keyIn x) key
 
 -- Slot i is one of the store's, and in form.
 abbrev pub Formed : Bytes → ℕ → Type 0

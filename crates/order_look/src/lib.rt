@@ -1,7 +1,8 @@
 // Whether a table names the slots in form of a store in the order of their nodes: one look at each entry and each slot. Nothing is known of the table before.
 use check_sort::rank;
+use hash::join;
+use hash::word_at;
 use lookup::holds_record;
-use place::before;
 use slots::bits_of;
 use store::count_at;
 use store::slot_count;
@@ -11,13 +12,15 @@ use terms::Form;
 ghost use mathlib.Core.Path.{_≡_};
 ghost use mathlib.Core.Bool.{true};
 ghost use Prim.Native.Nat.{_+_, _≤_, _<_};
-ghost use lib.ListN.{length};
+ghost use lib.ListN.{length, take, drop};
+ghost use Rattle.hash.specs.BigEndian.{number};
 ghost use Rattle.layout.specs.Sizes.{roomOf};
 ghost use Rattle.layout.specs.Headers.{sizeRight};
+ghost use Rattle.layout.specs.Slots.{versionIn};
 ghost use Rattle.layout.specs.Stores.{slotIn, storeOf, Has};
 ghost use Rattle.check_pass.specs.Passes.{Room, Passed, Each};
 ghost use Rattle.ordered.specs.Ordered.{Ahead, Ordered};
-ghost use Rattle.order_look.specs.Looks.{headKey, Stands, Formed, InOrder, NamedNo};
+ghost use Rattle.order_look.specs.Looks.{headKey, BytesStand, VersionsStand, Stands, Formed, InOrder, NamedNo};
 
 // How a slot stands to a node.
 pub enum Look {
@@ -30,6 +33,49 @@ fn wide(x: u16) -> usize
     ensures { λ r. ⌜ r ≡ x ⌝ }
 {
     x as usize
+}
+
+// The number that begins at a byte, eight bytes long.
+fn number_at(s: &[u8], at: usize) -> u64
+    requires { ⌜ at + 8 ≤ length (now s) ⌝ }
+    ensures { λ r. ⌜ r ≡ number (take 8 (drop at (now (s .entry)))) ⌝ }
+{
+    join(word_at(s, at), word_at(s, at + 4))
+}
+
+// How bits stand to others, eight bytes at a time: numbers with the top byte first stand as their bytes do.
+fn bits_stand(x: &[u8], y: &[u8]) -> Look
+    requires { ⌜ (length (now x) ≡ 32) × (length (now y) ≡ 32) ⌝ }
+    ensures { λ r. ⌜ BytesStand r (now (x .entry)) (now (y .entry)) ⌝ }
+{
+    let mut at = 0;
+    while at < 32 {
+        let a = number_at(x, at);
+        let b = number_at(y, at);
+        if a < b {
+            return Look::Before;
+        }
+        if b < a {
+            return Look::After;
+        }
+        at += 8;
+    }
+    Look::Same
+}
+
+// How slot i stands to a node of its bit count and bits: by the version.
+fn version_stands(store: &[u8], i: usize, version: u32) -> Look
+    requires { ⌜ Has Form.Counted (now store) i ⌝ }
+    ensures { λ r. ⌜ VersionsStand r (versionIn (slotIn Form.Counted i (now (store .entry)))) version ⌝ }
+{
+    let from = version_at(Form::Counted, store, i);
+    if from < version {
+        return Look::Before;
+    }
+    if version < from {
+        return Look::After;
+    }
+    Look::Same
 }
 
 // How slot i stands to a node: by the bit count, then by the bits, then by the version.
@@ -45,20 +91,12 @@ pub fn compared(store: &[u8], i: usize, count: usize, bits: &[u8], version: u32)
         return Look::After;
     }
     let own = bits_of(slot_of(Form::Counted, store, i));
-    if before(own, bits) {
-        return Look::Before;
+    let stand = bits_stand(own, bits);
+    match stand {
+        Look::Before => Look::Before,
+        Look::After => Look::After,
+        Look::Same => version_stands(store, i, version),
     }
-    if before(bits, own) {
-        return Look::After;
-    }
-    let from = version_at(Form::Counted, store, i);
-    if from < version {
-        return Look::Before;
-    }
-    if version < from {
-        return Look::After;
-    }
-    Look::Same
 }
 
 // Whether slot i, in form, stands before slot j, in form.

@@ -1,5 +1,6 @@
 // Several proofs in one call over lent bytes, document 02, request 2026-04: a first pass over the keys measures, a second one writes.
 use order_kids::children;
+use palette_near::follow_all;
 use prove::Proved;
 use prove_plan::Shape;
 use prove_plan::plan_of;
@@ -17,7 +18,6 @@ ghost use Rattle.layout.specs.Headers.{sizeRight};
 ghost use Rattle.layout.specs.Stores.{storeOf};
 ghost use Rattle.meaning.specs.Calls.{accepted};
 ghost use Rattle.palette_rules.specs.Palette.{wholeKeys, fittedTogether};
-ghost use Rattle.ordered.specs.Ordered.{Leading};
 ghost use Rattle.read_near.specs.Near.{Led};
 ghost use Rattle.prove.specs.Parts.{provedSays};
 ghost use Rattle.palette.specs.Parts.{paletteAnswerBy, plannedIn, togetherLength, togetherBytes, Gives};
@@ -118,28 +118,50 @@ fn give_measured(
     }
 }
 
-// The same without a lent table, where the slots of all children were guessed.
+// The same by the slots of children that were guessed.
 fn give_near(
     store: &[u8],
+    index: &[u32],
     kids: &[u16; 32768],
     version: u32,
     keys: &[u8],
     room: &mut [u8],
 ) -> Proved
-    requires { ⌜ (sizeRight Form.Counted (length (now store)) ≡ true) × (wholeKeys (now keys) ≡ true) × Leading (storeOf (now store) .slots) (now kids) ⌝ }
-    ensures { λ r. ⌜ Gives (fittedTogether (length (now (room .entry))) (plannedIn (now (store .entry)) [] version (now (keys .entry)))) (now (room .entry)) (now (room .exit)) r ⌝ }
+    requires { ⌜ (sizeRight Form.Counted (length (now store)) ≡ true) × (wholeKeys (now keys) ≡ true) × Led (storeOf (now store)) (now index) (now kids) ⌝ }
+    ensures { λ r. ⌜ Gives (fittedTogether (length (now (room .entry))) (plannedIn (now (store .entry)) (now (index .entry)) version (now (keys .entry)))) (now (room .entry)) (now (room .exit)) r ⌝ }
 {
-    give_measured(store, &[], kids, version, keys, room)
+    give_measured(store, index, kids, version, keys, room)
 }
 
-// The same for a list of many keys: the slots of all children are guessed once for the call.
+// The same for a list of many keys without a lent table: the slots of all children are guessed once for the call.
 fn give_many(store: &[u8], version: u32, keys: &[u8], room: &mut [u8]) -> Proved
     requires { ⌜ (sizeRight Form.Counted (length (now store)) ≡ true) × (wholeKeys (now keys) ≡ true) ⌝ }
     ensures { λ r. ⌜ Gives (fittedTogether (length (now (room .entry))) (plannedIn (now (store .entry)) [] version (now (keys .entry)))) (now (room .entry)) (now (room .exit)) r ⌝ }
 {
     let mut kids = [0u16; 32768];
     children(store, &mut kids);
-    give_near(store, &kids, version, keys, room)
+    give_near(store, &[], &kids, version, keys, room)
+}
+
+// The same by a lent table: what stands on the keys' ways is found once for the call.
+fn give_found(store: &[u8], index: &[u32], version: u32, keys: &[u8], room: &mut [u8]) -> Proved
+    requires { ⌜ (sizeRight Form.Counted (length (now store)) ≡ true) × (wholeKeys (now keys) ≡ true) ⌝ }
+    ensures { λ r. ⌜ Gives (fittedTogether (length (now (room .entry))) (plannedIn (now (store .entry)) (now (index .entry)) version (now (keys .entry)))) (now (room .entry)) (now (room .exit)) r ⌝ }
+{
+    let mut kids = [0u16; 32768];
+    follow_all(store, index, &mut kids, version, keys);
+    give_near(store, index, &kids, version, keys, room)
+}
+
+// The same for a list of few keys or by a lent table: few keys are planned without a guess.
+fn give_each(store: &[u8], index: &[u32], version: u32, keys: &[u8], room: &mut [u8]) -> Proved
+    requires { ⌜ (sizeRight Form.Counted (length (now store)) ≡ true) × (wholeKeys (now keys) ≡ true) ⌝ }
+    ensures { λ r. ⌜ Gives (fittedTogether (length (now (room .entry))) (plannedIn (now (store .entry)) (now (index .entry)) version (now (keys .entry)))) (now (room .entry)) (now (room .exit)) r ⌝ }
+{
+    if keys.len() < FEW_KEYS * KEY_SIZE {
+        return give_measured(store, index, &[], version, keys, room);
+    }
+    give_found(store, index, version, keys, room)
 }
 
 // Whether guessing pays: there is no lent table, and there are as many keys.
@@ -167,5 +189,5 @@ pub fn palette(store: &[u8], index: &[u32], version: u32, keys: &[u8], room: &mu
     if pays(index, keys) {
         return give_many(store, version, keys, room);
     }
-    give_measured(store, index, &[], version, keys, room)
+    give_each(store, index, version, keys, room)
 }

@@ -8,8 +8,7 @@ use second::Bytes32;
 
 const CAPACITY: usize = 16_384;
 const PALETTE_BAR: f64 = 12.0;
-/// The aim is 6, which most stores keep.
-const RESCUE_BAR: f64 = 10.0;
+const RESCUE_BAR: f64 = 6.0;
 const CHANGES_BAR: f64 = 4.0;
 
 /// Publishes these keys with one value; whether they fit.

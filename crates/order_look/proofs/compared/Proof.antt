@@ -1,14 +1,13 @@
 -- `order_look::compared` meets its contract: bit count, bits and version decide, each where those before it do not. Assumes nothing.
 use native.Mathlib.Omega.{arith}
-use mathlib.Core.Path.{_≡_, ap, sym, _∙_}
+use mathlib.Core.Path.{_≡_, ap, sym, _∙_, subst}
 use lib.ListN.{length}
 use Rattle.terms.specs.declared.Form.the-variants.{Counted as counted}
-use Rattle.terms.specs.Bits.{before}
-use Rattle.terms.proofs.Order.{before-total}
 use Rattle.layout.specs.Slots.{countIn, bitsIn, versionIn}
 use Rattle.layout.specs.Stores.{slotIn}
 use Rattle.store.proofs.Slots.{slot-within}
-use Rattle.order_look.proofs.Keys.{by-count, by-bits, by-version, all-same}
+use Rattle.order_look.specs.Looks.{BytesStand}
+use Rattle.order_look.proofs.Keys.{by-count, by-bits, by-versions}
 use borrow.Author.Needs.{needs}
 use Rattle.order_look.proofs.compared.Statement.{statement}
 use Rattle.order_look.proofs.compared.Tie as tie
@@ -21,75 +20,96 @@ wide-requires c κs = search needs
 
 returns : tie.Need-returns
 returns c =
-    let c5 = c .before .before .before .before .before in
-    let a = c5 .args in
+    let asked = c .before .before in
+    let a = asked .before .before .before .args in
     let x = slotIn counted (a .i) (a .store .now) in
-    by-count (countIn x) (a .count) (bitsIn x) (a .bits .now) (versionIn x) (a .version) (omega (arith, c .before .before .count-at .ensures, c .before .wide .ensures, c .if1 .taken))
+    by-count (countIn x) (a .count) (bitsIn x) (a .bits .now) (versionIn x) (a .version) (omega (arith, asked .count-at .ensures, c .before .wide .ensures, c .if1 .taken))
 
 returns-2 : tie.Need-returns-2
 returns-2 c =
-    let c6 = c .before .before .before .before .before .before in
-    let a = c6 .args in
+    let widened = c .before .before in
+    let asked = widened .before in
+    let a = asked .before .before .before .args in
     let x = slotIn counted (a .i) (a .store .now) in
-    by-count (a .count) (countIn x) (a .bits .now) (bitsIn x) (a .version) (versionIn x) (omega (arith, c .before .before .before .count-at .ensures, c .before .before .wide .ensures, c .if2 .taken))
+    by-count (a .count) (countIn x) (a .bits .now) (bitsIn x) (a .version) (versionIn x) (omega (arith, asked .count-at .ensures, widened .wide .ensures, c .if2 .taken))
 
 slot-of-requires : tie.Need-slot-of-requires
-slot-of-requires c κs = slot-within (c .before .before .before .before .before .before .pre .0)
+slot-of-requires c κs =
+    let asked = c .before .before .before in
+    slot-within (asked .before .before .before .pre .0)
 
 bits-of-requires : tie.Need-bits-of-requires
 bits-of-requires c κs = search needs
 
-before-requires : tie.Need-before-requires
-before-requires c κs = search needs
+bits-stand-requires : tie.Need-bits-stand-requires
+bits-stand-requires c κs = search needs
+
+enum-told : tie.Need-enum-told
+enum-told c = search needs
+
+enum-told-2 : tie.Need-enum-told-2
+enum-told-2 c = search needs
+
+enum-told-3 : tie.Need-enum-told-3
+enum-told-3 c = search needs
+
+version-stands-requires : tie.Need-version-stands-requires
+version-stands-requires c κs = search needs
 
 returns-3 : tie.Need-returns-3
 returns-3 c =
-    let c10 = c .before .before .before .before .before .before .before .before .before .before in
-    let a = c10 .args in
+    let looked = c .before .before in
+    let bits = looked .before in
+    let slot = bits .before in
+    let no-higher = slot .before in
+    let no-lower = no-higher .before in
+    let widened = no-lower .before in
+    let asked = widened .before in
+    let start = asked .before .before .before in
+    let a = start .args in
     let x = slotIn counted (a .i) (a .store .now) in
-    by-bits (countIn x) (a .count) (bitsIn x) (a .bits .now) (versionIn x) (a .version) (omega (arith, c .before .before .before .before .before .before .before .count-at .ensures, c .before .before .before .before .before .before .wide .ensures, c .before .before .before .before .before .if1 .left, c .before .before .before .before .if2 .left))
-    (ap length (sym (c .before .before .bits-of .ensures .0 ∙ ap bitsIn (c .before .before .before .slot-of .ensures .0))) ∙ c .before .before .bits-of .ensures .1 ∙ sym (c10 .pre .1)) (sym (c .before .before2 .ensures ∙ ap (λ y. before y (a .bits .now)) (c .before .before .bits-of .ensures .0 ∙ ap bitsIn (c .before .before .before .slot-of .ensures .0))) ∙ c .if3 .taken)
-
-before-requires-2 : tie.Need-before-requires-2
-before-requires-2 c κs = search needs
+    let own = bits .bits-of .ensures .0 ∙ ap bitsIn (slot .slot-of .ensures .0) in
+    let told = subst (λ y. BytesStand (looked .bits-stand .result) y (a .bits .now)) own (looked .bits-stand .ensures) in
+    let count : countIn x ≡ a .count = omega (arith, asked .count-at .ensures, widened .wide .ensures, no-lower .if1 .left, no-higher .if2 .left) in
+    by-bits (countIn x) (a .count) (bitsIn x) (a .bits .now) (versionIn x) (a .version) count
+    (ap length (sym own) ∙ bits .bits-of .ensures .1 ∙ sym (start .pre .1)) (subst (λ l. BytesStand l (bitsIn x) (a .bits .now)) (c .enum-told .given .1) told)
 
 returns-4 : tie.Need-returns-4
 returns-4 c =
-    let c12 = c .before .before .before .before .before .before .before .before .before .before .before .before in
-    let a = c12 .args in
+    let looked = c .before .before in
+    let bits = looked .before in
+    let slot = bits .before in
+    let no-higher = slot .before in
+    let no-lower = no-higher .before in
+    let widened = no-lower .before in
+    let asked = widened .before in
+    let start = asked .before .before .before in
+    let a = start .args in
     let x = slotIn counted (a .i) (a .store .now) in
-    by-bits (a .count) (countIn x) (a .bits .now) (bitsIn x) (a .version) (versionIn x) (omega (arith, c .before .before .before .before .before .before .before .before .before .count-at .ensures, c .before .before .before .before .before .before .before .before .wide .ensures, c .before .before .before .before .before .before .before .if1 .left, c .before .before .before .before .before .before .if2 .left))
-    (sym (ap length (sym (c .before .before .before .before .bits-of .ensures .0 ∙ ap bitsIn (c .before .before .before .before .before .slot-of .ensures .0))) ∙ c .before .before .before .before .bits-of .ensures .1 ∙ sym (c12 .pre .1))) (sym (c .before .before3 .ensures ∙ ap (λ y. before (a .bits .now) y) (c .before .before .before .before .bits-of .ensures .0 ∙ ap bitsIn (c .before .before .before .before .before .slot-of .ensures .0))) ∙ c .if4 .taken)
-
-version-at-requires : tie.Need-version-at-requires
-version-at-requires c κs = slot-within (c .before .before .before .before .before .before .before .before .before .before .before .before .pre .0)
+    let own = bits .bits-of .ensures .0 ∙ ap bitsIn (slot .slot-of .ensures .0) in
+    let told = subst (λ y. BytesStand (looked .bits-stand .result) y (a .bits .now)) own (looked .bits-stand .ensures) in
+    let count : a .count ≡ countIn x = omega (arith, asked .count-at .ensures, widened .wide .ensures, no-lower .if1 .left, no-higher .if2 .left) in
+    by-bits (a .count) (countIn x) (a .bits .now) (bitsIn x) (a .version) (versionIn x) count
+    (sym (ap length (sym own) ∙ bits .bits-of .ensures .1 ∙ sym (start .pre .1))) (subst (λ l. BytesStand l (bitsIn x) (a .bits .now)) (c .enum-told2 .given .1) told)
 
 returns-5 : tie.Need-returns-5
 returns-5 c =
-    let c14 = c .before .before .before .before .before .before .before .before .before .before .before .before .before .before in
-    let a = c14 .args in
+    let same = c .before in
+    let looked = same .before .before in
+    let bits = looked .before in
+    let slot = bits .before in
+    let no-higher = slot .before in
+    let no-lower = no-higher .before in
+    let widened = no-lower .before in
+    let asked = widened .before in
+    let start = asked .before .before .before in
+    let a = start .args in
     let x = slotIn counted (a .i) (a .store .now) in
-    by-version (countIn x) (a .count) (bitsIn x) (a .bits .now) (versionIn x) (a .version) (omega (arith, c .before .before .before .before .before .before .before .before .before .before .before .count-at .ensures, c .before .before .before .before .before .before .before .before .before .before .wide .ensures, c .before .before .before .before .before .before .before .before .before .if1 .left, c .before .before .before .before .before .before .before .before .if2 .left))
-    (before-total (bitsIn x) (a .bits .now) (sym (c .before .before .before .before .before .before2 .ensures ∙ ap (λ y. before y (a .bits .now)) (c .before .before .before .before .before .before .bits-of .ensures .0 ∙ ap bitsIn (c .before .before .before .before .before .before .before .slot-of .ensures .0))) ∙ c .before .before .before .before .if3 .left) (sym (c .before .before .before .before3 .ensures ∙ ap (λ y. before (a .bits .now) y) (c .before .before .before .before .before .before .bits-of .ensures .0 ∙ ap bitsIn (c .before .before .before .before .before .before .before .slot-of .ensures .0))) ∙ c .before .before .if4 .left))
-    (omega (arith, c .before .version-at .ensures, c .if5 .taken))
-
-returns-6 : tie.Need-returns-6
-returns-6 c =
-    let c15 = c .before .before .before .before .before .before .before .before .before .before .before .before .before .before .before in
-    let a = c15 .args in
-    let x = slotIn counted (a .i) (a .store .now) in
-    by-version (a .count) (countIn x) (a .bits .now) (bitsIn x) (a .version) (versionIn x) (omega (arith, c .before .before .before .before .before .before .before .before .before .before .before .before .count-at .ensures, c .before .before .before .before .before .before .before .before .before .before .before .wide .ensures, c .before .before .before .before .before .before .before .before .before .before .if1 .left, c .before .before .before .before .before .before .before .before .before .if2 .left))
-    (sym (before-total (bitsIn x) (a .bits .now) (sym (c .before .before .before .before .before .before .before2 .ensures ∙ ap (λ y. before y (a .bits .now)) (c .before .before .before .before .before .before .before .bits-of .ensures .0 ∙ ap bitsIn (c .before .before .before .before .before .before .before .before .slot-of .ensures .0))) ∙ c .before .before .before .before .before .if3 .left) (sym (c .before .before .before .before .before3 .ensures ∙ ap (λ y. before (a .bits .now) y) (c .before .before .before .before .before .before .before .bits-of .ensures .0 ∙ ap bitsIn (c .before .before .before .before .before .before .before .before .slot-of .ensures .0))) ∙ c .before .before .before .if4 .left)))
-    (omega (arith, c .before .before .version-at .ensures, c .if6 .taken))
-
-returns-7 : tie.Need-returns-7
-returns-7 c =
-    let c15 = c .before .before .before .before .before .before .before .before .before .before .before .before .before .before .before in
-    let a = c15 .args in
-    let x = slotIn counted (a .i) (a .store .now) in
-    all-same (countIn x) (a .count) (bitsIn x) (a .bits .now) (versionIn x) (a .version) (omega (arith, c .before .before .before .before .before .before .before .before .before .before .before .before .count-at .ensures, c .before .before .before .before .before .before .before .before .before .before .before .wide .ensures, c .before .before .before .before .before .before .before .before .before .before .if1 .left, c .before .before .before .before .before .before .before .before .before .if2 .left))
-    (before-total (bitsIn x) (a .bits .now) (sym (c .before .before .before .before .before .before .before2 .ensures ∙ ap (λ y. before y (a .bits .now)) (c .before .before .before .before .before .before .before .bits-of .ensures .0 ∙ ap bitsIn (c .before .before .before .before .before .before .before .before .slot-of .ensures .0))) ∙ c .before .before .before .before .before .if3 .left) (sym (c .before .before .before .before .before3 .ensures ∙ ap (λ y. before (a .bits .now) y) (c .before .before .before .before .before .before .before .bits-of .ensures .0 ∙ ap bitsIn (c .before .before .before .before .before .before .before .before .slot-of .ensures .0))) ∙ c .before .before .before .if4 .left))
-    (omega (arith, c .before .before .version-at .ensures, c .before .if5 .left, c .if6 .left))
+    let own = bits .bits-of .ensures .0 ∙ ap bitsIn (slot .slot-of .ensures .0) in
+    let told = subst (λ y. BytesStand (looked .bits-stand .result) y (a .bits .now)) own (looked .bits-stand .ensures) in
+    let count : countIn x ≡ a .count = omega (arith, asked .count-at .ensures, widened .wide .ensures, no-lower .if1 .left, no-higher .if2 .left) in
+    by-versions (countIn x) (a .count) (bitsIn x) (a .bits .now) (versionIn x) (a .version) count (subst (λ l. BytesStand l (bitsIn x) (a .bits .now)) (same .enum-told3 .given .1) told)
+    (c .version-stands .result) (c .version-stands .ensures)
 
 pub compared-spec : {M : Type 1} → statement M
 compared-spec =
@@ -101,11 +121,11 @@ compared-spec =
     returns-2
     slot-of-requires
     bits-of-requires
-    before-requires
+    bits-stand-requires
+    enum-told
+    enum-told-2
+    enum-told-3
+    version-stands-requires
     returns-3
-    before-requires-2
     returns-4
-    version-at-requires
-    returns-5
-    returns-6
-    returns-7)
+    returns-5)

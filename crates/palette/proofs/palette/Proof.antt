@@ -2,20 +2,24 @@
 use mathlib.Core.Path.{ap, sym, _∙_}
 use lib.ListN.{length}
 use borrow.Author.Tests.{not-true, not-false}
-use Rattle.layout.specs.Stores.{storeOf}
 use Rattle.palette_rules.specs.Palette.{fittedTogether}
-use Rattle.read_near.proofs.Near.{led-none}
 use Rattle.palette.specs.Parts.{plannedIn}
 use Rattle.palette.proofs.Answering.{gives-as, torn-list, first-refused, all-given, kept-size}
 use borrow.Author.Needs.{needs}
 use Rattle.palette.proofs.palette.Statement.{statement}
 use Rattle.palette.proofs.palette.Tie as tie
 
+-- the start, as the state after the header was opened has it
+abbrev start-from-open : tie.After-open → tie.Start
+start-from-open o =
+    let listed = o .before .before in
+    listed .before .before .before .before .before
+
 whole-keys-requires : tie.Need-whole-keys-requires
 whole-keys-requires c κs = search needs
 
-cast-t11 : tie.Need-cast-t11
-cast-t11 c = search needs
+cast-t10 : tie.Need-cast-t10
+cast-t10 c = search needs
 
 returns : tie.Need-returns
 returns c =
@@ -28,8 +32,8 @@ open-requires c κs = search needs
 enum-known-opened : tie.Need-enum-known-opened
 enum-known-opened c = search needs
 
-cast-t12 : tie.Need-cast-t12
-cast-t12 c = search needs
+cast-t11 : tie.Need-cast-t11
+cast-t11 c = search needs
 
 returns-2 : tie.Need-returns-2
 returns-2 c =
@@ -64,44 +68,42 @@ returns-3 c =
     (c .before .before .before .before .before .before .enum-told .given .1)
     (gives-as (ap (λ t. fittedTogether (length (a .room .now)) (plannedIn (a .store .now) t (a .version) (a .keys .now))) (sym none)) (c .before .before .give-many .ensures))
 
-slice-aggregate-give-measured : tie.Need-slice-aggregate-give-measured
-slice-aggregate-give-measured c = search needs
-
-give-measured-requires : tie.Need-give-measured-requires
-give-measured-requires c κs =
-    let o = c .before .before .before .before .before .before in
+give-each-requires : tie.Need-give-each-requires
+give-each-requires c κs =
+    let o = c .before .before .before .before .before in
     let w = o .before .before .whole-keys in
-    let a = o .before .before .before .before .before .before .before .args in
-    (kept-size (a .store .now) (a .version) (o .«open» .ensures) (c .before .before .before .before .enum-told .given .1), sym (w .ensures) ∙ not-false _ (o .before .if1 .left), led-none (storeOf (a .store .now)) (a .index .now))
+    let start = start-from-open o in
+    (kept-size (start .args .store .now) (start .args .version) (o .«open» .ensures) (c .before .before .before .enum-told .given .1), sym (w .ensures) ∙ not-false _ (o .before .if1 .left))
 
 same-length-2 : tie.Need-same-length-2
 same-length-2 c = search needs
 
 returns-4 : tie.Need-returns-4
 returns-4 c =
-    let o = c .before .before .before .before .before .before .before .before .before in
+    let given = c .before .before in
+    let told = given .before .before .before .before in
+    let o = told .before .before in
     let w = o .before .before .whole-keys in
-    let a = o .before .before .before .before .before .before .before .args in
+    let a = start-from-open o .args in
     all-given (a .store .now) (a .index .now) (a .version) (a .keys .now) (a .room .now) (w .ensures) (not-false _ (o .before .if1 .left)) (o .«open» .ensures)
-    (c .before .before .before .before .before .before .before .enum-told .given .1) (c .before .before .give-measured .ensures)
+    (told .enum-told .given .1) (given .give-each .ensures)
 
 pub palette-spec : {M : Type 1} → statement M
 palette-spec =
     tie.close
     (tie.spec
     whole-keys-requires
-    cast-t11
+    cast-t10
     returns
     open-requires
     enum-known-opened
-    cast-t12
+    cast-t11
     returns-2
     enum-told
     pays-requires
     give-many-requires
     same-length
     returns-3
-    slice-aggregate-give-measured
-    give-measured-requires
+    give-each-requires
     same-length-2
     returns-4)
