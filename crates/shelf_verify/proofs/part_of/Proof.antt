@@ -22,34 +22,45 @@ top-requires c κs = search needs
 loop-holds : tie.Need-loop-holds Inv-loop μ-loop
 loop-holds c = (omega arith, c .top .ensures)
 
+-- `A-from-B` is the state A as the later state B has it.
+abbrev start-from-at-loop : tie.At-loop Inv-loop μ-loop → tie.Start Inv-loop μ-loop
+start-from-at-loop c = c .before .before .before
+
+abbrev start-from-key-bit : tie.After-key-bit Inv-loop μ-loop → tie.Start Inv-loop μ-loop
+start-from-key-bit c = start-from-at-loop (c .before .before)
+
 key-bit-requires : tie.Need-key-bit-requires Inv-loop μ-loop
-key-bit-requires c κs = omega (arith, c .before .before .before .before .pre .0, c .before .before .before .before .pre .1, c .before .loop .inv .0)
+key-bit-requires c κs =
+    let start = start-from-at-loop (c .before) in
+    omega (arith, start .pre .0, start .pre .1, c .before .loop .inv .0)
 
 child-place-requires : tie.Need-child-place-requires Inv-loop μ-loop
 child-place-requires c κs =
-    (c .before .before .loop .inv .1 .proper, omega (arith, c .before .before .before .before .before .pre .1, c .before .before .loop .inv .1 .count))
+    let at-loop = c .before .before in
+    (at-loop .loop .inv .1 .proper, omega (arith, start-from-at-loop at-loop .pre .1, at-loop .loop .inv .1 .count))
 
 add-i : tie.Need-add-i Inv-loop μ-loop
-add-i c = omega (arith, c .before .before .before .before .before .before .pre .1)
+add-i c = omega (arith, start-from-key-bit (c .before) .pre .1)
 
 loop-less : tie.Need-loop-less Inv-loop μ-loop
 loop-less c = omega arith
 
 loop-again : tie.Need-loop-again Inv-loop μ-loop
 loop-again c =
-    let w = c .before .before .before .loop in
-    let a = c .before .before .before .before .before .before in (
+    let after-key-bit = c .before in
+    let start = start-from-key-bit after-key-bit in
+    let w = after-key-bit .before .before .loop in (
       omega arith,
-      front-next (a .args .key .now) (w .i) (w .place) (c .child-place .result) (omega (arith, a .pre .0, a .pre .1)) (w .inv .1)
-          (subst (λ t. Grown t (w .place) (c .child-place .result)) (c .before .key-bit .ensures) (c .child-place .ensures)),
+      front-next (start .args .key .now) (w .i) (w .place) (c .child-place .result) (omega (arith, start .pre .0, start .pre .1)) (w .inv .1)
+          (subst (λ t. Grown t (w .place) (c .child-place .result)) (after-key-bit .key-bit .ensures) (c .child-place .ensures)),
     )
 
 returns : tie.Need-returns Inv-loop μ-loop
 returns c =
+    let start = start-from-at-loop (c .before) in
     let w = c .before .loop in
-    let a = c .before .before .before .before in
-    let e : w .i ≡ a .args .count = omega (arith, w .inv .0) in
-    subst (λ m. Stands (take m (bits (a .args .key .now))) m (w .place)) e (w .inv .1)
+    let e : w .i ≡ start .args .count = omega (arith, w .inv .0) in
+    subst (λ m. Stands (take m (bits (start .args .key .now))) m (w .place)) e (w .inv .1)
 
 pub part-of-spec : {M : Type 1} → statement M
 part-of-spec =
