@@ -51,29 +51,29 @@ returns-4 c =
     (shelf-off-form (a .root .now) (a .bits) (a .key .now) (a .proof .now) (else2 .before .if1 .left) (else2 .if2 .left) (else3 .if3 .left)
     (sym (ap (λ n. isShelf n (a .proof .now)) (after-first-end .first-end .ensures)) ∙ sym (after-is-shelf .is-shelf .ensures) ∙ not-true _ (c .if4 .taken)))
 
-part-of-requires : tie.Need-part-of-requires
-part-of-requires c κs = search needs
+front-requires : tie.Need-front-requires
+front-requires c κs = search needs
 
 slice-aggregate-check-both : tie.Need-slice-aggregate-check-both
 slice-aggregate-check-both c = search needs
 
 check-both-requires : tie.Need-check-both-requires
 check-both-requires c κs =
-    let after-part-of = c .before .before .before in
-    let after-first-end = after-part-of .before .before .before in
+    let after-front = c .before .before .before in
+    let after-first-end = after-front .before .before .before in
     omega (arith, after-first-end .first-end .ensures, first-within (start-from-first-end after-first-end .args .proof .now))
 
 returns-5 : tie.Need-returns-5
 returns-5 c =
-    let after-part-of = c .before .before .before .before in
-    let else4 = after-part-of .before in
+    let after-front = c .before .before .before .before in
+    let else4 = after-front .before in
     let after-is-shelf = else4 .before in
     let after-first-end = after-is-shelf .before in
     let else3 = after-first-end .before in
     let else2 = else3 .before in
     let a = start-from-else2 else2 .args in
     let w = c .check-both .ensures in
-    let k = part-key (a .bits) (a .key .now) (after-part-of .part-of .result) (after-part-of .part-of .ensures) in
+    let k = part-key (a .bits) (a .key .now) (after-front .front .result) (after-front .front .ensures) in
     as-both (both-checked (a .root .now) (a .bits) (a .key .now) (a .proof .now) (else2 .before .if1 .left) (else2 .if2 .left) (else3 .if3 .left)
     (sym (ap (λ n. isShelf n (a .proof .now)) (after-first-end .first-end .ensures)) ∙ sym (after-is-shelf .is-shelf .ensures) ∙ not-false _ (else4 .if4 .left)))
     k (after-first-end .first-end .ensures) w
@@ -88,7 +88,7 @@ grants-shelf-verify-spec =
     first-end-requires
     is-shelf-requires
     returns-4
-    part-of-requires
+    front-requires
     slice-aggregate-check-both
     check-both-requires
     returns-5)
