@@ -3,12 +3,12 @@
 use check_alone::Head;
 use check_kin::Kept;
 use check_kin::ends_before;
-use check_kin::front;
 use check_kin::kept_life;
 use check_kin::roots_apart;
 use check_link::Below;
 use check_parents::parents_right;
 use hash::Hash;
+use place::front;
 use place::key_bit;
 use terms::Form;
 ghost use Rattle.check_alone.specs.Parts.{Headed};

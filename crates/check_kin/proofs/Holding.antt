@@ -1,23 +1,20 @@
 -- The slots that hold a node, counted: a record in form is its own bytes, so version, bit count and bits decide. Assumes nothing.
-use Prim.Native.Nat.{ℕ, _+_, _*_, _<_, _≤_}
+use Prim.Native.Nat.{ℕ, _+_, _<_, _≤_}
 use native.Mathlib.Omega.{arith}
 use mathlib.Core.Path.{_≡_, refl, ap, sym, _∙_, subst}
 use mathlib.Core.Bool.{true, false, cond, true≢false}
 use mathlib.Core.List.{List}
-use lib.ListN.{length, take, drop}
-use lib.Seq.{take-suc}
-use native.Mathlib.Numerals.{add-one}
+use lib.ListN.{length}
 use native.Mathlib.Nat.{zero-add}
 use Rattle.terms.specs.declared.Form.{Form}
-use Rattle.terms.specs.Bits.{Bytes, Byte, All, Place, bits, bit, longer, sameBytes}
+use Rattle.terms.specs.Bits.{Bytes, Byte, All, Place, sameBytes}
 use Rattle.terms.specs.Records.{Record, Slot, free, used, spoiled}
 use Rattle.terms.proofs.Tests.{same-bytes, bytes-same}
-use Rattle.terms.proofs.Places.{length-bits}
 use Rattle.terms.proofs.Fields.{length-slice}
 use Rattle.meaning.specs.Store.{isNode, find}
 use Rattle.local.specs.Test.{total, byRecord, isFound}
 use Rattle.place.specs.declared.Place as declared
-use Rattle.place.specs.Place.{placeOf, Proper, Stands, Grown}
+use Rattle.place.specs.Place.{placeOf, Proper}
 use Rattle.place.proofs.Places.{proper-count}
 use Rattle.layout.specs.Sizes.{roomOf}
 use Rattle.layout.specs.Headers.{sizeRight}
@@ -105,15 +102,3 @@ module _ (s : List Slot) (v : ℕ) (p : Place) (o : declared-found.Found) where
 
   pub not-found : o ≡ Nothing → FoundIn s v p o → isFound (find v p s) ≡ false
   not-found e f = ap isFound (subst (FoundIn s v p) e f)
-
--- the first bits of a key, one more
-pub front-next : (k : Bytes) (i : ℕ) (p q : declared.Place) → i < 8 * length k → Stands (take i (bits k)) i p → Grown (bit i k) p q →
-    Stands (take (i + 1) (bits k)) (i + 1) q
-unfolding bit longer
-front-next k i p q h w g =
-    let l : i < length (bits k) = omega (arith, length-bits k) in
-    record {
-      proper = g .proper;
-      place = g .place ∙ ap (longer (bit i k)) (w .place) ∙ sym (take-suc (bits k) i false l) ∙ rw (add-one i);
-      count = omega (arith, g .count, w .count);
-    }

@@ -3,8 +3,6 @@ use lookup::Found;
 use lookup::find;
 use lookup::holds_record;
 use place::Place;
-use place::child_place;
-use place::key_bit;
 use place::same;
 use slots::bits_of;
 use store::count_at;
@@ -16,12 +14,11 @@ use terms::Form;
 ghost use mathlib.Core.Path.{_≡_};
 ghost use mathlib.Core.Bool.{true, _||_};
 ghost use Prim.Native.Nat.{_-_, _≤_, _<_, max};
-ghost use lib.ListN.{length, take};
+ghost use lib.ListN.{length};
 ghost use lib.Dec.{eqb};
-ghost use Rattle.terms.specs.Bits.{bits};
 ghost use Rattle.meaning.specs.Store.{find};
 ghost use Rattle.local.specs.Test.{every, total, byRecord, isFound};
-ghost use Rattle.place.specs.Place.{placeOf, Proper, Stands};
+ghost use Rattle.place.specs.Place.{placeOf, Proper};
 ghost use Rattle.layout.specs.Headers.{sizeRight};
 ghost use Rattle.layout.specs.Stores.{storeIn, slotNo, Has};
 ghost use Rattle.check_kin.specs.Kin.{Keeps, countNode, endsAt, livesApart, clearOf};
@@ -156,18 +153,4 @@ pub fn child_found(form: Form, store: &[u8], version: u32, place: Place) -> bool
         Found::At(_) => true,
         Found::Nothing => false,
     }
-}
-
-// The place of the first bits of a key.
-pub fn front(key: &[u8], count: usize) -> Place
-    requires { ⌜ (length (now key) ≡ 32) × (count ≤ 256) ⌝ }
-    ensures { λ r. ⌜ Stands (take count (bits (now (key .entry)))) count r ⌝ }
-{
-    let mut place = Place::top();
-    let mut i = 0;
-    while i < count {
-        place = child_place(place, key_bit(key, i));
-        i += 1;
-    }
-    place
 }

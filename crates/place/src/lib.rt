@@ -65,6 +65,20 @@ pub fn key_bit(key: &[u8], i: usize) -> bool
     (key[i / 8] >> 7 - i % 8) % 2 == 1
 }
 
+// The place of the first bits of a key.
+pub fn front(key: &[u8], count: usize) -> Place
+    requires { ⌜ (length (now key) ≡ 32) × (count ≤ 256) ⌝ }
+    ensures { λ r. ⌜ Stands (take count (bits (now (key .entry)))) count r ⌝ }
+{
+    let mut place = Place::top();
+    let mut i = 0;
+    while i < count {
+        place = child_place(place, key_bit(key, i));
+        i += 1;
+    }
+    place
+}
+
 // Whether a key begins with a place: its whole bytes first, then the bits in the last byte.
 pub fn begins(key: &[u8], p: Place) -> bool
     requires { ⌜ (length (now key) ≡ 32) × Proper p ⌝ }

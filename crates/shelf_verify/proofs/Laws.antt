@@ -1,23 +1,22 @@
 -- The check of a shelf's proof as the code makes it: where the first record ends, which bytes are in form, and one check
 -- after the other. Assumes nothing.
-use Prim.Native.Nat.{ℕ, zero, suc, _+_, _*_, _-_, _<_, _≤_}
+use Prim.Native.Nat.{ℕ, zero, suc, _+_, _-_, _<_, _≤_}
 use native.Mathlib.Omega.{arith}
-use native.Mathlib.Numerals.{add-one}
 use native.Mathlib.Nat.{sub-zero}
 use mathlib.Core.Path.{_≡_, refl, ap, ap₂, sym, _∙_, subst}
 use mathlib.Core.Bool.{Bool, true, false, cond, _||_, _&&_, true≢false, false≢true}
 use mathlib.Core.List.{[], _∷_, _++_, append-nil}
 use mathlib.Core.Option.{Option, none, some}
 use lib.ListN.{length, take, drop, length-take, length-drop, drop-of-length-le}
-use lib.Seq.{take-all, take-suc}
+use lib.Seq.{take-all}
 use lib.Dec.{eqb, leb}
 use borrow.Author.Tests.{eq-eqb, ne-eqb, eqb-true, eqb-false, le-leb, lt-leb, leb-true, leb-false}
-use Rattle.terms.specs.Bits.{Bytes, bits, bit, longer, pack, sameBytes}
+use Rattle.terms.specs.Bits.{Bytes, bits, pack, sameBytes}
 use Rattle.terms.specs.Fields.{field, slice, zeroBytes}
 use Rattle.terms.specs.Records.{Presence, Absence, Proof, presence, absence}
 use Rattle.terms.proofs.Tests.{and-left, and-right}
 use Rattle.terms.proofs.Fields.{length-slice}
-use Rattle.terms.proofs.Places.{length-bits, length-pack}
+use Rattle.terms.proofs.Places.{length-pack}
 use Rattle.meaning.specs.Calls.{Answer, refused, accepted}
 use Rattle.meaning.specs.Reading.{Verdict, present, absent}
 use Rattle.meaning.specs.Checking.{leadsTo, absenceHolds, checked}
@@ -26,23 +25,11 @@ use Rattle.nodehash.specs.Node.{leafHash, innerHash}
 use Rattle.proofrecords.specs.ProofBytes.{isPresence, presenceIn, isAbsence, absenceIn, proofIn}
 use Rattle.proofrecords.proofs.Forms.{presence-off, absence-off, presence-whole}
 use Rattle.place.specs.declared.Place as declared
-use Rattle.place.specs.Place.{Stands, Grown}
+use Rattle.place.specs.Place.{Stands}
 use Rattle.shelf_rules.specs.Shelf.{partKey, listRecord, partRecord, bySecond, byEnd, byFirst, shelfIn, byList, shelfJudged, shelfVerified, ShelfVerifies}
 use Rattle.verify.specs.Verify.{judged, verified, Verifies}
 use Rattle.verify.proofs.Boundary.{zeros-found}
 use Rattle.shelf_verify.specs.Both.{isProof, firstLength, isShelf, both, ChecksBoth}
-
--- the first bits of a key, one more
-pub front-next : (k : Bytes) (i : ℕ) (p q : declared.Place) → i < 8 * length k → Stands (take i (bits k)) i p → Grown (bit i k) p q →
-    Stands (take (i + 1) (bits k)) (i + 1) q
-unfolding bit longer
-front-next k i p q h w g =
-    let l : i < length (bits k) = omega (arith, length-bits k) in
-    record {
-      proper = g .proper;
-      place = g .place ∙ ap (longer (bit i k)) (w .place) ∙ sym (take-suc (bits k) i false l) ∙ rw (add-one i);
-      count = omega (arith, g .count, w .count);
-    }
 
 -- the bytes of that place are the part's key
 pub part-key : (b : ℕ) (k : Bytes) (p : declared.Place) → Stands (take b (bits k)) b p → p .bits ≡ partKey b k

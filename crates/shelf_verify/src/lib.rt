@@ -3,17 +3,13 @@
 ghost use mathlib.Core.Path.{_≡_};
 ghost use mathlib.Core.Bool.{true};
 ghost use Prim.Native.Nat.{_≤_};
-ghost use lib.ListN.{length, take};
-ghost use Rattle.terms.specs.Bits.{bits};
-ghost use Rattle.place.specs.Place.{Stands};
+ghost use lib.ListN.{length};
 ghost use Rattle.shelf_rules.specs.Shelf.{ShelfVerifies};
 ghost use Rattle.shelf_verify.specs.Both.{isProof, isShelf, firstLength, ChecksBoth};
 use fields::clear;
 use fields::get_u32;
 use hash::put_hash;
-use place::Place;
-use place::child_place;
-use place::key_bit;
+use place::front;
 use refusal_numbers::NOT_32_BYTES;
 use refusal_numbers::NOT_IN_FORM;
 use refusal_numbers::TOO_MANY_BITS;
@@ -25,20 +21,6 @@ use verify_form::is_presence;
 
 // A shelf has 0 to 12 bits.
 const MOST_BITS: u32 = 12;
-
-// The place of the first bits of a key; its bytes are the part's key in the list.
-fn part_of(key: &[u8], count: usize) -> Place
-    requires { ⌜ (length (now key) ≡ 32) × (count ≤ 12) ⌝ }
-    ensures { λ r. ⌜ Stands (take count (bits (now (key .entry)))) count r ⌝ }
-{
-    let mut place = Place::top();
-    let mut i = 0;
-    while i < count {
-        place = child_place(place, key_bit(key, i));
-        i += 1;
-    }
-    place
-}
 
 // Where the first record ends, by its own length; the end where that is past it.
 fn first_end(proof: &[u8]) -> usize
@@ -133,6 +115,6 @@ pub extern "C" fn grants_shelf_verify(
     if !is_shelf(proof, e) {
         return NOT_IN_FORM;
     }
-    let part = part_of(key, bits as usize).bits;
+    let part = front(key, bits as usize).bits;
     check_both(root, &part, key, proof, e, found)
 }

@@ -30,19 +30,29 @@ all-zero-requires : tie.Need-all-zero-requires Inv-loop μ-loop
 all-zero-requires c κs = search needs
 
 add-i : tie.Need-add-i Inv-loop μ-loop
-add-i c = omega (arith, c .before .before .before .before .loop .inv .small, c .before .before .before .if1 .left)
+add-i c =
+    let else1 = c .before .before .before in
+    omega (arith, else1 .before .loop .inv .small, else1 .if1 .left)
 
 loop-less : tie.Need-loop-less Inv-loop μ-loop
 loop-less c = omega (arith, c .before .before .before .if1 .left)
 
 loop-again : tie.Need-loop-again Inv-loop μ-loop
-loop-again c = one-more (c .before .before .before .before .loop .inv) (c .before .before .before .if1 .left) (ap allZero (sym (c .before .before .slot-of .ensures .0)) ∙ sym (c .before .all-zero .ensures) ∙ c .if2 .left)
+loop-again c =
+    let after-all-zero = c .before in
+    let after-slot-of = after-all-zero .before in
+    let else1 = after-slot-of .before in
+    one-more (else1 .before .loop .inv) (else1 .if1 .left) (ap allZero (sym (after-slot-of .slot-of .ensures .0)) ∙ sym (after-all-zero .all-zero .ensures) ∙ c .if2 .left)
 
 returns : tie.Need-returns Inv-loop μ-loop
 returns c = none-free (c .before .loop .inv) (c .if1 .taken)
 
 returns-2 : tie.Need-returns-2 Inv-loop μ-loop
-returns-2 c = free-here (c .before .before .before .before .loop .inv) (c .before .before .before .if1 .left) (ap allZero (sym (c .before .before .slot-of .ensures .0)) ∙ sym (c .before .all-zero .ensures) ∙ c .if2 .taken)
+returns-2 c =
+    let after-all-zero = c .before in
+    let after-slot-of = after-all-zero .before in
+    let else1 = after-slot-of .before in
+    free-here (else1 .before .loop .inv) (else1 .if1 .left) (ap allZero (sym (after-slot-of .slot-of .ensures .0)) ∙ sym (after-all-zero .all-zero .ensures) ∙ c .if2 .taken)
 
 pub find-free-spec : {M : Type 1} → statement M
 find-free-spec =

@@ -16,6 +16,13 @@ use Rattle.apply_place.proofs.place_node.Tie as tie
 size-requires : tie.Need-size-requires
 size-requires c κs = search needs
 
+-- `A-from-B` is the state A as the later state B has it.
+abbrev start-from-else1 : tie.Else1 → tie.Start
+start-from-else1 c = c .before .before .before
+
+abbrev start-from-find-free : tie.After-find-free → tie.Start
+start-from-find-free c = start-from-else1 (c .before .before)
+
 more-requires : tie.Need-more-requires
 more-requires c κs =
     let c1 = c .before in
@@ -46,26 +53,24 @@ same-length c = search needs
 
 returns-2 : tie.Need-returns-2
 returns-2 c =
-    let c2 = c .before .before in
-    let c4 = c2 .before .before in
-    let c7 = c4 .before .before .before in
-    let p = placeOf (c7 .args .place) in
-    let m = placed (recordSays p (c7 .args .node)) in
-    let w = not-false _ (c4 .if1 .left) in
-    full (c7 .args .writes) p (c7 .args .node) w (c7 .pre .starts)
-    (writing (c7 .args .writes) m w (changed-as (λ x. x) m (sym (placed-full p (c7 .args .node) (c .enum-told .given .1) (c2 .find-free .ensures))) (unchanged (c7 .pre .stored))))
+    let after-find-free = c .before .before in
+    let start = start-from-find-free after-find-free in
+    let p = placeOf (start .args .place) in
+    let m = placed (recordSays p (start .args .node)) in
+    let w = not-false _ (after-find-free .before .before .if1 .left) in
+    full (start .args .writes) p (start .args .node) w (start .pre .starts)
+    (writing (start .args .writes) m w (changed-as (λ x. x) m (sym (placed-full p (start .args .node) (c .enum-told .given .1) (after-find-free .find-free .ensures))) (unchanged (start .pre .stored))))
 
 put-node-requires : tie.Need-put-node-requires
 put-node-requires c κs =
-    let c2 = c .before .before in
-    let c4 = c2 .before .before in
-    let c6 = c4 .before .before in
-    let c9 = c6 .before .before .before in
+    let after-i = c .before .before in
+    let after-find-free = after-i .before .before in
+    let start = start-from-find-free after-find-free in
     record {
-      stored = c9 .pre .stored;
-      proper = c9 .pre .proper;
-      lowest = free-at (storeOf (c9 .args .store .now) .slots) (c2 .i .given .1) (c4 .find-free .ensures);
-      form = c9 .pre .form (not-false _ (c6 .if1 .left));
+      stored = start .pre .stored;
+      proper = start .pre .proper;
+      lowest = free-at (storeOf (start .args .store .now) .slots) (after-i .i .given .1) (after-find-free .find-free .ensures);
+      form = start .pre .form (not-false _ (after-find-free .before .before .if1 .left));
     }
 
 add-result : tie.Need-add-result

@@ -28,10 +28,12 @@ same-length c = search needs
 
 returns : tie.Need-returns
 returns c =
-    let a = c .before .before .before .before .before .before .before .before .before .args in
-    c .before .before .put-leaf-at .ensures
+    let after-put-leaf-at = c .before .before in
+    let after-put-grant = after-put-leaf-at .before .before .before .before in
+    let a = after-put-grant .before .before .before .args in
+    after-put-leaf-at .put-leaf-at .ensures
     ∙ ap (λ (b : Body). withSlot counted (a .i) (used (recordOf (placeOf (a .place)) (a .version) 0 b noTally)) (a .store .now))
-    (ap grantBody (c .before .before .before .before .before .before .put-grant .ensures) ∙ grant-hashes (a .key) (a .value))
+    (ap grantBody (after-put-grant .put-grant .ensures) ∙ grant-hashes (a .key) (a .value))
 
 pub put-leaf-new-spec : {M : Type 1} → statement M
 put-leaf-new-spec =

@@ -98,6 +98,16 @@ at-node-calls t = (
   at-inner.Post,
 )
 
+-- `A-from-B` is the state A as the later state B has it.
+abbrev at-inner-start-from-left : (t : ℕ) → at-inner-lts.After-left (at-inner-calls t) (at-inner-at t) at-inner.Post → at-inner-lts.Start (at-inner-calls t) (at-inner-at t) at-inner.Post
+at-inner-start-from-left t c = c .before .before .before .before
+
+abbrev at-inner-start-from-left-run : (t : ℕ) → at-inner-lts.After-left-run (at-inner-calls t) (at-inner-at t) at-inner.Post → at-inner-lts.Start (at-inner-calls t) (at-inner-at t) at-inner.Post
+at-inner-start-from-left-run t c = at-inner-start-from-left t (c .before)
+
+abbrev at-node-start-from-find-near : (t : ℕ) → at-node-lts.After-find-near (at-node-calls t) (at-node-at t) at-node.Post → at-node-lts.Start (at-node-calls t) (at-node-at t) at-node.Post
+at-node-start-from-find-near t c = c .before .before .before .before
+
 at-child-unchanged-at-requires : (t : ℕ) → at-child-lts.Need-unchanged-at-requires (at-child-calls t) (at-child-at t) at-child.Post
 at-child-unchanged-at-requires t c κs =
     let c4 = c .before .before .before .before in
@@ -133,89 +143,81 @@ at-inner-left-requires t c κs =
 
 at-inner-left-run-requires : (t : ℕ) → at-inner-lts.Need-left-run-requires (at-inner-calls t) (at-inner-at t) at-inner.Post
 at-inner-left-run-requires t c κs =
-    let c4 = c .before .before .before .before in
-    run-at (c4 .args .place) (c4 .args .run .now) (c4 .pre .1 .here .standing .proper) (is-short (c4 .pre .1)) (c4 .pre .1 .here .run)
+    let start = at-inner-start-from-left t c in
+    run-at (start .args .place) (start .args .run .now) (start .pre .1 .here .standing .proper) (is-short (start .pre .1)) (start .pre .1 .here .run)
 
 at-inner-at-child-requires : (t : ℕ) → at-inner-lts.Need-at-child-requires (at-inner-calls t) (at-inner-at t) at-inner.Post
 at-inner-at-child-requires t c κs =
-    let c1 = c .before in
-    let c5 = c1 .before .before .before .before in
-    (omega (arith, c5 .pre .0, is-short (c5 .pre .1), c1 .left .ensures .count), left-here (c5 .pre .1) (c1 .left .ensures) (c .left-run .ensures))
+    let start = at-inner-start-from-left-run t c in
+    (omega (arith, start .pre .0, is-short (start .pre .1), c .before .left .ensures .count), left-here (start .pre .1) (c .before .left .ensures) (c .left-run .ensures))
 
 at-inner-right-requires : (t : ℕ) → at-inner-lts.Need-right-requires (at-inner-calls t) (at-inner-at t) at-inner.Post
 at-inner-right-requires t c κs =
-    let c9 = c .before .before .before .before .before .before .before .before .before in
-    (c9 .pre .1 .here .standing .proper, is-short (c9 .pre .1))
+    let start = at-inner-start-from-left-run t (c .before .before .before .before) in
+    (start .pre .1 .here .standing .proper, is-short (start .pre .1))
 
 at-inner-right-run-requires : (t : ℕ) → at-inner-lts.Need-right-run-requires (at-inner-calls t) (at-inner-at t) at-inner.Post
 at-inner-right-run-requires t c κs =
-    let c10 = c .before .before .before .before .before .before .before .before .before .before in
-    run-at (c10 .args .place) (c10 .args .run .now) (c10 .pre .1 .here .standing .proper) (is-short (c10 .pre .1)) (c10 .pre .1 .here .run)
+    let start = at-inner-start-from-left-run t (c .before .before .before .before .before) in
+    run-at (start .args .place) (start .args .run .now) (start .pre .1 .here .standing .proper) (is-short (start .pre .1)) (start .pre .1 .here .run)
 
 at-inner-at-child-requires-2 : (t : ℕ) → at-inner-lts.Need-at-child-requires-2 (at-inner-calls t) (at-inner-at t) at-inner.Post
 at-inner-at-child-requires-2 t c κs =
-    let c1 = c .before in
-    let c5 = c1 .before .before .before .before in
-    let c6 = c5 .before in
-    let c7 = c6 .before in
-    let c11 = c7 .before .before .before .before in
-    (omega (arith, c11 .pre .0, is-short (c11 .pre .1), c1 .right .ensures .count), right-here (c11 .pre .1) (c7 .left .ensures) (c6 .left-run .ensures) (c5 .at-child .ensures) (c1 .right .ensures) (c .right-run .ensures))
+    let after-right = c .before in
+    let after-at-child = after-right .before .before .before .before in
+    let after-left-run = after-at-child .before in
+    let start = at-inner-start-from-left-run t after-left-run in
+    (omega (arith, start .pre .0, is-short (start .pre .1), after-right .right .ensures .count), right-here (start .pre .1) (after-left-run .before .left .ensures) (after-left-run .left-run .ensures) (after-at-child .at-child .ensures) (after-right .right .ensures) (c .right-run .ensures))
 
 at-inner-settle-in-requires : (t : ℕ) → at-inner-lts.Need-settle-in-requires (at-inner-calls t) (at-inner-at t) at-inner.Post
 at-inner-settle-in-requires t c κs =
-    let c1 = c .before in
-    let c4 = c1 .before .before .before in
-    let c5 = c4 .before in
-    let c6 = c5 .before in
-    let c10 = c6 .before .before .before .before in
-    let c11 = c10 .before in
-    let c12 = c11 .before in
-    let c16 = c12 .before .before .before .before in
-    settles-when (c16 .args .writes) true (c1 .if1 .taken) (may-settle (c16 .pre .1) (c12 .left .ensures) (c11 .left-run .ensures) (c10 .at-child .ensures) (c6 .right .ensures) (c5 .right-run .ensures) (c4 .at-child2 .ensures) (λ e. refl) (omega (arith, c16 .fits)))
+    let then1 = c .before in
+    let after-at-child2 = then1 .before .before .before in
+    let after-right-run = after-at-child2 .before in
+    let after-right = after-right-run .before in
+    let after-at-child = after-right .before .before .before .before in
+    let after-left-run = after-at-child .before in
+    let start = at-inner-start-from-left-run t after-left-run in
+    settles-when (start .args .writes) true (then1 .if1 .taken) (may-settle (start .pre .1) (after-left-run .before .left .ensures) (after-left-run .left-run .ensures) (after-at-child .at-child .ensures) (after-right .right .ensures) (after-right-run .right-run .ensures) (after-at-child2 .at-child2 .ensures) (λ e. refl) (omega (arith, start .fits)))
 
 at-inner-same-length : (t : ℕ) → at-inner-lts.Need-same-length (at-inner-calls t) (at-inner-at t) at-inner.Post
 at-inner-same-length t c = search needs
 
 at-inner-returns : (t : ℕ) → at-inner-lts.Need-returns (at-inner-calls t) (at-inner-at t) at-inner.Post
 at-inner-returns t c =
-    let c2 = c .before .before in
-    let c4 = c2 .before .before in
-    let c7 = c4 .before .before .before in
-    let c8 = c7 .before in
-    let c9 = c8 .before in
-    let c13 = c9 .before .before .before .before in
-    let c14 = c13 .before in
-    let c15 = c14 .before in
-    let c19 = c15 .before .before .before .before in
-    inner-did (c19 .pre .1) (c15 .left .ensures) (c14 .left-run .ensures) (c13 .at-child .ensures) (c9 .right .ensures) (c8 .right-run .ensures) (c7 .at-child2 .ensures) true (c4 .if1 .taken) (c2 .settle-in .ensures)
+    let after-settle-in = c .before .before in
+    let then1 = after-settle-in .before .before in
+    let after-at-child2 = then1 .before .before .before in
+    let after-right-run = after-at-child2 .before in
+    let after-right = after-right-run .before in
+    let after-at-child = after-right .before .before .before .before in
+    let after-left-run = after-at-child .before in
+    inner-did (at-inner-start-from-left-run t after-left-run .pre .1) (after-left-run .before .left .ensures) (after-left-run .left-run .ensures) (after-at-child .at-child .ensures) (after-right .right .ensures) (after-right-run .right-run .ensures) (after-at-child2 .at-child2 .ensures) true (then1 .if1 .taken) (after-settle-in .settle-in .ensures)
 
 at-inner-settle-in-requires-2 : (t : ℕ) → at-inner-lts.Need-settle-in-requires-2 (at-inner-calls t) (at-inner-at t) at-inner.Post
 at-inner-settle-in-requires-2 t c κs =
-    let c1 = c .before in
-    let c4 = c1 .before .before .before in
-    let c5 = c4 .before in
-    let c6 = c5 .before in
-    let c10 = c6 .before .before .before .before in
-    let c11 = c10 .before in
-    let c12 = c11 .before in
-    let c16 = c12 .before .before .before .before in
-    settles-when (c16 .args .writes) false (c1 .if1 .left) (may-settle (c16 .pre .1) (c12 .left .ensures) (c11 .left-run .ensures) (c10 .at-child .ensures) (c6 .right .ensures) (c5 .right-run .ensures) (c4 .at-child2 .ensures) (λ e. absurd (true≢false (sym e ∙ c1 .if1 .left))) (omega (arith, c16 .fits)))
+    let else1 = c .before in
+    let after-at-child2 = else1 .before .before .before in
+    let after-right-run = after-at-child2 .before in
+    let after-right = after-right-run .before in
+    let after-at-child = after-right .before .before .before .before in
+    let after-left-run = after-at-child .before in
+    let start = at-inner-start-from-left-run t after-left-run in
+    settles-when (start .args .writes) false (else1 .if1 .left) (may-settle (start .pre .1) (after-left-run .before .left .ensures) (after-left-run .left-run .ensures) (after-at-child .at-child .ensures) (after-right .right .ensures) (after-right-run .right-run .ensures) (after-at-child2 .at-child2 .ensures) (λ e. absurd (true≢false (sym e ∙ else1 .if1 .left))) (omega (arith, start .fits)))
 
 at-inner-same-length-2 : (t : ℕ) → at-inner-lts.Need-same-length-2 (at-inner-calls t) (at-inner-at t) at-inner.Post
 at-inner-same-length-2 t c = search needs
 
 at-inner-returns-2 : (t : ℕ) → at-inner-lts.Need-returns-2 (at-inner-calls t) (at-inner-at t) at-inner.Post
 at-inner-returns-2 t c =
-    let c2 = c .before .before in
-    let c4 = c2 .before .before in
-    let c7 = c4 .before .before .before in
-    let c8 = c7 .before in
-    let c9 = c8 .before in
-    let c13 = c9 .before .before .before .before in
-    let c14 = c13 .before in
-    let c15 = c14 .before in
-    let c19 = c15 .before .before .before .before in
-    inner-did (c19 .pre .1) (c15 .left .ensures) (c14 .left-run .ensures) (c13 .at-child .ensures) (c9 .right .ensures) (c8 .right-run .ensures) (c7 .at-child2 .ensures) false (c4 .if1 .left) (c2 .settle-in2 .ensures)
+    let after-settle-in2 = c .before .before in
+    let else1 = after-settle-in2 .before .before in
+    let after-at-child2 = else1 .before .before .before in
+    let after-right-run = after-at-child2 .before in
+    let after-right = after-right-run .before in
+    let after-at-child = after-right .before .before .before .before in
+    let after-left-run = after-at-child .before in
+    inner-did (at-inner-start-from-left-run t after-left-run .pre .1) (after-left-run .before .left .ensures) (after-left-run .left-run .ensures) (after-at-child .at-child .ensures) (after-right .right .ensures) (after-right-run .right-run .ensures) (after-at-child2 .at-child2 .ensures) false (else1 .if1 .left) (after-settle-in2 .settle-in2 .ensures)
 
 at-node-find-near-requires : (t : ℕ) → at-node-lts.Need-find-near-requires (at-node-calls t) (at-node-at t) at-node.Post
 at-node-find-near-requires t c κs =
@@ -224,9 +226,8 @@ at-node-find-near-requires t c κs =
 
 at-node-onward-from-requires : (t : ℕ) → at-node-lts.Need-onward-from-requires (at-node-calls t) (at-node-at t) at-node.Post
 at-node-onward-from-requires t c κs =
-    let c1 = c .before in
-    let c5 = c1 .before .before .before .before in
-    found-used (c5 .pre .1) (c1 .find-near .result) (c1 .find-near .ensures)
+    let after-find-near = c .before in
+    found-used (at-node-start-from-find-near t after-find-near .pre .1) (after-find-near .find-near .result) (after-find-near .find-near .ensures)
 
 at-node-enum-known-onward : (t : ℕ) → at-node-lts.Need-enum-known-onward (at-node-calls t) (at-node-at t) at-node.Post
 at-node-enum-known-onward t c = search needs
@@ -236,61 +237,58 @@ at-node-enum-told t c = search needs
 
 at-node-at-tip-requires : (t : ℕ) → at-node-lts.Need-at-tip-requires (at-node-calls t) (at-node-at t) at-node.Post
 at-node-at-tip-requires t c κs =
-    let c1 = c .before in
-    let c2 = c1 .before in
-    let c4 = c2 .before .before in
-    let c6 = c4 .before .before in
-    let c10 = c6 .before .before .before .before in
-    tip-when (c10 .args .writes) true (c1 .if1 .taken) (at-tip-here (c10 .pre .1) (c6 .find-near .result) (c6 .find-near .ensures) (c2 .enum-told .given .1) (c4 .onward-from .ensures))
+    let then1 = c .before in
+    let after-enum-told = then1 .before in
+    let after-onward-from = after-enum-told .before .before in
+    let after-find-near = after-onward-from .before .before in
+    let start = at-node-start-from-find-near t after-find-near in
+    tip-when (start .args .writes) true (then1 .if1 .taken) (at-tip-here (start .pre .1) (after-find-near .find-near .result) (after-find-near .find-near .ensures) (after-enum-told .enum-told .given .1) (after-onward-from .onward-from .ensures))
 
 at-node-same-length : (t : ℕ) → at-node-lts.Need-same-length (at-node-calls t) (at-node-at t) at-node.Post
 at-node-same-length t c = search needs
 
 at-node-returns : (t : ℕ) → at-node-lts.Need-returns (at-node-calls t) (at-node-at t) at-node.Post
 at-node-returns t c =
-    let c2 = c .before .before in
-    let c4 = c2 .before .before in
-    let c13 = c4 .before .before .before .before .before .before .before .before .before in
-    did-when (c13 .args .writes) true (c4 .if1 .taken) (c2 .at-tip .ensures)
+    let after-at-tip = c .before .before in
+    let then1 = after-at-tip .before .before in
+    did-when (at-node-start-from-find-near t (then1 .before .before .before .before .before) .args .writes) true (then1 .if1 .taken) (after-at-tip .at-tip .ensures)
 
 at-node-at-tip-requires-2 : (t : ℕ) → at-node-lts.Need-at-tip-requires-2 (at-node-calls t) (at-node-at t) at-node.Post
 at-node-at-tip-requires-2 t c κs =
-    let c1 = c .before in
-    let c2 = c1 .before in
-    let c4 = c2 .before .before in
-    let c6 = c4 .before .before in
-    let c10 = c6 .before .before .before .before in
-    tip-when (c10 .args .writes) false (c1 .if1 .left) (at-tip-here (c10 .pre .1) (c6 .find-near .result) (c6 .find-near .ensures) (c2 .enum-told .given .1) (c4 .onward-from .ensures))
+    let else1 = c .before in
+    let after-enum-told = else1 .before in
+    let after-onward-from = after-enum-told .before .before in
+    let after-find-near = after-onward-from .before .before in
+    let start = at-node-start-from-find-near t after-find-near in
+    tip-when (start .args .writes) false (else1 .if1 .left) (at-tip-here (start .pre .1) (after-find-near .find-near .result) (after-find-near .find-near .ensures) (after-enum-told .enum-told .given .1) (after-onward-from .onward-from .ensures))
 
 at-node-same-length-2 : (t : ℕ) → at-node-lts.Need-same-length-2 (at-node-calls t) (at-node-at t) at-node.Post
 at-node-same-length-2 t c = search needs
 
 at-node-returns-2 : (t : ℕ) → at-node-lts.Need-returns-2 (at-node-calls t) (at-node-at t) at-node.Post
 at-node-returns-2 t c =
-    let c2 = c .before .before in
-    let c4 = c2 .before .before in
-    let c13 = c4 .before .before .before .before .before .before .before .before .before in
-    did-when (c13 .args .writes) false (c4 .if1 .left) (c2 .at-tip2 .ensures)
+    let after-at-tip2 = c .before .before in
+    let else1 = after-at-tip2 .before .before in
+    did-when (at-node-start-from-find-near t (else1 .before .before .before .before .before) .args .writes) false (else1 .if1 .left) (after-at-tip2 .at-tip2 .ensures)
 
 at-node-at-inner-requires : (t : ℕ) → at-node-lts.Need-at-inner-requires (at-node-calls t) (at-node-at t) at-node.Post
 at-node-at-inner-requires t c κs =
-    let c2 = c .before .before in
-    let c4 = c2 .before .before in
-    let c6 = c4 .before .before in
-    let c10 = c6 .before .before .before .before in
-    (omega (arith, c10 .pre .0), goes-on (c10 .pre .1) (c6 .find-near .result) (c6 .find-near .ensures) (c2 .onward .given .1) (c4 .onward-from .ensures))
+    let after-onward = c .before .before in
+    let after-onward-from = after-onward .before .before in
+    let after-find-near = after-onward-from .before .before in
+    let start = at-node-start-from-find-near t after-find-near in
+    (omega (arith, start .pre .0), goes-on (start .pre .1) (after-find-near .find-near .result) (after-find-near .find-near .ensures) (after-onward .onward .given .1) (after-onward-from .onward-from .ensures))
 
 at-node-same-length-3 : (t : ℕ) → at-node-lts.Need-same-length-3 (at-node-calls t) (at-node-at t) at-node.Post
 at-node-same-length-3 t c = search needs
 
 at-node-returns-3 : (t : ℕ) → at-node-lts.Need-returns-3 (at-node-calls t) (at-node-at t) at-node.Post
 at-node-returns-3 t c =
-    let c2 = c .before .before in
-    let c5 = c2 .before .before .before in
-    let c7 = c5 .before .before in
-    let c9 = c7 .before .before in
-    let c13 = c9 .before .before .before .before in
-    went-on (c13 .pre .1) (c9 .find-near .result) (c9 .find-near .ensures) (c5 .onward .given .1) (c7 .onward-from .ensures) (c2 .at-inner .ensures)
+    let after-at-inner = c .before .before in
+    let after-onward = after-at-inner .before .before .before in
+    let after-onward-from = after-onward .before .before in
+    let after-find-near = after-onward-from .before .before in
+    went-on (at-node-start-from-find-near t after-find-near .pre .1) (after-find-near .find-near .result) (after-find-near .find-near .ensures) (after-onward .onward .given .1) (after-onward-from .onward-from .ensures) (after-at-inner .at-inner .ensures)
 
 pub +at-child+at-inner+at-node-spec : {M : Type 1} → statement M
 +at-child+at-inner+at-node-spec = close μ-at-child μ-at-inner μ-at-node (λ t. at-child-lts.spec (at-child-calls t)

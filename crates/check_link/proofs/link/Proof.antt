@@ -20,20 +20,25 @@ later-requires c κs = search needs
 
 returns-2 : tie.Need-returns-2
 returns-2 c =
-    let d = c .before .before .before in
-    let a = d .before .before .args in (
+    let after-later = c .before .before in
+    let else1 = after-later .before in
+    let after-same-hash = else1 .before in
+    let a = after-same-hash .before .args in (
       tt,
-      test-passed _ (sym (d .before .same-hash .ensures) ∙ not-false _ (d .if1 .left))
-          ∙ test-failed _ (lt-leb (a .below .version) (max (a .kept .oldest) (a .version)) (omega (arith, c .before .before .later .ensures, c .if2 .taken))),
+      test-passed _ (sym (after-same-hash .same-hash .ensures) ∙ not-false _ (else1 .if1 .left))
+          ∙ test-failed _ (lt-leb (a .below .version) (max (a .kept .oldest) (a .version)) (omega (arith, after-later .later .ensures, c .if2 .taken))),
     )
 
 returns-3 : tie.Need-returns-3
 returns-3 c =
-    let d = c .before .before .before .before in
-    let a = d .before .before .before .args in (
+    let else2 = c .before .before in
+    let after-later = else2 .before .before in
+    let else1 = after-later .before in
+    let after-same-hash = else1 .before in
+    let a = after-same-hash .before .args in (
       tt,
-      test-passed _ (sym (d .before .before .same-hash .ensures) ∙ not-false _ (d .before .if1 .left))
-          ∙ test-passed _ (le-leb (a .below .version) (max (a .kept .oldest) (a .version)) (omega (arith, d .later .ensures, c .before .before .if2 .left)))
+      test-passed _ (sym (after-same-hash .same-hash .ensures) ∙ not-false _ (else1 .if1 .left))
+          ∙ test-passed _ (le-leb (a .below .version) (max (a .kept .oldest) (a .version)) (omega (arith, after-later .later .ensures, else2 .if2 .left)))
           ∙ test-failed _ (lt-leb _ _ (c .if3 .taken)),
     )
 
@@ -42,13 +47,18 @@ lone-leaf-requires c κs = search needs
 
 returns-4 : tie.Need-returns-4
 returns-4 c =
-    let d = c .before .before .before .before .before .before in
-    let a = d .before .before .before .args in (
+    let after-lone-leaf = c .before in
+    let else3 = after-lone-leaf .before in
+    let else2 = else3 .before .before in
+    let after-later = else2 .before .before in
+    let else1 = after-later .before in
+    let after-same-hash = else1 .before in
+    let a = after-same-hash .before .args in (
       tt,
-      test-passed _ (sym (d .before .before .same-hash .ensures) ∙ not-false _ (d .before .if1 .left))
-          ∙ test-passed _ (le-leb (a .below .version) (max (a .kept .oldest) (a .version)) (omega (arith, d .later .ensures, c .before .before .before .before .if2 .left)))
-          ∙ test-passed _ (le-leb _ _ (c .before .before .if3 .left))
-          ∙ test-failed _ (ap not (sym (c .before .lone-leaf .ensures) ∙ c .if4 .taken)),
+      test-passed _ (sym (after-same-hash .same-hash .ensures) ∙ not-false _ (else1 .if1 .left))
+          ∙ test-passed _ (le-leb (a .below .version) (max (a .kept .oldest) (a .version)) (omega (arith, after-later .later .ensures, else2 .if2 .left)))
+          ∙ test-passed _ (le-leb _ _ (else3 .if3 .left))
+          ∙ test-failed _ (ap not (sym (after-lone-leaf .lone-leaf .ensures) ∙ c .if4 .taken)),
     )
 
 kept-life-requires : tie.Need-kept-life-requires
@@ -56,16 +66,23 @@ kept-life-requires c κs = search needs
 
 returns-5 : tie.Need-returns-5
 returns-5 c =
-    let d = c .before .before .before .before .before .before .before in
-    let a = d .before .before .before .args in (
-      omega (arith, c .kept-life .ensures, d .before .before .before .pre),
+    let else4 = c .before in
+    let after-lone-leaf = else4 .before in
+    let else3 = after-lone-leaf .before in
+    let else2 = else3 .before .before in
+    let after-later = else2 .before .before in
+    let else1 = after-later .before in
+    let after-same-hash = else1 .before in
+    let start = after-same-hash .before in
+    let a = start .args in (
+      omega (arith, c .kept-life .ensures, start .pre),
       (
         tests-all _ (
-          sym (d .before .before .same-hash .ensures) ∙ not-false _ (d .before .if1 .left),
+          sym (after-same-hash .same-hash .ensures) ∙ not-false _ (else1 .if1 .left),
           (
             le-leb (a .below .version) (max (a .kept .oldest) (a .version))
-                (omega (arith, d .later .ensures, c .before .before .before .before .before .if2 .left)),
-            (le-leb _ _ (c .before .before .before .if3 .left), (ap not (sym (c .before .before .lone-leaf .ensures) ∙ c .before .if4 .left), tt)),
+                (omega (arith, after-later .later .ensures, else2 .if2 .left)),
+            (le-leb _ _ (else3 .if3 .left), (ap not (sym (after-lone-leaf .lone-leaf .ensures) ∙ else4 .if4 .left), tt)),
           ),
         ),
         sym (c .kept-life .ensures),

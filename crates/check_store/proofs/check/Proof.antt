@@ -19,27 +19,39 @@ enum-known-header-2 c = search needs
 
 slots-pass-requires : tie.Need-slots-pass-requires
 slots-pass-requires c κs =
-    says-kept _ (c .before .before .before .before .before .args .store .now) (c .before .before .before .read-header .ensures)
-    (c .before .header2 .given .1)
+    let after-header2 = c .before in
+    let after-read-header = after-header2 .before .before in
+    says-kept _ (after-read-header .before .before .args .store .now) (after-read-header .read-header .ensures)
+    (after-header2 .header2 .given .1)
 
 returns : tie.Need-returns
 returns c =
-    let s = c .before .before .before .before .before .before .before .args .store .now in
-    says-unsound _ s (c .before .before .before .before .before .read-header .ensures) (c .before .before .before .header2 .given .1)
-    (all-of Byte s 0 (λ i _. omega (arith, c .before .before .before .before .before .before .shared-slice-known .given i)))
-    (c .before .slots-pass .ensures) (not-true _ (c .if1 .taken))
+    let after-slots-pass = c .before in
+    let after-header2 = after-slots-pass .before .before in
+    let after-read-header = after-header2 .before .before in
+    let after-shared-slice-known = after-read-header .before in
+    let s = after-shared-slice-known .before .args .store .now in
+    says-unsound _ s (after-read-header .read-header .ensures) (after-header2 .header2 .given .1)
+    (all-of Byte s 0 (λ i _. omega (arith, after-shared-slice-known .shared-slice-known .given i)))
+    (after-slots-pass .slots-pass .ensures) (not-true _ (c .if1 .taken))
 
 returns-2 : tie.Need-returns-2
 returns-2 c =
-    says-refused _ (c .before .before .before .before .before .args .store .now) (c .before .before .before .read-header .ensures)
-    (c .before .header .given .1)
+    let after-header = c .before in
+    let after-read-header = after-header .before .before in
+    says-refused _ (after-read-header .before .before .args .store .now) (after-read-header .read-header .ensures)
+    (after-header .header .given .1)
 
 returns-3 : tie.Need-returns-3
 returns-3 c =
-    let s = c .before .before .before .before .before .before .before .args .store .now in
-    says-sound _ s (c .before .before .before .before .before .read-header .ensures) (c .before .before .before .header2 .given .1)
-    (all-of Byte s 0 (λ i _. omega (arith, c .before .before .before .before .before .before .shared-slice-known .given i)))
-    (c .before .slots-pass .ensures) (not-false _ (c .if1 .left))
+    let after-slots-pass = c .before in
+    let after-header2 = after-slots-pass .before .before in
+    let after-read-header = after-header2 .before .before in
+    let after-shared-slice-known = after-read-header .before in
+    let s = after-shared-slice-known .before .args .store .now in
+    says-sound _ s (after-read-header .read-header .ensures) (after-header2 .header2 .given .1)
+    (all-of Byte s 0 (λ i _. omega (arith, after-shared-slice-known .shared-slice-known .given i)))
+    (after-slots-pass .slots-pass .ensures) (not-false _ (c .if1 .left))
 
 pub check-spec : {M : Type 1} → statement M
 check-spec =

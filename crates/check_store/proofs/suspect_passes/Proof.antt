@@ -7,6 +7,10 @@ use borrow.Author.Needs.{needs}
 use Rattle.check_store.proofs.suspect_passes.Statement.{statement}
 use Rattle.check_store.proofs.suspect_passes.Tie as tie
 
+-- `A-from-B` is the state A as the later state B has it.
+abbrev start-from-else1 : tie.Else1 → tie.Start
+start-from-else1 c = c .before .before .before
+
 slot-count-requires : tie.Need-slot-count-requires
 slot-count-requires c κs = c .before .pre .size
 
@@ -18,17 +22,17 @@ returns c = search needs
 
 slot-passes-requires : tie.Need-slot-passes-requires
 slot-passes-requires c κs =
-    let c3 = c .before .before .before in
-    ((room-has (record { size = c3 .pre .size; many = c .before .slot-count .ensures }) (omega (arith, c .if1 .left))), c3 .pre)
+    let start = start-from-else1 c in
+    ((room-has (record { size = start .pre .size; many = c .before .slot-count .ensures }) (omega (arith, c .if1 .left))), start .pre)
 
 returns-2 : tie.Need-returns-2
 returns-2 c =
-    let c2 = c .before .before in
-    let c3 = c2 .before in
-    let c5 = c3 .before .before in
-    one-fails (c5 .args .store .now) (c5 .args .i)
-    (room-has (record { size = c5 .pre .size; many = c3 .slot-count .ensures }) (omega (arith, c2 .if1 .left)))
-    (c .before .slot-passes .ensures) (not-true _ (c .if2 .taken))
+    let after-slot-passes = c .before in
+    let else1 = after-slot-passes .before in
+    let start = start-from-else1 else1 in
+    one-fails (start .args .store .now) (start .args .i)
+    (room-has (record { size = start .pre .size; many = else1 .before .slot-count .ensures }) (omega (arith, else1 .if1 .left)))
+    (after-slot-passes .slot-passes .ensures) (not-true _ (c .if2 .taken))
 
 each-passes-requires-2 : tie.Need-each-passes-requires-2
 each-passes-requires-2 c κs = search needs

@@ -19,20 +19,28 @@ put-totals-requires c κs = search needs
 same-length : tie.Need-same-length
 same-length c = search needs
 
+-- `A-from-B` is the state A as the later state B has it.
+abbrev start-from-figures : tie.After-figures → tie.Start
+start-from-figures c = c .before .before .before .before
+
 returns : tie.Need-returns
 returns c =
-    let a = c .before .before .before .before .before .before .before .before .before .args in
-    let d = c .before .before .before .before .before .figures in
-    figures-refused (d .ensures) (a .totals .now) (c .before .figured .given .1)
+    let after-figured = c .before in
+    let after-figures = after-figured .before .before .before .before in
+    let a = start-from-figures after-figures .args in
+    let d = after-figures .figures in
+    figures-refused (d .ensures) (a .totals .now) (after-figured .figured .given .1)
 
 same-length-2 : tie.Need-same-length-2
 same-length-2 c = search needs
 
 returns-2 : tie.Need-returns-2
 returns-2 c =
-    let a = c .before .before .before .before .before .before .before .before .before .before .before .args in
-    let d = c .before .before .before .before .before .before .before .figures in
-    figures-told (d .ensures) (a .totals .now) (c .before .before .before .figured2 .given .1) (c .put-totals .ensures)
+    let after-figured2 = c .before .before .before in
+    let after-figures = after-figured2 .before .before .before .before in
+    let a = start-from-figures after-figures .args in
+    let d = after-figures .figures in
+    figures-told (d .ensures) (a .totals .now) (after-figured2 .figured2 .given .1) (c .put-totals .ensures)
 
 pub grants-figures-spec : {M : Type 1} → statement M
 grants-figures-spec =

@@ -10,6 +10,10 @@ use Rattle.figures.proofs.range_right.Tie as tie
 is-kept-requires : tie.Need-is-kept-requires
 is-kept-requires c κs = search needs
 
+-- `A-from-B` is the state A as the later state B has it.
+abbrev start-from-else1 : tie.Else1 → tie.Start
+start-from-else1 c = c .before .before .before
+
 returns : tie.Need-returns
 returns c =
     let k = c .before in
@@ -21,27 +25,29 @@ is-kept-requires-2 c κs = search needs
 
 returns-2 : tie.Need-returns-2
 returns-2 c =
-    let l = c .before in
-    let k = l .before .before in
-    let a = k .before .before .args in
-    last-off (storeOf (a .store .now)) (a .first) (a .last) (sym (k .is-kept .ensures) ∙ not-false _ (l .before .if1 .left))
-    (sym (l .is-kept2 .ensures) ∙ not-true _ (c .if2 .taken))
+    let after-is-kept2 = c .before in
+    let else1 = after-is-kept2 .before in
+    let a = start-from-else1 else1 .args in
+    last-off (storeOf (a .store .now)) (a .first) (a .last) (sym (else1 .before .is-kept .ensures) ∙ not-false _ (else1 .if1 .left))
+    (sym (after-is-kept2 .is-kept2 .ensures) ∙ not-true _ (c .if2 .taken))
 
 returns-3 : tie.Need-returns-3
 returns-3 c =
-    let l = c .before .before in
-    let k = l .before .before in
-    let a = k .before .before .args in
-    order-off (storeOf (a .store .now)) (a .first) (a .last) (sym (k .is-kept .ensures) ∙ not-false _ (l .before .if1 .left))
-    (sym (l .is-kept2 .ensures) ∙ not-false _ (c .before .if2 .left)) (c .if3 .taken)
+    let else2 = c .before in
+    let after-is-kept2 = else2 .before in
+    let else1 = after-is-kept2 .before in
+    let a = start-from-else1 else1 .args in
+    order-off (storeOf (a .store .now)) (a .first) (a .last) (sym (else1 .before .is-kept .ensures) ∙ not-false _ (else1 .if1 .left))
+    (sym (after-is-kept2 .is-kept2 .ensures) ∙ not-false _ (else2 .if2 .left)) (c .if3 .taken)
 
 returns-4 : tie.Need-returns-4
 returns-4 c =
-    let l = c .before .before in
-    let k = l .before .before in
-    let a = k .before .before .args in
-    length-decides (storeOf (a .store .now)) (a .first) (a .last) (sym (k .is-kept .ensures) ∙ not-false _ (l .before .if1 .left))
-    (sym (l .is-kept2 .ensures) ∙ not-false _ (c .before .if2 .left)) (c .if3 .left)
+    let else2 = c .before in
+    let after-is-kept2 = else2 .before in
+    let else1 = after-is-kept2 .before in
+    let a = start-from-else1 else1 .args in
+    length-decides (storeOf (a .store .now)) (a .first) (a .last) (sym (else1 .before .is-kept .ensures) ∙ not-false _ (else1 .if1 .left))
+    (sym (after-is-kept2 .is-kept2 .ensures) ∙ not-false _ (else2 .if2 .left)) (c .if3 .left)
 
 pub range-right-spec : {M : Type 1} → statement M
 range-right-spec =

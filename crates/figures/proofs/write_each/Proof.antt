@@ -87,11 +87,12 @@ loop-less c = omega (arith, c .before .before .before .before .before .before .b
 
 loop-again : tie.Need-loop-again Inv-loop μ-loop
 loop-again c =
-    let f = c .before .before .before .before .before in
-    let p = c .before .before .before in
-    let l = f .before .before .before .before in
-    let b = f .before .before .block-with .ensures in
-    (writing-next (l .before .loop .inv .0) (l .loop-test .taken) (f .figures-in .result) (p .put-figures .last .0) (f .figures-in .ensures) (p .put-figures .ensures), b .0, b .3)
+    let after-put-figures = c .before .before .before in
+    let after-figures-in = after-put-figures .before .before in
+    let after-block-with = after-figures-in .before .before in
+    let in-loop = after-block-with .before .before in
+    let b = after-block-with .block-with .ensures in
+    (writing-next (in-loop .before .loop .inv .0) (in-loop .loop-test .taken) (after-figures-in .figures-in .result) (after-put-figures .put-figures .last .0) (after-figures-in .figures-in .ensures) (after-put-figures .put-figures .ensures), b .0, b .3)
 
 same-length : tie.Need-same-length Inv-loop μ-loop
 same-length c = writing-same (c .before .loop .inv .0)

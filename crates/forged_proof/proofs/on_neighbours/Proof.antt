@@ -15,6 +15,10 @@ use Rattle.forged_proof.proofs.on_neighbours.Tie as tie
 head : (c : tie.Start) → 40 ≤ length (c .args .proof .now)
 head c = absence-head (c .args .proof .now) (c .pre .1)
 
+-- `A-from-B` is the state A as the later state B has it.
+abbrev start-from-get-u16 : tie.After-get-u16 → tie.Start
+start-from-get-u16 c = c .before .before .before
+
 get-u16-requires : tie.Need-get-u16-requires
 get-u16-requires c κs = let w = head (c .before .before) in omega arith
 
@@ -30,20 +34,24 @@ part-on-path-end c = search needs
 on-path-requires : tie.Need-on-path-requires
 unfolding flags
 on-path-requires c κs =
-    let s = c .before .before .before .before .before in
-    let e = c .before .before .get-u16 .ensures in
-    let f = c .before .if1 .taken in
-    (s .pre .0, ap isPresence (rest-part 40 (s .args .proof .now)) ∙ one-there (s .args .proof .now) (s .pre .1) (omega arith))
+    let then1 = c .before in
+    let after-get-u16 = then1 .before in
+    let start = start-from-get-u16 after-get-u16 in
+    let e = after-get-u16 .get-u16 .ensures in
+    let f = then1 .if1 .taken in
+    (start .pre .0, ap isPresence (rest-part 40 (start .args .proof .now)) ∙ one-there (start .args .proof .now) (start .pre .1) (omega arith))
 
 returns : tie.Need-returns
 unfolding flags
 returns c =
-    let s = c .before .before .before .before .before .before in
-    let a = s .args in
-    let e = c .before .before .before .get-u16 .ensures in
-    let f = c .before .before .if1 .taken in
+    let then1 = c .before .before in
+    let after-get-u16 = then1 .before in
+    let start = start-from-get-u16 after-get-u16 in
+    let a = start .args in
+    let e = after-get-u16 .get-u16 .ensures in
+    let f = then1 .if1 .taken in
     let nodes = nodesIn (a .version) (a .store .now) in
-    c .on-path .ensures ∙ ap (onPath nodes) (rest-part 40 (a .proof .now)) ∙ one-neighbour nodes (a .proof .now) (s .pre .1) (omega arith)
+    c .on-path .ensures ∙ ap (onPath nodes) (rest-part 40 (a .proof .now)) ∙ one-neighbour nodes (a .proof .now) (start .pre .1) (omega arith)
 
 -- past the test of the flags there are two neighbours
 two-flagged : (c : tie.Else1) → 2 < flags (c .before .before .before .before .args .proof .now)
@@ -89,23 +97,27 @@ part-on-two-end-2 c = search needs
 on-two-requires : tie.Need-on-two-requires
 unfolding leftLength
 on-two-requires c κs =
-    let s = c .before .before .before .before .before .before .before in
-    let x = s .args .proof .now in
-    let t = two-flagged (c .before .before .before) in
-    let e = c .before .before .get-u32 .ensures in
-    (s .pre .0, ap isPresence (left-part _ x e) ∙ left-there x (s .pre .1) t, ap isPresence (right-part _ x e) ∙ right-there x (s .pre .1) t)
+    let after-get-u32 = c .before .before in
+    let state = after-get-u32 .before in
+    let start = start-from-get-u16 (state .before) in
+    let x = start .args .proof .now in
+    let t = two-flagged (state) in
+    let e = after-get-u32 .get-u32 .ensures in
+    (start .pre .0, ap isPresence (left-part _ x e) ∙ left-there x (start .pre .1) t, ap isPresence (right-part _ x e) ∙ right-there x (start .pre .1) t)
 
 returns-2 : tie.Need-returns-2
 unfolding leftLength
 returns-2 c =
-    let s = c .before .before .before .before .before .before .before .before in
-    let a = s .args in
+    let after-get-u32 = c .before .before .before in
+    let state = after-get-u32 .before in
+    let start = start-from-get-u16 (state .before) in
+    let a = start .args in
     let x = a .proof .now in
-    let e = c .before .before .before .get-u32 .ensures in
+    let e = after-get-u32 .get-u32 .ensures in
     let nodes = nodesIn (a .version) (a .store .now) in
     c .on-two .ensures
     ∙ ap₂ (onTwo nodes) (left-part _ x e) (right-part _ x e)
-    ∙ two-neighbours nodes x (flags-both x (s .pre .1) (two-flagged (c .before .before .before .before)))
+    ∙ two-neighbours nodes x (flags-both x (start .pre .1) (two-flagged (state)))
 
 pub on-neighbours-spec : {M : Type 1} → statement M
 on-neighbours-spec =

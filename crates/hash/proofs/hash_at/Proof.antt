@@ -32,11 +32,15 @@ number-at-requires-4 c κs = search needs
 
 returns : tie.Need-returns
 returns c =
-    let a = c .before .before .before .before .before .args in
+    let after-number-at3 = c .before in
+    let after-number-at2 = after-number-at3 .before in
+    let after-number-at = after-number-at2 .before in
+    let after-shared-slice-known = after-number-at .before in
+    let a = after-shared-slice-known .before .args in
     let x = take 32 (drop (a .at) (a .s .now)) in
-    let e = hash-of-numbers (a .s .now) (a .at) (omega arith) (c .before .before .before .number-at .ensures) (c .before .before .number-at2 .ensures)
-    (c .before .number-at3 .ensures) (c .number-at4 .ensures) in
-    (e, ap hashBytes e ∙ bytes-of-hash x (whole-part (a .s .now) (a .at) (omega arith) (λ i. omega (arith, c .before .before .before .before .shared-slice-known .given i))))
+    let e = hash-of-numbers (a .s .now) (a .at) (omega arith) (after-number-at .number-at .ensures) (after-number-at2 .number-at2 .ensures)
+    (after-number-at3 .number-at3 .ensures) (c .number-at4 .ensures) in
+    (e, ap hashBytes e ∙ bytes-of-hash x (whole-part (a .s .now) (a .at) (omega arith) (λ i. omega (arith, after-shared-slice-known .shared-slice-known .given i))))
 
 pub hash-at-spec : {M : Type 1} → statement M
 hash-at-spec =

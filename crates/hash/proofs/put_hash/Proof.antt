@@ -22,9 +22,13 @@ same-length c = search needs
 
 returns : tie.Need-returns
 returns c =
-    let a = c .before .before .before .before .before .before .before .before .before .before .before .before .before .before .before .before .before .args in
-    four-puts (a .h) (a .s .now) _ _ _ _ (c .before .before .before .before .before .before .before .before .before .before .before .before .before .before .put-number .ensures) (c .before .before .before .before .before .before .before .before .before .before .put-number2 .ensures) (c .before .before .before .before .before .before .put-number3 .ensures)
-    (c .before .before .put-number4 .ensures)
+    let after-put-number4 = c .before .before in
+    let after-put-number3 = after-put-number4 .before .before .before .before in
+    let after-put-number2 = after-put-number3 .before .before .before .before in
+    let after-put-number = after-put-number2 .before .before .before .before in
+    let a = after-put-number .before .before .before .args in
+    four-puts (a .h) (a .s .now) _ _ _ _ (after-put-number .put-number .ensures) (after-put-number2 .put-number2 .ensures) (after-put-number3 .put-number3 .ensures)
+    (after-put-number4 .put-number4 .ensures)
 
 pub put-hash-spec : {M : Type 1} → statement M
 put-hash-spec =

@@ -29,8 +29,11 @@ returns-4 c =
 
 returns-5 : tie.Need-returns-5
 returns-5 c =
-    let a = c .before .before .before .before .before .before .before .before .before .before .before .before .args in
-    sym (same-hashes (a .x) (a .y) (c .before .before .before .before .before .before .before .before .before .if1 .left) (c .before .before .before .before .before .before .if2 .left) (c .before .before .before .if3 .left) (c .if4 .left))
+    let else3 = c .before .before .before in
+    let else2 = else3 .before .before .before in
+    let else1 = else2 .before .before .before in
+    let a = else1 .before .before .before .args in
+    sym (same-hashes (a .x) (a .y) (else1 .if1 .left) (else2 .if2 .left) (else3 .if3 .left) (c .if4 .left))
 
 pub same-hash-spec : {M : Type 1} → statement M
 same-hash-spec = tie.close (tie.spec returns returns-2 returns-3 returns-4 returns-5)

@@ -40,9 +40,12 @@ no-part-requires-3 c κs = search needs
 
 returns-3 : tie.Need-returns-3
 returns-3 c =
-    let a = c .before .before .before .before .before .before .before .before .args in
-    let v = c .before .before .before .varint in
-    stands-no-size (a .n) (a .m .now) (a .at) (v .result) (c .no-part3 .result) (omega arith) (c .before .before .before .before .if2 .left) (v .ensures) (not-true _ (c .before .if3 .taken)) (c .no-part3 .ensures)
+    let then3 = c .before in
+    let after-varint = then3 .before .before in
+    let else2 = after-varint .before in
+    let a = else2 .before .before .before .before .args in
+    let v = after-varint .varint in
+    stands-no-size (a .n) (a .m .now) (a .at) (v .result) (c .no-part3 .result) (omega arith) (else2 .if2 .left) (v .ensures) (not-true _ (then3 .if3 .taken)) (c .no-part3 .ensures)
 
 sub-if4 : tie.Need-sub-if4
 sub-if4 c =
@@ -53,18 +56,26 @@ no-part-requires-4 c κs = search needs
 
 returns-4 : tie.Need-returns-4
 returns-4 c =
-    let a = c .before .before .before .before .before .before .before .before .before .before .before .args in
-    let v = c .before .before .before .before .before .before .varint in
-    stands-short (a .n) (a .m .now) (a .at) (v .result) (c .no-part4 .result) (omega arith) (c .before .before .before .before .before .before .before .if2 .left) (v .ensures) (not-false _ (c .before .before .before .before .if3 .left)) (c .before .if4 .taken) (c .no-part4 .ensures)
+    let then4 = c .before in
+    let else3 = then4 .before .before .before in
+    let after-varint = else3 .before .before in
+    let else2 = after-varint .before in
+    let a = else2 .before .before .before .before .args in
+    let v = after-varint .varint in
+    stands-short (a .n) (a .m .now) (a .at) (v .result) (c .no-part4 .result) (omega arith) (else2 .if2 .left) (v .ensures) (not-false _ (else3 .if3 .left)) (then4 .if4 .taken) (c .no-part4 .ensures)
 
 add-t5 : tie.Need-add-t5
 add-t5 c = search needs
 
 returns-5 : tie.Need-returns-5
 returns-5 c =
-    let a = c .before .before .before .before .before .before .before .before .before .before .before .args in
-    let v = c .before .before .before .before .before .before .varint in
-    stands-there (a .n) (a .m .now) (a .at) (v .result) (omega arith) (c .before .before .before .before .before .before .before .if2 .left) (v .ensures) (not-false _ (c .before .before .before .before .if3 .left)) (c .before .if4 .left)
+    let else4 = c .before in
+    let else3 = else4 .before .before .before in
+    let after-varint = else3 .before .before in
+    let else2 = after-varint .before in
+    let a = else2 .before .before .before .before .args in
+    let v = after-varint .varint in
+    stands-there (a .n) (a .m .now) (a .at) (v .result) (omega arith) (else2 .if2 .left) (v .ensures) (not-false _ (else3 .if3 .left)) (else4 .if4 .left)
 
 pub field-spec : {M : Type 1} → statement M
 field-spec =

@@ -22,11 +22,15 @@ same-requires c κs = search needs
 
 returns : tie.Need-returns
 returns c =
-    let x = c .before .before .before .before .before .before .args .x .now in inner-left x (c .before .before .before .before .if1 .taken) (sym (c .before .same .ensures) ∙ c .if2 .taken)
+    let after-same = c .before in
+    let then1 = after-same .before .before .before in
+    let x = then1 .before .before .args .x .now in inner-left x (then1 .if1 .taken) (sym (after-same .same .ensures) ∙ c .if2 .taken)
 
 returns-2 : tie.Need-returns-2
 returns-2 c =
-    let x = c .before .before .before .before .before .before .args .x .now in inner-no-left x (c .before .before .before .before .if1 .taken) (sym (c .before .same .ensures) ∙ c .if2 .left)
+    let after-same = c .before in
+    let then1 = after-same .before .before .before in
+    let x = then1 .before .before .args .x .now in inner-no-left x (then1 .if1 .taken) (sym (after-same .same .ensures) ∙ c .if2 .left)
 
 sub-same-2 : tie.Need-sub-same-2
 sub-same-2 c = search needs
@@ -45,11 +49,15 @@ same-requires-2 c κs = search needs
 
 returns-3 : tie.Need-returns-3
 returns-3 c =
-    let x = c .before .before .before .before .before .before .before .args .x .now in inner-right x (c .before .before .before .before .if3 .taken) (sym (c .before .same2 .ensures) ∙ c .if4 .taken)
+    let after-same2 = c .before in
+    let then3 = after-same2 .before .before .before in
+    let x = then3 .before .before .before .args .x .now in inner-right x (then3 .if3 .taken) (sym (after-same2 .same2 .ensures) ∙ c .if4 .taken)
 
 returns-4 : tie.Need-returns-4
 returns-4 c =
-    let x = c .before .before .before .before .before .before .before .args .x .now in inner-no-right x (c .before .before .before .before .if3 .taken) (sym (c .before .same2 .ensures) ∙ c .if4 .left)
+    let after-same2 = c .before in
+    let then3 = after-same2 .before .before .before in
+    let x = then3 .before .before .before .args .x .now in inner-no-right x (then3 .if3 .taken) (sym (after-same2 .same2 .ensures) ∙ c .if4 .left)
 
 returns-5 : tie.Need-returns-5
 returns-5 c =

@@ -18,8 +18,10 @@ no-number-requires-2 c κs = search needs
 
 returns-2 : tie.Need-returns-2
 returns-2 c =
-    let a = c .before .before .before .before .before .args in
-    joins-zero (a .low) (a .more) (c .no-number2 .result) (not-false _ (c .before .before .before .if1 .left)) (c .before .if2 .taken) (c .no-number2 .ensures .0) (c .no-number2 .ensures .1)
+    let then2 = c .before in
+    let else1 = then2 .before .before in
+    let a = else1 .before .before .args in
+    joins-zero (a .low) (a .more) (c .no-number2 .result) (not-false _ (else1 .if1 .left)) (then2 .if2 .taken) (c .no-number2 .ensures .0) (c .no-number2 .ensures .1)
 
 mul-t4 : tie.Need-mul-t4
 mul-t4 c = search needs
@@ -29,7 +31,8 @@ add-t5 c = search needs
 
 returns-3 : tie.Need-returns-3
 returns-3 c =
-    let a = c .before .before .before .before .before .args in joins-more (a .low) (a .more) (not-false _ (c .before .before .before .if1 .left)) (omega arith)
+    let else1 = c .before .before .before in
+    let a = else1 .before .before .args in joins-more (a .low) (a .more) (not-false _ (else1 .if1 .left)) (omega arith)
 
 pub joined-spec : {M : Type 1} → statement M
 joined-spec =

@@ -23,8 +23,9 @@ no-number-requires-2 c κs = search needs
 
 returns-2 : tie.Need-returns-2
 returns-2 c =
-    let a = c .before .before .before .before .before .before .args in
-    let w = c .before .before .wide in
+    let after-wide = c .before .before in
+    let a = after-wide .before .before .before .before .args in
+    let w = after-wide .wide in
     reads-no-more (a .m .now) (a .at) (w .result) (c .no-number2 .result) (omega arith) (w .ensures .0) (omega arith) (c .no-number2 .ensures .0) (c .no-number2 .ensures .1)
 
 add-t4 : tie.Need-add-t4

@@ -36,9 +36,11 @@ joined-requires c κs = search needs
 
 returns-3 : tie.Need-returns-3
 returns-3 c =
-    let a = c .before .before .before .before .before .before .before .args in
-    let w = c .before .before .before .wide in
-    reads-more (a .m .now) (a .at) 0 (w .result) (c .before .one-byte .result) (c .joined .result) (omega arith) (w .ensures .0) (omega arith) (w .ensures .1) (c .before .one-byte .ensures) (c .joined .ensures)
+    let after-one-byte = c .before in
+    let after-wide = after-one-byte .before .before in
+    let a = after-wide .before .before .before .before .args in
+    let w = after-wide .wide in
+    reads-more (a .m .now) (a .at) 0 (w .result) (after-one-byte .one-byte .result) (c .joined .result) (omega arith) (w .ensures .0) (omega arith) (w .ensures .1) (after-one-byte .one-byte .ensures) (c .joined .ensures)
 
 pub two-bytes-spec : {M : Type 1} → statement M
 two-bytes-spec =

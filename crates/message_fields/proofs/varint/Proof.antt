@@ -36,9 +36,11 @@ joined-requires c κs = search needs
 
 returns-3 : tie.Need-returns-3
 returns-3 c =
-    let a = c .before .before .before .before .before .before .before .args in
-    let w = c .before .before .before .wide in
-    reads-more (a .m .now) (a .at) 1 (w .result) (c .before .two-bytes .result) (c .joined .result) (omega arith) (w .ensures .0) (omega arith) (w .ensures .1) (c .before .two-bytes .ensures) (c .joined .ensures)
+    let after-two-bytes = c .before in
+    let after-wide = after-two-bytes .before .before in
+    let a = after-wide .before .before .before .before .args in
+    let w = after-wide .wide in
+    reads-more (a .m .now) (a .at) 1 (w .result) (after-two-bytes .two-bytes .result) (c .joined .result) (omega arith) (w .ensures .0) (omega arith) (w .ensures .1) (after-two-bytes .two-bytes .ensures) (c .joined .ensures)
 
 pub varint-spec : {M : Type 1} → statement M
 varint-spec =

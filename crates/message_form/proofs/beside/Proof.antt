@@ -15,9 +15,14 @@ use Rattle.message_form.proofs.beside.Tie as tie
 nobody-requires : tie.Need-nobody-requires
 nobody-requires c κs = search needs
 
+-- `A-from-B` is the state A as the later state B has it.
+abbrev start-from-field : tie.After-field → tie.Start
+start-from-field c = c .before .before .before .before .before
+
 returns : tie.Need-returns
 returns c =
-    let a = c .before .before .before .args in neighbours-none (c .before .before .before .pre .0) (past-end (a .n) (a .x .now) (a .at) (omega arith)) (c .nobody .ensures)
+    let start = c .before .before .before in
+    let a = start .args in neighbours-none (start .pre .0) (past-end (a .n) (a .x .now) (a .at) (omega arith)) (c .nobody .ensures)
 
 shared-slice-read-if2 : tie.Need-shared-slice-read-if2
 shared-slice-read-if2 c = search needs
@@ -43,7 +48,9 @@ no-neighbour-requires c κs = search needs
 
 returns-3 : tie.Need-returns-3
 returns-3 c =
-    neighbours-no-field (c .before .before .before .before .if2 .left) (c .before .before .before .field .ensures) (not-true _ (c .before .if3 .taken)) (c .no-neighbour .ensures)
+    let then3 = c .before in
+    let after-field = then3 .before .before in
+    neighbours-no-field (after-field .before .if2 .left) (after-field .field .ensures) (not-true _ (then3 .if3 .taken)) (c .no-neighbour .ensures)
 
 sub-existence : tie.Need-sub-existence
 sub-existence c = search needs
@@ -57,20 +64,30 @@ part-existence-end c =
 
 existence-requires : tie.Need-existence-requires
 existence-requires c κs =
-    let i = c .before .before .before .field .ensures .inside (not-false _ (c .before .if3 .left)) in
-    omega (arith, length-take-le (c .before .before .before .field .result .to) (c .before .before .before .before .before .before .before .before .args .x .now) (i .2), i .1)
+    let else3 = c .before in
+    let after-field = else3 .before .before in
+    let i = after-field .field .ensures .inside (not-false _ (else3 .if3 .left)) in
+    omega (arith, length-take-le (after-field .field .result .to) (start-from-field after-field .args .x .now) (i .2), i .1)
 
 no-neighbour-requires-2 : tie.Need-no-neighbour-requires-2
 no-neighbour-requires-2 c κs = search needs
 
 returns-4 : tie.Need-returns-4
 returns-4 c =
-    neighbours-no-proof (c .before .before .before .before .before .before .before .before .if2 .left) (c .before .before .before .before .before .before .before .field .ensures) (not-false _ (c .before .before .before .before .before .if3 .left)) (subst (λ k. Shows (take k (c .before .before .before .before .before .before .before .before .before .before .before .before .args .x .now)) (c .before .before .before .before .before .before .before .field .result .from) (c .before .before .before .existence .result)) (sub-zero (c .before .before .before .before .before .before .before .field .result .to)) (c .before .before .before .existence .ensures)) (not-true _ (c .before .if4 .taken)) (c .no-neighbour2 .ensures)
+    let then4 = c .before in
+    let after-existence = then4 .before .before in
+    let else3 = after-existence .before .before in
+    let after-field = else3 .before .before in
+    neighbours-no-proof (after-field .before .if2 .left) (after-field .field .ensures) (not-false _ (else3 .if3 .left)) (subst (λ k. Shows (take k (start-from-field after-field .args .x .now)) (after-field .field .result .from) (after-existence .existence .result)) (sub-zero (after-field .field .result .to)) (after-existence .existence .ensures)) (not-true _ (then4 .if4 .taken)) (c .no-neighbour2 .ensures)
 
 returns-5 : tie.Need-returns-5
 returns-5 c =
-    neighbours-there (c .before .before .before .before .before .before .before .if2 .left) (c .before .before .before .before .before .before .field .ensures) (not-false _ (c .before .before .before .before .if3 .left)) (subst (λ k. Shows (take k (c .before .before .before .before .before .before .before .before .before .before .before .args .x .now)) (c .before .before .before .before .before .before .field .result .from) (c .before .before .existence .result)) (sub-zero (c .before .before .before .before .before .before .field .result .to)) (c .before .before .existence .ensures)) (c .before .before .before .before .before .before .before .before .before .before .before .pre .1)
-    (all-bytes (c .before .before .before .before .before .before .before .before .before .before .before .args .x .now) (λ i. omega (arith, c .before .before .before .before .before .before .before .before .before .before .shared-slice-known .given i))) (not-false _ (c .if4 .left))
+    let after-existence = c .before .before in
+    let else3 = after-existence .before .before in
+    let after-field = else3 .before .before in
+    let start = start-from-field after-field in
+    neighbours-there (after-field .before .if2 .left) (after-field .field .ensures) (not-false _ (else3 .if3 .left)) (subst (λ k. Shows (take k (start .args .x .now)) (after-field .field .result .from) (after-existence .existence .result)) (sub-zero (after-field .field .result .to)) (after-existence .existence .ensures)) (start .pre .1)
+    (all-bytes (start .args .x .now) (λ i. omega (arith, after-field .before .before .before .before .shared-slice-known .given i))) (not-false _ (c .if4 .left))
 
 pub beside-spec : {M : Type 1} → statement M
 beside-spec =

@@ -13,9 +13,15 @@ beside-requires c κs = search needs
 no-absent-requires : tie.Need-no-absent-requires
 no-absent-requires c κs = search needs
 
+-- `A-from-B` is the state A as the later state B has it.
+abbrev start-from-else1 : tie.Else1 → tie.Start
+start-from-else1 c = c .before .before .before .before
+
 returns : tie.Need-returns
 returns c =
-    follows-none (no-left (c .before .before .before .before .before .args .key) (c .before .before .before .beside .ensures) (not-true _ (c .before .if1 .taken))) (c .no-absent .ensures)
+    let then1 = c .before in
+    let after-beside = then1 .before .before in
+    follows-none (no-left (after-beside .before .before .args .key) (after-beside .beside .ensures) (not-true _ (then1 .if1 .taken))) (c .no-absent .ensures)
 
 beside-requires-2 : tie.Need-beside-requires-2
 beside-requires-2 c κs =
@@ -26,14 +32,21 @@ no-absent-requires-2 c κs = search needs
 
 returns-2 : tie.Need-returns-2
 returns-2 c =
-    follows-none (no-right (c .before .before .before .before .before .before .before .before .args .key) (c .before .before .before .before .before .before .beside .ensures) (not-false _ (c .before .before .before .before .if1 .left)) (c .before .before .before .beside2 .ensures) (not-true _ (c .before .if2 .taken))) (c .no-absent2 .ensures)
+    let then2 = c .before in
+    let after-beside2 = then2 .before .before in
+    let else1 = after-beside2 .before in
+    follows-none (no-right (start-from-else1 else1 .args .key) (else1 .before .before .beside .ensures) (not-false _ (else1 .if1 .left)) (after-beside2 .beside2 .ensures) (not-true _ (then2 .if2 .taken))) (c .no-absent2 .ensures)
 
 no-absent-requires-3 : tie.Need-no-absent-requires-3
 no-absent-requires-3 c κs = search needs
 
 returns-3 : tie.Need-returns-3
 returns-3 c =
-    follows-none (bytes-over (c .before .before .before .before .before .before .before .before .before .before .args .key) (c .before .before .before .before .before .before .before .before .beside .ensures) (not-false _ (c .before .before .before .before .before .before .if1 .left)) (c .before .before .before .before .before .beside2 .ensures) (not-false _ (c .before .before .before .if2 .left)) (c .before .if3 .taken)) (c .no-absent3 .ensures)
+    let then3 = c .before in
+    let else2 = then3 .before .before in
+    let after-beside2 = else2 .before .before in
+    let else1 = after-beside2 .before in
+    follows-none (bytes-over (start-from-else1 else1 .args .key) (else1 .before .before .beside .ensures) (not-false _ (else1 .if1 .left)) (after-beside2 .beside2 .ensures) (not-false _ (else2 .if2 .left)) (then3 .if3 .taken)) (c .no-absent3 .ensures)
 
 somebody-requires : tie.Need-somebody-requires
 somebody-requires c κs = search needs
@@ -43,11 +56,22 @@ no-absent-requires-4 c κs = search needs
 
 returns-4 : tie.Need-returns-4
 returns-4 c =
-    follows-none (nobody-there (c .before .before .before .before .before .before .before .before .before .before .before .before .args .key) (c .before .before .before .before .before .before .before .before .before .before .beside .ensures) (not-false _ (c .before .before .before .before .before .before .before .before .if1 .left)) (c .before .before .before .before .before .before .before .beside2 .ensures) (not-false _ (c .before .before .before .before .before .if2 .left)) (sym (c .before .before .somebody .ensures) ∙ not-true _ (c .before .if4 .taken))) (c .no-absent4 .ensures)
+    let then4 = c .before in
+    let after-somebody = then4 .before in
+    let else2 = after-somebody .before .before .before in
+    let after-beside2 = else2 .before .before in
+    let else1 = after-beside2 .before in
+    follows-none (nobody-there (start-from-else1 else1 .args .key) (else1 .before .before .beside .ensures) (not-false _ (else1 .if1 .left)) (after-beside2 .beside2 .ensures) (not-false _ (else2 .if2 .left)) (sym (after-somebody .somebody .ensures) ∙ not-true _ (then4 .if4 .taken))) (c .no-absent4 .ensures)
 
 returns-5 : tie.Need-returns-5
 returns-5 c =
-    follows-there (c .before .before .before .before .before .before .before .before .before .before .before .before .before .args .key) (c .before .before .before .before .before .before .before .before .before .before .before .beside .ensures) (not-false _ (c .before .before .before .before .before .before .before .before .before .if1 .left)) (c .before .before .before .before .before .before .before .before .beside2 .ensures) (not-false _ (c .before .before .before .before .before .before .if2 .left)) (c .before .before .before .before .if3 .left) (sym (c .before .before .before .somebody .ensures) ∙ not-false _ (c .before .before .if4 .left))
+    let else4 = c .before .before in
+    let after-somebody = else4 .before in
+    let else3 = after-somebody .before in
+    let else2 = else3 .before .before in
+    let after-beside2 = else2 .before .before in
+    let else1 = after-beside2 .before in
+    follows-there (start-from-else1 else1 .args .key) (else1 .before .before .beside .ensures) (not-false _ (else1 .if1 .left)) (after-beside2 .beside2 .ensures) (not-false _ (else2 .if2 .left)) (else3 .if3 .left) (sym (after-somebody .somebody .ensures) ∙ not-false _ (else4 .if4 .left))
 
 pub neighbours-spec : {M : Type 1} → statement M
 neighbours-spec =

@@ -15,6 +15,10 @@ field-requires c κs = search needs
 no-absent-requires : tie.Need-no-absent-requires
 no-absent-requires c κs = search needs
 
+-- `A-from-B` is the state A as the later state B has it.
+abbrev field-from-length-right : tie.After-length-right → tie.After-field
+field-from-length-right c = c .before .before .before
+
 returns : tie.Need-returns
 returns c =
     absents-none (no-key (c .before .before .before .field .ensures) (not-true _ (c .before .if1 .taken))) (c .no-absent .ensures)
@@ -28,9 +32,12 @@ no-absent-requires-2 c κs = search needs
 
 returns-2 : tie.Need-returns-2
 returns-2 c =
-    let f = not-false _ (c .before .before .before .if1 .left) in
-    let i = c .before .before .before .before .before .field .ensures .inside f in
-    absents-none (key-wrong (c .before .before .before .before .before .field .ensures) f (length-right-is 256 (c .before .before .before .before .before .field .result .from) (c .before .before .before .before .before .field .result .to) (c .before .before .before .before .before .before .before .args .x .now) (i .1) (i .2) ∙ sym (c .before .before .length-right .ensures) ∙ not-true _ (c .before .if2 .taken))) (c .no-absent2 .ensures)
+    let then2 = c .before in
+    let after-length-right = then2 .before in
+    let after-field = field-from-length-right after-length-right in
+    let f = not-false _ (after-length-right .before .if1 .left) in
+    let i = after-field .field .ensures .inside f in
+    absents-none (key-wrong (after-field .field .ensures) f (length-right-is 256 (after-field .field .result .from) (after-field .field .result .to) (after-field .before .before .args .x .now) (i .1) (i .2) ∙ sym (after-length-right .length-right .ensures) ∙ not-true _ (then2 .if2 .taken))) (c .no-absent2 .ensures)
 
 neighbours-requires : tie.Need-neighbours-requires
 neighbours-requires c κs =
@@ -38,10 +45,15 @@ neighbours-requires c κs =
 
 returns-3 : tie.Need-returns-3
 returns-3 c =
-    let f = not-false _ (c .before .before .before .if1 .left) in
-    let i = c .before .before .before .before .before .field .ensures .inside f in
-    absents-there (c .before .before .before .before .before .field .ensures) f (all-bytes (c .before .before .before .before .before .before .before .args .x .now) (λ j. omega (arith, c .before .before .before .before .before .before .shared-slice-known .given j)))
-    (length-right-is 256 (c .before .before .before .before .before .field .result .from) (c .before .before .before .before .before .field .result .to) (c .before .before .before .before .before .before .before .args .x .now) (i .1) (i .2) ∙ sym (c .before .before .length-right .ensures) ∙ not-false _ (c .before .if2 .left)) (c .neighbours .ensures)
+    let else2 = c .before in
+    let after-length-right = else2 .before in
+    let after-field = field-from-length-right after-length-right in
+    let after-shared-slice-known = after-field .before in
+    let start = after-shared-slice-known .before in
+    let f = not-false _ (after-length-right .before .if1 .left) in
+    let i = after-field .field .ensures .inside f in
+    absents-there (after-field .field .ensures) f (all-bytes (start .args .x .now) (λ j. omega (arith, after-shared-slice-known .shared-slice-known .given j)))
+    (length-right-is 256 (after-field .field .result .from) (after-field .field .result .to) (start .args .x .now) (i .1) (i .2) ∙ sym (after-length-right .length-right .ensures) ∙ not-false _ (else2 .if2 .left)) (c .neighbours .ensures)
 
 pub nonexistence-spec : {M : Type 1} → statement M
 nonexistence-spec =

@@ -24,11 +24,19 @@ nonexistence-requires c κs =
 
 returns-3 : tie.Need-returns-3
 returns-3 c =
-    absence-off (c .before .before .before .before .before .before .before .field .ensures) (not-false _ (c .before .before .before .before .before .if1 .left)) (c .before .before .before .if2 .left) (c .before .before .nonexistence .ensures) (not-true _ (c .if3 .taken))
+    let after-nonexistence = c .before .before in
+    let else2 = after-nonexistence .before in
+    let else1 = else2 .before .before in
+    absence-off (else1 .before .before .field .ensures) (not-false _ (else1 .if1 .left)) (else2 .if2 .left) (after-nonexistence .nonexistence .ensures) (not-true _ (c .if3 .taken))
 
 returns-4 : tie.Need-returns-4
 returns-4 c =
-    absence-said (c .before .before .before .before .before .before .before .field .ensures) (not-false _ (c .before .before .before .before .before .if1 .left)) (c .before .before .before .if2 .left) (c .before .before .nonexistence .ensures) (all-bytes (c .before .before .before .before .before .before .before .before .before .args .m .now) (λ i. omega (arith, c .before .before .before .before .before .before .before .before .shared-slice-known .given i))) (not-false _ (c .if3 .left))
+    let after-nonexistence = c .before .before in
+    let else2 = after-nonexistence .before in
+    let else1 = else2 .before .before in
+    let after-field = else1 .before .before in
+    let after-shared-slice-known = after-field .before in
+    absence-said (after-field .field .ensures) (not-false _ (else1 .if1 .left)) (else2 .if2 .left) (after-nonexistence .nonexistence .ensures) (all-bytes (after-shared-slice-known .before .args .m .now) (λ i. omega (arith, after-shared-slice-known .shared-slice-known .given i))) (not-false _ (c .if3 .left))
 
 pub said-absence-spec : {M : Type 1} → statement M
 said-absence-spec =

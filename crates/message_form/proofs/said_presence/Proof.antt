@@ -24,11 +24,19 @@ existence-requires c κs =
 
 returns-3 : tie.Need-returns-3
 returns-3 c =
-    presence-off (c .before .before .before .before .before .before .before .field .ensures) (not-false _ (c .before .before .before .before .before .if1 .left)) (c .before .before .before .if2 .left) (c .before .before .existence .ensures) (not-true _ (c .if3 .taken))
+    let after-existence = c .before .before in
+    let else2 = after-existence .before in
+    let else1 = else2 .before .before in
+    presence-off (else1 .before .before .field .ensures) (not-false _ (else1 .if1 .left)) (else2 .if2 .left) (after-existence .existence .ensures) (not-true _ (c .if3 .taken))
 
 returns-4 : tie.Need-returns-4
 returns-4 c =
-    presence-said (c .before .before .before .before .before .before .before .field .ensures) (not-false _ (c .before .before .before .before .before .if1 .left)) (c .before .before .before .if2 .left) (c .before .before .existence .ensures) (all-bytes (c .before .before .before .before .before .before .before .before .before .args .m .now) (λ i. omega (arith, c .before .before .before .before .before .before .before .before .shared-slice-known .given i))) (not-false _ (c .if3 .left))
+    let after-existence = c .before .before in
+    let else2 = after-existence .before in
+    let else1 = else2 .before .before in
+    let after-field = else1 .before .before in
+    let after-shared-slice-known = after-field .before in
+    presence-said (after-field .field .ensures) (not-false _ (else1 .if1 .left)) (else2 .if2 .left) (after-existence .existence .ensures) (all-bytes (after-shared-slice-known .before .args .m .now) (λ i. omega (arith, after-shared-slice-known .shared-slice-known .given i))) (not-false _ (c .if3 .left))
 
 pub said-presence-spec : {M : Type 1} → statement M
 said-presence-spec =

@@ -12,6 +12,10 @@ head-requires c κs = search needs
 no-shown-requires : tie.Need-no-shown-requires
 no-shown-requires c κs = search needs
 
+-- `A-from-B` is the state A as the later state B has it.
+abbrev start-from-else1 : tie.Else1 → tie.Start
+start-from-else1 c = c .before .before .before .before
+
 returns : tie.Need-returns
 returns c =
     shows-none (head-none (c .before .before .before .head .ensures) (not-true _ (c .before .if1 .taken))) (c .no-shown .ensures)
@@ -25,10 +29,13 @@ no-shown-requires-2 c κs = search needs
 
 returns-2 : tie.Need-returns-2
 returns-2 c =
-    let f = not-false _ (c .before .before .before .if1 .left) in
-    let h = c .before .before .before .before .before .head in
+    let then2 = c .before in
+    let after-length-right = then2 .before in
+    let else1 = after-length-right .before in
+    let f = not-false _ (else1 .if1 .left) in
+    let h = else1 .before .before .head in
     let i = h .ensures .inside f .key-inside in
-    shows-none (key-length-wrong (h .ensures) f (length-right-is 256 (h .result .key) (h .result .kstop) (c .before .before .before .before .before .before .before .args .x .now) (i .1) (i .2) ∙ sym (c .before .before .length-right .ensures) ∙ not-true _ (c .before .if2 .taken))) (c .no-shown2 .ensures)
+    shows-none (key-length-wrong (h .ensures) f (length-right-is 256 (h .result .key) (h .result .kstop) (start-from-else1 else1 .args .x .now) (i .1) (i .2) ∙ sym (after-length-right .length-right .ensures) ∙ not-true _ (then2 .if2 .taken))) (c .no-shown2 .ensures)
 
 length-right-requires-2 : tie.Need-length-right-requires-2
 length-right-requires-2 c κs =
@@ -39,37 +46,59 @@ no-shown-requires-3 c κs = search needs
 
 returns-3 : tie.Need-returns-3
 returns-3 c =
-    let f = not-false _ (c .before .before .before .before .before .if1 .left) in
-    let h = c .before .before .before .before .before .before .before .head in
+    let then3 = c .before in
+    let after-length-right2 = then3 .before in
+    let else2 = after-length-right2 .before in
+    let after-length-right = else2 .before in
+    let else1 = after-length-right .before in
+    let start = start-from-else1 else1 in
+    let f = not-false _ (else1 .if1 .left) in
+    let h = else1 .before .before .head in
     let i = h .ensures .inside f .key-inside in
     let j = h .ensures .inside f .value-inside in
-    shows-none (value-length-wrong (h .ensures) f (length-right-is 256 (h .result .key) (h .result .kstop) (c .before .before .before .before .before .before .before .before .before .args .x .now) (i .1) (i .2) ∙ sym (c .before .before .before .before .length-right .ensures) ∙ not-false _ (c .before .before .before .if2 .left))
-    (length-right-is 4096 (h .result .value) (h .result .vstop) (c .before .before .before .before .before .before .before .before .before .args .x .now) (j .1) (j .2) ∙ sym (c .before .before .length-right2 .ensures) ∙ not-true _ (c .before .if3 .taken))) (c .no-shown3 .ensures)
+    shows-none (value-length-wrong (h .ensures) f (length-right-is 256 (h .result .key) (h .result .kstop) (start .args .x .now) (i .1) (i .2) ∙ sym (after-length-right .length-right .ensures) ∙ not-false _ (else2 .if2 .left))
+    (length-right-is 4096 (h .result .value) (h .result .vstop) (start .args .x .now) (j .1) (j .2) ∙ sym (after-length-right2 .length-right2 .ensures) ∙ not-true _ (then3 .if3 .taken))) (c .no-shown3 .ensures)
 
 walk-requires : tie.Need-walk-requires
 walk-requires c κs =
-    c .before .before .before .before .before .before .head .ensures .inside (not-false _ (c .before .before .before .before .if1 .left)) .path-inside .1
+    let else1 = c .before .before .before .before in
+    else1 .before .before .head .ensures .inside (not-false _ (else1 .if1 .left)) .path-inside .1
 
 no-shown-requires-4 : tie.Need-no-shown-requires-4
 no-shown-requires-4 c κs = search needs
 
 returns-4 : tie.Need-returns-4
 returns-4 c =
-    let f = not-false _ (c .before .before .before .before .before .before .before .before .if1 .left) in
-    let h = c .before .before .before .before .before .before .before .before .before .before .head in
+    let then4 = c .before in
+    let after-walk = then4 .before .before in
+    let else3 = after-walk .before in
+    let after-length-right2 = else3 .before in
+    let else2 = after-length-right2 .before in
+    let after-length-right = else2 .before in
+    let else1 = after-length-right .before in
+    let start = start-from-else1 else1 in
+    let f = not-false _ (else1 .if1 .left) in
+    let h = else1 .before .before .head in
     let i = h .ensures .inside f .key-inside in
     let j = h .ensures .inside f .value-inside in
-    shows-none (no-path (h .ensures) f (length-right-is 256 (h .result .key) (h .result .kstop) (c .before .before .before .before .before .before .before .before .before .before .before .before .args .x .now) (i .1) (i .2) ∙ sym (c .before .before .before .before .before .before .before .length-right .ensures) ∙ not-false _ (c .before .before .before .before .before .before .if2 .left))
-    (length-right-is 4096 (h .result .value) (h .result .vstop) (c .before .before .before .before .before .before .before .before .before .before .before .before .args .x .now) (j .1) (j .2) ∙ sym (c .before .before .before .before .before .length-right2 .ensures) ∙ not-false _ (c .before .before .before .before .if3 .left)) (c .before .before .before .walk .ensures) (not-true _ (c .before .if4 .taken))) (c .no-shown4 .ensures)
+    shows-none (no-path (h .ensures) f (length-right-is 256 (h .result .key) (h .result .kstop) (start .args .x .now) (i .1) (i .2) ∙ sym (after-length-right .length-right .ensures) ∙ not-false _ (else2 .if2 .left))
+    (length-right-is 4096 (h .result .value) (h .result .vstop) (start .args .x .now) (j .1) (j .2) ∙ sym (after-length-right2 .length-right2 .ensures) ∙ not-false _ (else3 .if3 .left)) (after-walk .walk .ensures) (not-true _ (then4 .if4 .taken))) (c .no-shown4 .ensures)
 
 returns-5 : tie.Need-returns-5
 returns-5 c =
-    let f = not-false _ (c .before .before .before .before .before .before .before .if1 .left) in
-    let h = c .before .before .before .before .before .before .before .before .before .head in
+    let after-walk = c .before .before in
+    let else3 = after-walk .before in
+    let after-length-right2 = else3 .before in
+    let else2 = after-length-right2 .before in
+    let after-length-right = else2 .before in
+    let else1 = after-length-right .before in
+    let start = start-from-else1 else1 in
+    let f = not-false _ (else1 .if1 .left) in
+    let h = else1 .before .before .head in
     let i = h .ensures .inside f .key-inside in
     let j = h .ensures .inside f .value-inside in
-    shows-there (h .ensures) f (length-right-is 256 (h .result .key) (h .result .kstop) (c .before .before .before .before .before .before .before .before .before .before .before .args .x .now) (i .1) (i .2) ∙ sym (c .before .before .before .before .before .before .length-right .ensures) ∙ not-false _ (c .before .before .before .before .before .if2 .left))
-    (length-right-is 4096 (h .result .value) (h .result .vstop) (c .before .before .before .before .before .before .before .before .before .before .before .args .x .now) (j .1) (j .2) ∙ sym (c .before .before .before .before .length-right2 .ensures) ∙ not-false _ (c .before .before .before .if3 .left)) (c .before .before .walk .ensures) (not-false _ (c .if4 .left))
+    shows-there (h .ensures) f (length-right-is 256 (h .result .key) (h .result .kstop) (start .args .x .now) (i .1) (i .2) ∙ sym (after-length-right .length-right .ensures) ∙ not-false _ (else2 .if2 .left))
+    (length-right-is 4096 (h .result .value) (h .result .vstop) (start .args .x .now) (j .1) (j .2) ∙ sym (after-length-right2 .length-right2 .ensures) ∙ not-false _ (else3 .if3 .left)) (after-walk .walk .ensures) (not-false _ (c .if4 .left))
 
 pub existence-spec : {M : Type 1} → statement M
 existence-spec =

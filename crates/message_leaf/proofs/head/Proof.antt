@@ -28,7 +28,10 @@ no-shown-requires-2 c κs = search needs
 
 returns-2 : tie.Need-returns-2
 returns-2 c =
-    heads-none (no-value (c .before .before .before .before .before .before .field .ensures) (not-false _ (c .before .before .before .before .if1 .left)) (c .before .before .before .field2 .ensures) (not-true _ (c .before .if2 .taken))) (c .no-shown2 .ensures)
+    let then2 = c .before in
+    let after-field2 = then2 .before .before in
+    let else1 = after-field2 .before in
+    heads-none (no-value (else1 .before .before .field .ensures) (not-false _ (else1 .if1 .left)) (after-field2 .field2 .ensures) (not-true _ (then2 .if2 .taken))) (c .no-shown2 .ensures)
 
 field-requires-3 : tie.Need-field-requires-3
 field-requires-3 c κs =
@@ -39,7 +42,12 @@ no-shown-requires-3 c κs = search needs
 
 returns-3 : tie.Need-returns-3
 returns-3 c =
-    heads-none (no-op (c .before .before .before .before .before .before .before .before .before .field .ensures) (not-false _ (c .before .before .before .before .before .before .before .if1 .left)) (c .before .before .before .before .before .before .field2 .ensures) (not-false _ (c .before .before .before .before .if2 .left)) (c .before .before .before .field3 .ensures) (not-true _ (c .before .if3 .taken))) (c .no-shown3 .ensures)
+    let then3 = c .before in
+    let after-field3 = then3 .before .before in
+    let else2 = after-field3 .before in
+    let after-field2 = else2 .before .before in
+    let else1 = after-field2 .before in
+    heads-none (no-op (else1 .before .before .field .ensures) (not-false _ (else1 .if1 .left)) (after-field2 .field2 .ensures) (not-false _ (else2 .if2 .left)) (after-field3 .field3 .ensures) (not-true _ (then3 .if3 .taken))) (c .no-shown3 .ensures)
 
 sub-same : tie.Need-sub-same
 sub-same c =
@@ -65,12 +73,29 @@ no-shown-requires-4 c κs = search needs
 returns-4 : tie.Need-returns-4
 unfolding slice
 returns-4 c =
-    heads-none (other-op (all-bytes (c .before .before .before .before .before .before .before .before .before .before .before .before .before .before .before .args .x .now) (λ i. omega (arith, c .before .before .before .before .before .before .before .before .before .before .before .before .before .before .shared-slice-known .given i))) (c .before .before .before .before .before .before .before .before .before .before .before .before .before .field .ensures) (not-false _ (c .before .before .before .before .before .before .before .before .before .before .before .if1 .left)) (c .before .before .before .before .before .before .before .before .before .before .field2 .ensures) (not-false _ (c .before .before .before .before .before .before .before .before .if2 .left)) (c .before .before .before .before .before .before .before .field3 .ensures) (not-false _ (c .before .before .before .before .before .if3 .left)) (sym (c .before .before .same .ensures) ∙ not-true _ (c .before .if4 .taken))) (c .no-shown4 .ensures)
+    let then4 = c .before in
+    let after-same = then4 .before in
+    let else3 = after-same .before .before .before in
+    let after-field3 = else3 .before .before in
+    let else2 = after-field3 .before in
+    let after-field2 = else2 .before .before in
+    let else1 = after-field2 .before in
+    let after-field = else1 .before .before in
+    let after-shared-slice-known = after-field .before in
+    heads-none (other-op (all-bytes (after-shared-slice-known .before .args .x .now) (λ i. omega (arith, after-shared-slice-known .shared-slice-known .given i))) (after-field .field .ensures) (not-false _ (else1 .if1 .left)) (after-field2 .field2 .ensures) (not-false _ (else2 .if2 .left)) (after-field3 .field3 .ensures) (not-false _ (else3 .if3 .left)) (sym (after-same .same .ensures) ∙ not-true _ (then4 .if4 .taken))) (c .no-shown4 .ensures)
 
 returns-5 : tie.Need-returns-5
 unfolding slice
 returns-5 c =
-    heads-there (all-bytes (c .before .before .before .before .before .before .before .before .before .before .before .before .before .before .args .x .now) (λ i. omega (arith, c .before .before .before .before .before .before .before .before .before .before .before .before .before .shared-slice-known .given i))) (c .before .before .before .before .before .before .before .before .before .before .before .before .field .ensures) (not-false _ (c .before .before .before .before .before .before .before .before .before .before .if1 .left)) (c .before .before .before .before .before .before .before .before .before .field2 .ensures) (not-false _ (c .before .before .before .before .before .before .before .if2 .left)) (c .before .before .before .before .before .before .field3 .ensures) (not-false _ (c .before .before .before .before .if3 .left)) (sym (c .before .same .ensures) ∙ not-false _ (c .if4 .left))
+    let after-same = c .before in
+    let else3 = after-same .before .before .before in
+    let after-field3 = else3 .before .before in
+    let else2 = after-field3 .before in
+    let after-field2 = else2 .before .before in
+    let else1 = after-field2 .before in
+    let after-field = else1 .before .before in
+    let after-shared-slice-known = after-field .before in
+    heads-there (all-bytes (after-shared-slice-known .before .args .x .now) (λ i. omega (arith, after-shared-slice-known .shared-slice-known .given i))) (after-field .field .ensures) (not-false _ (else1 .if1 .left)) (after-field2 .field2 .ensures) (not-false _ (else2 .if2 .left)) (after-field3 .field3 .ensures) (not-false _ (else3 .if3 .left)) (sym (after-same .same .ensures) ∙ not-false _ (c .if4 .left))
 
 pub head-spec : {M : Type 1} → statement M
 head-spec =

@@ -24,7 +24,9 @@ no-steps-requires c κs = search needs
 
 returns : tie.Need-returns Inv-loop μ-loop
 returns c =
-    walks-none (path-too-long (c .before .before .before .loop .inv) (c .before .before .loop-test .taken) (c .before .if1 .taken)) (c .no-steps .ensures)
+    let then1 = c .before in
+    let in-loop = then1 .before in
+    walks-none (path-too-long (in-loop .before .loop .inv) (in-loop .loop-test .taken) (then1 .if1 .taken)) (c .no-steps .ensures)
 
 field-requires : tie.Need-field-requires Inv-loop μ-loop
 field-requires c κs =
@@ -35,7 +37,10 @@ no-steps-requires-2 c κs = search needs
 
 returns-2 : tie.Need-returns-2 Inv-loop μ-loop
 returns-2 c =
-    walks-none (path-no-field (c .before .before .before .before .before .before .loop .inv) (c .before .before .before .before .before .loop-test .taken) (c .before .before .before .field .ensures) (not-true _ (c .before .if2 .taken))) (c .no-steps2 .ensures)
+    let then2 = c .before in
+    let after-field = then2 .before .before in
+    let in-loop = after-field .before .before in
+    walks-none (path-no-field (in-loop .before .loop .inv) (in-loop .loop-test .taken) (after-field .field .ensures) (not-true _ (then2 .if2 .taken))) (c .no-steps2 .ensures)
 
 sub-is-step : tie.Need-sub-is-step Inv-loop μ-loop
 sub-is-step c =
@@ -58,7 +63,12 @@ no-steps-requires-3 c κs = search needs
 returns-3 : tie.Need-returns-3 Inv-loop μ-loop
 unfolding slice
 returns-3 c =
-    walks-none (path-no-step (c .before .before .before .before .before .before .before .before .before .loop .inv) (c .before .before .before .before .before .before .before .before .loop-test .taken) (c .before .before .before .before .before .before .field .ensures) (not-false _ (c .before .before .before .before .if2 .left)) (c .before .before .is-step .ensures .no (not-true _ (c .before .if3 .taken)))) (c .no-steps3 .ensures)
+    let then3 = c .before in
+    let after-is-step = then3 .before in
+    let else2 = after-is-step .before .before in
+    let after-field = else2 .before .before in
+    let in-loop = after-field .before .before in
+    walks-none (path-no-step (in-loop .before .loop .inv) (in-loop .loop-test .taken) (after-field .field .ensures) (not-false _ (else2 .if2 .left)) (after-is-step .is-step .ensures .no (not-true _ (then3 .if3 .taken)))) (c .no-steps3 .ensures)
 
 add-count : tie.Need-add-count Inv-loop μ-loop
 add-count c =
@@ -66,13 +76,18 @@ add-count c =
 
 loop-less : tie.Need-loop-less Inv-loop μ-loop
 loop-less c =
-    let i = c .before .before .before .before .before .field .ensures .inside (not-false _ (c .before .before .before .if2 .left)) in omega (arith, i .0, i .1, i .2)
+    let else2 = c .before .before .before in
+    let i = else2 .before .before .field .ensures .inside (not-false _ (else2 .if2 .left)) in omega (arith, i .0, i .1, i .2)
 
 loop-again : tie.Need-loop-again Inv-loop μ-loop
 unfolding slice
 loop-again c =
-    let s = c .before .is-step .ensures .yes (not-false _ (c .if3 .left)) in
-    walk-next (c .before .before .before .before .before .before .before .before .loop .inv) (c .before .before .before .before .before .before .before .loop-test .taken) (omega arith) (c .before .before .before .before .before .field .ensures) (not-false _ (c .before .before .before .if2 .left)) (s .1)
+    let after-is-step = c .before in
+    let else2 = after-is-step .before .before in
+    let after-field = else2 .before .before in
+    let in-loop = after-field .before .before in
+    let s = after-is-step .is-step .ensures .yes (not-false _ (c .if3 .left)) in
+    walk-next (in-loop .before .loop .inv) (in-loop .loop-test .taken) (omega arith) (after-field .field .ensures) (not-false _ (else2 .if2 .left)) (s .1)
 
 returns-4 : tie.Need-returns-4 Inv-loop μ-loop
 returns-4 c =

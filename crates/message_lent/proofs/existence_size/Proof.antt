@@ -25,8 +25,11 @@ add-result-3 c = search needs
 
 returns : tie.Need-returns
 returns c =
-    let a = c .before .before .before .before .args in
-    existence-sum (a .key) (a .value) (c .before .before .field-size .result) (c .before .field-size2 .result) (c .path-size .result) (presenceIn (a .p .now)) (c .before .before .field-size .ensures) (c .before .field-size2 .ensures) (c .path-size .ensures) (c .before .before .before .before .pre .1) (c .before .before .before .before .pre .2)
+    let after-field-size2 = c .before in
+    let after-field-size = after-field-size2 .before in
+    let start = after-field-size .before .before in
+    let a = start .args in
+    existence-sum (a .key) (a .value) (after-field-size .field-size .result) (after-field-size2 .field-size2 .result) (c .path-size .result) (presenceIn (a .p .now)) (after-field-size .field-size .ensures) (after-field-size2 .field-size2 .ensures) (c .path-size .ensures) (start .pre .1) (start .pre .2)
 
 pub existence-size-spec : {M : Type 1} → statement M
 existence-size-spec =

@@ -28,8 +28,11 @@ same-hash-requires c κs = search needs
 returns-3 : tie.Need-returns-3
 unfolding slice
 returns-3 c =
-    let a = c .before .before .before .before .before .before .before .args in
-    c .same-hash .ensures ∙ ap₂ sameBytes (c .before .before .digest .ensures) (c .before .hash-at .ensures .1) ∙ raw-hashes (a .most) (a .x .now) (slice (a .at) 32 (a .proof .now)) (c .before .before .before .before .if1 .left) (omega arith)
+    let after-hash-at = c .before in
+    let after-digest = after-hash-at .before in
+    let else1 = after-digest .before .before in
+    let a = else1 .before .before .before .args in
+    c .same-hash .ensures ∙ ap₂ sameBytes (after-digest .digest .ensures) (after-hash-at .hash-at .ensures .1) ∙ raw-hashes (a .most) (a .x .now) (slice (a .at) 32 (a .proof .now)) (else1 .if1 .left) (omega arith)
 
 pub hashes-to-spec : {M : Type 1} → statement M
 hashes-to-spec =

@@ -8,23 +8,30 @@ use native.Mathlib.Omega.{arith}
 use Rattle.message_lent.proofs.leaf_fits.Statement.{statement}
 use Rattle.message_lent.proofs.leaf_fits.Tie as tie
 
+-- `A-from-B` is the state A as the later state B has it.
+abbrev start-from-hashes-to : tie.After-hashes-to → tie.Start
+start-from-hashes-to c = c .before .before .before .before
+
 hashes-to-requires : tie.Need-hashes-to-requires
 hashes-to-requires c κs =
-    omega (arith, presence-whole (c .before .before .before .args .p .now) (c .before .before .before .pre))
+    let start = c .before .before .before in
+    omega (arith, presence-whole (start .args .p .now) (start .pre))
 
 returns : tie.Need-returns
 unfolding presenceIn
-returns c =
-    let a = c .before .before .before .before .before .args in leaf-off (a .key .now) (a .value .now) (presenceIn (a .p .now)) (sym (c .before .hashes-to .ensures) ∙ not-true _ (c .if1 .taken))
+returns c = let a = start-from-hashes-to (c .before) .args in leaf-off (a .key .now) (a .value .now) (presenceIn (a .p .now)) (sym (c .before .hashes-to .ensures) ∙ not-true _ (c .if1 .taken))
 
 hashes-to-requires-2 : tie.Need-hashes-to-requires-2
 hashes-to-requires-2 c κs =
-    omega (arith, presence-whole (c .before .before .before .before .before .args .p .now) (c .before .before .before .before .before .pre))
+    let start = start-from-hashes-to (c .before) in
+    omega (arith, presence-whole (start .args .p .now) (start .pre))
 
 returns-2 : tie.Need-returns-2
 unfolding presenceIn
 returns-2 c =
-    let a = c .before .before .before .before .before .before .args in leaf-on (a .key .now) (a .value .now) (presenceIn (a .p .now)) (sym (c .before .before .hashes-to .ensures) ∙ not-false _ (c .before .if1 .left)) (c .hashes-to2 .ensures)
+    let else1 = c .before in
+    let after-hashes-to = else1 .before in
+    let a = start-from-hashes-to after-hashes-to .args in leaf-on (a .key .now) (a .value .now) (presenceIn (a .p .now)) (sym (after-hashes-to .hashes-to .ensures) ∙ not-false _ (else1 .if1 .left)) (c .hashes-to2 .ensures)
 
 pub leaf-fits-spec : {M : Type 1} → statement M
 leaf-fits-spec =

@@ -14,15 +14,18 @@ returns c =
 
 existence-size-requires : tie.Need-existence-size-requires
 existence-size-requires c κs =
-    (c .before .before .pre .0 (c .if1 .left), c .before .before .pre .1 (c .if1 .left) .0, c .before .before .pre .1 (c .if1 .left) .1)
+    let start = c .before .before in
+    (start .pre .0 (c .if1 .left), start .pre .1 (c .if1 .left) .0, start .pre .1 (c .if1 .left) .1)
 
 field-size-requires : tie.Need-field-size-requires
 field-size-requires c κs = search needs
 
 returns-2 : tie.Need-returns-2
 returns-2 c =
-    let a = c .before .before .before .before .args in
-    (c .field-size .ensures .0 ∙ ap fieldLength (c .before .existence-size .ensures .0) ∙ sym (ap (neighbourLength (a .key) (a .value)) (somebody-is (a .p .now) (c .before .before .if1 .left))), omega (arith, c .field-size .ensures .1, c .before .existence-size .ensures .1))
+    let after-existence-size = c .before in
+    let else1 = after-existence-size .before in
+    let a = else1 .before .before .args in
+    (c .field-size .ensures .0 ∙ ap fieldLength (after-existence-size .existence-size .ensures .0) ∙ sym (ap (neighbourLength (a .key) (a .value)) (somebody-is (a .p .now) (else1 .if1 .left))), omega (arith, c .field-size .ensures .1, after-existence-size .existence-size .ensures .1))
 
 pub neighbour-size-spec : {M : Type 1} → statement M
 neighbour-size-spec =

@@ -33,14 +33,17 @@ add-at c = omega arith
 
 shared-slice-read-step-size : tie.Need-shared-slice-read-step-size Inv-loop μ-loop
 shared-slice-read-step-size c =
-    omega (arith, presence-whole (c .before .before .before .before .before .args .p .now) (c .before .before .before .before .before .pre), count-read (c .before .before .before .before .before .args .p .now) (c .before .before .before .get-u16 .result) (c .before .before .before .get-u16 .ensures))
+    let after-get-u16 = c .before .before .before in
+    let start = after-get-u16 .before .before in
+    omega (arith, presence-whole (start .args .p .now) (start .pre), count-read (start .args .p .now) (after-get-u16 .get-u16 .result) (after-get-u16 .get-u16 .ensures))
 
 step-size-requires : tie.Need-step-size-requires Inv-loop μ-loop
 step-size-requires c κs = search needs
 
 add-size : tie.Need-add-size Inv-loop μ-loop
 add-size c =
-    omega (arith, c .before .before .before .loop .inv .few, c .before .before .before .loop .inv .within, c .step-size .ensures .1)
+    let at-loop = c .before .before .before in
+    omega (arith, at-loop .loop .inv .few, at-loop .loop .inv .within, c .step-size .ensures .1)
 
 add-i : tie.Need-add-i Inv-loop μ-loop
 add-i c = omega arith
@@ -50,12 +53,19 @@ loop-less c = omega arith
 
 loop-again : tie.Need-loop-again Inv-loop μ-loop
 loop-again c =
-    sizing-next (c .before .before .before .loop .inv) (c .before .before .loop-test .taken) (omega (arith, presence-whole (c .before .before .before .before .before .before .args .p .now) (c .before .before .before .before .before .before .pre), count-read (c .before .before .before .before .before .before .args .p .now) (c .before .before .before .before .get-u16 .result) (c .before .before .before .before .get-u16 .ensures))) (c .step-size .ensures .0)
+    let in-loop = c .before .before in
+    let at-loop = in-loop .before in
+    let after-get-u16 = at-loop .before in
+    let start = after-get-u16 .before .before in
+    sizing-next (at-loop .loop .inv) (in-loop .loop-test .taken) (omega (arith, presence-whole (start .args .p .now) (start .pre), count-read (start .args .p .now) (after-get-u16 .get-u16 .result) (after-get-u16 .get-u16 .ensures))) (c .step-size .ensures .0)
 
 returns : tie.Need-returns Inv-loop μ-loop
 returns c =
-    let e = count-read (c .before .before .before .before .args .p .now) (c .before .before .get-u16 .result) (c .before .before .get-u16 .ensures) in
-    sizing-done (c .before .loop .inv) (c .loop-test .left) (omega (arith, few-steps (c .before .before .before .before .args .p .now) (c .before .before .before .before .pre))) e
+    let at-loop = c .before in
+    let after-get-u16 = at-loop .before in
+    let start = after-get-u16 .before .before in
+    let e = count-read (start .args .p .now) (after-get-u16 .get-u16 .result) (after-get-u16 .get-u16 .ensures) in
+    sizing-done (at-loop .loop .inv) (c .loop-test .left) (omega (arith, few-steps (start .args .p .now) (start .pre))) e
 
 pub path-size-spec : {M : Type 1} → statement M
 path-size-spec =

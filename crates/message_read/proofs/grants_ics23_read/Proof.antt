@@ -17,43 +17,58 @@ enum-told c = search needs
 enum-known-what : tie.Need-enum-known-what
 enum-known-what c = search needs
 
+-- `A-from-B` is the state A as the later state B has it.
+abbrev start-from-says : tie.After-says → tie.Start
+start-from-says c = c .before .before .before
+
 read-presence-requires : tie.Need-read-presence-requires
 read-presence-requires c κs =
-    let a = c .before .before .before .before .before .before .before .before .args in
-    let e = c .before .before .before .before .before .says .ensures .is ∙ ap (proofAt (a .message .now)) (c .before .before .before .what .given .1) in
-    (subst (Placed (a .message .now)) (c .before .before .before .what .given .1) (c .before .before .before .before .before .says .ensures .placed), short (encodes (all-bytes (a .message .now) (λ i. omega (arith, c .before .before .before .before .before .before .before .shared-slice-known .given i))) e))
+    let after-what = c .before .before .before in
+    let after-says = after-what .before .before in
+    let a = start-from-says after-says .args in
+    let e = after-says .says .ensures .is ∙ ap (proofAt (a .message .now)) (after-what .what .given .1) in
+    (subst (Placed (a .message .now)) (after-what .what .given .1) (after-says .says .ensures .placed), short (encodes (all-bytes (a .message .now) (λ i. omega (arith, after-says .before .before .shared-slice-known .given i))) e))
 
 enum-known-what-2 : tie.Need-enum-known-what-2
 enum-known-what-2 c = search needs
 
 read-absence-requires : tie.Need-read-absence-requires
 read-absence-requires c κs =
-    let a = c .before .before .before .before .before .before .before .before .args in
-    let e = c .before .before .before .before .before .says .ensures .is ∙ ap (proofAt (a .message .now)) (c .before .before .before .what2 .given .1) in
-    (subst (Placed (a .message .now)) (c .before .before .before .what2 .given .1) (c .before .before .before .before .before .says .ensures .placed), short (encodes (all-bytes (a .message .now) (λ i. omega (arith, c .before .before .before .before .before .before .before .shared-slice-known .given i))) e))
+    let after-what2 = c .before .before .before in
+    let after-says = after-what2 .before .before in
+    let a = start-from-says after-says .args in
+    let e = after-says .says .ensures .is ∙ ap (proofAt (a .message .now)) (after-what2 .what2 .given .1) in
+    (subst (Placed (a .message .now)) (after-what2 .what2 .given .1) (after-says .says .ensures .placed), short (encodes (all-bytes (a .message .now) (λ i. omega (arith, after-says .before .before .shared-slice-known .given i))) e))
 
 returns : tie.Need-returns
 returns c =
-    let a = c .before .before .before .before .before .args in
-    reads-nothing (all-bytes (a .message .now) (λ i. omega (arith, c .before .before .before .before .shared-slice-known .given i))) (c .before .before .says .ensures .is ∙ ap (proofAt (a .message .now)) (c .enum-told .given .1))
+    let after-says = c .before .before in
+    let a = start-from-says after-says .args in
+    reads-nothing (all-bytes (a .message .now) (λ i. omega (arith, after-says .before .before .shared-slice-known .given i))) (after-says .says .ensures .is ∙ ap (proofAt (a .message .now)) (c .enum-told .given .1))
 
 same-length : tie.Need-same-length
 same-length c = search needs
 
 returns-2 : tie.Need-returns-2
 returns-2 c =
-    let a = c .before .before .before .before .before .before .before .before .before .before .before .args in
-    let e = c .before .before .before .before .before .before .before .before .says .ensures .is ∙ ap (proofAt (a .message .now)) (c .before .before .before .before .before .before .what .given .1) in
-    reads-as (encodes (all-bytes (a .message .now) (λ i. omega (arith, c .before .before .before .before .before .before .before .before .before .before .shared-slice-known .given i))) e) (c .before .before .read-presence .ensures)
+    let after-read-presence = c .before .before in
+    let after-what = after-read-presence .before .before .before .before in
+    let after-says = after-what .before .before in
+    let a = start-from-says after-says .args in
+    let e = after-says .says .ensures .is ∙ ap (proofAt (a .message .now)) (after-what .what .given .1) in
+    reads-as (encodes (all-bytes (a .message .now) (λ i. omega (arith, after-says .before .before .shared-slice-known .given i))) e) (after-read-presence .read-presence .ensures)
 
 same-length-2 : tie.Need-same-length-2
 same-length-2 c = search needs
 
 returns-3 : tie.Need-returns-3
 returns-3 c =
-    let a = c .before .before .before .before .before .before .before .before .before .before .before .args in
-    let e = c .before .before .before .before .before .before .before .before .says .ensures .is ∙ ap (proofAt (a .message .now)) (c .before .before .before .before .before .before .what2 .given .1) in
-    reads-as (encodes (all-bytes (a .message .now) (λ i. omega (arith, c .before .before .before .before .before .before .before .before .before .before .shared-slice-known .given i))) e) (c .before .before .read-absence .ensures)
+    let after-read-absence = c .before .before in
+    let after-what2 = after-read-absence .before .before .before .before in
+    let after-says = after-what2 .before .before in
+    let a = start-from-says after-says .args in
+    let e = after-says .says .ensures .is ∙ ap (proofAt (a .message .now)) (after-what2 .what2 .given .1) in
+    reads-as (encodes (all-bytes (a .message .now) (λ i. omega (arith, after-says .before .before .shared-slice-known .given i))) e) (after-read-absence .read-absence .ensures)
 
 pub grants-ics23-read-spec : {M : Type 1} → statement M
 grants-ics23-read-spec =

@@ -12,30 +12,37 @@ cast-put-u32 c = search needs
 put-u32-requires : tie.Need-put-u32-requires
 put-u32-requires c κs = search needs
 
+-- `A-from-B` is the state A as the later state B has it.
+abbrev start-from-put-spot : tie.After-put-spot → tie.Start
+start-from-put-spot c = c .before .before .before .before
+
+abbrev start-from-put-spot2 : tie.After-put-spot2 → tie.Start
+start-from-put-spot2 c = start-from-put-spot (c .before .before)
+
 put-spot-requires : tie.Need-put-spot-requires
 put-spot-requires c κs =
     (omega arith, c .before .before .before .pre .0 .1)
 
 put-spot-requires-2 : tie.Need-put-spot-requires-2
-put-spot-requires-2 c κs =
-    (omega arith, c .before .before .before .before .before .pre .1 .0 .key-bounds)
+put-spot-requires-2 c κs = (omega arith, start-from-put-spot (c .before) .pre .1 .0 .key-bounds)
 
 put-spot-requires-3 : tie.Need-put-spot-requires-3
-put-spot-requires-3 c κs =
-    (omega arith, c .before .before .before .before .before .before .before .pre .1 .0 .value-bounds)
+put-spot-requires-3 c κs = (omega arith, start-from-put-spot2 (c .before) .pre .1 .0 .value-bounds)
 
 put-spot-requires-4 : tie.Need-put-spot-requires-4
-put-spot-requires-4 c κs =
-    (omega arith, c .before .before .before .before .before .before .before .before .before .pre .1 .1 .key-bounds)
+put-spot-requires-4 c κs = (omega arith, start-from-put-spot2 (c .before .before .before) .pre .1 .1 .key-bounds)
 
 put-spot-requires-5 : tie.Need-put-spot-requires-5
-put-spot-requires-5 c κs =
-    (omega arith, c .before .before .before .before .before .before .before .before .before .before .before .pre .1 .1 .value-bounds)
+put-spot-requires-5 c κs = (omega arith, start-from-put-spot2 (c .before .before .before .before .before) .pre .1 .1 .value-bounds)
 
 returns : tie.Need-returns
 returns c =
-    let a = c .before .before .before .before .before .before .before .before .before .before .before .before .args in
-    answer-put (a .size) (a .key) (a .first .key) (a .first .value) (a .second .key) (a .second .value) (a .stop - a .key) (a .first .kstop - a .first .key) (a .first .vstop - a .first .value) (a .second .kstop - a .second .key) (a .second .vstop - a .second .value) (a .answer .now) (c .before .before .before .before .before .before .before .before .before .before .put-u32 .last .0) (c .before .before .before .before .before .before .before .before .put-spot .last .0) (c .before .before .before .before .before .before .put-spot2 .last .0) (c .before .before .before .before .put-spot3 .last .0) (c .before .before .put-spot4 .last .0) (c .put-spot5 .last .0) (search needs) (c .before .before .before .before .before .before .before .before .before .before .put-u32 .ensures) (c .before .before .before .before .before .before .before .before .put-spot .ensures) (c .before .before .before .before .before .before .put-spot2 .ensures) (c .before .before .before .before .put-spot3 .ensures) (c .before .before .put-spot4 .ensures) (c .put-spot5 .ensures)
+    let after-put-spot4 = c .before .before in
+    let after-put-spot3 = after-put-spot4 .before .before in
+    let after-put-spot2 = after-put-spot3 .before .before in
+    let after-put-spot = after-put-spot2 .before .before in
+    let a = start-from-put-spot after-put-spot .args in
+    answer-put (a .size) (a .key) (a .first .key) (a .first .value) (a .second .key) (a .second .value) (a .stop - a .key) (a .first .kstop - a .first .key) (a .first .vstop - a .first .value) (a .second .kstop - a .second .key) (a .second .vstop - a .second .value) (a .answer .now) (after-put-spot .before .before .put-u32 .last .0) (after-put-spot .put-spot .last .0) (after-put-spot2 .put-spot2 .last .0) (after-put-spot3 .put-spot3 .last .0) (after-put-spot4 .put-spot4 .last .0) (c .put-spot5 .last .0) (search needs) (after-put-spot .before .before .put-u32 .ensures) (after-put-spot .put-spot .ensures) (after-put-spot2 .put-spot2 .ensures) (after-put-spot3 .put-spot3 .ensures) (after-put-spot4 .put-spot4 .ensures) (c .put-spot5 .ensures)
 
 pub put-answer-spec : {M : Type 1} → statement M
 put-answer-spec =

@@ -9,23 +9,29 @@ use Rattle.message_read.proofs.put_leaves.Tie as tie
 
 put-answer-requires : tie.Need-put-answer-requires
 put-answer-requires c κs =
-    let h = c .before .before .before .before .before .pre .0 in
-    let l = c .before .before .before .before .before .pre .1 .0 in
-    ((c .before .before .before .before .before .pre .1 .1, key-bounds h l), (left-bounded h l, right-bounded h l))
+    let start = c .before .before .before .before .before in
+    let h = start .pre .0 in
+    let l = start .pre .1 .0 in
+    ((start .pre .1 .1, key-bounds h l), (left-bounded h l, right-bounded h l))
 
 returns : tie.Need-returns
 returns c =
-    c .put-answer .ensures ∙ ap (λ s. le 4 (c .before .before .before .before .before .before .args .size) ++ spotsBytes s) (sym (spots-with-left (c .before .before .before .before .before .before .pre .0) (c .before .before .if1 .taken)))
+    let then1 = c .before .before in
+    let start = then1 .before .before .before .before in
+    c .put-answer .ensures ∙ ap (λ s. le 4 (start .args .size) ++ spotsBytes s) (sym (spots-with-left (start .pre .0) (then1 .if1 .taken)))
 
 put-answer-requires-2 : tie.Need-put-answer-requires-2
 put-answer-requires-2 c κs =
-    let h = c .before .before .before .before .before .pre .0 in
-    let l = c .before .before .before .before .before .pre .1 .0 in
-    ((c .before .before .before .before .before .pre .1 .1, key-bounds h l), (right-bounded h l, left-bounded h l))
+    let start = c .before .before .before .before .before in
+    let h = start .pre .0 in
+    let l = start .pre .1 .0 in
+    ((start .pre .1 .1, key-bounds h l), (right-bounded h l, left-bounded h l))
 
 returns-2 : tie.Need-returns-2
 returns-2 c =
-    c .put-answer2 .ensures ∙ ap (λ s. le 4 (c .before .before .before .before .before .before .args .size) ++ spotsBytes s) (sym (spots-without-left (c .before .before .before .before .before .before .pre .0) (c .before .before .if1 .left)))
+    let else1 = c .before .before in
+    let start = else1 .before .before .before .before in
+    c .put-answer2 .ensures ∙ ap (λ s. le 4 (start .args .size) ++ spotsBytes s) (sym (spots-without-left (start .pre .0) (else1 .if1 .left)))
 
 pub put-leaves-spec : {M : Type 1} → statement M
 put-leaves-spec =

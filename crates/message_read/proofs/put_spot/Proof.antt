@@ -28,7 +28,10 @@ same-length c = search needs
 
 returns : tie.Need-returns
 returns c =
-    spot-put (c .before .before .before .before .before .before .before .before .before .args .at) (c .before .before .before .before .before .before .before .before .before .args .from) (c .before .before .before .before .before .before .before .before .before .args .end - c .before .before .before .before .before .before .before .before .before .args .from) (c .before .before .before .before .before .before .before .before .before .args .answer .now) (c .before .before .before .before .before .before .put-u32 .last .0) (c .before .before .put-u322 .last .0) (c .before .before .before .before .before .before .before .before .before .pre .0) (c .before .before .before .before .before .before .put-u32 .ensures) (c .before .before .put-u322 .ensures)
+    let after-put-u322 = c .before .before in
+    let after-put-u32 = after-put-u322 .before .before .before .before in
+    let start = after-put-u32 .before .before .before in
+    spot-put (start .args .at) (start .args .from) (start .args .end - start .args .from) (start .args .answer .now) (after-put-u32 .put-u32 .last .0) (after-put-u322 .put-u322 .last .0) (start .pre .0) (after-put-u32 .put-u32 .ensures) (after-put-u322 .put-u322 .ensures)
 
 pub put-spot-spec : {M : Type 1} → statement M
 put-spot-spec =

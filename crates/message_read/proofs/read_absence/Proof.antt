@@ -13,30 +13,42 @@ use borrow.Author.Needs.{needs}
 use Rattle.message_read.proofs.read_absence.Statement.{statement}
 use Rattle.message_read.proofs.read_absence.Tie as tie
 
+-- `A-from-B` is the state A as the later state B has it.
+abbrev start-from-absence-size : tie.After-absence-size → tie.Start
+start-from-absence-size c = c .before .before .before
+
 absence-size-requires : tie.Need-absence-size-requires
 absence-size-requires c κs =
     absent-few (c .before .before .pre .0)
 
 returns : tie.Need-returns
-returns c =
-    reads-no-room (omega (arith, absent-long (c .before .before .before .before .pre .0), c .before .absence-size .ensures, c .if1 .taken))
+returns c = reads-no-room (omega (arith, absent-long (start-from-absence-size (c .before) .pre .0), c .before .absence-size .ensures, c .if1 .taken))
 
 put-absence-requires : tie.Need-put-absence-requires
 put-absence-requires c κs =
-    (absent-ready (c .before .before .before .before .before .pre .0), omega (arith, c .before .before .absence-size .ensures, c .before .if1 .left))
+    let else1 = c .before in
+    let after-absence-size = else1 .before in
+    (absent-ready (start-from-absence-size after-absence-size .pre .0), omega (arith, after-absence-size .absence-size .ensures, else1 .if1 .left))
 
 put-leaves-requires : tie.Need-put-leaves-requires
 put-leaves-requires c κs =
-    (c .before .before .before .before .before .before .before .before .before .pre .0, (c .before .before .before .before .before .before .before .before .before .pre .1, omega (arith, c .before .before .before .before .before .before .absence-size .ensures, absent-small (c .before .before .before .before .before .before .before .before .before .pre .0))))
+    let after-put-absence = c .before .before .before in
+    let after-absence-size = after-put-absence .before .before .before in
+    let start = start-from-absence-size after-absence-size in
+    (start .pre .0, (start .pre .1, omega (arith, after-absence-size .absence-size .ensures, absent-small (start .pre .0))))
 
 same-length : tie.Need-same-length
 same-length c = search needs
 
 returns-2 : tie.Need-returns-2
 returns-2 c =
-    let n = absent-long (c .before .before .before .before .before .before .before .before .before .before .pre .0) in
-    reads-there (omega (arith, n, c .before .before .before .before .before .before .before .absence-size .ensures, c .before .before .before .before .before .before .if1 .left)) (c .before .before .before .before .put-absence .ensures)
-    (c .put-leaves .ensures ∙ ap (λ u. le 4 u ++ spotsBytes (spotsIn (absence (absentAt (c .before .before .before .before .before .before .before .before .before .before .args .m .now) (c .before .before .before .before .before .before .before .before .before .before .args .a))))) (c .before .before .before .before .before .before .before .absence-size .ensures ∙ sym n))
+    let after-put-absence = c .before .before .before .before in
+    let else1 = after-put-absence .before .before in
+    let after-absence-size = else1 .before in
+    let start = start-from-absence-size after-absence-size in
+    let n = absent-long (start .pre .0) in
+    reads-there (omega (arith, n, after-absence-size .absence-size .ensures, else1 .if1 .left)) (after-put-absence .put-absence .ensures)
+    (c .put-leaves .ensures ∙ ap (λ u. le 4 u ++ spotsBytes (spotsIn (absence (absentAt (start .args .m .now) (start .args .a))))) (after-absence-size .absence-size .ensures ∙ sym n))
 
 pub read-absence-spec : {M : Type 1} → statement M
 read-absence-spec =

@@ -11,34 +11,48 @@ use borrow.Author.Needs.{needs}
 use Rattle.message_read.proofs.read_presence.Statement.{statement}
 use Rattle.message_read.proofs.read_presence.Tie as tie
 
+-- `A-from-B` is the state A as the later state B has it.
+abbrev start-from-presence-size : tie.After-presence-size → tie.Start
+start-from-presence-size c = c .before .before .before
+
 presence-size-requires : tie.Need-presence-size-requires
 presence-size-requires c κs =
     few-steps (held-ready (c .before .before .pre .0))
 
 returns : tie.Need-returns
-returns c =
-    reads-no-room (omega (arith, length-own (held-ready (c .before .before .before .before .pre .0)), c .before .presence-size .ensures, c .if1 .taken))
+returns c = reads-no-room (omega (arith, length-own (held-ready (start-from-presence-size (c .before) .pre .0)), c .before .presence-size .ensures, c .if1 .taken))
 
 put-presence-requires : tie.Need-put-presence-requires
 put-presence-requires c κs =
-    (held-ready (c .before .before .before .before .before .pre .0), omega (arith, c .before .before .presence-size .ensures, c .before .if1 .left))
+    let else1 = c .before in
+    let after-presence-size = else1 .before in
+    (held-ready (start-from-presence-size after-presence-size .pre .0), omega (arith, after-presence-size .presence-size .ensures, else1 .if1 .left))
 
 no-shown-requires : tie.Need-no-shown-requires
 no-shown-requires c κs = search needs
 
 put-answer-requires : tie.Need-put-answer-requires
 put-answer-requires c κs =
-    let b = bounded (c .before .before .before .before .before .before .before .before .before .before .pre .0) (c .before .before .before .before .before .before .before .before .before .before .pre .1) in
-    ((omega (arith, c .before .before .before .before .before .before .before .presence-size .ensures, few-steps (held-ready (c .before .before .before .before .before .before .before .before .before .before .pre .0))), b .key-bounds), (b, nothing-bounded (c .before .no-shown .ensures)))
+    let after-no-shown = c .before in
+    let after-put-presence = after-no-shown .before .before .before in
+    let after-presence-size = after-put-presence .before .before .before in
+    let start = start-from-presence-size after-presence-size in
+    let b = bounded (start .pre .0) (start .pre .1) in
+    ((omega (arith, after-presence-size .presence-size .ensures, few-steps (held-ready (start .pre .0))), b .key-bounds), (b, nothing-bounded (after-no-shown .no-shown .ensures)))
 
 same-length : tie.Need-same-length
 same-length c = search needs
 
 returns-2 : tie.Need-returns-2
 returns-2 c =
-    let n = length-own (held-ready (c .before .before .before .before .before .before .before .before .before .before .before .pre .0)) in
-    reads-there (omega (arith, n, c .before .before .before .before .before .before .before .before .presence-size .ensures, c .before .before .before .before .before .before .before .if1 .left)) (c .before .before .before .before .before .put-presence .ensures)
-    (c .put-answer .ensures ∙ ap₂ (λ u v. le 4 u ++ spotsBytes v) (c .before .before .before .before .before .before .before .before .presence-size .ensures ∙ sym n) (sym (presence-spots (c .before .before .before .before .before .before .before .before .before .before .before .pre .0) (c .before .before .no-shown .ensures))))
+    let after-no-shown = c .before .before in
+    let after-put-presence = after-no-shown .before .before .before in
+    let else1 = after-put-presence .before .before in
+    let after-presence-size = else1 .before in
+    let start = start-from-presence-size after-presence-size in
+    let n = length-own (held-ready (start .pre .0)) in
+    reads-there (omega (arith, n, after-presence-size .presence-size .ensures, else1 .if1 .left)) (after-put-presence .put-presence .ensures)
+    (c .put-answer .ensures ∙ ap₂ (λ u v. le 4 u ++ spotsBytes v) (after-presence-size .presence-size .ensures ∙ sym n) (sym (presence-spots (start .pre .0) (after-no-shown .no-shown .ensures))))
 
 pub read-presence-spec : {M : Type 1} → statement M
 read-presence-spec =

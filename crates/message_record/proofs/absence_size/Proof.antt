@@ -11,16 +11,22 @@ use Rattle.message_record.proofs.absence_size.Tie as tie
 neighbour-size-requires : tie.Need-neighbour-size-requires
 neighbour-size-requires c κs = search needs
 
+-- `A-from-B` is the state A as the later state B has it.
+abbrev start-from-neighbour-size : tie.After-neighbour-size → tie.Start
+start-from-neighbour-size c = c .before .before .before
+
 add-result : tie.Need-add-result
 add-result c =
-    omega (arith, c .neighbour-size .ensures, few-size (c .before .before .before .args .a .left) (c .before .before .before .pre .0))
+    let start = start-from-neighbour-size c in
+    omega (arith, c .neighbour-size .ensures, few-size (start .args .a .left) (start .pre .0))
 
 neighbour-size-requires-2 : tie.Need-neighbour-size-requires-2
 neighbour-size-requires-2 c κs = search needs
 
 add-result-2 : tie.Need-add-result-2
 add-result-2 c =
-    omega (arith, c .before .neighbour-size .ensures, c .neighbour-size2 .ensures, few-size (c .before .before .before .before .args .a .left) (c .before .before .before .before .pre .0), few-size (c .before .before .before .before .args .a .right) (c .before .before .before .before .pre .1))
+    let start = start-from-neighbour-size (c .before) in
+    omega (arith, c .before .neighbour-size .ensures, c .neighbour-size2 .ensures, few-size (start .args .a .left) (start .pre .0), few-size (start .args .a .right) (start .pre .1))
 
 returns : tie.Need-returns
 unfolding absentSize

@@ -23,53 +23,83 @@ flag-requires c κs = search needs
 flag-requires-2 : tie.Need-flag-requires-2
 flag-requires-2 c κs = search needs
 
+-- `A-from-B` is the state A as the later state B has it.
+abbrev put-u32-from-put-u16 : tie.After-put-u16 → tie.After-put-u32
+put-u32-from-put-u16 c = c .before .before .before .before
+
+abbrev start-from-flag : tie.After-flag → tie.Start
+start-from-flag c = c .before .before .before .before .before
+
+abbrev start-from-flag2 : tie.After-flag2 → tie.Start
+start-from-flag2 c = start-from-flag (c .before)
+
+abbrev start-from-neighbour-size : tie.After-neighbour-size → tie.Start
+start-from-neighbour-size c = start-from-flag2 (c .before .before)
+
+abbrev start-from-put-u32 : tie.After-put-u32 → tie.Start
+start-from-put-u32 c = start-from-neighbour-size (c .before .before)
+
+abbrev start-from-put-u16 : tie.After-put-u16 → tie.Start
+start-from-put-u16 c = start-from-put-u32 (c .before .before .before .before)
+
+abbrev start-from-put-u162 : tie.After-put-u162 → tie.Start
+start-from-put-u162 c = start-from-put-u16 (c .before .before .before .before)
+
 add-flags : tie.Need-add-flags
 add-flags c =
-    omega (arith, c .before .flag .ensures, c .flag2 .ensures, few-flags (c .before .before .before .before .before .before .args .a .left) 1, few-flags (c .before .before .before .before .before .before .args .a .right) 2)
+    let start = start-from-flag2 c in
+    omega (arith, c .before .flag .ensures, c .flag2 .ensures, few-flags (start .args .a .left) 1, few-flags (start .args .a .right) 2)
 
 absence-size-requires : tie.Need-absence-size-requires
 absence-size-requires c κs =
-    (c .before .before .before .before .before .before .pre .0 .left-ready .few, c .before .before .before .before .before .before .pre .0 .right-ready .few)
+    let start = start-from-flag2 c in
+    (start .pre .0 .left-ready .few, start .pre .0 .right-ready .few)
 
 neighbour-size-requires : tie.Need-neighbour-size-requires
-neighbour-size-requires c κs =
-    c .before .before .before .before .before .before .before .pre .0 .left-ready .few
+neighbour-size-requires c κs = start-from-flag2 (c .before) .pre .0 .left-ready .few
 
 add-after : tie.Need-add-after
-add-after c =
-    omega (arith, c .neighbour-size .ensures, few-bytes (c .before .before .before .before .before .before .before .before .pre .0 .left-ready))
+add-after c = omega (arith, c .neighbour-size .ensures, few-bytes (start-from-neighbour-size c .pre .0 .left-ready))
 
 cast-put-u32 : tie.Need-cast-put-u32
 cast-put-u32 c =
-    omega (arith, c .before .before .absence-size .ensures, size-is (c .before .before .before .before .before .before .before .before .before .args .a), few-bytes (c .before .before .before .before .before .before .before .before .before .pre .0 .left-ready), few-bytes (c .before .before .before .before .before .before .before .before .before .pre .0 .right-ready))
+    let start = start-from-neighbour-size (c .before) in
+    omega (arith, c .before .before .absence-size .ensures, size-is (start .args .a), few-bytes (start .pre .0 .left-ready), few-bytes (start .pre .0 .right-ready))
 
 put-u32-requires : tie.Need-put-u32-requires
 put-u32-requires c κs =
-    omega (arith, size-is (c .before .before .before .before .before .before .before .before .before .args .a), c .before .before .before .before .before .before .before .before .before .pre .1)
+    let start = start-from-neighbour-size (c .before) in
+    omega (arith, size-is (start .args .a), start .pre .1)
 
 put-u16-requires : tie.Need-put-u16-requires
 put-u16-requires c κs =
-    omega (arith, size-is (c .before .before .before .before .before .before .before .before .before .before .before .before .before .args .a), c .before .before .before .before .before .before .before .before .before .before .before .before .before .pre .1, c .before .before .before .put-u32 .kept .0)
+    let after-put-u32 = c .before .before .before in
+    let start = start-from-put-u32 after-put-u32 in
+    omega (arith, size-is (start .args .a), start .pre .1, after-put-u32 .put-u32 .kept .0)
 
 put-u16-requires-2 : tie.Need-put-u16-requires-2
 put-u16-requires-2 c κs =
-    omega (arith, size-is (c .before .before .before .before .before .before .before .before .before .before .before .before .before .before .before .before .before .args .a), c .before .before .before .before .before .before .before .before .before .before .before .before .before .before .before .before .before .pre .1, c .before .before .before .before .before .before .before .put-u32 .kept .0, c .before .before .before .put-u16 .kept .0)
+    let after-put-u16 = c .before .before .before in
+    let start = start-from-put-u16 after-put-u16 in
+    omega (arith, size-is (start .args .a), start .pre .1, put-u32-from-put-u16 after-put-u16 .put-u32 .kept .0, after-put-u16 .put-u16 .kept .0)
 
 sub-put-digest : tie.Need-sub-put-digest
-sub-put-digest c =
-    omega (arith, c .before .before .before .before .before .before .before .before .before .before .before .before .before .before .before .before .before .before .before .before .before .pre .0 .key-in .0)
+sub-put-digest c = omega (arith, start-from-put-u162 (c .before .before .before) .pre .0 .key-in .0)
 
 part-put-digest-start : tie.Need-part-put-digest-start
 part-put-digest-start c =
-    omega (arith, c .before .before .before .before .before .before .before .before .before .before .before .before .before .before .before .before .before .before .before .before .before .pre .0 .key-in .0, c .before .before .before .before .before .before .before .before .before .before .before .before .before .before .before .before .before .before .before .before .before .pre .0 .key-in .1)
+    let start = start-from-put-u162 (c .before .before .before) in
+    omega (arith, start .pre .0 .key-in .0, start .pre .0 .key-in .1)
 
 part-put-digest-end : tie.Need-part-put-digest-end
-part-put-digest-end c =
-    omega (arith, c .before .before .before .before .before .before .before .before .before .before .before .before .before .before .before .before .before .before .before .before .before .pre .0 .key-in .1)
+part-put-digest-end c = omega (arith, start-from-put-u162 (c .before .before .before) .pre .0 .key-in .1)
 
 put-digest-requires : tie.Need-put-digest-requires
 put-digest-requires c κs =
-    omega (arith, size-is (c .before .before .before .before .before .before .before .before .before .before .before .before .before .before .before .before .before .before .before .before .before .before .args .a), c .before .before .before .before .before .before .before .before .before .before .before .before .before .before .before .before .before .before .before .before .before .before .pre .1, c .before .before .before .before .before .before .before .before .before .before .before .before .put-u32 .kept .0, c .before .before .before .before .before .before .before .before .put-u16 .kept .0, c .before .before .before .before .put-u162 .kept .0)
+    let after-put-u162 = c .before .before .before .before in
+    let after-put-u16 = after-put-u162 .before .before .before .before in
+    let start = start-from-put-u16 after-put-u16 in
+    omega (arith, size-is (start .args .a), start .pre .1, put-u32-from-put-u16 after-put-u16 .put-u32 .kept .0, after-put-u16 .put-u16 .kept .0, after-put-u162 .put-u162 .kept .0)
 
 sub-put-neighbour : tie.Need-sub-put-neighbour
 sub-put-neighbour c = search needs
@@ -80,29 +110,56 @@ part-put-neighbour-start c =
 
 part-put-neighbour-end : tie.Need-part-put-neighbour-end
 part-put-neighbour-end c =
-    omega (arith, c .before .before .before .before .before .before .before .before .before .before .before .before .before .before .before .before .before .before .before .before .before .before .before .before .before .before .pre .0 .middle-in)
+    let after-put-digest = c .before .before .before in
+    omega (arith, start-from-put-u162 (after-put-digest .before .before .before .before .before) .pre .0 .middle-in)
 
 put-neighbour-requires : tie.Need-put-neighbour-requires
 put-neighbour-requires c κs =
-    let a = c .before .before .before .before .before .before .before .before .before .before .before .before .before .before .before .before .before .before .before .before .before .before .before .before .before .before .before .args in
-    (subst (λ k. ReadyOr (take k (a .x .now)) (a .a .left)) (sym (sub-zero (a .a .middle))) (c .before .before .before .before .before .before .before .before .before .before .before .before .before .before .before .before .before .before .before .before .before .before .before .before .before .before .before .pre .0 .left-ready), omega (arith, size-is (a .a), c .before .before .before .before .before .before .before .before .before .before .before .before .before .before .before .before .before .before .before .before .before .before .before .before .before .before .before .pre .1, c .before .before .before .before .before .before .before .before .before .before .before .before .before .before .before .before .before .put-u32 .kept .0, c .before .before .before .before .before .before .before .before .before .before .before .before .before .put-u16 .kept .0, c .before .before .before .before .before .before .before .before .before .put-u162 .kept .0, c .before .before .before .before .put-digest .kept .0))
+    let after-put-digest = c .before .before .before .before in
+    let after-put-u162 = after-put-digest .before .before .before .before .before in
+    let after-put-u16 = after-put-u162 .before .before .before .before in
+    let start = start-from-put-u16 after-put-u16 in
+    let a = start .args in
+    (subst (λ k. ReadyOr (take k (a .x .now)) (a .a .left)) (sym (sub-zero (a .a .middle))) (start .pre .0 .left-ready), omega (arith, size-is (a .a), start .pre .1, put-u32-from-put-u16 after-put-u16 .put-u32 .kept .0, after-put-u16 .put-u16 .kept .0, after-put-u162 .put-u162 .kept .0, after-put-digest .put-digest .kept .0))
 
 put-neighbour-requires-2 : tie.Need-put-neighbour-requires-2
 put-neighbour-requires-2 c κs =
-    let a = c .before .before .before .before .before .before .before .before .before .before .before .before .before .before .before .before .before .before .before .before .before .before .before .before .before .before .before .before .before .before .before .args in
-    (c .before .before .before .before .before .before .before .before .before .before .before .before .before .before .before .before .before .before .before .before .before .before .before .before .before .before .before .before .before .before .before .pre .0 .right-ready, omega (arith, size-is (a .a), c .before .before .before .before .before .before .before .before .before .before .before .before .before .before .before .before .before .before .before .before .before .before .before .before .before .before .before .before .before .before .before .pre .1, c .before .before .before .before .before .before .before .before .before .before .before .before .before .before .before .before .before .before .before .before .before .before .before .neighbour-size .ensures, c .before .before .before .before .before .before .before .before .before .before .before .before .before .before .before .before .before .before .before .before .before .put-u32 .kept .0, c .before .before .before .before .before .before .before .before .before .before .before .before .before .before .before .before .before .put-u16 .kept .0, c .before .before .before .before .before .before .before .before .before .before .before .before .before .put-u162 .kept .0, c .before .before .before .before .before .before .before .before .put-digest .kept .0, c .before .before .before .put-neighbour .kept .0))
+    let after-put-neighbour = c .before .before .before in
+    let after-put-digest = after-put-neighbour .before .before .before .before .before in
+    let after-put-u162 = after-put-digest .before .before .before .before .before in
+    let after-put-u16 = after-put-u162 .before .before .before .before in
+    let after-put-u32 = after-put-u16 .before .before .before .before in
+    let start = start-from-put-u32 after-put-u32 in
+    let a = start .args in
+    (start .pre .0 .right-ready, omega (arith, size-is (a .a), start .pre .1, after-put-u32 .before .before .neighbour-size .ensures, after-put-u32 .put-u32 .kept .0, after-put-u16 .put-u16 .kept .0, after-put-u162 .put-u162 .kept .0, after-put-digest .put-digest .kept .0, after-put-neighbour .put-neighbour .kept .0))
 
 same-length : tie.Need-same-length
 same-length c =
-    c .before .before .put-neighbour2 .kept .0 ∙ c .before .before .before .before .before .before .put-neighbour .kept .0 ∙ c .before .before .before .before .before .before .before .before .before .before .before .put-digest .kept .0 ∙ c .before .before .before .before .before .before .before .before .before .before .before .before .before .before .before .before .put-u162 .kept .0 ∙ c .before .before .before .before .before .before .before .before .before .before .before .before .before .before .before .before .before .before .before .before .put-u16 .kept .0 ∙ c .before .before .before .before .before .before .before .before .before .before .before .before .before .before .before .before .before .before .before .before .before .before .before .before .put-u32 .kept .0
+    let after-put-neighbour2 = c .before .before in
+    let after-put-neighbour = after-put-neighbour2 .before .before .before .before in
+    let after-put-digest = after-put-neighbour .before .before .before .before .before in
+    let after-put-u162 = after-put-digest .before .before .before .before .before in
+    let after-put-u16 = after-put-u162 .before .before .before .before in
+    after-put-neighbour2 .put-neighbour2 .kept .0 ∙ after-put-neighbour .put-neighbour .kept .0 ∙ after-put-digest .put-digest .kept .0 ∙ after-put-u162 .put-u162 .kept .0 ∙ after-put-u16 .put-u16 .kept .0 ∙ put-u32-from-put-u16 after-put-u16 .put-u32 .kept .0
 
 returns : tie.Need-returns
 unfolding slice
 returns c =
-    let a = c .before .before .before .before .before .before .before .before .before .before .before .before .before .before .before .before .before .before .before .before .before .before .before .before .before .before .before .before .before .before .before .before .before .before .args in
-    absence-put (c .before .before .before .before .before .before .before .before .before .before .before .before .before .before .before .before .before .before .before .before .before .before .before .before .before .before .before .absence-size .result) (c .before .before .before .before .before .before .before .before .before .before .before .before .before .before .before .before .before .before .before .before .before .before .before .before .before .before .before .before .before .flag .result + c .before .before .before .before .before .before .before .before .before .before .before .before .before .before .before .before .before .before .before .before .before .before .before .before .before .before .before .before .flag2 .result) (40 + c .before .before .before .before .before .before .before .before .before .before .before .before .before .before .before .before .before .before .before .before .before .before .before .before .before .before .neighbour-size .result) (a .room .now) (c .before .before .before .before .before .before .before .before .before .before .before .before .before .before .before .before .before .before .before .before .before .before .before .before .put-u32 .last .0) (c .before .before .before .before .before .before .before .before .before .before .before .before .before .before .before .before .before .before .before .before .put-u16 .last .0) (c .before .before .before .before .before .before .before .before .before .before .before .before .before .before .before .before .put-u162 .last .0) (c .before .before .before .before .before .before .before .before .before .before .before .put-digest .last .0) (c .before .before .before .before .before .before .put-neighbour .last .0) (c .before .before .put-neighbour2 .last .0) (c .before .before .before .before .before .before .before .before .before .before .before .before .before .before .before .before .before .before .before .before .before .before .before .before .before .before .before .before .before .before .before .before .before .before .pre .0) (c .before .before .before .before .before .before .before .before .before .before .before .before .before .before .before .before .before .before .before .before .before .before .before .before .before .before .before .absence-size .ensures) (ap₂ _+_ (c .before .before .before .before .before .before .before .before .before .before .before .before .before .before .before .before .before .before .before .before .before .before .before .before .before .before .before .before .before .flag .ensures) (c .before .before .before .before .before .before .before .before .before .before .before .before .before .before .before .before .before .before .before .before .before .before .before .before .before .before .before .before .flag2 .ensures)) (ap (40 +_) (c .before .before .before .before .before .before .before .before .before .before .before .before .before .before .before .before .before .before .before .before .before .before .before .before .before .before .neighbour-size .ensures)) (omega (arith, c .before .before .before .before .before .before .before .before .before .before .before .before .before .before .before .before .before .before .before .before .before .before .before .before .before .before .before .absence-size .ensures, c .before .before .before .before .before .before .before .before .before .before .before .before .before .before .before .before .before .before .before .before .before .before .before .before .before .before .before .before .before .before .before .before .before .before .pre .1))
-    (c .before .before .before .before .before .before .before .before .before .before .before .before .before .before .before .before .before .before .before .before .before .before .before .before .put-u32 .ensures) (c .before .before .before .before .before .before .before .before .before .before .before .before .before .before .before .before .before .before .before .before .put-u16 .ensures) (c .before .before .before .before .before .before .before .before .before .before .before .before .before .before .before .before .put-u162 .ensures) (c .before .before .before .before .before .before .before .before .before .before .before .put-digest .ensures)
-    (c .before .before .before .before .before .before .put-neighbour .ensures ∙ ap (λ k. written 40 (neighbourBytes (ownNeighbour sha256 (shownIn (take k (a .x .now)) (a .a .left)))) (c .before .before .before .before .before .before .before .before .before .before .before .put-digest .last .0)) (sub-zero (a .a .middle))) (c .before .before .put-neighbour2 .ensures)
+    let after-put-neighbour2 = c .before .before in
+    let after-put-neighbour = after-put-neighbour2 .before .before .before .before in
+    let after-put-digest = after-put-neighbour .before .before .before .before .before in
+    let after-put-u162 = after-put-digest .before .before .before .before .before in
+    let after-put-u16 = after-put-u162 .before .before .before .before in
+    let after-put-u32 = put-u32-from-put-u16 after-put-u16 in
+    let after-neighbour-size = after-put-u32 .before .before in
+    let after-absence-size = after-neighbour-size .before in
+    let after-flag2 = after-absence-size .before in
+    let after-flag = after-flag2 .before in
+    let start = start-from-flag after-flag in
+    let a = start .args in
+    absence-put (after-absence-size .absence-size .result) (after-flag .flag .result + after-flag2 .flag2 .result) (40 + after-neighbour-size .neighbour-size .result) (a .room .now) (after-put-u32 .put-u32 .last .0) (after-put-u16 .put-u16 .last .0) (after-put-u162 .put-u162 .last .0) (after-put-digest .put-digest .last .0) (after-put-neighbour .put-neighbour .last .0) (after-put-neighbour2 .put-neighbour2 .last .0) (start .pre .0) (after-absence-size .absence-size .ensures) (ap₂ _+_ (after-flag .flag .ensures) (after-flag2 .flag2 .ensures)) (ap (40 +_) (after-neighbour-size .neighbour-size .ensures)) (omega (arith, after-absence-size .absence-size .ensures, start .pre .1))
+    (after-put-u32 .put-u32 .ensures) (after-put-u16 .put-u16 .ensures) (after-put-u162 .put-u162 .ensures) (after-put-digest .put-digest .ensures)
+    (after-put-neighbour .put-neighbour .ensures ∙ ap (λ k. written 40 (neighbourBytes (ownNeighbour sha256 (shownIn (take k (a .x .now)) (a .a .left)))) (after-put-digest .put-digest .last .0)) (sub-zero (a .a .middle))) (after-put-neighbour2 .put-neighbour2 .ensures)
 
 pub put-absence-spec : {M : Type 1} → statement M
 put-absence-spec =

@@ -30,8 +30,11 @@ same-length c = search needs
 
 returns : tie.Need-returns
 returns c =
-    let a = c .before .before .before .before .before .before .before .args in
-    digest-put (a .at) (a .x .now) (a .room .now) (c .before .before .put-hash .last .0) (c .before .before .before .before .digest .result) (c .before .before .before .before .digest .ensures) (simp (length-take, length-drop) (omega (arith, c .before .before .before .before .before .before .before .pre))) (c .before .before .put-hash .ensures)
+    let after-put-hash = c .before .before in
+    let after-digest = after-put-hash .before .before in
+    let start = after-digest .before .before .before in
+    let a = start .args in
+    digest-put (a .at) (a .x .now) (a .room .now) (after-put-hash .put-hash .last .0) (after-digest .digest .result) (after-digest .digest .ensures) (simp (length-take, length-drop) (omega (arith, start .pre))) (after-put-hash .put-hash .ensures)
 
 pub put-digest-spec : {M : Type 1} → statement M
 put-digest-spec =

@@ -74,7 +74,15 @@ same-length c = search needs
 returns : tie.Need-returns
 unfolding slice
 returns c =
-    presence-put (c .before .before .before .before .before .before .before .before .before .before .before .before .before .before .before .before .before .before .before .before .before .before .before .before .before .before .before .before .before .before .args .at) (c .before .before .before .before .before .before .before .before .before .before .before .before .before .before .before .before .before .before .before .before .before .before .before .before .before .before .before .before .before .before .args .room .now) (c .before .before .before .before .before .before .before .before .before .before .before .before .before .before .before .before .before .before .before .before .before .before .before .before .before .put-u32 .last .0) (c .before .before .before .before .before .before .before .before .before .before .before .before .before .before .before .before .before .before .before .before .before .put-u16 .last .0) (c .before .before .before .before .before .before .before .before .before .before .before .before .before .before .before .before .put-u162 .last .0) (c .before .before .before .before .before .before .before .before .before .before .before .put-digest .last .0) (c .before .before .before .before .before .before .put-digest2 .last .0) (c .before .before .put-steps .last .0) (c .before .before .before .before .before .before .before .before .before .before .before .before .before .before .before .before .before .before .before .before .before .before .before .before .before .before .before .before .before .before .pre .0) (c .before .before .before .before .before .before .before .before .before .before .before .before .before .before .before .before .before .before .before .before .before .before .before .before .before .before .before .before .before .before .pre .1) (c .before .before .before .before .before .before .before .before .before .before .before .before .before .before .before .before .before .before .before .before .before .before .before .before .before .put-u32 .ensures ∙ ap (λ n. written (c .before .before .before .before .before .before .before .before .before .before .before .before .before .before .before .before .before .before .before .before .before .before .before .before .before .before .before .before .before .before .args .at) (le 4 n) (c .before .before .before .before .before .before .before .before .before .before .before .before .before .before .before .before .before .before .before .before .before .before .before .before .before .before .before .before .before .before .args .room .now)) (c .before .before .before .before .before .before .before .before .before .before .before .before .before .before .before .before .before .before .before .before .before .before .before .before .before .before .before .presence-size .ensures)) (c .before .before .before .before .before .before .before .before .before .before .before .before .before .before .before .before .before .before .before .before .before .put-u16 .ensures) (c .before .before .before .before .before .before .before .before .before .before .before .before .before .before .before .before .put-u162 .ensures) (c .before .before .before .before .before .before .before .before .before .before .before .put-digest .ensures) (c .before .before .before .before .before .before .put-digest2 .ensures) (c .before .before .put-steps .ensures)
+    let after-put-steps = c .before .before in
+    let after-put-digest2 = after-put-steps .before .before .before .before in
+    let after-put-digest = after-put-digest2 .before .before .before .before .before in
+    let after-put-u162 = after-put-digest .before .before .before .before .before in
+    let after-put-u16 = after-put-u162 .before .before .before .before .before in
+    let after-put-u32 = after-put-u16 .before .before .before .before in
+    let after-presence-size = after-put-u32 .before .before in
+    let start = after-presence-size .before .before .before in
+    presence-put (start .args .at) (start .args .room .now) (after-put-u32 .put-u32 .last .0) (after-put-u16 .put-u16 .last .0) (after-put-u162 .put-u162 .last .0) (after-put-digest .put-digest .last .0) (after-put-digest2 .put-digest2 .last .0) (after-put-steps .put-steps .last .0) (start .pre .0) (start .pre .1) (after-put-u32 .put-u32 .ensures ∙ ap (λ n. written (start .args .at) (le 4 n) (start .args .room .now)) (after-presence-size .presence-size .ensures)) (after-put-u16 .put-u16 .ensures) (after-put-u162 .put-u162 .ensures) (after-put-digest .put-digest .ensures) (after-put-digest2 .put-digest2 .ensures) (after-put-steps .put-steps .ensures)
 
 pub put-presence-spec : {M : Type 1} → statement M
 put-presence-spec =

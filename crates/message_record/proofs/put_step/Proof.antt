@@ -10,9 +10,17 @@ use borrow.Author.Needs.{needs}
 use Rattle.message_record.proofs.put_step.Statement.{statement}
 use Rattle.message_record.proofs.put_step.Tie as tie
 
+-- `A-from-B` is the state A as the later state B has it.
+abbrev side-from-copy : tie.After-copy → tie.After-side
+side-from-copy c = c .before .before .before
+
+abbrev start-from-side : tie.After-side → tie.Start
+start-from-side c = c .before .before .before
+
 sub-from : tie.Need-sub-from
 sub-from c =
-    omega (arith, sided (c .before .before .args .op .now) (c .before .before .pre .0 .0) (c .before .before .pre .0 .1) .long .0)
+    let start = c .before .before in
+    omega (arith, sided (start .args .op .now) (start .pre .0 .0) (start .pre .0 .1) .long .0)
 
 add-start : tie.Need-add-start
 add-start c = search needs
@@ -46,21 +54,28 @@ part-copy-end-2 c = search needs
 
 copy-requires : tie.Need-copy-requires
 copy-requires c κs =
-    let w = sided (c .before .before .before .before .before .args .op .now) (c .before .before .before .before .before .pre .0 .0) (c .before .before .before .before .before .pre .0 .1) .long in
-    simp (length-take, length-drop, length-set) (omega (arith, w .0, c .before .before .before .before .before .pre .1))
+    let start = start-from-side (c .before .before) in
+    let w = sided (start .args .op .now) (start .pre .0 .0) (start .pre .0 .1) .long in
+    simp (length-take, length-drop, length-set) (omega (arith, w .0, start .pre .1))
 
 same-length : tie.Need-same-length
 same-length c =
-    let a = c .before .before .before .before .before .before .before .before .args in
-    let s = c .before .before .before .before .before .before .before .before .pre .0 .0 in
-    let k = c .before .before .before .before .before .before .before .before .pre .0 .1 in
-    ap length (step-put (a .op .now) (a .room .now) (c .before .before .copy .last .0) (a .at) (c .before .before .before .before .before .side .result) (c .before .before .before .before .before .before .before .before .pre .1) (c .before .before .before .before .before .side .ensures) (c .before .before .copy .ensures) s k)
-    ∙ length-written (a .at) (digit (s .side) ∷ s .sibling) (a .room .now) (omega (arith, length-sibling (sided (a .op .now) s k), c .before .before .before .before .before .before .before .before .pre .1))
+    let after-copy = c .before .before in
+    let after-side = side-from-copy after-copy in
+    let start = start-from-side after-side in
+    let a = start .args in
+    let s = start .pre .0 .0 in
+    let k = start .pre .0 .1 in
+    ap length (step-put (a .op .now) (a .room .now) (after-copy .copy .last .0) (a .at) (after-side .side .result) (start .pre .1) (after-side .side .ensures) (after-copy .copy .ensures) s k)
+    ∙ length-written (a .at) (digit (s .side) ∷ s .sibling) (a .room .now) (omega (arith, length-sibling (sided (a .op .now) s k), start .pre .1))
 
 returns : tie.Need-returns
 returns c =
-    let a = c .before .before .before .before .before .before .before .before .args in
-    λ s k. step-put (a .op .now) (a .room .now) (c .before .before .copy .last .0) (a .at) (c .before .before .before .before .before .side .result) (c .before .before .before .before .before .before .before .before .pre .1) (c .before .before .before .before .before .side .ensures) (c .before .before .copy .ensures) s k
+    let after-copy = c .before .before in
+    let after-side = side-from-copy after-copy in
+    let start = start-from-side after-side in
+    let a = start .args in
+    λ s k. step-put (a .op .now) (a .room .now) (after-copy .copy .last .0) (a .at) (after-side .side .result) (start .pre .1) (after-side .side .ensures) (after-copy .copy .ensures) s k
 
 pub put-step-spec : {M : Type 1} → statement M
 put-step-spec =

@@ -12,9 +12,14 @@ Inv-loop room₀ at x path count from₀ to₀ i₀ room from to i = Stepping x 
 abbrev μ-loop : tie.MeasureT-loop
 μ-loop room₀ at x path count from₀ to₀ i₀ room from to i = count - i
 
+-- `A-from-B` is the state A as the later state B has it.
+abbrev start-from-at-loop : tie.At-loop Inv-loop μ-loop → tie.Start Inv-loop μ-loop
+start-from-at-loop c = c .before .before .before
+
 loop-holds : tie.Need-loop-holds Inv-loop μ-loop
 loop-holds c =
-    (stepping-start (c .before .before .args .x .now) (c .before .before .args .path) (c .before .before .args .at) (c .before .before .args .room .now) (c .before .before .pre .0), omega arith)
+    let start = c .before .before in
+    (stepping-start (start .args .x .now) (start .args .path) (start .args .at) (start .args .room .now) (start .pre .0), omega arith)
 
 field-requires : tie.Need-field-requires Inv-loop μ-loop
 field-requires c κs =
@@ -22,24 +27,37 @@ field-requires c κs =
 
 sub-put-step : tie.Need-sub-put-step Inv-loop μ-loop
 sub-put-step c =
-    let n = next-step (c .before .before .before .loop .inv .0 .walked) (c .before .before .before .before .before .before .pre .1) (c .before .before .loop-test .taken) (c .before .field .ensures) in
-    omega (arith, c .before .field .ensures .inside (n .found) .1)
+    let after-field = c .before in
+    let in-loop = after-field .before in
+    let at-loop = in-loop .before in
+    let n = next-step (at-loop .loop .inv .0 .walked) (start-from-at-loop at-loop .pre .1) (in-loop .loop-test .taken) (after-field .field .ensures) in
+    omega (arith, after-field .field .ensures .inside (n .found) .1)
 
 part-put-step-start : tie.Need-part-put-step-start Inv-loop μ-loop
 part-put-step-start c =
-    let n = next-step (c .before .before .before .loop .inv .0 .walked) (c .before .before .before .before .before .before .pre .1) (c .before .before .loop-test .taken) (c .before .field .ensures) in
-    let i = c .before .field .ensures .inside (n .found) in omega (arith, i .1, i .2)
+    let after-field = c .before in
+    let in-loop = after-field .before in
+    let at-loop = in-loop .before in
+    let n = next-step (at-loop .loop .inv .0 .walked) (start-from-at-loop at-loop .pre .1) (in-loop .loop-test .taken) (after-field .field .ensures) in
+    let i = after-field .field .ensures .inside (n .found) in omega (arith, i .1, i .2)
 
 part-put-step-end : tie.Need-part-put-step-end Inv-loop μ-loop
 part-put-step-end c =
-    let n = next-step (c .before .before .before .loop .inv .0 .walked) (c .before .before .before .before .before .before .pre .1) (c .before .before .loop-test .taken) (c .before .field .ensures) in
-    omega (arith, c .before .field .ensures .inside (n .found) .2)
+    let after-field = c .before in
+    let in-loop = after-field .before in
+    let at-loop = in-loop .before in
+    let n = next-step (at-loop .loop .inv .0 .walked) (start-from-at-loop at-loop .pre .1) (in-loop .loop-test .taken) (after-field .field .ensures) in
+    omega (arith, after-field .field .ensures .inside (n .found) .2)
 
 put-step-requires : tie.Need-put-step-requires Inv-loop μ-loop
 unfolding slice
 put-step-requires c κs =
-    let n = next-step (c .before .before .before .before .loop .inv .0 .walked) (c .before .before .before .before .before .before .before .pre .1) (c .before .before .before .loop-test .taken) (c .before .before .field .ensures) in
-    (n .one, omega (arith, stepping-length (c .before .before .before .before .loop .inv .0) (c .before .before .before .before .loop .inv .1) (c .before .before .before .before .before .before .before .pre .2), c .before .before .before .before .loop .inv .0 .to-is, c .before .before .before .before .before .before .before .pre .2))
+    let after-field = c .before .before in
+    let in-loop = after-field .before in
+    let at-loop = in-loop .before in
+    let start = start-from-at-loop at-loop in
+    let n = next-step (at-loop .loop .inv .0 .walked) (start .pre .1) (in-loop .loop-test .taken) (after-field .field .ensures) in
+    (n .one, omega (arith, stepping-length (at-loop .loop .inv .0) (at-loop .loop .inv .1) (start .pre .2), at-loop .loop .inv .0 .to-is, start .pre .2))
 
 add-to : tie.Need-add-to Inv-loop μ-loop
 add-to c = omega arith
@@ -53,16 +71,23 @@ loop-less c = omega arith
 loop-again : tie.Need-loop-again Inv-loop μ-loop
 unfolding slice
 loop-again c =
-    let n = next-step (c .before .before .before .before .before .before .before .loop .inv .0 .walked) (c .before .before .before .before .before .before .before .before .before .before .pre .1) (c .before .before .before .before .before .before .loop-test .taken) (c .before .before .before .before .before .field .ensures) in
-    (stepping-next (c .before .before .before .before .before .before .before .loop .inv .0) (c .before .before .before .before .before .before .before .before .before .before .pre .1) (c .before .before .before .before .before .before .loop-test .taken) (c .before .before .before .before .before .before .before .before .before .before .pre .2) (c .before .before .before .before .before .field .ensures) n (c .before .before .put-step .ensures), omega arith)
+    let after-put-step = c .before .before in
+    let after-field = after-put-step .before .before .before in
+    let in-loop = after-field .before in
+    let at-loop = in-loop .before in
+    let start = start-from-at-loop at-loop in
+    let n = next-step (at-loop .loop .inv .0 .walked) (start .pre .1) (in-loop .loop-test .taken) (after-field .field .ensures) in
+    (stepping-next (at-loop .loop .inv .0) (start .pre .1) (in-loop .loop-test .taken) (start .pre .2) (after-field .field .ensures) n (after-put-step .put-step .ensures), omega arith)
 
 same-length : tie.Need-same-length Inv-loop μ-loop
 same-length c =
-    stepping-length (c .before .loop .inv .0) (c .before .loop .inv .1) (c .before .before .before .before .pre .2)
+    let at-loop = c .before in
+    stepping-length (at-loop .loop .inv .0) (at-loop .loop .inv .1) (start-from-at-loop at-loop .pre .2)
 
 returns : tie.Need-returns Inv-loop μ-loop
 returns c =
-    stepping-done (c .before .loop .inv .0) (c .before .before .before .before .pre .1) (omega (arith, c .before .loop .inv .1))
+    let at-loop = c .before in
+    stepping-done (at-loop .loop .inv .0) (start-from-at-loop at-loop .pre .1) (omega (arith, at-loop .loop .inv .1))
 
 pub put-steps-spec : {M : Type 1} → statement M
 put-steps-spec =

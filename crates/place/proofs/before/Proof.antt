@@ -19,7 +19,10 @@ loop-holds : tie.Need-loop-holds Inv-loop μ-loop
 loop-holds c = (omega arith, omega arith, refl)
 
 returns : tie.Need-returns Inv-loop μ-loop
-returns c = let a = c .before .before .before .args in sym (c .before .before .loop .inv .2 ∙ before-short (a .x .now) (a .y .now) _ (c .if1 .taken) (c .before .loop-test .taken))
+returns c =
+    let in-loop = c .before in
+    let at-loop = in-loop .before in
+    let a = at-loop .before .args in sym (at-loop .loop .inv .2 ∙ before-short (a .x .now) (a .y .now) _ (c .if1 .taken) (in-loop .loop-test .taken))
 
 shared-slice-read-a : tie.Need-shared-slice-read-a Inv-loop μ-loop
 shared-slice-read-a c = omega arith

@@ -29,10 +29,13 @@ element-copy-out-if1 c = let h = c .before .before .before .pre .1 .short in ome
 
 returns : tie.Need-returns Inv-loop μ-loop
 returns c =
-    let t = c .before .before .before .before in
-    let p = t .before .args .t2 in
-    let w = t .before .pre .1 in
-    sym (t .loop .inv .1 ∙ begins-off (p .bits) (t .before .args .key .now) (p .count) (t .loop .i) (omega (arith, proper-whole p w)) (omega arith) (proper-bytes p w) (omega (arith, c .before .before .shared-slice-known .given (t .loop .i))) (c .before .before .before .loop-test .taken) (c .if1 .taken))
+    let after-shared-slice-known = c .before .before in
+    let in-loop = after-shared-slice-known .before in
+    let at-loop = in-loop .before in
+    let start = at-loop .before in
+    let p = start .args .t2 in
+    let w = start .pre .1 in
+    sym (at-loop .loop .inv .1 ∙ begins-off (p .bits) (start .args .key .now) (p .count) (at-loop .loop .i) (omega (arith, proper-whole p w)) (omega arith) (proper-bytes p w) (omega (arith, after-shared-slice-known .shared-slice-known .given (at-loop .loop .i))) (in-loop .loop-test .taken) (c .if1 .taken))
 
 add-i : tie.Need-add-i Inv-loop μ-loop
 add-i c = omega arith
@@ -42,10 +45,13 @@ loop-less c = omega arith
 
 loop-again : tie.Need-loop-again Inv-loop μ-loop
 loop-again c =
-    let t = c .before .before .before .before in
-    let p = t .before .args .t2 in
-    let w = t .before .pre .1 in
-    (omega arith, t .loop .inv .1 ∙ begins-next (p .bits) (t .before .args .key .now) (p .count) (t .loop .i) (omega (arith, proper-whole p w)) (omega arith) (proper-bytes p w) (omega (arith, c .before .before .shared-slice-known .given (t .loop .i))) (c .before .before .before .loop-test .taken) (c .if1 .left))
+    let after-shared-slice-known = c .before .before in
+    let in-loop = after-shared-slice-known .before in
+    let at-loop = in-loop .before in
+    let start = at-loop .before in
+    let p = start .args .t2 in
+    let w = start .pre .1 in
+    (omega arith, at-loop .loop .inv .1 ∙ begins-next (p .bits) (start .args .key .now) (p .count) (at-loop .loop .i) (omega (arith, proper-whole p w)) (omega arith) (proper-bytes p w) (omega (arith, after-shared-slice-known .shared-slice-known .given (at-loop .loop .i))) (in-loop .loop-test .taken) (c .if1 .left))
 
 returns-2 : tie.Need-returns-2 Inv-loop μ-loop
 returns-2 c =
@@ -76,11 +82,13 @@ shr-result-2 c = omega arith
 
 returns-3 : tie.Need-returns-3 Inv-loop μ-loop
 returns-3 c =
-    let t = c .before .before .before .before in
-    let p = t .before .args .t2 in
-    let w = t .before .pre .1 in
-    let e : t .loop .i ≡ p .count / 8 = omega arith in
-    sym (t .loop .inv .1 ∙ ap (restBegins (p .bits) (t .before .args .key .now) (p .count)) e ∙ begins-over (p .bits) (t .before .args .key .now) (p .count) (p .count / 8) (omega (arith, proper-whole p w)) (omega arith) (proper-bytes p w) (omega (arith, c .before .shared-slice-known2 .given (p .count / 8))) refl)
+    let after-shared-slice-known2 = c .before in
+    let at-loop = after-shared-slice-known2 .before .before .before in
+    let start = at-loop .before in
+    let p = start .args .t2 in
+    let w = start .pre .1 in
+    let e : at-loop .loop .i ≡ p .count / 8 = omega arith in
+    sym (at-loop .loop .inv .1 ∙ ap (restBegins (p .bits) (start .args .key .now) (p .count)) e ∙ begins-over (p .bits) (start .args .key .now) (p .count) (p .count / 8) (omega (arith, proper-whole p w)) (omega arith) (proper-bytes p w) (omega (arith, after-shared-slice-known2 .shared-slice-known2 .given (p .count / 8))) refl)
 
 pub begins-spec : {M : Type 1} → statement M
 begins-spec =

@@ -46,7 +46,10 @@ loop-again c =
     (omega arith, t .loop .inv .1 ∙ same-next (a .x .now) (a .y .now) (t .loop .i) (omega arith) (omega arith) (c .if2 .left))
 
 returns-3 : tie.Need-returns-3 Inv-loop μ-loop
-returns-3 c = let a = c .before .before .before .args in sym (c .before .loop .inv .1 ∙ same-end (a .x .now) (a .y .now) (c .before .loop .i) (c .loop-test .left) (c .before .before .if1 .left))
+returns-3 c =
+    let at-loop = c .before in
+    let else1 = at-loop .before in
+    let a = else1 .before .args in sym (at-loop .loop .inv .1 ∙ same-end (a .x .now) (a .y .now) (at-loop .loop .i) (c .loop-test .left) (else1 .if1 .left))
 
 pub same-spec : {M : Type 1} → statement M
 same-spec =

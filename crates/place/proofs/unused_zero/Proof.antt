@@ -15,6 +15,10 @@ Inv-loop b count whole i₀ i = (i ≤ length b) × (noneSet (drop count (bits b
 abbrev μ-loop : tie.MeasureT-loop
 μ-loop b count whole i₀ i = length b - i
 
+-- `A-from-B` is the state A as the later state B has it.
+abbrev start-from-at-loop : tie.At-loop Inv-loop μ-loop → tie.Start Inv-loop μ-loop
+start-from-at-loop c = c .before .before .before .before
+
 returns : tie.Need-returns Inv-loop μ-loop
 returns c = sym (unused-none (c .before .args .b .now) (c .before .args .count) (c .if1 .taken))
 
@@ -41,9 +45,11 @@ shared-slice-read-if3 c = omega arith
 
 returns-3 : tie.Need-returns-3 Inv-loop μ-loop
 returns-3 c =
-    let t = c .before .before .before in
-    let a = t .before .before .before .before .args in
-    sym (t .loop .inv .1 ∙ unused-off (a .b .now) (t .loop .i) (c .before .before .loop-test .taken) (omega (arith, c .before .shared-slice-known2 .given (t .loop .i))) (c .if3 .taken))
+    let after-shared-slice-known2 = c .before in
+    let in-loop = after-shared-slice-known2 .before in
+    let at-loop = in-loop .before in
+    let a = start-from-at-loop at-loop .args in
+    sym (at-loop .loop .inv .1 ∙ unused-off (a .b .now) (at-loop .loop .i) (in-loop .loop-test .taken) (omega (arith, after-shared-slice-known2 .shared-slice-known2 .given (at-loop .loop .i))) (c .if3 .taken))
 
 add-i-2 : tie.Need-add-i-2 Inv-loop μ-loop
 add-i-2 c = omega arith
@@ -53,12 +59,15 @@ loop-less c = omega arith
 
 loop-again : tie.Need-loop-again Inv-loop μ-loop
 loop-again c =
-    let t = c .before .before .before in
-    let a = t .before .before .before .before .args in
-    (omega arith, t .loop .inv .1 ∙ unused-next (a .b .now) (t .loop .i) (c .before .before .loop-test .taken) (c .if3 .left))
+    let in-loop = c .before .before in
+    let at-loop = in-loop .before in
+    let a = start-from-at-loop at-loop .args in
+    (omega arith, at-loop .loop .inv .1 ∙ unused-next (a .b .now) (at-loop .loop .i) (in-loop .loop-test .taken) (c .if3 .left))
 
 returns-4 : tie.Need-returns-4 Inv-loop μ-loop
-returns-4 c = let a = c .before .before .before .before .before .args in sym (c .before .loop .inv .1 ∙ unused-end (a .b .now) (c .before .loop .i) (c .loop-test .left))
+returns-4 c =
+    let at-loop = c .before in
+    let a = start-from-at-loop at-loop .args in sym (at-loop .loop .inv .1 ∙ unused-end (a .b .now) (at-loop .loop .i) (c .loop-test .left))
 
 pub unused-zero-spec : {M : Type 1} → statement M
 unused-zero-spec =

@@ -17,8 +17,9 @@ same-length c = search needs
 
 returns : tie.Need-returns
 returns c =
-    let a = c .before .before .before .before .before .before .before .before .before .args in
-    proof-told (proof-as (prove-plain (a .store .now) (a .version) (a .key .now) (length (a .room .now))) (c .before .before .prove-by .ensures))
+    let after-prove-by = c .before .before in
+    let a = after-prove-by .before .before .before .before .before .before .before .args in
+    proof-told (proof-as (prove-plain (a .store .now) (a .version) (a .key .now) (length (a .room .now))) (after-prove-by .prove-by .ensures))
 
 pub grants-prove-spec : {M : Type 1} → statement M
 grants-prove-spec = tie.close (tie.spec slice-aggregate-prove-by prove-by-requires same-length returns)

@@ -19,20 +19,28 @@ put-u32-requires c κs = search needs
 same-length : tie.Need-same-length
 same-length c = search needs
 
+-- `A-from-B` is the state A as the later state B has it.
+abbrev start-from-prove : tie.After-prove → tie.Start
+start-from-prove c = c .before .before .before .before .before .before
+
 returns : tie.Need-returns
 returns c =
-    let a = c .before .before .before .before .before .before .before .before .before .before .before .args in
-    let d = c .before .before .before .before .before .prove .ensures in
-    prove-refused (d .0) (d .1) (a .length .now) (c .before .proved .given .1)
+    let after-proved = c .before in
+    let after-prove = after-proved .before .before .before .before in
+    let a = start-from-prove after-prove .args in
+    let d = after-prove .prove .ensures in
+    prove-refused (d .0) (d .1) (a .length .now) (after-proved .proved .given .1)
 
 same-length-2 : tie.Need-same-length-2
 same-length-2 c = search needs
 
 returns-2 : tie.Need-returns-2
 returns-2 c =
-    let a = c .before .before .before .before .before .before .before .before .before .before .before .before .before .args in
-    let d = c .before .before .before .before .before .before .before .prove .ensures in
-    prove-given (d .0) (d .1) (a .length .now) (c .before .before .before .proved2 .given .1) (search needs) (c .put-u32 .ensures)
+    let after-proved2 = c .before .before .before in
+    let after-prove = after-proved2 .before .before .before .before in
+    let a = start-from-prove after-prove .args in
+    let d = after-prove .prove .ensures in
+    prove-given (d .0) (d .1) (a .length .now) (after-proved2 .proved2 .given .1) (search needs) (c .put-u32 .ensures)
 
 pub prove-by-spec : {M : Type 1} → statement M
 prove-by-spec =

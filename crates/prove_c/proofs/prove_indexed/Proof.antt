@@ -11,6 +11,10 @@ use Rattle.prove_c.proofs.prove_indexed.Tie as tie
 cast-result : tie.Need-cast-result
 cast-result c = search needs
 
+-- `A-from-B` is the state A as the later state B has it.
+abbrev start-from-else1 : tie.Else1 → tie.Start
+start-from-else1 c = c .before .before .before .before .before
+
 returns : tie.Need-returns
 returns c =
     let a = c .before .before .before .before .before .args in
@@ -24,9 +28,11 @@ cast-result-2 c = search needs
 
 returns-2 : tie.Need-returns-2
 returns-2 c =
-    let a = c .before .before .before .before .before .before .before .args in
+    let after-as-many = c .before in
+    let else1 = after-as-many .before in
+    let a = start-from-else1 else1 .args in
     proof-told-by (proof-refusal 1 (a .room .now) (a .length .now)
-    (prove-not-as-many (a .store .now) (a .index .now) (a .version) (a .key .now) (length (a .room .now)) (c .before .before .if1 .left) (sym (c .before .as-many .ensures) ∙ not-true _ (c .if2 .taken))))
+    (prove-not-as-many (a .store .now) (a .index .now) (a .version) (a .key .now) (length (a .room .now)) (else1 .if1 .left) (sym (after-as-many .as-many .ensures) ∙ not-true _ (c .if2 .taken))))
 
 prove-by-requires : tie.Need-prove-by-requires
 prove-by-requires c κs = search needs
@@ -36,9 +42,13 @@ same-length c = search needs
 
 returns-3 : tie.Need-returns-3
 returns-3 c =
-    let a = c .before .before .before .before .before .before .before .before .before .before .before .before .args in
-    proof-told-by (proof-as (prove-as-many (a .store .now) (a .index .now) (a .version) (a .key .now) (length (a .room .now)) (c .before .before .before .before .before .before .before .if1 .left) (sym (c .before .before .before .before .before .before .as-many .ensures) ∙ not-false _ (c .before .before .before .before .before .if2 .left)))
-    (c .before .before .prove-by .ensures))
+    let after-prove-by = c .before .before in
+    let else2 = after-prove-by .before .before .before in
+    let after-as-many = else2 .before in
+    let else1 = after-as-many .before in
+    let a = start-from-else1 else1 .args in
+    proof-told-by (proof-as (prove-as-many (a .store .now) (a .index .now) (a .version) (a .key .now) (length (a .room .now)) (else1 .if1 .left) (sym (after-as-many .as-many .ensures) ∙ not-false _ (else2 .if2 .left)))
+    (after-prove-by .prove-by .ensures))
 
 pub prove-indexed-spec : {M : Type 1} → statement M
 prove-indexed-spec =

@@ -25,23 +25,28 @@ no-hash-requires c κs = search needs
 put-found-requires-2 : tie.Need-put-found-requires-2
 put-found-requires-2 c κs = search needs
 
+-- `A-from-B` is the state A as the later state B has it.
+abbrev start-from-get : tie.After-get → tie.Start
+start-from-get c = c .before .before .before .before
+
 returns : tie.Need-returns
 returns c =
-    let d = c .before .before .before in
-    key-refused (d .get .ensures) (d .before .before .before .before .args .found .now) (c .before .read .given .1)
+    let after-read = c .before in
+    let after-get = after-read .before .before in
+    key-refused (after-get .get .ensures) (start-from-get after-get .args .found .now) (after-read .read .given .1)
 
 returns-2 : tie.Need-returns-2
 returns-2 c =
-    let r = c .before .before .before in
-    let d = r .before .before in
-    key-present (d .get .ensures) (d .before .before .before .before .args .found .now) (r .read2 .given .1) (c .put-found .ensures)
+    let after-read2 = c .before .before .before in
+    let after-get = after-read2 .before .before in
+    key-present (after-get .get .ensures) (start-from-get after-get .args .found .now) (after-read2 .read2 .given .1) (c .put-found .ensures)
 
 returns-3 : tie.Need-returns-3
 returns-3 c =
-    let h = c .before in
-    let r = h .before .before in
-    let d = r .before .before in
-    key-absent (d .get .ensures) (d .before .before .before .before .args .found .now) (h .no-hash .result) (r .enum-told .given .1) (h .no-hash .ensures)
+    let after-no-hash = c .before in
+    let after-enum-told = after-no-hash .before .before in
+    let after-get = after-enum-told .before .before in
+    key-absent (after-get .get .ensures) (start-from-get after-get .args .found .now) (after-no-hash .no-hash .result) (after-enum-told .enum-told .given .1) (after-no-hash .no-hash .ensures)
     (c .put-found2 .ensures)
 
 pub get-by-spec : {M : Type 1} → statement M

@@ -10,6 +10,10 @@ use Rattle.read_c.proofs.get_indexed.Tie as tie
 cast-result : tie.Need-cast-result
 cast-result c = search needs
 
+-- `A-from-B` is the state A as the later state B has it.
+abbrev start-from-as-many : tie.After-as-many → tie.Start
+start-from-as-many c = c .before .before .before .before .before
+
 returns : tie.Need-returns
 returns c =
     let a = c .before .before .before .before .args in
@@ -23,17 +27,20 @@ cast-result-2 c = search needs
 
 returns-2 : tie.Need-returns-2
 returns-2 c =
-    let a = c .before .before .before .before .before .before .args in
+    let after-as-many = c .before in
+    let a = start-from-as-many after-as-many .args in
     key-told-by (key-refusal 1 (a .found .now)
-    (key-not-as-many (a .store .now) (a .index .now) (a .version) (a .key .now) (c .before .before .if1 .left) (sym (c .before .as-many .ensures) ∙ not-true _ (c .if2 .taken))))
+    (key-not-as-many (a .store .now) (a .index .now) (a .version) (a .key .now) (after-as-many .before .if1 .left) (sym (after-as-many .as-many .ensures) ∙ not-true _ (c .if2 .taken))))
 
 get-by-requires : tie.Need-get-by-requires
 get-by-requires c κs = search needs
 
 returns-3 : tie.Need-returns-3
 returns-3 c =
-    let a = c .before .before .before .before .before .before .before .before .args in
-    key-told-by (key-as (key-as-many (a .store .now) (a .index .now) (a .version) (a .key .now) (c .before .before .before .before .if1 .left) (sym (c .before .before .before .as-many .ensures) ∙ not-false _ (c .before .before .if2 .left)))
+    let else2 = c .before .before in
+    let after-as-many = else2 .before in
+    let a = start-from-as-many after-as-many .args in
+    key-told-by (key-as (key-as-many (a .store .now) (a .index .now) (a .version) (a .key .now) (after-as-many .before .if1 .left) (sym (after-as-many .as-many .ensures) ∙ not-false _ (else2 .if2 .left)))
     (c .get-by .ensures))
 
 pub get-indexed-spec : {M : Type 1} → statement M

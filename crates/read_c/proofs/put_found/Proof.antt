@@ -18,6 +18,10 @@ sub-put-hash c = search needs
 part-put-hash-start : tie.Need-part-put-hash-start
 part-put-hash-start c = search needs
 
+-- `A-from-B` is the state A as the later state B has it.
+abbrev start-from-put-hash : tie.After-put-hash → tie.Start
+start-from-put-hash c = c .before .before .before
+
 part-put-hash-end : tie.Need-part-put-hash-end
 part-put-hash-end c = simp length-set (omega (arith, c .before .pre))
 
@@ -26,15 +30,17 @@ put-hash-requires c κs = search needs
 
 same-length : tie.Need-same-length
 same-length c =
-    let d = c .before .before .before .before .before in
-    ap length (found-put (d .args .value) (d .args .present) (d .args .found .now) (d .pre) (c .before .before .put-hash .ensures))
-    ∙ ap suc (hash-whole (d .args .value) .0)
-    ∙ sym (d .pre)
+    let after-put-hash = c .before .before in
+    let start = start-from-put-hash after-put-hash in
+    ap length (found-put (start .args .value) (start .args .present) (start .args .found .now) (start .pre) (after-put-hash .put-hash .ensures))
+    ∙ ap suc (hash-whole (start .args .value) .0)
+    ∙ sym (start .pre)
 
 returns : tie.Need-returns
 returns c =
-    let d = c .before .before .before .before .before in
-    found-put (d .args .value) (d .args .present) (d .args .found .now) (d .pre) (c .before .before .put-hash .ensures)
+    let after-put-hash = c .before .before in
+    let start = start-from-put-hash after-put-hash in
+    found-put (start .args .value) (start .args .present) (start .args .found .now) (start .pre) (after-put-hash .put-hash .ensures)
 
 pub put-found-spec : {M : Type 1} → statement M
 put-found-spec =

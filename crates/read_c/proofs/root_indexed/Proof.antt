@@ -24,8 +24,10 @@ root-by-requires c κs = search needs
 
 returns-2 : tie.Need-returns-2
 returns-2 c =
-    let a = c .before .before .before .before .before .before .args in
-    root-told-by (root-as (root-as-many (a .store .now) (a .index .now) (a .version) (sym (c .before .before .before .as-many .ensures) ∙ not-false _ (c .before .before .if1 .left)))
+    let else1 = c .before .before in
+    let after-as-many = else1 .before in
+    let a = after-as-many .before .before .before .args in
+    root-told-by (root-as (root-as-many (a .store .now) (a .index .now) (a .version) (sym (after-as-many .as-many .ensures) ∙ not-false _ (else1 .if1 .left)))
     (c .root-by .ensures))
 
 pub root-indexed-spec : {M : Type 1} → statement M

@@ -14,11 +14,17 @@ look-root-by-requires c κs = search needs
 enum-known-sight : tie.Need-enum-known-sight
 enum-known-sight c = search needs
 
+-- `A-from-B` is the state A as the later state B has it.
+abbrev start-from-look-root-by : tie.After-look-root-by → tie.Start
+start-from-look-root-by c = c .before .before .before
+
 weight-at-requires : tie.Need-weight-at-requires
 weight-at-requires c κs =
-    let start = c .before .before .before .before .before .before in
+    let after-sight = c .before in
+    let after-look-root-by = after-sight .before .before in
+    let start = start-from-look-root-by after-look-root-by in
     let s = start .args .store .now in
-    record { size = start .pre; inside = inside s (rootBy (start .args .index .now) (storeOf s) (start .args .version)) (c .before .before .before .look-root-by .ensures) (c .before .sight .given .1) }
+    record { size = start .pre; inside = inside s (rootBy (start .args .index .now) (storeOf s) (start .args .version)) (after-look-root-by .look-root-by .ensures) (after-sight .sight .given .1) }
 
 enum-told : tie.Need-enum-told
 enum-told c = search needs
@@ -28,32 +34,39 @@ enum-known-sight-2 c = search needs
 
 cast-slot : tie.Need-cast-slot
 cast-slot c =
-    let start = c .before .before .before .before .before .before in
+    let after-sight2 = c .before in
+    let after-look-root-by = after-sight2 .before .before in
+    let start = start-from-look-root-by after-look-root-by in
     let s = start .args .store .now in
-    omega (arith, spoilt-small s (rootBy (start .args .index .now) (storeOf s) (start .args .version)) (c .before .before .before .look-root-by .ensures) (c .before .sight2 .given .1) (start .pre))
+    omega (arith, spoilt-small s (rootBy (start .args .index .now) (storeOf s) (start .args .version)) (after-look-root-by .look-root-by .ensures) (after-sight2 .sight2 .given .1) (start .pre))
 
 refusal-requires : tie.Need-refusal-requires
 refusal-requires c κs = search needs
 
 returns : tie.Need-returns
 returns c =
-    let start = c .before .before .before .before .before .before .before in
+    let after-sight = c .before .before in
+    let after-look-root-by = after-sight .before .before in
+    let start = start-from-look-root-by after-look-root-by in
     let s = start .args .store .now in
-    number-weighs s (rootBy (start .args .index .now) (storeOf s) (start .args .version)) (c .before .before .before .before .look-root-by .ensures) (c .before .before .sight .given .1) (c .weight-at .ensures .0)
+    number-weighs s (rootBy (start .args .index .now) (storeOf s) (start .args .version)) (after-look-root-by .look-root-by .ensures) (after-sight .sight .given .1) (c .weight-at .ensures .0)
 
 returns-2 : tie.Need-returns-2
 returns-2 c =
-    let start = c .before .before .before .before .before in
+    let after-look-root-by = c .before .before in
+    let start = start-from-look-root-by after-look-root-by in
     let s = start .args .store .now in
     let x = rootBy (start .args .index .now) (storeOf s) (start .args .version) in
-    number-none s x (none-sighted s x (c .before .before .look-root-by .ensures) (c .enum-told .given .1))
+    number-none s x (none-sighted s x (after-look-root-by .look-root-by .ensures) (c .enum-told .given .1))
 
 returns-3 : tie.Need-returns-3
 returns-3 c =
-    let start = c .before .before .before .before .before .before .before in
+    let after-sight2 = c .before .before in
+    let after-look-root-by = after-sight2 .before .before in
+    let start = start-from-look-root-by after-look-root-by in
     let s = start .args .store .now in
     let x = rootBy (start .args .index .now) (storeOf s) (start .args .version) in
-    number-spoilt s x _ (spoilt-sighted s x (c .before .before .before .before .look-root-by .ensures) (c .before .before .sight2 .given .1)) (c .refusal .ensures)
+    number-spoilt s x _ (spoilt-sighted s x (after-look-root-by .look-root-by .ensures) (after-sight2 .sight2 .given .1)) (c .refusal .ensures)
 
 pub root-number-spec : {M : Type 1} → statement M
 root-number-spec =

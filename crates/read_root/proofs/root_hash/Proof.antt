@@ -20,11 +20,17 @@ look-root-by-requires c κs = search needs
 enum-known-sight : tie.Need-enum-known-sight
 enum-known-sight c = search needs
 
+-- `A-from-B` is the state A as the later state B has it.
+abbrev start-from-look-root-by : tie.After-look-root-by → tie.Start
+start-from-look-root-by c = c .before .before .before
+
 slot-of-requires : tie.Need-slot-of-requires
 slot-of-requires c κs =
-    let start = c .before .before .before .before .before .before in
+    let after-sight = c .before in
+    let after-look-root-by = after-sight .before .before in
+    let start = start-from-look-root-by after-look-root-by in
     let s = start .args .store .now in
-    slot-fits _ s (start .pre) _ (inside s (rootBy (start .args .index .now) (storeOf s) (start .args .version)) (c .before .before .before .look-root-by .ensures) (c .before .sight .given .1))
+    slot-fits _ s (start .pre) _ (inside s (rootBy (start .args .index .now) (storeOf s) (start .args .version)) (after-look-root-by .look-root-by .ensures) (after-sight .sight .given .1))
 
 record-hash-requires : tie.Need-record-hash-requires
 record-hash-requires c κs = search needs
@@ -40,35 +46,44 @@ enum-known-sight-2 c = search needs
 
 cast-slot : tie.Need-cast-slot
 cast-slot c =
-    let start = c .before .before .before .before .before .before in
+    let after-sight2 = c .before in
+    let after-look-root-by = after-sight2 .before .before in
+    let start = start-from-look-root-by after-look-root-by in
     let s = start .args .store .now in
-    omega (arith, spoilt-small s (rootBy (start .args .index .now) (storeOf s) (start .args .version)) (c .before .before .before .look-root-by .ensures) (c .before .sight2 .given .1) (start .pre))
+    omega (arith, spoilt-small s (rootBy (start .args .index .now) (storeOf s) (start .args .version)) (after-look-root-by .look-root-by .ensures) (after-sight2 .sight2 .given .1) (start .pre))
 
 refusal-requires : tie.Need-refusal-requires
 refusal-requires c κs = search needs
 
 returns : tie.Need-returns
 returns c =
-    let start = c .before .before .before .before .before .before .before .before in
+    let after-slot-of = c .before in
+    let after-sight = after-slot-of .before .before in
+    let after-look-root-by = after-sight .before .before in
+    let start = start-from-look-root-by after-look-root-by in
     let s = start .args .store .now in
     let x = rootBy (start .args .index .now) (storeOf s) (start .args .version) in
     root-hashed x (c .record-hash .result)
-    (ap accepted (c .record-hash .ensures ∙ ap (λ y. bodyHash leafHash innerHash (bodyIn y)) (c .before .slot-of .ensures .0))
-    ∙ root-hash s x (c .before .before .before .before .before .look-root-by .ensures) (c .before .before .before .sight .given .1) leafHash innerHash)
+    (ap accepted (c .record-hash .ensures ∙ ap (λ y. bodyHash leafHash innerHash (bodyIn y)) (after-slot-of .slot-of .ensures .0))
+    ∙ root-hash s x (after-look-root-by .look-root-by .ensures) (after-sight .sight .given .1) leafHash innerHash)
 
 returns-2 : tie.Need-returns-2
 returns-2 c =
-    let start = c .before .before .before .before .before .before in
+    let after-enum-told = c .before in
+    let after-look-root-by = after-enum-told .before .before in
+    let start = start-from-look-root-by after-look-root-by in
     let s = start .args .store .now in
     let x = rootBy (start .args .index .now) (storeOf s) (start .args .version) in
-    root-empty x (c .no-hash .result) (none-sighted s x (c .before .before .before .look-root-by .ensures) (c .before .enum-told .given .1)) (c .no-hash .ensures)
+    root-empty x (c .no-hash .result) (none-sighted s x (after-look-root-by .look-root-by .ensures) (after-enum-told .enum-told .given .1)) (c .no-hash .ensures)
 
 returns-3 : tie.Need-returns-3
 returns-3 c =
-    let start = c .before .before .before .before .before .before .before in
+    let after-sight2 = c .before .before in
+    let after-look-root-by = after-sight2 .before .before in
+    let start = start-from-look-root-by after-look-root-by in
     let s = start .args .store .now in
     let x = rootBy (start .args .index .now) (storeOf s) (start .args .version) in
-    root-spoilt x _ (spoilt-sighted s x (c .before .before .before .before .look-root-by .ensures) (c .before .before .sight2 .given .1)) (c .refusal .ensures)
+    root-spoilt x _ (spoilt-sighted s x (after-look-root-by .look-root-by .ensures) (after-sight2 .sight2 .given .1)) (c .refusal .ensures)
 
 pub root-hash-spec : {M : Type 1} → statement M
 root-hash-spec =

@@ -53,20 +53,31 @@ enum-told c = search needs
 clear-requires : tie.Need-clear-requires
 clear-requires c κs = search needs
 
+-- `A-from-B` is the state A as the later state B has it.
+abbrev start-from-verify : tie.After-verify → tie.Start
+start-from-verify c = c .before .before .before .before .before .before
+
 returns : tie.Need-returns
 returns c =
-    let a = c .before .before .before .before .before .before .before .before .before .args in
-    list-refused (a .found .now) (ap says (sym (c .before .list .given .1)) ∙ c .before .before .before .verify .ensures ∙ ap (verified (a .root .now) (a .part .now)) (front-part (a .e) (a .proof .now)))
+    let after-list = c .before in
+    let after-verify = after-list .before .before in
+    let a = start-from-verify after-verify .args in
+    list-refused (a .found .now) (ap says (sym (after-list .list .given .1)) ∙ after-verify .verify .ensures ∙ ap (verified (a .root .now) (a .part .now)) (front-part (a .e) (a .proof .now)))
 
 returns-2 : tie.Need-returns-2
 returns-2 c =
-    let a = c .before .before .before .before .before .before .before .before .before .before .before .before .before .before .before .before .args in
-    list-present (a .found .now) (ap says (sym (c .before .before .before .before .before .before .before .before .list2 .given .1)) ∙ c .before .before .before .before .before .before .before .before .before .before .verify .ensures ∙ ap (verified (a .root .now) (a .part .now)) (front-part (a .e) (a .proof .now))) (c .before .before .before .before .before .put-hash .ensures) (rest-part (a .e) (a .proof .now)) (c .grants-verify .ensures)
+    let after-put-hash = c .before .before .before .before .before in
+    let after-list2 = after-put-hash .before .before .before in
+    let after-verify = after-list2 .before .before in
+    let a = start-from-verify after-verify .args in
+    list-present (a .found .now) (ap says (sym (after-list2 .list2 .given .1)) ∙ after-verify .verify .ensures ∙ ap (verified (a .root .now) (a .part .now)) (front-part (a .e) (a .proof .now))) (after-put-hash .put-hash .ensures) (rest-part (a .e) (a .proof .now)) (c .grants-verify .ensures)
 
 returns-3 : tie.Need-returns-3
 returns-3 c =
-    let a = c .before .before .before .before .before .before .before .before .before .before .args in
-    list-absent (a .found .now) (ap says (sym (c .before .before .enum-told .given .1)) ∙ c .before .before .before .before .verify .ensures ∙ ap (verified (a .root .now) (a .part .now)) (front-part (a .e) (a .proof .now))) (search needs) (c .clear .ensures)
+    let after-enum-told = c .before .before in
+    let after-verify = after-enum-told .before .before in
+    let a = start-from-verify after-verify .args in
+    list-absent (a .found .now) (ap says (sym (after-enum-told .enum-told .given .1)) ∙ after-verify .verify .ensures ∙ ap (verified (a .root .now) (a .part .now)) (front-part (a .e) (a .proof .now))) (search needs) (c .clear .ensures)
 
 pub check-both-spec : {M : Type 1} → statement M
 check-both-spec =

@@ -17,12 +17,16 @@ cast-e c = search needs
 
 returns-2 : tie.Need-returns-2
 returns-2 c =
-    first-past (c .before .before .before .before .args .proof .now) (c .before .before .if1 .left) (omega (arith, c .before .get-u32 .ensures, c .if2 .taken))
+    let after-get-u32 = c .before in
+    let else1 = after-get-u32 .before in
+    first-past (else1 .before .before .args .proof .now) (else1 .if1 .left) (omega (arith, after-get-u32 .get-u32 .ensures, c .if2 .taken))
 
 returns-3 : tie.Need-returns-3
 returns-3 c =
-    let e = c .before .get-u32 .ensures in
-    e ∙ first-own (c .before .before .before .before .args .proof .now) (c .before .before .if1 .left) (omega (arith, e, c .if2 .left))
+    let after-get-u32 = c .before in
+    let else1 = after-get-u32 .before in
+    let e = after-get-u32 .get-u32 .ensures in
+    e ∙ first-own (else1 .before .before .args .proof .now) (else1 .if1 .left) (omega (arith, e, c .if2 .left))
 
 pub first-end-spec : {M : Type 1} → statement M
 first-end-spec = tie.close (tie.spec returns get-u32-requires cast-e returns-2 returns-3)

@@ -33,11 +33,16 @@ part-is-proof-end c = search needs
 is-proof-requires : tie.Need-is-proof-requires
 is-proof-requires c κs = search needs
 
+-- `A-from-B` is the state A as the later state B has it.
+abbrev start-from-is-presence : tie.After-is-presence → tie.Start
+start-from-is-presence c = c .before .before .before
+
 returns : tie.Need-returns
 returns c =
-    let p = c .before .before .before in
-    let a = c .before .before .before .before .before .before .args in
-    c .is-proof .ensures ∙ ap isProof (rest-part (a .e) (a .proof .now)) ∙ second-decides (a .e) (a .proof .now) (sym (ap isPresence (front-part (a .e) (a .proof .now))) ∙ sym (p .is-presence .ensures) ∙ c .before .before .if1 .taken)
+    let then1 = c .before .before in
+    let after-is-presence = then1 .before in
+    let a = start-from-is-presence after-is-presence .args in
+    c .is-proof .ensures ∙ ap isProof (rest-part (a .e) (a .proof .now)) ∙ second-decides (a .e) (a .proof .now) (sym (ap isPresence (front-part (a .e) (a .proof .now))) ∙ sym (after-is-presence .is-presence .ensures) ∙ then1 .if1 .taken)
 
 sub-is-absence : tie.Need-sub-is-absence
 sub-is-absence c = search needs
@@ -53,17 +58,19 @@ is-absence-requires c κs = search needs
 
 returns-2 : tie.Need-returns-2
 returns-2 c =
-    let q = c .before in
-    let p = q .before .before .before in
-    let a = c .before .before .before .before .before .before .before .args in
-    neither-record (a .e) (a .proof .now) (sym (ap isPresence (front-part (a .e) (a .proof .now))) ∙ sym (p .is-presence .ensures) ∙ q .before .before .if1 .left) (sym (ap isAbsence (front-part (a .e) (a .proof .now))) ∙ sym (q .is-absence .ensures) ∙ not-true _ (c .if2 .taken))
+    let after-is-absence = c .before in
+    let else1 = after-is-absence .before .before in
+    let after-is-presence = else1 .before in
+    let a = start-from-is-presence after-is-presence .args in
+    neither-record (a .e) (a .proof .now) (sym (ap isPresence (front-part (a .e) (a .proof .now))) ∙ sym (after-is-presence .is-presence .ensures) ∙ else1 .if1 .left) (sym (ap isAbsence (front-part (a .e) (a .proof .now))) ∙ sym (after-is-absence .is-absence .ensures) ∙ not-true _ (c .if2 .taken))
 
 returns-3 : tie.Need-returns-3
 returns-3 c =
-    let q = c .before in
-    let p = q .before .before .before in
-    let a = c .before .before .before .before .before .before .before .args in
-    end-decides (a .e) (a .proof .now) (sym (ap isPresence (front-part (a .e) (a .proof .now))) ∙ sym (p .is-presence .ensures) ∙ q .before .before .if1 .left) (sym (ap isAbsence (front-part (a .e) (a .proof .now))) ∙ sym (q .is-absence .ensures) ∙ not-false _ (c .if2 .left)) refl
+    let after-is-absence = c .before in
+    let else1 = after-is-absence .before .before in
+    let after-is-presence = else1 .before in
+    let a = start-from-is-presence after-is-presence .args in
+    end-decides (a .e) (a .proof .now) (sym (ap isPresence (front-part (a .e) (a .proof .now))) ∙ sym (after-is-presence .is-presence .ensures) ∙ else1 .if1 .left) (sym (ap isAbsence (front-part (a .e) (a .proof .now))) ∙ sym (after-is-absence .is-absence .ensures) ∙ not-false _ (c .if2 .left)) refl
 
 pub is-shelf-spec : {M : Type 1} → statement M
 is-shelf-spec =

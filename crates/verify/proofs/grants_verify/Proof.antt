@@ -28,26 +28,36 @@ enum-told c = search needs
 clear-requires : tie.Need-clear-requires
 clear-requires c κs = search needs
 
+-- `A-from-B` is the state A as the later state B has it.
+abbrev start-from-verify : tie.After-verify → tie.Start
+start-from-verify c = c .before .before .before .before
+
 returns : tie.Need-returns
 returns c =
-    let e = ap says (sym (c .before .answer .given .1)) ∙ c .before .before .before .verify .ensures in
+    let after-answer = c .before in
+    let after-verify = after-answer .before .before in
+    let e = ap says (sym (after-answer .answer .given .1)) ∙ after-verify .verify .ensures in
     record {
       answer = ap numberOf e;
-      found = ap (λ (v : Answer Verdict). foundAfter v (c .before .before .before .before .before .before .before .args .found .now)) e;
+      found = ap (λ (v : Answer Verdict). foundAfter v (start-from-verify after-verify .args .found .now)) e;
     }
 
 returns-2 : tie.Need-returns-2
 returns-2 c =
-    let e = ap says (sym (c .before .before .before .answer2 .given .1)) ∙ c .before .before .before .before .before .verify .ensures in
+    let after-answer2 = c .before .before .before in
+    let after-verify = after-answer2 .before .before in
+    let e = ap says (sym (after-answer2 .answer2 .given .1)) ∙ after-verify .verify .ensures in
     record {
       answer = ap numberOf e;
-      found = c .put-present .ensures ∙ ap (λ (v : Answer Verdict). foundAfter v (c .before .before .before .before .before .before .before .before .before .args .found .now)) e;
+      found = c .put-present .ensures ∙ ap (λ (v : Answer Verdict). foundAfter v (start-from-verify after-verify .args .found .now)) e;
     }
 
 returns-3 : tie.Need-returns-3
 returns-3 c =
-    let e = ap says (sym (c .before .before .enum-told .given .1)) ∙ c .before .before .before .before .verify .ensures in
-    let f = c .before .before .before .before .before .before .before .before .args .found .now in
+    let after-enum-told = c .before .before in
+    let after-verify = after-enum-told .before .before in
+    let e = ap says (sym (after-enum-told .enum-told .given .1)) ∙ after-verify .verify .ensures in
+    let f = start-from-verify after-verify .args .found .now in
     record {
       answer = ap numberOf e;
       found = c .clear .ensures ∙ zeros-found f (search needs) ∙ ap (λ (v : Answer Verdict). foundAfter v f) e;

@@ -26,17 +26,23 @@ part-put-hash-end c = simp length-set (omega arith)
 put-hash-requires : tie.Need-put-hash-requires
 put-hash-requires c κs = search needs
 
+-- `A-from-B` is the state A as the later state B has it.
+abbrev start-from-put-hash : tie.After-put-hash → tie.Start
+start-from-put-hash c = c .before .before .before
+
 same-length : tie.Need-same-length
 same-length c =
-    let s = c .before .before .before .before .before in
-    let p = c .before .before .put-hash in
-    ap length (found-written (s .args .found .now) (hashBytes (s .args .hash)) (p .last .0) (s .pre) (p .ensures)) ∙ ap suc (hash-whole (s .args .hash) .0) ∙ sym (s .pre)
+    let after-put-hash = c .before .before in
+    let start = start-from-put-hash after-put-hash in
+    let p = after-put-hash .put-hash in
+    ap length (found-written (start .args .found .now) (hashBytes (start .args .hash)) (p .last .0) (start .pre) (p .ensures)) ∙ ap suc (hash-whole (start .args .hash) .0) ∙ sym (start .pre)
 
 returns : tie.Need-returns
 returns c =
-    let s = c .before .before .before .before .before in
-    let p = c .before .before .put-hash in
-    found-written (s .args .found .now) (hashBytes (s .args .hash)) (p .last .0) (s .pre) (p .ensures)
+    let after-put-hash = c .before .before in
+    let start = start-from-put-hash after-put-hash in
+    let p = after-put-hash .put-hash in
+    found-written (start .args .found .now) (hashBytes (start .args .hash)) (p .last .0) (start .pre) (p .ensures)
 
 pub put-present-spec : {M : Type 1} → statement M
 put-present-spec =

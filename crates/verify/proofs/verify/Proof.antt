@@ -10,12 +10,21 @@ use borrow.Author.Needs.{needs}
 use Rattle.verify.proofs.verify.Statement.{statement}
 use Rattle.verify.proofs.verify.Tie as tie
 
+-- `A-from-B` is the state A as the later state B has it.
+abbrev else1-from-is-presence : tie.After-is-presence → tie.Else1
+else1-from-is-presence c = c .before .before .before
+
+abbrev start-from-else1 : tie.Else1 → tie.Start
+start-from-else1 c = c .before .before .before .before
+
+abbrev start-from-is-presence : tie.After-is-presence → tie.Start
+start-from-is-presence c = start-from-else1 (c .before .before .before)
+
 returns : tie.Need-returns
 returns c = let a = c .before .before .before .before .args in sym (root-off (a .root .now) (a .key .now) (a .proof .now) (c .if1 .taken))
 
 returns-2 : tie.Need-returns-2
-returns-2 c =
-    let a = c .before .before .before .before .before .args in
+returns-2 c = let a = start-from-else1 (c .before) .args in
     sym (key-off (a .root .now) (a .key .now) (a .proof .now) (c .before .if1 .left) (c .if2 .taken))
 
 hash-at-requires : tie.Need-hash-at-requires
@@ -25,8 +34,7 @@ is-presence-requires : tie.Need-is-presence-requires
 is-presence-requires c κs = search needs
 
 hash-at-requires-2 : tie.Need-hash-at-requires-2
-hash-at-requires-2 c κs =
-    let w = presence-whole (c .before .before .before .before .before .before .before .before .args .proof .now) (sym (c .before .is-presence .ensures) ∙ c .if3 .taken) in
+hash-at-requires-2 c κs = let w = presence-whole (start-from-is-presence (c .before) .args .proof .now) (sym (c .before .is-presence .ensures) ∙ c .if3 .taken) in
     omega arith
 
 walk-presence-requires : tie.Need-walk-presence-requires
@@ -41,12 +49,15 @@ held-requires c κs = search needs
 returns-3 : tie.Need-returns-3
 unfolding slice
 returns-3 c =
-    let u = c .before .before .before .before in
-    let s = u .before .before in
-    let a = s .before .before .before .before .before .before .args in
+    let after-presence-holds = c .before in
+    let after-hash-at2 = after-presence-holds .before .before in
+    let then3 = after-hash-at2 .before in
+    let after-is-presence = then3 .before in
+    let else1 = else1-from-is-presence after-is-presence in
+    let a = start-from-else1 else1 .args in
     c .held .ensures
-    ∙ presence-answer (a .root .now) (a .key .now) (a .proof .now) (s .hash-at .ensures .1 ∙ take-all 32 (a .root .now) (omega (arith, s .before .before .if1 .left))) (c .before .before .before .hash-at2 .ensures .1) (c .before .presence-holds .ensures)
-    ∙ sym (as-presence (a .root .now) (a .key .now) (a .proof .now) (s .before .before .if1 .left) (s .before .if2 .left) (sym (u .before .is-presence .ensures) ∙ u .if3 .taken))
+    ∙ presence-answer (a .root .now) (a .key .now) (a .proof .now) (after-is-presence .before .hash-at .ensures .1 ∙ take-all 32 (a .root .now) (omega (arith, else1 .if1 .left))) (after-hash-at2 .hash-at2 .ensures .1) (after-presence-holds .presence-holds .ensures)
+    ∙ sym (as-presence (a .root .now) (a .key .now) (a .proof .now) (else1 .if1 .left) (after-is-presence .before .before .if2 .left) (sym (after-is-presence .is-presence .ensures) ∙ then3 .if3 .taken))
 
 is-absence-requires : tie.Need-is-absence-requires
 is-absence-requires c κs = search needs
@@ -62,20 +73,24 @@ held-requires-2 c κs = search needs
 
 returns-4 : tie.Need-returns-4
 returns-4 c =
-    let w = c .before .before .before in
-    let u = w .before .before in
-    let s = u .before .before in
-    let a = s .before .before .before .before .before .before .args in
+    let after-absence-holds = c .before in
+    let then4 = after-absence-holds .before .before in
+    let after-is-absence = then4 .before in
+    let else3 = after-is-absence .before in
+    let after-is-presence = else3 .before in
+    let else1 = else1-from-is-presence after-is-presence in
+    let a = start-from-else1 else1 .args in
     c .held2 .ensures
-    ∙ absence-answer (a .root .now) (a .key .now) (a .proof .now) (s .hash-at .ensures .1 ∙ take-all 32 (a .root .now) (omega (arith, s .before .before .if1 .left))) (c .before .absence-holds .ensures)
-    ∙ sym (as-absence (a .root .now) (a .key .now) (a .proof .now) (s .before .before .if1 .left) (s .before .if2 .left) (sym (u .before .is-presence .ensures) ∙ u .if3 .left) (sym (w .before .is-absence .ensures) ∙ w .if4 .taken))
+    ∙ absence-answer (a .root .now) (a .key .now) (a .proof .now) (after-is-presence .before .hash-at .ensures .1 ∙ take-all 32 (a .root .now) (omega (arith, else1 .if1 .left))) (after-absence-holds .absence-holds .ensures)
+    ∙ sym (as-absence (a .root .now) (a .key .now) (a .proof .now) (else1 .if1 .left) (after-is-presence .before .before .if2 .left) (sym (after-is-presence .is-presence .ensures) ∙ else3 .if3 .left) (sym (after-is-absence .is-absence .ensures) ∙ then4 .if4 .taken))
 
 returns-5 : tie.Need-returns-5
 returns-5 c =
-    let a = c .before .before .before .before .before .before .before .before .before .before .args in
-    let u = c .before .before in
-    let s = u .before .before in
-    sym (off-form (a .root .now) (a .key .now) (a .proof .now) (s .before .before .if1 .left) (s .before .if2 .left) (sym (u .before .is-presence .ensures) ∙ u .if3 .left) (sym (c .before .is-absence .ensures) ∙ c .if4 .left))
+    let after-is-absence = c .before in
+    let else3 = after-is-absence .before in
+    let after-is-presence = else3 .before in
+    let a = start-from-is-presence after-is-presence .args in
+    sym (off-form (a .root .now) (a .key .now) (a .proof .now) (else1-from-is-presence after-is-presence .if1 .left) (after-is-presence .before .before .if2 .left) (sym (after-is-presence .is-presence .ensures) ∙ else3 .if3 .left) (sym (after-is-absence .is-absence .ensures) ∙ c .if4 .left))
 
 pub verify-spec : {M : Type 1} → statement M
 verify-spec =

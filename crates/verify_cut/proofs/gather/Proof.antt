@@ -14,6 +14,19 @@ Inv-loop p n at₀ index₀ i₀ m₀ a₀ at index i m a = Plan p n at index i 
 abbrev μ-loop : tie.MeasureT-loop
 μ-loop p n at₀ index₀ i₀ m₀ a₀ at index i m a = n - i
 
+-- `A-from-B` is the state A as the later state B has it.
+abbrev at-loop-from-else1 : tie.Else1 Inv-loop μ-loop → tie.At-loop Inv-loop μ-loop
+at-loop-from-else1 c = c .before .before .before
+
+abbrev at-loop-from-paths-of : tie.After-paths-of Inv-loop μ-loop → tie.At-loop Inv-loop μ-loop
+at-loop-from-paths-of c = at-loop-from-else1 (c .before .before)
+
+abbrev start-from-at-loop : tie.At-loop Inv-loop μ-loop → tie.Start Inv-loop μ-loop
+start-from-at-loop c = c .before .before
+
+abbrev start-from-paths-of : tie.After-paths-of Inv-loop μ-loop → tie.Start Inv-loop μ-loop
+start-from-paths-of c = start-from-at-loop (c .before .before .before .before .before)
+
 loop-holds : tie.Need-loop-holds Inv-loop μ-loop
 loop-holds c = let s = c .before in plan-none _ _ _ _ (s .pre .1) (s .pre .2)
 
@@ -40,59 +53,69 @@ paths-of-requires c κs = search needs
 
 add-at : tie.Need-add-at Inv-loop μ-loop
 add-at c =
-    let t = c .before .before .before .before .before .before in
-    let p = t .before .before .args .p .now in
-    let e = c .before .before .before .before .piece-end .ensures .end (c .before .before .before .if1 .left) in
-    omega (arith, c .before .paths-of .ensures .near, length-take (c .before .before .before .before .piece-end .result - t .loop .a) (drop (t .loop .a) p), length-drop (t .loop .a) p)
+    let after-paths-of = c .before in
+    let else1 = after-paths-of .before .before in
+    let at-loop = at-loop-from-else1 else1 in
+    let p = at-loop .before .before .args .p .now in
+    let e = else1 .before .piece-end .ensures .end (else1 .if1 .left) in
+    omega (arith, after-paths-of .paths-of .ensures .near, length-take (else1 .before .piece-end .result - at-loop .loop .a) (drop (at-loop .loop .a) p), length-drop (at-loop .loop .a) p)
 
 mul-at : tie.Need-mul-at Inv-loop μ-loop
 mul-at c = search needs
 
 element-write-at : tie.Need-element-write-at Inv-loop μ-loop
-element-write-at c = let t = c .before .before .before .before .before .before in omega (arith, t .loop .inv .few, t .before .before .pre)
+element-write-at c = omega (arith, at-loop-from-paths-of (c .before) .loop .inv .few, start-from-paths-of (c .before) .pre)
 
 add-at-2 : tie.Need-add-at-2 Inv-loop μ-loop
 add-at-2 c =
-    let t = c .before .before .before .before .before .before .before in
-    let p = t .before .before .args .p .now in
-    let e = c .before .before .before .before .before .piece-end .ensures .end (c .before .before .before .before .if1 .left) in
-    omega (arith, c .before .before .paths-of .ensures .near2, length-take (c .before .before .before .before .before .piece-end .result - t .loop .a) (drop (t .loop .a) p), length-drop (t .loop .a) p)
+    let after-paths-of = c .before .before in
+    let else1 = after-paths-of .before .before in
+    let at-loop = at-loop-from-else1 else1 in
+    let p = at-loop .before .before .args .p .now in
+    let e = else1 .before .piece-end .ensures .end (else1 .if1 .left) in
+    omega (arith, after-paths-of .paths-of .ensures .near2, length-take (else1 .before .piece-end .result - at-loop .loop .a) (drop (at-loop .loop .a) p), length-drop (at-loop .loop .a) p)
 
 add-at-3 : tie.Need-add-at-3 Inv-loop μ-loop
-add-at-3 c = let t = c .before .before .before .before .before .before .before in omega (arith, t .loop .inv .few, t .before .before .pre)
+add-at-3 c =
+    let after-paths-of = c .before .before in
+    omega (arith, at-loop-from-paths-of after-paths-of .loop .inv .few, start-from-paths-of after-paths-of .pre)
 
 mul-at-2 : tie.Need-mul-at-2 Inv-loop μ-loop
 mul-at-2 c = search needs
 
 element-write-at-2 : tie.Need-element-write-at-2 Inv-loop μ-loop
-element-write-at-2 c = let t = c .before .before .before .before .before .before .before in omega (arith, t .loop .inv .few, t .before .before .pre)
+element-write-at-2 c =
+    let after-paths-of = c .before .before in
+    omega (arith, at-loop-from-paths-of after-paths-of .loop .inv .few, start-from-paths-of after-paths-of .pre)
 
 mul-index : tie.Need-mul-index Inv-loop μ-loop
 mul-index c = search needs
 
 element-write-index : tie.Need-element-write-index Inv-loop μ-loop
-element-write-index c = let t = c .before .before .before .before .before .before .before in omega (arith, t .before .before .pre)
+element-write-index c = omega (arith, start-from-paths-of (c .before .before) .pre)
 
 add-m : tie.Need-add-m Inv-loop μ-loop
-add-m c = let t = c .before .before .before .before .before .before .before .before in omega (arith, t .loop .inv .few, t .before .before .pre, c .before .before .before .paths-of .ensures .few)
+add-m c =
+    let after-paths-of = c .before .before .before in
+    omega (arith, at-loop-from-paths-of after-paths-of .loop .inv .few, start-from-paths-of after-paths-of .pre, after-paths-of .paths-of .ensures .few)
 
 add-i : tie.Need-add-i Inv-loop μ-loop
-add-i c = let t = c .before .before .before .before .before .before .before .before in omega (arith, t .before .before .pre)
+add-i c = omega (arith, start-from-paths-of (c .before .before .before) .pre)
 
 loop-less : tie.Need-loop-less Inv-loop μ-loop
 loop-less c = search needs
 
 loop-again : tie.Need-loop-again Inv-loop μ-loop
 loop-again c =
-    let t = c .before .before .before .before .before .before .before .before in
-    let s = t .before .before in
-    let a = s .args in
-    let x = c .before .before .before in
-    let u = x .before .before in
-    let b = u .before .piece-end .ensures .on (u .if1 .left) in
-    let e = u .before .piece-end .ensures .end (u .if1 .left) in
-    rw e (plan-more (a .p .now) (a .n) (t .loop .at) (t .loop .index) (t .loop .i) (t .loop .m) (t .loop .a) (t .loop .inv) (omega arith) (s .pre .0) b (x .paths-of .result)
-    (rw (part-is (a .p .now) (t .loop .a) _ e) at (x .paths-of .ensures)))
+    let after-paths-of = c .before .before .before in
+    let else1 = after-paths-of .before .before in
+    let at-loop = at-loop-from-else1 else1 in
+    let start = at-loop .before .before in
+    let a = start .args in
+    let b = else1 .before .piece-end .ensures .on (else1 .if1 .left) in
+    let e = else1 .before .piece-end .ensures .end (else1 .if1 .left) in
+    rw e (plan-more (a .p .now) (a .n) (at-loop .loop .at) (at-loop .loop .index) (at-loop .loop .i) (at-loop .loop .m) (at-loop .loop .a) (at-loop .loop .inv) (omega arith) (start .pre .0) b (after-paths-of .paths-of .result)
+    (rw (part-is (a .p .now) (at-loop .loop .a) _ e) at (after-paths-of .paths-of .ensures)))
 
 returns-2 : tie.Need-returns-2 Inv-loop μ-loop
 returns-2 c =

@@ -27,16 +27,22 @@ part-put-hash-end c = simp (length-set, length-set) (omega arith)
 put-hash-requires : tie.Need-put-hash-requires
 put-hash-requires c κs = search needs
 
+-- `A-from-B` is the state A as the later state B has it.
+abbrev start-from-put-hash : tie.After-put-hash → tie.Start
+start-from-put-hash c = c .before .before .before
+
 same-length : tie.Need-same-length
 same-length c =
-    let s = c .before .before .before .before .before in
-    let p = c .before .before .put-hash in
-    ap length (value-written (s .args .out .now) (hashBytes (s .args .hash)) (p .last .0) (s .pre) (p .ensures)) ∙ ap (λ (n : ℕ). suc (suc n)) (hash-long (s .args .hash)) ∙ sym (s .pre)
+    let after-put-hash = c .before .before in
+    let start = start-from-put-hash after-put-hash in
+    let p = after-put-hash .put-hash in
+    ap length (value-written (start .args .out .now) (hashBytes (start .args .hash)) (p .last .0) (start .pre) (p .ensures)) ∙ ap (λ (n : ℕ). suc (suc n)) (hash-long (start .args .hash)) ∙ sym (start .pre)
 
 returns : tie.Need-returns
 returns c =
-    let s = c .before .before .before .before .before in
-    value-written (s .args .out .now) (hashBytes (s .args .hash)) _ (s .pre) (c .before .before .put-hash .ensures)
+    let after-put-hash = c .before .before in
+    let start = start-from-put-hash after-put-hash in
+    value-written (start .args .out .now) (hashBytes (start .args .hash)) _ (start .pre) (after-put-hash .put-hash .ensures)
 
 pub put-value-spec : {M : Type 1} → statement M
 put-value-spec =

@@ -28,9 +28,11 @@ is-presence-requires c κs = search needs
 returns : tie.Need-returns
 unfolding flags
 returns c =
-    let x = c .before .before .before .before .before .args .p .now in
-    let e = c .before .before .before .get-u16 .ensures in
-    c .is-presence .ensures ∙ ap isPresence (rest-part 40 x) ∙ sym (fit-one x (rw (← e) (c .before .before .if1 .taken)))
+    let then1 = c .before .before in
+    let after-get-u16 = then1 .before in
+    let x = after-get-u16 .before .before .args .p .now in
+    let e = after-get-u16 .get-u16 .ensures in
+    c .is-presence .ensures ∙ ap isPresence (rest-part 40 x) ∙ sym (fit-one x (rw (← e) (then1 .if1 .taken)))
 
 -- past the test of the flags there are two neighbours
 two-flagged : (c : tie.Else1) → 2 < flags (c .before .before .before .args .p .now)
@@ -51,7 +53,9 @@ add-e c = search needs
 
 returns-3 : tie.Need-returns-3
 unfolding leftLength
-returns-3 c = sym (fit-short (c .before .before .before .before .before .before .args .p .now) (two-flagged (c .before .before .before)) (omega arith))
+returns-3 c =
+    let state = c .before .before .before in
+    sym (fit-short (state .before .before .before .args .p .now) (two-flagged (state)) (omega arith))
 
 sub-is-presence-2 : tie.Need-sub-is-presence-2
 sub-is-presence-2 c = search needs
@@ -68,10 +72,13 @@ is-presence-requires-2 c κs = search needs
 returns-4 : tie.Need-returns-4
 unfolding leftLength
 returns-4 c =
-    let x = c .before .before .before .before .before .before .before .before .before .args .p .now in
-    let e = c .before .before .before .before .get-u32 .ensures in
-    let l = sym (ap isPresence (left-part _ x e)) ∙ sym (c .before .is-presence2 .ensures) ∙ not-true _ (c .if4 .taken) in
-    sym (fit-two x (two-flagged (c .before .before .before .before .before .before)) ∙ rw l)
+    let after-is-presence2 = c .before in
+    let after-get-u32 = after-is-presence2 .before .before .before in
+    let state = after-get-u32 .before .before in
+    let x = state .before .before .before .args .p .now in
+    let e = after-get-u32 .get-u32 .ensures in
+    let l = sym (ap isPresence (left-part _ x e)) ∙ sym (after-is-presence2 .is-presence2 .ensures) ∙ not-true _ (c .if4 .taken) in
+    sym (fit-two x (two-flagged (state)) ∙ rw l)
 
 part-is-presence-start-3 : tie.Need-part-is-presence-start-3
 part-is-presence-start-3 c = search needs
@@ -85,11 +92,14 @@ is-presence-requires-3 c κs = search needs
 returns-5 : tie.Need-returns-5
 unfolding leftLength
 returns-5 c =
-    let x = c .before .before .before .before .before .before .before .before .before .before .before .args .p .now in
-    let e = c .before .before .before .before .before .before .get-u32 .ensures in
-    let t = c .before .before in
-    let l = sym (ap isPresence (left-part _ x e)) ∙ sym (t .before .is-presence2 .ensures) ∙ not-false _ (t .if4 .left) in
-    c .is-presence3 .ensures ∙ ap isPresence (right-part _ x e) ∙ sym (fit-two x (two-flagged (c .before .before .before .before .before .before .before .before)) ∙ rw l)
+    let else4 = c .before .before in
+    let after-is-presence2 = else4 .before in
+    let after-get-u32 = after-is-presence2 .before .before .before in
+    let state = after-get-u32 .before .before in
+    let x = state .before .before .before .args .p .now in
+    let e = after-get-u32 .get-u32 .ensures in
+    let l = sym (ap isPresence (left-part _ x e)) ∙ sym (after-is-presence2 .is-presence2 .ensures) ∙ not-false _ (else4 .if4 .left) in
+    c .is-presence3 .ensures ∙ ap isPresence (right-part _ x e) ∙ sym (fit-two x (two-flagged (state)) ∙ rw l)
 
 pub neighbours-fit-spec : {M : Type 1} → statement M
 neighbours-fit-spec =

@@ -13,16 +13,20 @@ use Rattle.verify_given.proofs.verify_given.Tie as tie
 is-presence-requires : tie.Need-is-presence-requires
 is-presence-requires c κs = search needs
 
+-- `A-from-B` is the state A as the later state B has it.
+abbrev start-from-is-presence : tie.After-is-presence → tie.Start
+start-from-is-presence c = c .before .before .before
+
 hash-at-requires : tie.Need-hash-at-requires
-hash-at-requires c κs =
-    let w = presence-whole (c .before .before .before .before .args .proof .now) (sym (c .before .is-presence .ensures) ∙ c .if1 .taken) in
+hash-at-requires c κs = let w = presence-whole (start-from-is-presence (c .before) .args .proof .now) (sym (c .before .is-presence .ensures) ∙ c .if1 .taken) in
     omega arith
 
 presence-holds-requires : tie.Need-presence-holds-requires
 presence-holds-requires c κs =
-    let s = c .before .before .before .before .before in
-    let p = sym (c .before .before .is-presence .ensures) ∙ c .before .if1 .taken in
-    (p, λ k. s .pre .direct p)
+    let then1 = c .before in
+    let after-is-presence = then1 .before in
+    let p = sym (after-is-presence .is-presence .ensures) ∙ then1 .if1 .taken in
+    (p, λ k. start-from-is-presence after-is-presence .pre .direct p)
 
 held-requires : tie.Need-held-requires
 held-requires c κs = search needs
@@ -30,40 +34,46 @@ held-requires c κs = search needs
 returns : tie.Need-returns
 unfolding slice
 returns c =
-    let a = c .before .before .before .before .before .before .before .args in
-    let u = c .before .before .before in
+    let after-presence-holds = c .before in
+    let after-hash-at = after-presence-holds .before in
+    let then1 = after-hash-at .before in
+    let after-is-presence = then1 .before in
+    let a = start-from-is-presence after-is-presence .args in
     let root = hashBytes (a .root) in
     c .held .ensures
-    ∙ presence-answer root (a .key .now) (a .proof .now) refl (c .before .before .hash-at .ensures .1) (c .before .presence-holds .ensures)
-    ∙ sym (as-presence root (a .key .now) (a .proof .now) (sym (u .before .is-presence .ensures) ∙ u .if1 .taken))
+    ∙ presence-answer root (a .key .now) (a .proof .now) refl (after-hash-at .hash-at .ensures .1) (after-presence-holds .presence-holds .ensures)
+    ∙ sym (as-presence root (a .key .now) (a .proof .now) (sym (after-is-presence .is-presence .ensures) ∙ then1 .if1 .taken))
 
 is-absence-requires : tie.Need-is-absence-requires
 is-absence-requires c κs = search needs
 
 absence-holds-requires : tie.Need-absence-holds-requires
-absence-holds-requires c κs =
-    let s = c .before .before .before .before .before .before in
-    let p = sym (c .before .is-absence .ensures) ∙ c .if2 .taken in
-    (p, λ k. s .pre .around p)
+absence-holds-requires c κs = let p = sym (c .before .is-absence .ensures) ∙ c .if2 .taken in
+    (p, λ k. start-from-is-presence (c .before .before .before) .pre .around p)
 
 held-requires-2 : tie.Need-held-requires-2
 held-requires-2 c κs = search needs
 
 returns-2 : tie.Need-returns-2
 returns-2 c =
-    let a = c .before .before .before .before .before .before .before .before .args in
-    let w = c .before .before in
-    let u = w .before .before in
+    let after-absence-holds = c .before in
+    let then2 = after-absence-holds .before in
+    let after-is-absence = then2 .before in
+    let else1 = after-is-absence .before in
+    let after-is-presence = else1 .before in
+    let a = start-from-is-presence after-is-presence .args in
     let root = hashBytes (a .root) in
     c .held2 .ensures
-    ∙ absence-answer root (a .key .now) (a .proof .now) refl (c .before .absence-holds .ensures)
-    ∙ sym (as-absence root (a .key .now) (a .proof .now) (sym (u .before .is-presence .ensures) ∙ u .if1 .left) (sym (w .before .is-absence .ensures) ∙ w .if2 .taken))
+    ∙ absence-answer root (a .key .now) (a .proof .now) refl (after-absence-holds .absence-holds .ensures)
+    ∙ sym (as-absence root (a .key .now) (a .proof .now) (sym (after-is-presence .is-presence .ensures) ∙ else1 .if1 .left) (sym (after-is-absence .is-absence .ensures) ∙ then2 .if2 .taken))
 
 returns-3 : tie.Need-returns-3
 returns-3 c =
-    let a = c .before .before .before .before .before .before .args in
-    let u = c .before .before in
-    sym (off-form (hashBytes (a .root)) (a .key .now) (a .proof .now) (sym (u .before .is-presence .ensures) ∙ u .if1 .left) (sym (c .before .is-absence .ensures) ∙ c .if2 .left))
+    let after-is-absence = c .before in
+    let else1 = after-is-absence .before in
+    let after-is-presence = else1 .before in
+    let a = start-from-is-presence after-is-presence .args in
+    sym (off-form (hashBytes (a .root)) (a .key .now) (a .proof .now) (sym (after-is-presence .is-presence .ensures) ∙ else1 .if1 .left) (sym (after-is-absence .is-absence .ensures) ∙ c .if2 .left))
 
 pub verify-given-spec : {M : Type 1} → statement M
 verify-given-spec =

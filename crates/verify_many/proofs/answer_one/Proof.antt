@@ -8,22 +8,28 @@ use Rattle.verify_many.proofs.Answers.{judged-small, by-judging}
 use Rattle.verify_many.proofs.answer_one.Statement.{statement}
 use Rattle.verify_many.proofs.answer_one.Tie as tie
 
+-- `A-from-B` is the state A as the later state B has it.
+abbrev start-from-verify-given : tie.After-verify-given → tie.Start
+start-from-verify-given c = c .before .before .before .before .before
+
 verify-given-requires : tie.Need-verify-given-requires
 verify-given-requires c κs = c .before .before .before .before .pre .2
 
 put-answer-requires : tie.Need-put-answer-requires
 put-answer-requires c κs =
-    let s = c .before .before .before .before .before in
-    (s .pre .1, rw (c .verify-given .ensures) (judged-small (hashBytes (s .args .root)) (s .args .key .now) (proofIn (s .args .x .now))))
+    let start = start-from-verify-given c in
+    (start .pre .1, rw (c .verify-given .ensures) (judged-small (hashBytes (start .args .root)) (start .args .key .now) (proofIn (start .args .x .now))))
 
 same-length : tie.Need-same-length
 same-length c = search needs
 
 returns : tie.Need-returns
 returns c =
-    let s = c .before .before .before .before .before .before .before .before in
-    c .before .before .put-answer .ensures
-    ∙ ap answerBytes (c .before .before .before .verify-given .ensures ∙ sym (by-judging (s .args .root) (s .args .key .now) (s .args .x .now) (s .pre .0)))
+    let after-put-answer = c .before .before in
+    let after-verify-given = after-put-answer .before in
+    let start = start-from-verify-given after-verify-given in
+    after-put-answer .put-answer .ensures
+    ∙ ap answerBytes (after-verify-given .verify-given .ensures ∙ sym (by-judging (start .args .root) (start .args .key .now) (start .args .x .now) (start .pre .0)))
 
 pub answer-one-spec : {M : Type 1} → statement M
 answer-one-spec =

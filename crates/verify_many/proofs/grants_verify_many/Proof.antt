@@ -17,9 +17,11 @@ whole-keys-requires c κs = search needs
 
 returns-2 : tie.Need-returns-2
 returns-2 c =
-    let a = c .before .before .before .before .before .before .before .args in
+    let after-whole-keys = c .before in
+    let else1 = after-whole-keys .before in
+    let a = else1 .before .before .before .before .before .args in
     refuses (a .root .now) (a .keys .now) (a .proofs .now) (a .answers .now) 12
-    (keys-off (a .root .now) (a .keys .now) (a .proofs .now) (a .answers .now) (c .before .before .if1 .left) (sym (c .before .whole-keys .ensures) ∙ not-true _ (c .if2 .taken)))
+    (keys-off (a .root .now) (a .keys .now) (a .proofs .now) (a .answers .now) (else1 .if1 .left) (sym (after-whole-keys .whole-keys .ensures) ∙ not-true _ (c .if2 .taken)))
 
 gather-requires : tie.Need-gather-requires
 gather-requires c κs =
@@ -29,10 +31,13 @@ gather-requires c κs =
 
 returns-3 : tie.Need-returns-3
 returns-3 c =
-    let u = c .before .before .before .before .before in
-    let a = u .before .before .before .before .before .before .before .args in
+    let after-gather = c .before .before in
+    let else2 = after-gather .before .before .before in
+    let after-whole-keys = else2 .before in
+    let else1 = after-whole-keys .before in
+    let a = else1 .before .before .before .before .before .args in
     refuses (a .root .now) (a .keys .now) (a .proofs .now) (a .answers .now) 10
-    (row-off (a .root .now) (a .keys .now) (a .proofs .now) (a .answers .now) (u .before .before .if1 .left) (sym (u .before .whole-keys .ensures) ∙ not-false _ (u .if2 .left)) (sym (c .before .before .gather .ensures .whole-is) ∙ not-true _ (c .if3 .taken)))
+    (row-off (a .root .now) (a .keys .now) (a .proofs .now) (a .answers .now) (else1 .if1 .left) (sym (after-whole-keys .whole-keys .ensures) ∙ not-false _ (else2 .if2 .left)) (sym (after-gather .gather .ensures .whole-is) ∙ not-true _ (c .if3 .taken)))
 
 mul-if4 : tie.Need-mul-if4
 mul-if4 c =
@@ -42,11 +47,14 @@ mul-if4 c =
 
 returns-4 : tie.Need-returns-4
 returns-4 c =
-    let v = c .before in
-    let u = v .before .before .before .before .before in
-    let a = u .before .before .before .before .before .before .before .args in
+    let else3 = c .before in
+    let after-gather = else3 .before .before in
+    let else2 = after-gather .before .before .before in
+    let after-whole-keys = else2 .before in
+    let else1 = after-whole-keys .before in
+    let a = else1 .before .before .before .before .before .args in
     refuses (a .root .now) (a .keys .now) (a .proofs .now) (a .answers .now) 9
-    (no-room (a .root .now) (a .keys .now) (a .proofs .now) (a .answers .now) (u .before .before .if1 .left) (sym (u .before .whole-keys .ensures) ∙ not-false _ (u .if2 .left)) (sym (v .before .before .gather .ensures .whole-is) ∙ not-false _ (v .if3 .left)) (omega arith))
+    (no-room (a .root .now) (a .keys .now) (a .proofs .now) (a .answers .now) (else1 .if1 .left) (sym (after-whole-keys .whole-keys .ensures) ∙ not-false _ (else2 .if2 .left)) (sym (after-gather .gather .ensures .whole-is) ∙ not-false _ (else3 .if3 .left)) (omega arith))
 
 hash-at-requires : tie.Need-hash-at-requires
 hash-at-requires c κs = search needs
@@ -62,15 +70,18 @@ lead-many-requires c κs =
 
 put-answers-requires : tie.Need-put-answers-requires
 put-answers-requires c κs =
-    let v = c .before .before .before .before .before .before .before .before in
-    let u = v .before .before .before .before .before in
-    let w = whole-sizes _ (sym (u .before .whole-keys .ensures) ∙ not-false _ (u .if2 .left)) in
-    let g = v .before .before .gather .ensures in (
+    let after-lead-many = c .before .before .before in
+    let else4 = after-lead-many .before .before .before .before in
+    let else3 = else4 .before in
+    let after-gather = else3 .before .before in
+    let else2 = after-gather .before .before .before in
+    let w = whole-sizes _ (sym (else2 .before .whole-keys .ensures) ∙ not-false _ (else2 .if2 .left)) in
+    let g = after-gather .gather .ensures in (
       w .0,
       w .1,
-      omega (arith, c .before .before .before .before .before .before .before .if4 .left),
-      sym (g .whole-is) ∙ not-false _ (v .if3 .left),
-      plan-known _ _ _ _ _ _ _ _ (g .plan (not-false _ (v .if3 .left))) (c .before .before .before .lead-many .ensures),
+      omega (arith, else4 .if4 .left),
+      sym (g .whole-is) ∙ not-false _ (else3 .if3 .left),
+      plan-known _ _ _ _ _ _ _ _ (g .plan (not-false _ (else3 .if3 .left))) (after-lead-many .lead-many .ensures),
     )
 
 same-length : tie.Need-same-length
@@ -78,16 +89,22 @@ same-length c = search needs
 
 returns-5 : tie.Need-returns-5
 returns-5 c =
-    let x = c .before .before .before .before .before .before .before .before .before .before in
-    let v = x .before in
-    let u = v .before .before .before .before .before in
-    let a = u .before .before .before .before .before .before .before .args in
-    let r = u .before .before .if1 .left in
-    accepts (a .root .now) (a .keys .now) (a .proofs .now) (a .answers .now) r (sym (u .before .whole-keys .ensures) ∙ not-false _ (u .if2 .left))
-    (sym (v .before .before .gather .ensures .whole-is) ∙ not-false _ (v .if3 .left)) _ _ (omega (arith, x .if4 .left))
-    (root-whole (a .root .now) _ r (c .before .before .before .before .before .before .before .before .before .hash-at .ensures .1))
+    let after-put-answers = c .before .before in
+    let after-lead-many = after-put-answers .before .before .before .before in
+    let after-hash-at = after-lead-many .before .before .before in
+    let else4 = after-hash-at .before in
+    let else3 = else4 .before in
+    let after-gather = else3 .before .before in
+    let else2 = after-gather .before .before .before in
+    let after-whole-keys = else2 .before in
+    let else1 = after-whole-keys .before in
+    let a = else1 .before .before .before .before .before .args in
+    let r = else1 .if1 .left in
+    accepts (a .root .now) (a .keys .now) (a .proofs .now) (a .answers .now) r (sym (after-whole-keys .whole-keys .ensures) ∙ not-false _ (else2 .if2 .left))
+    (sym (after-gather .gather .ensures .whole-is) ∙ not-false _ (else3 .if3 .left)) _ _ (omega (arith, else4 .if4 .left))
+    (root-whole (a .root .now) _ r (after-hash-at .hash-at .ensures .1))
     (search needs)
-    (c .before .before .put-answers .ensures)
+    (after-put-answers .put-answers .ensures)
 
 pub grants-verify-many-spec : {M : Type 1} → statement M
 grants-verify-many-spec =

@@ -50,9 +50,11 @@ same-length-3 c = search needs
 returns-3 : tie.Need-returns-3
 unfolding answerBytes
 returns-3 c =
-    let s = c .before .before .before .before .before .before .before in
-    c .before .before .clear .ensures ∙ zeros-written (s .args .out .now) (s .pre .0)
-    ∙ ap (λ (v : Checked). answerBytes (says v)) (sym (c .before .before .before .before .enum-told .given .1))
+    let after-clear = c .before .before in
+    let after-enum-told = after-clear .before .before in
+    let start = after-enum-told .before .before .before in
+    after-clear .clear .ensures ∙ zeros-written (start .args .out .now) (start .pre .0)
+    ∙ ap (λ (v : Checked). answerBytes (says v)) (sym (after-enum-told .enum-told .given .1))
 
 pub put-answer-spec : {M : Type 1} → statement M
 put-answer-spec =

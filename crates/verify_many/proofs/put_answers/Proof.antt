@@ -73,18 +73,20 @@ part-answer-one-end c = search needs
 
 sub-answer-one-2 : tie.Need-sub-answer-one-2 Inv-loop μ-loop
 sub-answer-one-2 c =
-    let t = c .before .before .before .before .before .before in
-    let a = t .before .before .before .before .args in
-    let b = written-begins _ _ (a .p .now) _ (a .n) _ (t .loop .a) (t .loop .i) (t .loop .inv) (omega arith) in
-    let e = end-is (a .p .now) (t .loop .a) _ (c .before .before .before .before .piece-end .ensures) b in
+    let after-piece-end = c .before .before .before .before in
+    let at-loop = after-piece-end .before .before in
+    let a = at-loop .before .before .before .before .args in
+    let b = written-begins _ _ (a .p .now) _ (a .n) _ (at-loop .loop .a) (at-loop .loop .i) (at-loop .loop .inv) (omega arith) in
+    let e = end-is (a .p .now) (at-loop .loop .a) _ (after-piece-end .piece-end .ensures) b in
     omega arith
 
 part-answer-one-start-2 : tie.Need-part-answer-one-start-2 Inv-loop μ-loop
 part-answer-one-start-2 c =
-    let t = c .before .before .before .before .before .before in
-    let a = t .before .before .before .before .args in
-    let b = written-begins _ _ (a .p .now) _ (a .n) _ (t .loop .a) (t .loop .i) (t .loop .inv) (omega arith) in
-    let e = end-is (a .p .now) (t .loop .a) _ (c .before .before .before .before .piece-end .ensures) b in
+    let after-piece-end = c .before .before .before .before in
+    let at-loop = after-piece-end .before .before in
+    let a = at-loop .before .before .before .before .args in
+    let b = written-begins _ _ (a .p .now) _ (a .n) _ (at-loop .loop .a) (at-loop .loop .i) (at-loop .loop .inv) (omega arith) in
+    let e = end-is (a .p .now) (at-loop .loop .a) _ (after-piece-end .piece-end .ensures) b in
     omega arith
 
 part-answer-one-end-2 : tie.Need-part-answer-one-end-2 Inv-loop μ-loop
@@ -101,13 +103,14 @@ part-answer-one-end-3 c = search needs
 
 answer-one-requires : tie.Need-answer-one-requires Inv-loop μ-loop
 answer-one-requires c κs =
-    let t = c .before .before .before .before .before .before .before .before in
-    let s = t .before .before .before .before in
-    let a = s .args in
-    let b = written-begins _ _ (a .p .now) _ (a .n) _ (t .loop .a) (t .loop .i) (t .loop .inv) (omega arith) in
-    let e = end-is (a .p .now) (t .loop .a) _ (c .before .before .before .before .before .before .piece-end .ensures) b in
-    let k = s .pre .4 (t .loop .i) (omega arith) .leading in
-    (simp (length-take, length-drop) (omega arith), simp (length-take, length-drop) (omega (arith, t .loop .inv .same)), rw (part-is (a .p .now) (t .loop .a) _ e, t .loop .inv .start) k)
+    let after-piece-end = c .before .before .before .before .before .before in
+    let at-loop = after-piece-end .before .before in
+    let start = at-loop .before .before .before .before in
+    let a = start .args in
+    let b = written-begins _ _ (a .p .now) _ (a .n) _ (at-loop .loop .a) (at-loop .loop .i) (at-loop .loop .inv) (omega arith) in
+    let e = end-is (a .p .now) (at-loop .loop .a) _ (after-piece-end .piece-end .ensures) b in
+    let k = start .pre .4 (at-loop .loop .i) (omega arith) .leading in
+    (simp (length-take, length-drop) (omega arith), simp (length-take, length-drop) (omega (arith, at-loop .loop .inv .same)), rw (part-is (a .p .now) (at-loop .loop .a) _ e, at-loop .loop .inv .start) k)
 
 add-i : tie.Need-add-i Inv-loop μ-loop
 add-i c = search needs
@@ -117,18 +120,21 @@ loop-less c = search needs
 
 loop-again : tie.Need-loop-again Inv-loop μ-loop
 loop-again c =
-    let t = c .before .before .before .before .before .before .before .before .before .before .before in
-    let s = t .before .before .before .before in
-    let a = s .args in
-    let i = t .loop .i in
+    let after-answer-one = c .before .before in
+    let after-piece-end = after-answer-one .before .before .before .before .before .before .before in
+    let state = after-piece-end .before in
+    let at-loop = state .before in
+    let start = at-loop .before .before .before .before in
+    let a = start .args in
+    let i = at-loop .loop .i in
     let root = hashBytes (a .root) in
-    let lt : i < a .n = omega (arith, c .before .before .before .before .before .before .before .before .before .before .loop-test) in
-    let y = c .before .before .answer-one in
-    let b = written-begins _ _ (a .p .now) _ (a .n) _ (t .loop .a) i (t .loop .inv) lt in
-    let e = end-is (a .p .now) (t .loop .a) _ (c .before .before .before .before .before .before .before .before .before .piece-end .ensures) b in
-    let z = y .ensures ∙ ap₂ (λ (k x : Bytes). answerBytes (verified root k x)) (key-part (a .keys .now) i) (part-is (a .p .now) (t .loop .a) _ e) in
-    let l : length (y .last .1 .1 .1 .1 .1 .0) ≡ 34 = y .kept .1 .1 .1 .1 .1 .0 ∙ part-long i (a .n) (t .loop .out) (a .out .now) lt (s .pre .2) (t .loop .inv .same) in
-    rw e (written-more root (a .keys .now) (a .p .now) (a .out .now) (a .n) (t .loop .out) (t .loop .a) i (t .loop .inv) lt (s .pre .2) (y .last .1 .1 .1 .1 .1 .0) _ z l refl)
+    let lt : i < a .n = omega (arith, state .loop-test) in
+    let y = after-answer-one .answer-one in
+    let b = written-begins _ _ (a .p .now) _ (a .n) _ (at-loop .loop .a) i (at-loop .loop .inv) lt in
+    let e = end-is (a .p .now) (at-loop .loop .a) _ (after-piece-end .piece-end .ensures) b in
+    let z = y .ensures ∙ ap₂ (λ (k x : Bytes). answerBytes (verified root k x)) (key-part (a .keys .now) i) (part-is (a .p .now) (at-loop .loop .a) _ e) in
+    let l : length (y .last .1 .1 .1 .1 .1 .0) ≡ 34 = y .kept .1 .1 .1 .1 .1 .0 ∙ part-long i (a .n) (at-loop .loop .out) (a .out .now) lt (start .pre .2) (at-loop .loop .inv .same) in
+    rw e (written-more root (a .keys .now) (a .p .now) (a .out .now) (a .n) (at-loop .loop .out) (at-loop .loop .a) i (at-loop .loop .inv) lt (start .pre .2) (y .last .1 .1 .1 .1 .1 .0) _ z l refl)
 
 same-length : tie.Need-same-length Inv-loop μ-loop
 same-length c = c .before .loop .inv .same

@@ -16,6 +16,10 @@ use Rattle.verify_neighbours.proofs.lead_around.Tie as tie
 head : (c : tie.Start) → 40 ≤ length (c .args .proof .now)
 head c = absence-head (c .args .proof .now) (c .pre)
 
+-- `A-from-B` is the state A as the later state B has it.
+abbrev start-from-then1 : tie.Then1 → tie.Start
+start-from-then1 c = c .before .before .before
+
 get-u16-requires : tie.Need-get-u16-requires
 get-u16-requires c κs = let w = head (c .before) in omega arith
 
@@ -31,20 +35,20 @@ part-leads-to-end c = search needs
 leads-to-requires : tie.Need-leads-to-requires
 unfolding flags
 leads-to-requires c κs =
-    let g = c .before .before in
-    let s = g .before .before in
-    ap isPresence (rest-part 40 (s .args .proof .now)) ∙ one-there (s .args .proof .now) (s .pre) (omega (arith, g .get-u16 .ensures, c .before .if1 .taken))
+    let then1 = c .before in
+    let start = start-from-then1 then1 in
+    ap isPresence (rest-part 40 (start .args .proof .now)) ∙ one-there (start .args .proof .now) (start .pre) (omega (arith, then1 .before .get-u16 .ensures, then1 .if1 .taken))
 
 returns : tie.Need-returns
 unfolding flags
 returns c =
-    let g = c .before .before .before in
-    let s = g .before .before in
-    let x = s .args .proof .now in
-    let f = g .get-u16 .ensures in
-    let t = c .before .before .if1 .taken in
+    let then1 = c .before .before in
+    let start = start-from-then1 then1 in
+    let x = start .args .proof .now in
+    let f = then1 .before .get-u16 .ensures in
+    let t = then1 .if1 .taken in
     record {
-      lone = λ k. c .leads-to .ensures ∙ ap (leads (hashBytes (s .args .root))) (rest-part 40 x);
+      lone = λ k. c .leads-to .ensures ∙ ap (leads (hashBytes (start .args .root))) (rest-part 40 x);
       leftward = λ k. absurd (omega (arith, f, t, k));
       rightward = λ k. absurd (omega (arith, f, t, k));
     }

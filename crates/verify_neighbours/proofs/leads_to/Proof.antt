@@ -23,7 +23,10 @@ same-hash-requires : tie.Need-same-hash-requires
 same-hash-requires c κs = search needs
 
 returns : tie.Need-returns
-returns c = c .same-hash .ensures ∙ top-leads _ _ _ (c .before .before .before .before .args .p .now) (c .before .before .get-u16 .ensures) (c .before .top .ensures)
+returns c =
+    let after-top = c .before in
+    let after-get-u16 = after-top .before in
+    c .same-hash .ensures ∙ top-leads _ _ _ (after-get-u16 .before .before .args .p .now) (after-get-u16 .get-u16 .ensures) (after-top .top .ensures)
 
 pub leads-to-spec : {M : Type 1} → statement M
 leads-to-spec =

@@ -22,7 +22,9 @@ part-beyond-start : tie.Need-part-beyond-start
 part-beyond-start c = search needs
 
 part-beyond-end : tie.Need-part-beyond-end
-part-beyond-end c = let w = presence-whole (c .before .before .before .args .p .now) (c .before .before .before .pre .0) in omega arith
+part-beyond-end c =
+    let start = c .before .before .before in
+    let w = presence-whole (start .args .p .now) (start .pre .0) in omega arith
 
 beyond-requires : tie.Need-beyond-requires
 beyond-requires c κs = search needs

@@ -17,6 +17,10 @@ use Rattle.verify_neighbours.proofs.neighbours_hold.Tie as tie
 head : (c : tie.Start) → 40 ≤ length (c .args .proof .now)
 head c = absence-head (c .args .proof .now) (c .pre .0)
 
+-- `A-from-B` is the state A as the later state B has it.
+abbrev start-from-get-u16 : tie.After-get-u16 → tie.Start
+start-from-get-u16 c = c .before .before .before
+
 get-u16-requires : tie.Need-get-u16-requires
 get-u16-requires c κs = let w = head (c .before .before) in omega arith
 
@@ -32,17 +36,21 @@ part-lone-holds-end c = search needs
 lone-holds-requires : tie.Need-lone-holds-requires
 unfolding flags
 lone-holds-requires c κs =
-    let s = c .before .before .before .before .before in
-    let x = s .args .proof .now in
-    let f = sym (c .before .before .get-u16 .ensures) ∙ c .before .if1 .taken in
-    (ap isPresence (rest-part 40 x) ∙ one-there x (s .pre .0) (omega arith), s .pre .1 .lone (omega arith) ∙ sym (ap (leads (hashBytes (s .args .root))) (rest-part 40 x)))
+    let then1 = c .before in
+    let after-get-u16 = then1 .before in
+    let start = start-from-get-u16 after-get-u16 in
+    let x = start .args .proof .now in
+    let f = sym (after-get-u16 .get-u16 .ensures) ∙ then1 .if1 .taken in
+    (ap isPresence (rest-part 40 x) ∙ one-there x (start .pre .0) (omega arith), start .pre .1 .lone (omega arith) ∙ sym (ap (leads (hashBytes (start .args .root))) (rest-part 40 x)))
 
 returns : tie.Need-returns
 unfolding flags
 returns c =
-    let a = c .before .before .before .before .before .before .args in
+    let then1 = c .before .before in
+    let after-get-u16 = then1 .before in
+    let a = start-from-get-u16 after-get-u16 .args in
     let root = hashBytes (a .root) in
-    let f = sym (c .before .before .before .get-u16 .ensures) ∙ c .before .before .if1 .taken in
+    let f = sym (after-get-u16 .get-u16 .ensures) ∙ then1 .if1 .taken in
     c .lone-holds .ensures ∙ ap (loneNeighbour left root (a .key .now)) (rest-part 40 (a .proof .now)) ∙ sym (left-shown root (a .key .now) (a .proof .now) f)
 
 sub-lone-holds-2 : tie.Need-sub-lone-holds-2
@@ -57,17 +65,21 @@ part-lone-holds-end-2 c = search needs
 lone-holds-requires-2 : tie.Need-lone-holds-requires-2
 unfolding flags
 lone-holds-requires-2 c κs =
-    let s = c .before .before .before .before .before .before in
-    let x = s .args .proof .now in
-    let f = sym (c .before .before .before .get-u16 .ensures) ∙ c .before .if2 .taken in
-    (ap isPresence (rest-part 40 x) ∙ one-there x (s .pre .0) (omega arith), s .pre .1 .lone (omega arith) ∙ sym (ap (leads (hashBytes (s .args .root))) (rest-part 40 x)))
+    let then2 = c .before in
+    let after-get-u16 = then2 .before .before in
+    let start = start-from-get-u16 after-get-u16 in
+    let x = start .args .proof .now in
+    let f = sym (after-get-u16 .get-u16 .ensures) ∙ then2 .if2 .taken in
+    (ap isPresence (rest-part 40 x) ∙ one-there x (start .pre .0) (omega arith), start .pre .1 .lone (omega arith) ∙ sym (ap (leads (hashBytes (start .args .root))) (rest-part 40 x)))
 
 returns-2 : tie.Need-returns-2
 unfolding flags
 returns-2 c =
-    let a = c .before .before .before .before .before .before .before .args in
+    let then2 = c .before .before in
+    let after-get-u16 = then2 .before .before in
+    let a = start-from-get-u16 after-get-u16 .args in
     let root = hashBytes (a .root) in
-    let f = sym (c .before .before .before .before .get-u16 .ensures) ∙ c .before .before .if2 .taken in
+    let f = sym (after-get-u16 .get-u16 .ensures) ∙ then2 .if2 .taken in
     c .lone-holds2 .ensures ∙ ap (loneNeighbour right root (a .key .now)) (rest-part 40 (a .proof .now)) ∙ sym (right-shown root (a .key .now) (a .proof .now) f)
 
 -- past the two tests of the flags there are two neighbours
@@ -114,26 +126,30 @@ part-both-hold-end-2 c = search needs
 both-hold-requires : tie.Need-both-hold-requires
 unfolding leftLength
 both-hold-requires c κs =
-    let s = c .before .before .before .before .before .before .before .before in
-    let x = s .args .proof .now in
-    let root = hashBytes (s .args .root) in
-    let t = two-flagged (c .before .before .before) in
-    let e = c .before .before .get-u32 .ensures in (
-      ap isPresence (left-part _ x e) ∙ left-there x (s .pre .0) t,
-      (ap isPresence (right-part _ x e) ∙ right-there x (s .pre .0) t, (s .pre .1 .leftward t ∙ sym (ap (leads root) (left-part _ x e)), λ g. s .pre .1 .rightward t g ∙ sym (ap (leads root) (right-part _ x e)))),
+    let after-get-u32 = c .before .before in
+    let state = after-get-u32 .before in
+    let start = start-from-get-u16 (state .before .before) in
+    let x = start .args .proof .now in
+    let root = hashBytes (start .args .root) in
+    let t = two-flagged (state) in
+    let e = after-get-u32 .get-u32 .ensures in (
+      ap isPresence (left-part _ x e) ∙ left-there x (start .pre .0) t,
+      (ap isPresence (right-part _ x e) ∙ right-there x (start .pre .0) t, (start .pre .1 .leftward t ∙ sym (ap (leads root) (left-part _ x e)), λ g. start .pre .1 .rightward t g ∙ sym (ap (leads root) (right-part _ x e)))),
     )
 
 returns-3 : tie.Need-returns-3
 unfolding leftLength
 returns-3 c =
-    let s = c .before .before .before .before .before .before .before .before .before in
-    let root = hashBytes (s .args .root) in
-    let k = s .args .key .now in
-    let x = s .args .proof .now in
-    let e = c .before .before .before .get-u32 .ensures in
+    let after-get-u32 = c .before .before .before in
+    let state = after-get-u32 .before in
+    let start = start-from-get-u16 (state .before .before) in
+    let root = hashBytes (start .args .root) in
+    let k = start .args .key .now in
+    let x = start .args .proof .now in
+    let e = after-get-u32 .get-u32 .ensures in
     c .both-hold .ensures
     ∙ ap₂ (bothNeighbours root k) (left-part _ x e) (right-part _ x e)
-    ∙ sym (both-shown root k x (flags-both x (s .pre .0) (two-flagged (c .before .before .before .before))))
+    ∙ sym (both-shown root k x (flags-both x (start .pre .0) (two-flagged (state))))
 
 pub neighbours-hold-spec : {M : Type 1} → statement M
 neighbours-hold-spec =

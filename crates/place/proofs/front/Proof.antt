@@ -1,14 +1,30 @@
--- `check_kin::front` meets its contract: at bit i the place is that of the first i bits. Assumes nothing.
-use Prim.Native.Nat.{_-_, _≤_}
+-- `place::front` meets its contract: at bit i the place is that of the first i bits. Assumes nothing.
+use Prim.Native.Nat.{ℕ, _+_, _*_, _-_, _<_, _≤_}
 use native.Mathlib.Omega.{arith}
-use mathlib.Core.Path.{_≡_, subst}
-use lib.ListN.{take}
+use native.Mathlib.Numerals.{add-one}
+use mathlib.Core.Path.{_≡_, ap, sym, _∙_, subst}
+use mathlib.Core.Bool.{false}
+use lib.ListN.{length, take}
+use lib.Seq.{take-suc}
 use borrow.Author.Needs.{needs}
-use Rattle.terms.specs.Bits.{bits}
+use Rattle.terms.specs.Bits.{Bytes, bits, bit, longer}
+use Rattle.terms.proofs.Places.{length-bits}
+use Rattle.place.specs.declared.Place as declared
 use Rattle.place.specs.Place.{Stands, Grown}
-use Rattle.check_kin.proofs.Holding.{front-next}
-use Rattle.check_kin.proofs.front.Statement.{statement}
-use Rattle.check_kin.proofs.front.Tie as tie
+use Rattle.place.proofs.front.Statement.{statement}
+use Rattle.place.proofs.front.Tie as tie
+
+-- the first bits of a key, one more
+front-next : (k : Bytes) (i : ℕ) (p q : declared.Place) → i < 8 * length k → Stands (take i (bits k)) i p → Grown (bit i k) p q →
+    Stands (take (i + 1) (bits k)) (i + 1) q
+unfolding bit longer
+front-next k i p q h w g =
+    let l : i < length (bits k) = omega (arith, length-bits k) in
+    record {
+      proper = g .proper;
+      place = g .place ∙ ap (longer (bit i k)) (w .place) ∙ sym (take-suc (bits k) i false l) ∙ rw (add-one i);
+      count = omega (arith, g .count, w .count);
+    }
 
 abbrev Inv-loop : tie.InvT-loop
 Inv-loop key count place₀ i₀ place i = (i ≤ count) × Stands (take i (bits key)) i place
@@ -28,6 +44,9 @@ start-from-key-bit c = c .before .before .before .before .before
 
 abbrev start-from-child-place : tie.After-child-place Inv-loop μ-loop → tie.Start Inv-loop μ-loop
 start-from-child-place c = start-from-key-bit (c .before)
+
+abbrev start-from-at-loop : tie.At-loop Inv-loop μ-loop → tie.Start Inv-loop μ-loop
+start-from-at-loop c = c .before .before .before
 
 key-bit-requires : tie.Need-key-bit-requires Inv-loop μ-loop
 key-bit-requires c κs =
@@ -56,10 +75,10 @@ loop-again c =
 
 returns : tie.Need-returns Inv-loop μ-loop
 returns c =
+    let start = start-from-at-loop (c .before) in
     let w = c .before .loop in
-    let a = c .before .before .before .before in
-    let e : w .i ≡ a .args .count = omega (arith, w .inv .0) in
-    subst (λ m. Stands (take m (bits (a .args .key .now))) m (w .place)) e (w .inv .1)
+    let e : w .i ≡ start .args .count = omega (arith, w .inv .0) in
+    subst (λ m. Stands (take m (bits (start .args .key .now))) m (w .place)) e (w .inv .1)
 
 pub front-spec : {M : Type 1} → statement M
 front-spec =
