@@ -1,5 +1,5 @@
--- Document 01, 'The tree of a set of grants': 'a run of inserts with no node there grows a subtree; at a leaf, with the leaf if it stays'.
--- What the values of the code say, case by case. Assumes nothing.
+-- Document 01, 'The tree of a set of grants': 'a run of inserts with no node there grows a subtree; at a leaf, with the
+-- leaf if it stays'. What the values of the code say, case by case. Assumes nothing.
 use Prim.Native.Nat.{ℕ, _<_, _≤_}
 use mathlib.Core.Path.{_≡_}
 use mathlib.Core.Bool.{Bool, true, false, cond}
@@ -50,10 +50,12 @@ pub record NextInsert (run : Bytes) (from r : ℕ) : Type 0 where
 -- The leaf that stays begins with the place, and the run asks nothing for its key.
 abbrev pub StaysAt : Place → Option Grant → List Ask → Type 0
 StaysAt p none asks = Unit {0}
-StaysAt p (some g) asks = GrantForm g × (begins p (g .key) ≡ true) × All (λ a. sameBytes (askKey a) (g .key) ≡ false) asks
+StaysAt p (some g) asks =
+    GrantForm g × (begins p (g .key) ≡ true) × All (λ a. sameBytes (askKey a) (g .key) ≡ false) asks
 
 -- A place where a run may grow a subtree.
-pub record Grows (new : ℕ) (writes : Bool) (from : ℕ) (s : Bytes) (p : place.Place) (leaf : declared-stays.Stays) (part : Bytes) : Type 0 where
+pub record Grows (new : ℕ) (writes : Bool) (from : ℕ) (s : Bytes) (p : place.Place) (leaf : declared-stays.Stays)
+    (part : Bytes) : Type 0 where
   pub stored : Stored s
   pub starts : Starts writes (storeOf s .slots) from
   pub number : 1 ≤ new

@@ -1,4 +1,5 @@
--- Document 01, 'Reading and proving', 'a slot matches a version and place', where a node is in one slot at most. Assumes nothing.
+-- Document 01, 'Reading and proving', 'a slot matches a version and place', where a node is in one slot at most.
+-- Assumes nothing.
 use Prim.Native.Nat.{ℕ}
 use Rattle.terms.specs.Bits.{Bytes}
 use Rattle.place.specs.declared.Place as place

@@ -1,4 +1,5 @@
--- Document 01, 'The tree of a set of grants': the step at a leaf. What the values of the code say, case by case. Assumes nothing.
+-- Document 01, 'The tree of a set of grants': the step at a leaf. What the values of the code say, case by case.
+-- Assumes nothing.
 use Prim.Native.Nat.{ℕ, _≤_}
 use mathlib.Core.Path.{_≡_}
 use mathlib.Core.Bool.{Bool, true, false}
@@ -42,11 +43,13 @@ stayingSays Delete k x = S.Nothing
 
 -- What becomes of a leaf that nothing is inserted beside is what the definition makes of it.
 pub record Alone (new from version : ℕ) (g : Grant) (asked : Option Ask) (r : outcome.Outcome) : Type 0 where
-  pub change : (grown : Option Grant → step.Outcome) → changeSays (r .change) ≡ step.leafBy leafHash innerHash new version g asked [] grown .change
+  pub change : (grown : Option Grant → step.Outcome) →
+      changeSays (r .change) ≡ step.leafBy leafHash innerHash new version g asked [] grown .change
   pub node : (writes : Bool) (grown : Option Grant → step.Outcome) →
       NodeSays writes (r .node) (step.leafBy leafHash innerHash new version g asked [] grown .node)
   pub quiet : (grown : Option Grant → step.Outcome) →
-      (step.leafBy leafHash innerHash new version g asked [] grown .fresh ≡ []) × (step.leafBy leafHash innerHash new version g asked [] grown .retired ≡ [])
+      (step.leafBy leafHash innerHash new version g asked [] grown .fresh ≡ []) ×
+      (step.leafBy leafHash innerHash new version g asked [] grown .retired ≡ [])
   pub reach : r .reach ≡ from
 
 -- The same by what the run was found to ask for its key.
@@ -54,7 +57,8 @@ abbrev pub AloneBy : ℕ → ℕ → ℕ → Grant → declared.Own → outcome.
 AloneBy new from version g own r = (asked : Option Ask) → OwnSays own asked → Alone new from version g asked r
 
 -- A leaf where a run is to be applied.
-pub record AtLeaf (new : ℕ) (writes : Bool) (from : ℕ) (s : Bytes) (p : place.Place) (key : Hash) (part : Bytes) : Type 0 where
+pub record AtLeaf (new : ℕ) (writes : Bool) (from : ℕ) (s : Bytes) (p : place.Place) (key : Hash) (part : Bytes) :
+    Type 0 where
   pub stored : Stored s
   pub starts : Starts writes (storeOf s .slots) from
   pub number : 1 ≤ new

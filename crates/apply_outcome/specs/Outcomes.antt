@@ -46,7 +46,8 @@ pub record Weighs (m n : ℕ) (a b : VTree) : Type 0 where
 abbrev pub NodeSays : Bool → node.Node → VTree → Type 0
 NodeSays w Nothing t = t ≡ vnone
 NodeSays w (Leaf v k x) t = t ≡ vleaf v (grant (hashBytes k) (hashBytes x))
-NodeSays w (Inner v l r m n) t = (a : VTree) × (b : VTree) × (t ≡ vinner v a b) × ChildSays w l a × ChildSays w r b × Weighs m n a b
+NodeSays w (Inner v l r m n) t =
+    (a : VTree) × (b : VTree) × (t ≡ vinner v a b) × ChildSays w l a × ChildSays w r b × Weighs m n a b
 
 -- What the parent's record says of a node: its version and hash.
 abbrev pub nodeChild : node.Node → Child
@@ -70,7 +71,8 @@ unfoldable pub updatedSays : Place → declared.Outcome → List Record
 updatedSays p o = changedRecord (o .change) (recordSays p (o .node))
 
 -- The outcome of the code is the outcome o, and its writes are those of o, from a reach on.
-pub record Did (new : ℕ) (writes : Bool) (from : ℕ) (s s′ : Bytes) (o : step.Outcome) (r : declared.Outcome) : Type 0 where
+pub record Did (new : ℕ) (writes : Bool) (from : ℕ) (s s′ : Bytes) (o : step.Outcome) (r : declared.Outcome) :
+    Type 0 where
   pub change : changeSays (r .change) ≡ o .change
   pub node : NodeSays writes (r .node) (o .node)
   pub reach : Reaches writes from (length (o .fresh)) (storeOf s′ .slots) (r .reach)
@@ -84,8 +86,10 @@ Kept writes c o = writes ≡ true → o .change ≡ Unchanged → childSays c �
 abbrev pub ChildAfter : Bool → declared.Outcome → declared-child.Child → Type 0
 ChildAfter writes o c = writes ≡ true → childSays c ≡ nodeChild (o .node)
 
--- Two outcomes at the children of an inner node, whose records are in form, and what its old record says of the children.
-pub record Forks (writes : Bool) (s : Bytes) (p : place.Place) (cl cr : declared-child.Child) (l r : declared.Outcome) : Type 0 where
+-- Two outcomes at the children of an inner node, whose records are in form, and what its old record says of the
+-- children.
+pub record Forks (writes : Bool) (s : Bytes) (p : place.Place) (cl cr : declared-child.Child) (l r : declared.Outcome) :
+    Type 0 where
   pub stored : Stored s
   pub starts : Starts writes (storeOf s .slots) (r .reach)
   pub proper : Proper p
@@ -105,4 +109,5 @@ pub record Forked (new : ℕ) (writes : Bool) (s s′ : Bytes) (p : Place) (l r 
   pub node : o .node ≡ Inner new left-child right-child (nodeLeaves (l .node)) (nodeLeaves (r .node))
   pub left-is : ChildAfter writes l left-child
   pub right-is : ChildAfter writes r right-child
-  pub placed : Placed writes (r .reach) (updatedSays (longer left p) l ++ updatedSays (longer right p) r) s s′ (o .reach)
+  pub placed : Placed writes (r .reach) (updatedSays (longer left p) l ++ updatedSays (longer right p) r) s s′
+      (o .reach)

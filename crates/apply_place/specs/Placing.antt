@@ -1,4 +1,5 @@
--- Document 01, 'Retirement' and 'Placing', over lent memory: the bytes of a store with its slots changed, and nothing else. Assumes nothing.
+-- Document 01, 'Retirement' and 'Placing', over lent memory: the bytes of a store with its slots changed, and nothing
+-- else. Assumes nothing.
 use Prim.Native.Nat.{ℕ, _<_}
 use mathlib.Core.Path.{_≡_}
 use mathlib.Core.Bool.{Bool, true, false}

@@ -1,4 +1,5 @@
--- Document 01, 'Placing': how far new records reach. Counting goes on as if every slot were free, so a count is a reach too. Assumes nothing.
+-- Document 01, 'Placing': how far new records reach. Counting goes on as if every slot were free, so a count is a reach
+-- too. Assumes nothing.
 use Prim.Native.Nat.{ℕ, _+_, _≤_, min}
 use mathlib.Core.Path.{_≡_}
 use mathlib.Core.Bool.{Bool, true, false}

@@ -1,5 +1,5 @@
--- Documents 01, 'Numbers of refusal', and 02, 2026-13: what applying a batch to bytes as a number answers, and the bytes it leaves. Order: 1,
--- 2; then 3; then 4, 5, 18, 7. Assumes nothing.
+-- Documents 01, 'Numbers of refusal', and 02, 2026-13: what applying a batch to bytes as a number answers, and the
+-- bytes it leaves. Order: 1, 2; then 3; then 4, 5, 18, 7. Assumes nothing.
 use Prim.Native.Nat.{ℕ}
 use Rattle.terms.specs.Bits.{Bytes}
 use Rattle.meaning.specs.Calls.{Answer, refused, accepted, Applied, apply}

@@ -35,7 +35,8 @@ versionIn s i = versionOf (getD (storeOf s .slots) i free)
 abbrev pub HoldsNode : node.Node → Record → Type 0
 HoldsNode N.Nothing r = ⊥
 HoldsNode (N.Leaf v k x) r = (v ≡ r .version) × (r .body ≡ leafBody (hashBytes k) (hashBytes x))
-HoldsNode (N.Inner v a b m n) r = (v ≡ r .version) × (r .body ≡ innerBody (childSays a) (childSays b)) × (r .counts ≡ tally m n)
+HoldsNode (N.Inner v a b m n) r =
+    (v ≡ r .version) × (r .body ≡ innerBody (childSays a) (childSays b)) × (r .counts ≡ tally m n)
 
 -- The node that slot i holds.
 abbrev pub NodeHeld : Bytes → ℕ → node.Node → Type 0
@@ -49,7 +50,8 @@ UsedAt s F.Nothing = Unit {0}
 -- From no slot and from a leaf the steps go no further; from an inner record they go to children of these versions.
 abbrev pub GoesOn : Bytes → found.Found → declared.Onward → Type 0
 GoesOn s F.Nothing o = o ≡ End
-GoesOn s (F.At i) End = (r : Record) → getD (storeOf s .slots) i free ≡ used r → (k : Bytes) × (x : Bytes) × (r .body ≡ leafBody k x)
+GoesOn s (F.At i) End =
+    (r : Record) → getD (storeOf s .slots) i free ≡ used r → (k : Bytes) × (x : Bytes) × (r .body ≡ leafBody k x)
 GoesOn s (F.At i) (Inner slot l r) =
     (slot ≡ i) × ((q : Record) → getD (storeOf s .slots) i free ≡ used q →
     (a : Child) × (b : Child) × (q .body ≡ innerBody a b) × (l ≡ a .version) × (r ≡ b .version))

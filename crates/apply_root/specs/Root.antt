@@ -1,4 +1,5 @@
--- Document 01, 'The tree of a set of grants': where a batch is applied to a whole tree, and the new root by value. Assumes nothing.
+-- Document 01, 'The tree of a set of grants': where a batch is applied to a whole tree, and the new root by value.
+-- Assumes nothing.
 use Prim.Native.Nat.{ℕ}
 use mathlib.Core.Path.{_≡_}
 use mathlib.Core.Bool.{Bool}

@@ -14,7 +14,8 @@ use Rattle.apply_read.specs.Standing.{treeHere, isInner}
 use Rattle.apply_tip.specs.Stepping.{Here}
 
 -- The tree's top is an inner node, its record is in a slot, and its children have these versions.
-pub record HereInner (new : ℕ) (writes : Bool) (from : ℕ) (s : Bytes) (p : place.Place) (slot l r : ℕ) (part : Bytes) : Type 0 where
+pub record HereInner (new : ℕ) (writes : Bool) (from : ℕ) (s : Bytes) (p : place.Place) (slot l r : ℕ) (part : Bytes) :
+    Type 0 where
   pub here : Here new writes from s p (versionIn s slot) part
   pub there : FoundIn (storeOf s .slots) (versionIn s slot) (placeOf p) (F.At slot)
   pub inner : isInner (treeHere s p (versionIn s slot)) ≡ true

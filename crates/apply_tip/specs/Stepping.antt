@@ -27,7 +27,8 @@ pub record Here (new : ℕ) (writes : Bool) (from : ℕ) (s : Bytes) (p : place.
   pub single : (w : ℕ) (q : Place) → w < new → Single w q (storeOf s .slots)
 
 -- No inner node stands there, and this was found.
-pub record AtTip (new : ℕ) (writes : Bool) (from : ℕ) (s : Bytes) (p : place.Place) (v : ℕ) (o : found.Found) (part : Bytes) : Type 0 where
+pub record AtTip (new : ℕ) (writes : Bool) (from : ℕ) (s : Bytes) (p : place.Place) (v : ℕ) (o : found.Found)
+    (part : Bytes) : Type 0 where
   pub here : Here new writes from s p v part
   pub there : FoundIn (storeOf s .slots) v (placeOf p) o
   pub tip : isInner (treeHere s p v) ≡ false
@@ -37,4 +38,5 @@ unfoldable pub atNode : ℕ → Bytes → place.Place → ℕ → Bytes → step
 atNode new s p v part = step.stepNode leafHash innerHash new (256 - p .count) (placeOf p) (treeHere s p v) (asks part)
 
 unfoldable pub atChild : ℕ → Bytes → place.Place → ℕ → Bytes → step.Outcome
-atChild new s p v part = step.stepChild (step.stepNode leafHash innerHash new (256 - p .count)) (placeOf p) (treeHere s p v) (asks part)
+atChild new s p v part =
+    step.stepChild (step.stepNode leafHash innerHash new (256 - p .count)) (placeOf p) (treeHere s p v) (asks part)

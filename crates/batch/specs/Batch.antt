@@ -1,5 +1,5 @@
--- Document 01, 'Bytes', batch record: what a batch asks for, and the bytes that ask it. A batch is whole records in form, at most 1,024;
--- the order of its keys is judged after its form ('Numbers of refusal', 4 and 5). Assumes nothing.
+-- Document 01, 'Bytes', batch record: what a batch asks for, and the bytes that ask it. A batch is whole records in
+-- form, at most 1,024; the order of its keys is judged after its form ('Numbers of refusal', 4 and 5). Assumes nothing.
 use Prim.Native.Nat.{ℕ, zero, suc, _/_, _%_}
 use mathlib.Core.Bool.{Bool, true, cond, _&&_, _||_}
 use mathlib.Core.List.{List, [], _∷_, map}
@@ -9,7 +9,18 @@ use lib.Dec.{eqb, leb}
 use Rattle.terms.specs.Bits.{Bytes}
 use Rattle.terms.specs.Fields.{le, field, slice, allZero, flat, allOf}
 use Rattle.terms.specs.Records.{Ask, insert, delete, askKey, zeros}
-use Rattle.batch.specs.Sizes.{recordSize, insertLength, insertKind, deleteLength, deleteKind, kindAt, zeroAt, keyAt, valueAt, mostRecords}
+use Rattle.batch.specs.Sizes.{
+  recordSize,
+  insertLength,
+  insertKind,
+  deleteLength,
+  deleteKind,
+  kindAt,
+  zeroAt,
+  keyAt,
+  valueAt,
+  mostRecords,
+}
 
 -- Length 72 and kind 1 (insert) or length 40 and kind 2 (delete).
 abbrev pub askLength : Ask → ℕ

@@ -1,5 +1,6 @@
--- Document 01, 'The tree of a set of grants': each child is handed its own run of the batch, uncopied. The run at a place is a part of the
--- batch, the records whose keys begin with the place; bit 0 means left, 1 right. Assumes nothing.
+-- Document 01, 'The tree of a set of grants': each child is handed its own run of the batch, uncopied. The run at a
+-- place is a part of the batch, the records whose keys begin with the place; bit 0 means left, 1 right. Assumes
+-- nothing.
 use Prim.Native.Nat.{ℕ, _*_, _<_, _≤_, _%_}
 use mathlib.Core.Path.{_≡_}
 use mathlib.Core.Bool.{Bool, true, false, Bool·beq}

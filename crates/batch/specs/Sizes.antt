@@ -1,8 +1,9 @@
--- Document 01, 'Bytes', batch record: its size, lengths and kinds, and where its fields begin. All in one place, and nowhere else.
--- Assumes nothing.
+-- Document 01, 'Bytes', batch record: its size, lengths and kinds, and where its fields begin. All in one place, and
+-- nowhere else. Assumes nothing.
 use Prim.Native.Nat.{ℕ}
 
--- Batch record, 72 bytes: length 72 and kind 1 (insert) or length 40 and kind 2 (delete), 2 zero, key 32, value 32 (zero for delete).
+-- Batch record, 72 bytes: length 72 and kind 1 (insert) or length 40 and kind 2 (delete), 2 zero, key 32, value 32
+-- (zero for delete).
 abbrev pub recordSize : ℕ
 recordSize = 72
 

@@ -1,5 +1,5 @@
--- Document 02, request 2026-01: every key added, removed or given another value, in key order, each once; and the list of them as batch
--- records, where a delete carries the old value. Assumes nothing.
+-- Document 02, request 2026-01: every key added, removed or given another value, in key order, each once; and the list
+-- of them as batch records, where a delete carries the old value. Assumes nothing.
 use Prim.Native.Nat.{ℕ}
 use mathlib.Core.Bool.{true, false, cond}
 use mathlib.Core.List.{List, [], _∷_, _++_, map}
@@ -27,8 +27,8 @@ between k absent (present y) = added (grant k y) ∷ []
 between k (present x) absent = removed (grant k x) ∷ []
 between k (present x) (present y) = cond (sameBytes x y) [] (another k x y ∷ [])
 
--- What changed from the first grants to the second, in key order: up to the first of the first grants all keys are added, then comes what
--- became of its key, then what changed beyond it.
+-- What changed from the first grants to the second, in key order: up to the first of the first grants all keys are
+-- added, then comes what became of its key, then what changed beyond it.
 abbrev pub changed : List Grant → List Grant → List Change
 changed [] new = map added new
 changed (g ∷ gs) new =

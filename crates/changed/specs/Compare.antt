@@ -1,5 +1,5 @@
--- Document 02, request 2026-01: what comparing two kept versions of a sound store answers. Order: 8, 13, 9; 1, 2 and 3 are refused before,
--- as in the other calls that test soundness. Assumes nothing.
+-- Document 02, request 2026-01: what comparing two kept versions of a sound store answers. Order: 8, 13, 9; 1, 2 and 3
+-- are refused before, as in the other calls that test soundness. Assumes nothing.
 use Prim.Native.Nat.{ℕ, _*_}
 use mathlib.Core.Bool.{true, false, cond, _&&_}
 use mathlib.Core.List.{List}
@@ -20,8 +20,8 @@ changesOf st first second = changed (grantsIn (treeAtVersion st first)) (grantsI
 unfoldable pub visitsOf : Store → ℕ → ℕ → ℕ
 visitsOf st first second = visits (treeAtVersion st first) (treeAtVersion st second)
 
--- 8 if either version isn't kept, 13 if the count is above the limit, 9 if the list doesn't fit in the room; else the list, and the store
--- stays as it is.
+-- 8 if either version isn't kept, 13 if the count is above the limit, 9 if the list doesn't fit in the room; else the
+-- list, and the store stays as it is.
 unfoldable pub compare : ℕ → ℕ → ℕ → ℕ → Store → Result (List Item)
 compare first second limit room st =
     cond (isKept st first && isKept st second)

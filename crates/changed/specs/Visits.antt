@@ -13,7 +13,8 @@ isInner vnone = false
 isInner (vleaf v g) = false
 isInner (vinner v l r) = true
 
--- Two trees at one place have the same record there: nodes of one kind and version, for no two records share version and place.
+-- Two trees at one place have the same record there: nodes of one kind and version, for no two records share version
+-- and place.
 abbrev pub sameRecord : VTree → VTree → Bool
 sameRecord vnone u = false
 sameRecord (vleaf v g) vnone = false
@@ -27,8 +28,8 @@ sameRecord (vinner v l r) (vinner w m s) = eqb v w
 unfoldable pub noDeeper : VTree → VTree → Bool
 noDeeper t u = sameRecord t u || (not (isInner t) && not (isInner u))
 
--- The places visited from a place that is n bits short of a key: the place itself, and where it goes deeper both longer places; no inner
--- node stands at a place of a whole key.
+-- The places visited from a place that is n bits short of a key: the place itself, and where it goes deeper both longer
+-- places; no inner node stands at a place of a whole key.
 abbrev pub visited : ℕ → Place → VTree → VTree → List Place
 visited zero p t u = p ∷ []
 visited (suc n) p t u =

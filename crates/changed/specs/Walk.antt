@@ -1,5 +1,5 @@
--- How two trees are compared in one walk, a leaf above an inner node carried down to the side of its key. No public promise reaches this
--- file: that the walk makes the visits and lists the changes is a theorem. Assumes nothing.
+-- How two trees are compared in one walk, a leaf above an inner node carried down to the side of its key. No public
+-- promise reaches this file: that the walk makes the visits and lists the changes is a theorem. Assumes nothing.
 use Prim.Native.Nat.{ℕ, zero, suc, _+_}
 use mathlib.Core.Bool.{true, false, cond, Bool·beq}
 use mathlib.Core.List.{List, [], _∷_, _++_}

@@ -1,5 +1,5 @@
--- What comparing two versions of the store that bytes hold answers for any bytes, within the code: 1, 2; then 3 by full soundness; then 8, 13,
--- 9. No public promise reaches this file. Assumes nothing.
+-- What comparing two versions of the store that bytes hold answers for any bytes, within the code: 1, 2; then 3 by full
+-- soundness; then 8, 13, 9. No public promise reaches this file. Assumes nothing.
 use Prim.Native.Nat.{ℕ}
 use mathlib.Core.Path.{_≡_}
 use mathlib.Core.List.{List}

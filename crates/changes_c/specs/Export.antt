@@ -1,5 +1,5 @@
--- The comparison for a caller in another language: what the call answers for any bytes, and every byte of the room and of its array.
--- Assumes nothing.
+-- The comparison for a caller in another language: what the call answers for any bytes, and every byte of the room and
+-- of its array. Assumes nothing.
 use Prim.Native.Nat.{ℕ}
 use mathlib.Core.Path.{_≡_}
 use mathlib.Core.List.{List}
@@ -17,8 +17,9 @@ use Rattle.changes.specs.Changes.{roomAfter}
 abbrev pub countBytes : Answer (List Item) → Bytes → Bytes
 countBytes a old = toldOf (λ xs. le 4 (length xs)) a old
 
--- Comparing version first of the bytes s with version second, within a limit of visits, answers r; the room is left as t, the array f for the
--- number of records as g. The answer is the one that the definition gives for any bytes; the store is as it was.
+-- Comparing version first of the bytes s with version second, within a limit of visits, answers r; the room is left as
+-- t, the array f for the number of records as g. The answer is the one that the definition gives for any bytes; the
+-- store is as it was.
 pub record Changes (first second limit : ℕ) (s room f : Bytes) (r : ℕ) (t g : Bytes) : Type 0 where
   pub answer : Answer (List Item)
   pub does : Does (compare first second limit (length room)) s answer s

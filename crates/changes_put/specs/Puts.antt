@@ -1,5 +1,5 @@
--- Document 02, request 2026-01, over a lent buffer: what putting records of the list there leaves. No public promise reaches this file.
--- Assumes nothing.
+-- Document 02, request 2026-01, over a lent buffer: what putting records of the list there leaves. No public promise
+-- reaches this file. Assumes nothing.
 use Prim.Native.Nat.{ℕ, _+_, _*_, _<_, _≤_}
 use mathlib.Core.Path.{_≡_}
 use mathlib.Core.Bool.{Bool, true, false}

@@ -1,5 +1,5 @@
--- Document 02, request 2026-01, over the bytes of a store: the tree that is compared at a place, by its top. No public promise reaches this
--- file. Assumes nothing.
+-- Document 02, request 2026-01, over the bytes of a store: the tree that is compared at a place, by its top. No public
+-- promise reaches this file. Assumes nothing.
 use Prim.Native.Nat.{ℕ, _-_, _<_}
 use mathlib.Core.Path.{_≡_}
 use mathlib.Core.Bool.{Bool, cond}
@@ -26,7 +26,8 @@ grantAt i s = grant (keyIn (slotIn counted i s)) (valueIn (slotIn counted i s))
 unfoldable pub topIn : ℕ → Bytes → declared.Top
 topIn i s =
     cond (isLeaf (slotIn counted i s)) (Leaf i)
-    (Inner i (versionIn (slotIn counted i s)) (leftIn (slotIn counted i s) .version) (rightIn (slotIn counted i s) .version))
+    (Inner i (versionIn (slotIn counted i s)) (leftIn (slotIn counted i s) .version)
+    (rightIn (slotIn counted i s) .version))
 
 -- The tree that is read on from a version and place.
 unfoldable pub treeHere : Bytes → place.Place → ℕ → VTree

@@ -1,5 +1,5 @@
--- Document 02, request 2026-01, over the bytes of a store: what a walk from a place on counts and lists. No public promise reaches this file.
--- Assumes nothing.
+-- Document 02, request 2026-01, over the bytes of a store: what a walk from a place on counts and lists. No public
+-- promise reaches this file. Assumes nothing.
 use Prim.Native.Nat.{ℕ, _+_, _*_, _-_, _<_, _≤_}
 use mathlib.Core.Path.{_≡_}
 use mathlib.Core.Bool.{Bool, true}
@@ -36,14 +36,15 @@ pub record Here (s : Bytes) (p : place.Place) (first second : top.Top) : Type 0 
   pub new : TopRight s p second
 
 -- Where it writes, the budget is enough and so is the room; the numbers of records are small.
-pub record Goes (s : Bytes) (p : place.Place) (first second : top.Top) (budget : ℕ) (writes : Bool) (room : Bytes) (at : ℕ) : Type 0 where
+pub record Goes (s : Bytes) (p : place.Place) (first second : top.Top) (budget : ℕ) (writes : Bool) (room : Bytes)
+    (at : ℕ) : Type 0 where
   pub here : Here s p first second
   pub enough : writes ≡ true → visitsHere s p first second ≤ budget
   pub within : writes ≡ true → itemSize * (at + length (itemsHere s p first second)) ≤ length room
   pub small : at + 2 * budget < 9223372036854775808
 
--- Passed: more visits than the budget, and nothing is written. Done: the visits are taken from the budget, and the records, of
--- 72 bytes each, are put.
+-- Passed: more visits than the budget, and nothing is written. Done: the visits are taken from the budget, and the
+-- records, of 72 bytes each, are put.
 abbrev pub WalkSays : Bytes → place.Place → top.Top → top.Top → ℕ → Bool → Bytes → ℕ → declared.Walked → Bytes → Type 0
 WalkSays s p first second budget writes room at Passed left = (budget < visitsHere s p first second) × (left ≡ room)
 WalkSays s p first second budget writes room at (Done b n) left =

@@ -1,4 +1,5 @@
--- What is tested of a record by itself, in the words of the test of local's specs. No public promise reaches this file. Assumes nothing.
+-- What is tested of a record by itself, in the words of the test of local's specs. No public promise reaches this file.
+-- Assumes nothing.
 use Prim.Native.Nat.{ℕ, _≤_}
 use mathlib.Core.Path.{_≡_}
 use mathlib.Core.Bool.{Bool, _||_}

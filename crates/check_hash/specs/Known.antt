@@ -1,5 +1,5 @@
--- Where stored hashes stand, and which of them are known to be right. A link is a side of a slot, numbered from 1: link w is side
--- (w - 1) % 2 of slot (w - 1) / 2. Assumes nothing.
+-- Where stored hashes stand, and which of them are known to be right. A link is a side of a slot, numbered from 1: link
+-- w is side (w - 1) % 2 of slot (w - 1) / 2. Assumes nothing.
 use Prim.Native.Nat.{ℕ, _-_, _/_, _%_, _≤_}
 use mathlib.Core.Path.{_≡_}
 use mathlib.Core.List.{List}

@@ -1,5 +1,5 @@
--- One record among those of its store, as the code looks at it: what the helpers of the check promise each other. No public promise
--- reaches this file. Assumes nothing.
+-- One record among those of its store, as the code looks at it: what the helpers of the check promise each other. No
+-- public promise reaches this file. Assumes nothing.
 use Prim.Native.Nat.{ℕ, suc, max}
 use mathlib.Core.Path.{_≡_}
 use mathlib.Core.Bool.{Bool, true, false, cond, not, _||_}
@@ -29,7 +29,8 @@ countNode v p q = cond (isNode v p q) 1 0
 abbrev pub endsAt : ℕ → ℕ → ℕ
 endsAt latest n = cond (eqb n 0) (suc latest) n
 
--- The lives from v on and before e, and from w on and before f: they begin at one version, or have no kept version in common.
+-- The lives from v on and before e, and from w on and before f: they begin at one version, or have no kept version in
+-- common.
 unfoldable pub livesApart : ℕ → ℕ → ℕ → ℕ → ℕ → Bool
 livesApart oldest v e w f = eqb w v || (leb f (max oldest v) || leb e (max oldest w))
 

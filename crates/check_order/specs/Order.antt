@@ -1,5 +1,5 @@
--- The order of records, and a table of slots in an order. The order is by a key that a slot's bytes give; which key it is, is the reader's
--- choice, so long as records with the same node have the same key. Assumes nothing.
+-- The order of records, and a table of slots in an order. The order is by a key that a slot's bytes give; which key it
+-- is, is the reader's choice, so long as records with the same node have the same key. Assumes nothing.
 use Prim.Native.Nat.{ℕ, suc, _<_, _≤_}
 use mathlib.Core.Path.{_≡_}
 use mathlib.Core.Bool.{true}
@@ -14,8 +14,8 @@ use Rattle.layout.specs.Slots.{countIn, bitsIn, versionIn, sinceIn, slotOf}
 use Rattle.layout.specs.Stores.{slotIn, storeIn, Has}
 use Rattle.check_kin.specs.Kin.{endsAt}
 
--- The key of the check: the bit count of the place, its bytes, the version. So the records of one level stand together, and the children
--- on one side stand in the order of their parents.
+-- The key of the check: the bit count of the place, its bytes, the version. So the records of one level stand together,
+-- and the children on one side stand in the order of their parents.
 unfoldable pub nodeKey : Bytes → Bytes
 nodeKey x = countIn x ∷ (bitsIn x ++ (versionIn x ∷ []))
 
@@ -27,7 +27,8 @@ pub record Holding (fm : Form) (x : Bytes) (r : Record) : Type 0 where
 
 -- Records with the same version and place have the same key.
 abbrev pub ByNode : Form → (Bytes → Bytes) → Type 0
-ByNode fm key = (x y : Bytes) (r q : Record) → Holding fm x r → Holding fm y q → r .version ≡ q .version → r .place ≡ q .place → key x ≡ key y
+ByNode fm key = (x y : Bytes) (r q : Record) → Holding fm x r → Holding fm y q → r .version ≡ q .version →
+    r .place ≡ q .place → key x ≡ key y
 
 -- The key of slot i.
 unfoldable pub keyNo : Form → (Bytes → Bytes) → Bytes → ℕ → Bytes
@@ -43,7 +44,8 @@ Ascending fm key s t m = Stepwise (λ i j. before (keyNo fm key s i) (keyNo fm k
 
 -- Where slot j holds a root, the life of slot i's record ends by its version.
 abbrev pub PartedNo : Form → ℕ → Bytes → ℕ → ℕ → Type 0
-PartedNo fm latest s i j = countIn (slotIn fm j s) ≡ 0 → endsAt latest (sinceIn (slotIn fm i s)) ≤ versionIn (slotIn fm j s)
+PartedNo fm latest s i j =
+    countIn (slotIn fm j s) ≡ 0 → endsAt latest (sinceIn (slotIn fm i s)) ≤ versionIn (slotIn fm j s)
 
 -- Slot j of the store may stand after slot i: its key is greater, and two roots are parted.
 pub record Follows (fm : Form) (latest : ℕ) (s : Bytes) (i j : ℕ) : Type 0 where

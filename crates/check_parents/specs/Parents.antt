@@ -1,5 +1,5 @@
--- The parents of a record of a store, as the code asks them: what the helpers of the check promise each other. No public promise reaches this
--- file. Assumes nothing.
+-- The parents of a record of a store, as the code asks them: what the helpers of the check promise each other. No
+-- public promise reaches this file. Assumes nothing.
 use Prim.Native.Nat.{ℕ, _≤_}
 use mathlib.Core.Path.{_≡_}
 use mathlib.Core.Bool.{Bool, true, _&&_}
@@ -32,12 +32,15 @@ pub record Is (st : Store) (b : declared-below.Below) (r : Record) : Type 0 wher
 -- The fields of a slot are those of an inner record that names it.
 unfoldable pub couldName : declared-below.Below → Bytes → Bool
 couldName b x =
-    eqb (countIn x) (b .up .count) && (eqb (kidOn (b .right) x .version) (b .version) && sameBytes (bitsIn x) (b .up .bits))
+    eqb (countIn x) (b .up .count) && (eqb (kidOn (b .right) x .version) (b .version) &&
+    sameBytes (bitsIn x) (b .up .bits))
 
 -- What slot j says of each record that is the one below.
 abbrev pub SlotSays : Form → Bytes → ℕ → declared-below.Below → declared-said.Said → Type 0
 SlotSays fm s j b t =
-    (r : Record) → Is (storeIn fm s) b r → SaidOf (byRecord true (linkTest leafHash innerHash (storeIn fm s) r) (slotNo fm j s)) (byRecord 0 (lifeAbove (storeIn fm s) r) (slotNo fm j s)) t
+    (r : Record) → Is (storeIn fm s) b r →
+    SaidOf (byRecord true (linkTest leafHash innerHash (storeIn fm s) r) (slotNo fm j s))
+    (byRecord 0 (lifeAbove (storeIn fm s) r) (slotNo fm j s)) t
 
 -- All that its parents say of it is right, and their kept lives add up to a life.
 abbrev pub ParentsSay : Form → Bytes → declared-below.Below → ℕ → Bool → Type 0

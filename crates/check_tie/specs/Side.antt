@@ -72,7 +72,8 @@ pub record Node (fm : Form) (s : Bytes) (c v : ℕ) (p : Place) : Type 0 where
 -- The record in slot c lives to an end at least, and beside a child of this version it is no lone leaf.
 abbrev pub Outlives : Form → Bytes → ℕ → ℕ → ℕ → Type 0
 Outlives fm s c ends other =
-    (r : Record) → At (storeIn fm s) c r → (ends ≤ endsBefore (storeIn fm s) r) × (cond (isLeafBody (r .body)) (eqb other 0) false ≡ false)
+    (r : Record) → At (storeIn fm s) c r → (ends ≤ endsBefore (storeIn fm s) r) ×
+    (cond (isLeafBody (r .body)) (eqb other 0) false ≡ false)
 
 -- Of each record that is this parent with this child: it is tied to the child, and no more than its life was added.
 abbrev pub SideTied : Form → Bytes → declared.Parent → declared-link.Link → List ℕ → List ℕ → Type 0

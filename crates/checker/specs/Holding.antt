@@ -1,5 +1,5 @@
--- Document 01, 'Checking', in its words: when a proof holds, whoever wrote it; and 2026-03: without a neighbour none does. No test of a program
--- stands here. Assumes nothing.
+-- Document 01, 'Checking', in its words: when a proof holds, whoever wrote it; and 2026-03: without a neighbour none
+-- does. No test of a program stands here. Assumes nothing.
 use mathlib.Core.Path.{_≡_}
 use mathlib.Core.Logic.{_⊎_}
 use mathlib.Core.Bool.{true}
@@ -22,8 +22,8 @@ Rightmost steps = Outermost right steps
 abbrev pub Leftmost : List Step → Type 0
 Leftmost steps = Outermost left steps
 
--- With equal steps taken off the tops of two paths, a step remains in each, the left's with side 0 and the right's with side 1, and below
--- these the left path is rightmost and the right path leftmost.
+-- With equal steps taken off the tops of two paths, a step remains in each, the left's with side 0 and the right's with
+-- side 1, and below these the left path is rightmost and the right path leftmost.
 pub record Parted (lefts rights : List Step) : Type 0 where
   pub xs : List Step
   pub x : Step
@@ -49,10 +49,13 @@ module _ (leafHash innerHash : Bytes → Bytes → Bytes) (root k : Bytes) where
   abbrev pub RightOf : Presence → Type 0
   RightOf r = Leads r × (before k (r .key) ≡ true)
 
-  -- A proof holds for the key k against the root, and this is the answer: present with the value, or absent by its neighbours.
+  -- A proof holds for the key k against the root, and this is the answer: present with the value, or absent by its
+  -- neighbours.
   pub data Holds : Proof → Verdict → Type 0 where
     shown : {p : Presence} → p .key ≡ k → Leads p → Holds (presence p) (present (p .value))
-    only-left : {j : Bytes} {l : Presence} → j ≡ k → LeftOf l → Rightmost (l .steps) → Holds (absenceOf j (some l) none) absent
-    only-right : {j : Bytes} {r : Presence} → j ≡ k → RightOf r → Leftmost (r .steps) → Holds (absenceOf j none (some r)) absent
+    only-left : {j : Bytes} {l : Presence} → j ≡ k → LeftOf l → Rightmost (l .steps) →
+        Holds (absenceOf j (some l) none) absent
+    only-right : {j : Bytes} {r : Presence} → j ≡ k → RightOf r → Leftmost (r .steps) →
+        Holds (absenceOf j none (some r)) absent
     both : {j : Bytes} {l r : Presence} → j ≡ k → LeftOf l → RightOf r → Parted (l .steps) (r .steps) →
         Holds (absenceOf j (some l) (some r)) absent

@@ -1,5 +1,5 @@
--- Demand 3: any sequence of public calls on one store, refused ones included. Each call is its contract, and the bytes it leaves are those that
--- the next one is lent. Assumes nothing.
+-- Demand 3: any sequence of public calls on one store, refused ones included. Each call is its contract, and the bytes
+-- it leaves are those that the next one is lent. Assumes nothing.
 use Prim.Native.Nat.{ℕ, _-_, _≤_}
 use mathlib.Core.Bool.{Bool, true, false}
 use mathlib.Core.List.{List, [], _∷_}
@@ -20,7 +20,8 @@ use Rattle.move_rules.specs.Claims.{SoundIn}
 use Rattle.contracts.specs.Contracts.{Formats, Applies, Prunes, Rescues, MovesOver, MovesBack}
 use Rattle.contracts.specs.Contracts.{FormatsIndexed, AppliesIndexed, PrunesIndexed}
 
--- What a rescued store takes over: the grants of its versions, from the first that was reported to latest, by the source's trees.
+-- What a rescued store takes over: the grants of its versions, from the first that was reported to latest, by the
+-- source's trees.
 abbrev pub takenOver : Bytes → ℕ → Bytes → List Entry
 takenOver source latest g = runLedger (slotsIn source) (field 0 4 g) (latest - field 0 4 g)
 
@@ -34,7 +35,8 @@ pub data Called (s : Bytes) : Call × Bool → Bytes → Type 0 where
       Applies number batch s f r t g → Called s (applying number (batchOf batch), eqb r 0) t
   prunes : {n r : ℕ} {f t g : Bytes} → Prunes n s f r t g → Called s (pruning n, eqb r 0) t
   -- with a table, format, apply and prune do to the store what they do without it, or are refused (2026-05)
-  formats-both : {table u : List ℕ} {r : ℕ} {t : Bytes} → FormatsIndexed s table r t u → Called s (formatting, eqb r 0) t
+  formats-both : {table u : List ℕ} {r : ℕ} {t : Bytes} → FormatsIndexed s table r t u →
+      Called s (formatting, eqb r 0) t
   applies-both : (number : ℕ) (batch : Bytes) {table u : List ℕ} {f t g : Bytes} {r : ℕ} → number ≤ top32 →
       All Byte batch → AppliesIndexed number batch s table f r t u g →
       Called s (applying number (batchOf batch), eqb r 0) t
@@ -54,15 +56,16 @@ pub data Called (s : Bytes) : Call × Bool → Bytes → Type 0 where
 -- Calls one after the other, from the bytes s to the bytes t, with their history.
 pub data Calls : Bytes → List (Call × Bool) → Bytes → Type 0 where
   none-yet : {s : Bytes} → Calls s [] s
-  then-called : {s t u : Bytes} {e : Call × Bool} {history : List (Call × Bool)} → Called s e t → Calls t history u → Calls s (e ∷ history) u
+  then-called : {s t u : Bytes} {e : Call × Bool} {history : List (Call × Bool)} → Called s e t → Calls t history u →
+      Calls s (e ∷ history) u
 
 -- What a call did to the store: a refused one only looked.
 abbrev pub doneBy : Call → Bool → Call
 doneBy c true = c
 doneBy c false = looking
 
--- None of them leaves a gap: each batch that was accepted was given the latest version of the bytes it was lent + 1, and no rescue and no move into the
--- store was accepted.
+-- None of them leaves a gap: each batch that was accepted was given the latest version of the bytes it was lent + 1,
+-- and no rescue and no move into the store was accepted.
 abbrev pub WithoutGaps : {s t : Bytes} {history : List (Call × Bool)} → Calls s history t → Type 0
 WithoutGaps none-yet = Unit {0}
 WithoutGaps {s} (then-called {e = e} c calls) = NoGap (doneBy (e .0) (e .1)) (storeOf s) × WithoutGaps calls
@@ -74,7 +77,8 @@ WithoutGaps {s} (then-called {e = e} c calls) = NoGap (doneBy (e .0) (e .1)) (st
 -- of times (2026-10).
 pub data Begins : Form → Bytes → List Entry → Type 0 where
   by-format : {before t : Bytes} → Formats before 0 t → Begins counted t (entry 0 [] ∷ [])
-  by-rescue : {oldest latest : ℕ} {source before f t g : Bytes} → latest ≤ top32 → All Byte source → Rescues oldest latest source before f 0 t g →
+  by-rescue : {oldest latest : ℕ} {source before f t g : Bytes} → latest ≤ top32 → All Byte source →
+      Rescues oldest latest source before f 0 t g →
       Begins counted t (takenOver source latest g)
   as-found : {f : Form} {s : Bytes} → All Byte s → SoundIn f s → Begins f s (held (storeIn f s))
   by-over : {s before t : Bytes} {es : List Entry} → All Byte s → Begins plain s es → MovesOver s before 0 t →

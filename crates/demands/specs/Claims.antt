@@ -65,51 +65,62 @@ pub record AfterHistory (start : List Entry) (history : List (Call × Bool)) (t 
   pub lifetimes : (v : ℕ) → Kept (storeOf t) v → (i : ℕ) (r : Record) → At (storeOf t) i r →
       NodeOf (r .version) (r .place) (treeOfVersion t v) [] ↔ Lives v r
   -- the reads of a kept version answer for the grants that the history gives it
-  pub reads-root : {v : ℕ} {gs : List Grant} {f g : Bytes} {r : ℕ} → Kept (storeOf t) v → grantsOf v (ledger history start) ≡ some gs →
+  pub reads-root : {v : ℕ} {gs : List Grant} {f g : Bytes} {r : ℕ} → Kept (storeOf t) v →
+      grantsOf v (ledger history start) ≡ some gs →
       ReadsRoot t v f r g → (r ≡ 0) × (g ≡ hash leafHash innerHash (treeOf gs))
-  pub reads-key : {v : ℕ} {gs : List Grant} {k f g : Bytes} {r : ℕ} → Kept (storeOf t) v → grantsOf v (ledger history start) ≡ some gs →
+  pub reads-key : {v : ℕ} {gs : List Grant} {k f g : Bytes} {r : ℕ} → Kept (storeOf t) v →
+      grantsOf v (ledger history start) ≡ some gs →
       Whole32 k → ReadsKey t v k f r g → (r ≡ 0) × (g ≡ foundBytes (answerOf k gs))
   -- the number of those grants, and the grant at a position, 20 for one that isn't below their number (2026-09)
-  pub counts : {v : ℕ} {gs : List Grant} {f g : Bytes} {r : ℕ} → Kept (storeOf t) v → grantsOf v (ledger history start) ≡ some gs →
+  pub counts : {v : ℕ} {gs : List Grant} {f g : Bytes} {r : ℕ} → Kept (storeOf t) v →
+      grantsOf v (ledger history start) ≡ some gs →
       Counts t v f r g → (r ≡ 0) × (g ≡ le 8 (length gs))
-  pub reads-at : {v i : ℕ} {gs : List Grant} {f g : Bytes} {r : ℕ} → Kept (storeOf t) v → grantsOf v (ledger history start) ≡ some gs →
+  pub reads-at : {v i : ℕ} {gs : List Grant} {f g : Bytes} {r : ℕ} → Kept (storeOf t) v →
+      grantsOf v (ledger history start) ≡ some gs →
       ReadsAt t v i f r g → (r ≡ numberOf (grantAt gs i)) × (g ≡ toldOf grantBytes (grantAt gs i) f)
-  -- and what an editor sees of a version with a grant: of any key a proof is given, where there is room, and with the root read the proof check
-  -- answers for those grants
+  -- and what an editor sees of a version with a grant: of any key a proof is given, where there is room, and with the
+  -- root read the proof check answers for those grants
   pub shows : {v : ℕ} {gs : List Grant} {k room f u g f₁ root f₂ found : Bytes} {r r₁ r₂ : ℕ} → Kept (storeOf t) v →
-      grantsOf v (ledger history start) ≡ some gs → (gs ≡ [] → ⊥) → Whole32 k → 17080 ≤ length room → Proves t v k room f r u g → ReadsRoot t v f₁ r₁ root →
-      Verifies root k (take (num g) u) f₂ r₂ found → (r ≡ 0) × (r₁ ≡ 0) × (r₂ ≡ 0) × (found ≡ foundBytes (answerOf k gs))
+      grantsOf v (ledger history start) ≡ some gs → (gs ≡ [] → ⊥) → Whole32 k → 17080 ≤ length room →
+      Proves t v k room f r u g → ReadsRoot t v f₁ r₁ root →
+      Verifies root k (take (num g) u) f₂ r₂ found → (r ≡ 0) × (r₁ ≡ 0) × (r₂ ≡ 0) ×
+      (found ≡ foundBytes (answerOf k gs))
   -- of a version without one there is no proof, exactly: 14, and the root is 32 zero bytes
-  pub shows-nothing : {v : ℕ} {gs : List Grant} {k room f u g : Bytes} {r : ℕ} → Kept (storeOf t) v → grantsOf v (ledger history start) ≡ some gs →
+  pub shows-nothing : {v : ℕ} {gs : List Grant} {k room f u g : Bytes} {r : ℕ} → Kept (storeOf t) v →
+      grantsOf v (ledger history start) ≡ some gs →
       Whole32 k → Proves t v k room f r u g → (r ≡ 14) ↔ (gs ≡ [])
-  pub zero-root : {v : ℕ} {f g : Bytes} {r : ℕ} → Kept (storeOf t) v → grantsOf v (ledger history start) ≡ some [] → ReadsRoot t v f r g →
+  pub zero-root : {v : ℕ} {f g : Bytes} {r : ℕ} → Kept (storeOf t) v → grantsOf v (ledger history start) ≡ some [] →
+      ReadsRoot t v f r g →
       (r ≡ 0) × (g ≡ zeros)
   -- no path is longer than 256 steps
   pub paths : (v : ℕ) → Kept (storeOf t) v → (w : ℕ) (p : Place) → NodeOf w p (treeOfVersion t v) [] → length p ≤ 256
   -- no proof is longer than 17,080 bytes
   pub proofs : {v : ℕ} {k room f u g : Bytes} → Proves t v k room f 0 u g → num g ≤ 17080
 
--- Version v of the bytes t reads as version w of the bytes s (2026-13, and of each version that a call leaves as it was): root, key, number and
--- position; the proof of any key, and any palette, into the same room are the same bytes.
+-- Version v of the bytes t reads as version w of the bytes s (2026-13, and of each version that a call leaves as it
+-- was): root, key, number and position; the proof of any key, and any palette, into the same room are the same bytes.
 pub record ReadsAs (t : Bytes) (v : ℕ) (s : Bytes) (w : ℕ) : Type 0 where
-  pub root : {f h f₁ h₁ : Bytes} {r r₁ : ℕ} → ReadsRoot t v f r h → ReadsRoot s w f₁ r₁ h₁ → (r ≡ 0) × (r₁ ≡ 0) × (h ≡ h₁)
+  pub root : {f h f₁ h₁ : Bytes} {r r₁ : ℕ} → ReadsRoot t v f r h → ReadsRoot s w f₁ r₁ h₁ →
+      (r ≡ 0) × (r₁ ≡ 0) × (h ≡ h₁)
   pub key : {k f h f₁ h₁ : Bytes} {r r₁ : ℕ} → Whole32 k → ReadsKey t v k f r h → ReadsKey s w k f₁ r₁ h₁ →
       (r ≡ 0) × (r₁ ≡ 0) × (h ≡ h₁)
   pub number : {f h h₁ : Bytes} {r r₁ : ℕ} → Counts t v f r h → Counts s w f r₁ h₁ → (r ≡ r₁) × (h ≡ h₁)
   pub position : {i : ℕ} {f h h₁ : Bytes} {r r₁ : ℕ} → ReadsAt t v i f r h → ReadsAt s w i f r₁ h₁ → (r ≡ r₁) × (h ≡ h₁)
   pub proof : {k room f u u₁ g g₁ : Bytes} {r r₁ : ℕ} → Proves t v k room f r u g → Proves s w k room f r₁ u₁ g₁ →
       (r ≡ r₁) × (u ≡ u₁) × (g ≡ g₁)
-  pub palette : {list room f u u₁ g g₁ : Bytes} {r r₁ : ℕ} → Palettes t v list room f r u g → Palettes s w list room f r₁ u₁ g₁ →
+  pub palette : {list room f u u₁ g g₁ : Bytes} {r r₁ : ℕ} → Palettes t v list room f r u g →
+      Palettes s w list room f r₁ u₁ g₁ →
       (r ≡ r₁) × (u ≡ u₁) × (g ≡ g₁)
 
--- What changed between two versions of the bytes t is what changed between two versions of the bytes s: within the same limit and into the same
--- room, the same answer and the same bytes.
+-- What changed between two versions of the bytes t is what changed between two versions of the bytes s: within the same
+-- limit and into the same room, the same answer and the same bytes.
 pub record ComparesAs (t : Bytes) (v v′ : ℕ) (s : Bytes) (w w′ : ℕ) : Type 0 where
-  pub same : {limit : ℕ} {room f u u₁ g g₁ : Bytes} {r r₁ : ℕ} → Changes v v′ limit t room f r u g → Changes w w′ limit s room f r₁ u₁ g₁ →
+  pub same : {limit : ℕ} {room f u u₁ g g₁ : Bytes} {r r₁ : ℕ} → Changes v v′ limit t room f r u g →
+      Changes w w′ limit s room f r₁ u₁ g₁ →
       (r ≡ r₁) × (u ≡ u₁) × (g ≡ g₁)
 
--- Demand 2: a batch was applied to the bytes s as a number and accepted; t are the bytes left, and g what was told: version 4, root 32, count
--- 4. By 2026-13 the next version is that of the given number.
+-- Demand 2: a batch was applied to the bytes s as a number and accepted; t are the bytes left, and g what was told:
+-- version 4, root 32, count 4. By 2026-13 the next version is that of the given number.
 pub record NextVersion (number : ℕ) (batch s t g : Bytes) : Type 0 where
   pub asks : List Ask
   pub asked : batchOf batch ≡ some asks
@@ -138,8 +149,8 @@ pub record NextVersion (number : ℕ) (batch s t g : Bytes) : Type 0 where
   pub between : (v : ℕ) → latestOf s ≤ v → v < number → ReadsAs t v s (latestOf s)
   pub compares : (v w : ℕ) → Kept (storeOf s) v → Kept (storeOf s) w → ComparesAs t v w s v w
 
--- Pruning the bytes s to n was accepted; t are the bytes left, and g what was told: the count of records freed. Versions that were not
--- published are kept like any other.
+-- Pruning the bytes s to n was accepted; t are the bytes left, and g what was told: the count of records freed.
+-- Versions that were not published are kept like any other.
 pub record Pruned (n : ℕ) (s t g : Bytes) : Type 0 where
   pub was : SoundBytes s
   pub sound : SoundBytes t
@@ -149,14 +160,18 @@ pub record Pruned (n : ℕ) (s t g : Bytes) : Type 0 where
   pub reads : (v : ℕ) → Kept (storeOf t) v → ReadsAs t v s v
   pub compares : (v w : ℕ) → Kept (storeOf t) v → Kept (storeOf t) w → ComparesAs t v w s v w
   -- the slot of every record retired since n or earlier is free, 128 zero bytes; every other slot has the bytes it had
-  pub frees : (i : ℕ) (r : Record) → At (storeOf s) i r → retiredBy n r ≡ true → slotIn counted i t ≡ zeroBytes (slotSize counted)
-  pub keeps : (i : ℕ) → i < length (storeOf s .slots) → ((r : Record) → At (storeOf s) i r → retiredBy n r ≡ false) → slotIn counted i t ≡ slotIn counted i s
+  pub frees : (i : ℕ) (r : Record) → At (storeOf s) i r → retiredBy n r ≡ true →
+      slotIn counted i t ≡ zeroBytes (slotSize counted)
+  pub keeps : (i : ℕ) → i < length (storeOf s .slots) → ((r : Record) → At (storeOf s) i r → retiredBy n r ≡ false) →
+      slotIn counted i t ≡ slotIn counted i s
 
 -- Demand 2: what is shown of a key in a kept version of a sound store, for every version that holds a grant (2026-03).
 pub record Shown (s : Bytes) (v : ℕ) (k : Bytes) : Type 0 where
   -- the key read answers what the version's grants say
-  pub reads-key : {f g : Bytes} {r : ℕ} → ReadsKey s v k f r g → (r ≡ 0) × (g ≡ foundBytes (answerOf k (grantsOfVersion s v)))
-  -- there is a proof, which is given exactly if there is room for it, and 9 exactly if the room is short; 17,080 bytes are enough
+  pub reads-key : {f g : Bytes} {r : ℕ} → ReadsKey s v k f r g →
+      (r ≡ 0) × (g ≡ foundBytes (answerOf k (grantsOfVersion s v)))
+  -- there is a proof, which is given exactly if there is room for it, and 9 exactly if the room is short; 17,080 bytes
+  -- are enough
   pub proved : Proof
   pub is-proved : proof (storeOf s) v k ≡ accepted proved
   pub given : {room f t g : Bytes} {r : ℕ} → Proves s v k room f r t g → (r ≡ 0) ↔ (proofLength proved ≤ length room)
@@ -165,12 +180,16 @@ pub record Shown (s : Bytes) (v : ℕ) (k : Bytes) : Type 0 where
   -- it shows a grant exactly if the key is in the version, else its absence
   pub presence : {room f t g : Bytes} → Proves s v k room f 0 t g →
       (field 4 2 t ≡ presenceKind) ↔ ((x : Bytes) × (answerOf k (grantsOfVersion s v) ≡ present x))
-  pub absence : {room f t g : Bytes} → Proves s v k room f 0 t g → (field 4 2 t ≡ absenceKind) ↔ (answerOf k (grantsOfVersion s v) ≡ absent)
+  pub absence : {room f t g : Bytes} → Proves s v k room f 0 t g →
+      (field 4 2 t ≡ absenceKind) ↔ (answerOf k (grantsOfVersion s v) ≡ absent)
   -- and the checker accepts it against the version's root, and finds what the key read finds
-  pub checked : {room f t g f₁ root f₂ found : Bytes} {r₁ r₂ : ℕ} → Proves s v k room f 0 t g → ReadsRoot s v f₁ r₁ root →
-      Verifies root k (take (num g) t) f₂ r₂ found → (r₁ ≡ 0) × (r₂ ≡ 0) × (found ≡ foundBytes (answerOf k (grantsOfVersion s v)))
+  pub checked : {room f t g f₁ root f₂ found : Bytes} {r₁ r₂ : ℕ} → Proves s v k room f 0 t g →
+      ReadsRoot s v f₁ r₁ root →
+      Verifies root k (take (num g) t) f₂ r₂ found →
+      (r₁ ≡ 0) × (r₂ ≡ 0) × (found ≡ foundBytes (answerOf k (grantsOfVersion s v)))
 
--- For a version that holds none: the root read answers zeros, the key read absent, and proving 14, with nothing written.
+-- For a version that holds none: the root read answers zeros, the key read absent, and proving 14, with nothing
+-- written.
 pub record NothingToShow (s : Bytes) (v : ℕ) (k : Bytes) : Type 0 where
   pub reads-root : {f g : Bytes} {r : ℕ} → ReadsRoot s v f r g → (r ≡ 0) × (g ≡ zeros)
   pub reads-key : {f g : Bytes} {r : ℕ} → ReadsKey s v k f r g → (r ≡ 0) × (g ≡ foundBytes absent)
@@ -193,8 +212,8 @@ pub record Numbered (s : Bytes) (v : ℕ) : Type 0 where
   pub below : {i : ℕ} {f g : Bytes} {r : ℕ} → ReadsAt s v i f r g → (r ≡ 0) ↔ (i < length (grantsOfVersion s v))
   pub past : {i : ℕ} {f g : Bytes} {r : ℕ} → ReadsAt s v i f r g → (r ≡ 20) ↔ (length (grantsOfVersion s v) ≤ i)
 
--- Demand 2: the proof check accepts the bytes x as a proof for the key k against a root, with this answer. The root and the key have 32 bytes,
--- and x is one whole proof in form that holds.
+-- Demand 2: the proof check accepts the bytes x as a proof for the key k against a root, with this answer. The root and
+-- the key have 32 bytes, and x is one whole proof in form that holds.
 pub record Accepts (root k x : Bytes) (answer : Verdict) : Type 0 where
   pub root32 : length root ≡ 32
   pub key32 : length k ≡ 32
@@ -202,8 +221,8 @@ pub record Accepts (root k x : Bytes) (answer : Verdict) : Type 0 where
   pub is-proof : ProofIs x proof
   pub holds : checker.Holds leafHash innerHash root k proof answer
 
--- Document 02, 2026-01: a comparison that was accepted, from version first to version second of the bytes s. The list at the front of the room
--- says what changed, the rest of the room stays, and the array has the number of its records.
+-- Document 02, 2026-01: a comparison that was accepted, from version first to version second of the bytes s. The list
+-- at the front of the room says what changed, the rest of the room stays, and the array has the number of its records.
 pub record ListsChanges (first second limit : ℕ) (s room t g : Bytes) : Type 0 where
   pub sound : SoundBytes s
   pub kept : Kept (storeOf s) first × Kept (storeOf s) second
@@ -221,8 +240,8 @@ pub record ListsChanges (first second limit : ℕ) (s room t g : Bytes) : Type 0
   pub symmetric : visitsOf (storeOf s) first second ≡ visitsOf (storeOf s) second first
   pub few : visitsOf (storeOf s) first second ≤ 32769
 
--- Document 02, 2026-08: a rescue of the source s that was accepted. The target t is worth what 02 says, the array g has the report, and the reads
--- of each version kept answer for the source's tree of that version.
+-- Document 02, 2026-08: a rescue of the source s that was accepted. The target t is worth what 02 says, the array g has
+-- the report, and the reads of each version kept answer for the source's tree of that version.
 pub record Rescued (oldest latest : ℕ) (s t g : Bytes) : Type 0 where
   pub report : Report
   pub worth : Worth oldest latest s t report
@@ -233,7 +252,8 @@ pub record Rescued (oldest latest : ℕ) (s t g : Bytes) : Type 0 where
   pub reads-key : {v : ℕ} {k f h : Bytes} {r : ℕ} → report .first ≤ v → v ≤ latest → Whole32 k → ReadsKey t v k f r h →
       (r ≡ 0) × (h ≡ foundBytes (answerOf k (grantsIn (sourceTree (slotsIn s) v))))
 
--- A rescue of the source s that gave it back: accepted, the same bytes, from this version on, nothing changed and nothing left out.
+-- A rescue of the source s that gave it back: accepted, the same bytes, from this version on, nothing changed and
+-- nothing left out.
 pub record GivenBack (first : ℕ) (s : Bytes) (r : ℕ) (t g : Bytes) : Type 0 where
   pub accepts : r ≡ 0
   pub bytes : t ≡ s
@@ -242,9 +262,9 @@ pub record GivenBack (first : ℕ) (s : Bytes) (r : ℕ) (t g : Bytes) : Type 0 
   pub begins : report .first ≡ first
   pub as-it-was : AsItWas report
 
--- Document 02, 2026-10: the source s, of the old form, was moved over, or the source s back into it, and t are the bytes
--- that were left of the target: sound, with the same slots, trees, roots, reads, comparisons and proofs; moved on, it is
--- the source again, byte for byte.
+-- Document 02, 2026-10: the source s, of the old form, was moved over, or the source s back into it, and t are the
+-- bytes that were left of the target: sound, with the same slots, trees, roots, reads, comparisons and proofs; moved
+-- on, it is the source again, byte for byte.
 abbrev pub MovedOver : Bytes → Bytes → Type 0
 MovedOver s t = Moved plain s t
 

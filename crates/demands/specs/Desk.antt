@@ -1,5 +1,5 @@
--- Document 01, 'The desk's example', over the bytes: what the contracts of apply, prune and the root read say of each row of the
--- table. Assumes nothing.
+-- Document 01, 'The desk's example', over the bytes: what the contracts of apply, prune and the root read say of each
+-- row of the table. Assumes nothing.
 use Prim.Native.Nat.{ℕ}
 use mathlib.Core.Path.{_≡_}
 use mathlib.Core.Logic.{_↔_}
@@ -13,11 +13,12 @@ use Rattle.batch.specs.Batch.{asksBytes}
 use Rattle.apply_c.specs.Export.{told}
 use Rattle.contracts.specs.Contracts.{Applies, Prunes, ReadsRoot}
 
--- On the bytes of the row's store the call answers what the row says, tells it, and leaves the bytes of the row's store after it; and the
--- contract allows that.
+-- On the bytes of the row's store the call answers what the row says, tells it, and leaves the bytes of the row's store
+-- after it; and the contract allows that.
 abbrev pub RowOverBytes : Row → Type 0
 RowOverBytes (applies st number batch answer end) = (f : Bytes) (r : ℕ) (t g : Bytes) →
-    Applies number (asksBytes batch) (storeBytes st) f r t g ↔ ((r ≡ numberOf answer) × (t ≡ storeBytes end) × (g ≡ toldOf told answer f))
+    Applies number (asksBytes batch) (storeBytes st) f r t g ↔ ((r ≡ numberOf answer) × (t ≡ storeBytes end) ×
+    (g ≡ toldOf told answer f))
 RowOverBytes (prunes st n answer end) = (f : Bytes) (r : ℕ) (t g : Bytes) →
     Prunes n (storeBytes st) f r t g ↔ ((r ≡ numberOf answer) × (t ≡ storeBytes end) × (g ≡ toldOf (le 4) answer f))
 RowOverBytes (reads st v answer) = (f : Bytes) (r : ℕ) (g : Bytes) →

@@ -1,4 +1,5 @@
--- Document 02, request 2026-12: 'what acceptance means, whoever wrote the proof', in the words of the contracts. Assumes nothing.
+-- Document 02, request 2026-12: 'what acceptance means, whoever wrote the proof', in the words of the contracts.
+-- Assumes nothing.
 use Prim.Native.Nat.{ℕ}
 use mathlib.Core.Path.{_≡_}
 use mathlib.Core.Logic.{_⊎_}
@@ -18,9 +19,11 @@ use Rattle.forgery.specs.Finding.{True, Among}
 use Rattle.finding_rules.specs.Claims.{theMessages}
 use Rattle.demands.specs.Claims.{grantsOfVersion, Accepts}
 
--- 131 bytes name a finding among some messages: two different ones with equal SHA-256, or one whose SHA-256 is 32 zero bytes.
+-- 131 bytes name a finding among some messages: two different ones with equal SHA-256, or one whose SHA-256 is 32 zero
+-- bytes.
 pub data NamesFinding (messages : List Bytes) (g : Bytes) : Type 0 where
-  two-equal : getD g 0 0 ≡ 1 → Among (slice 1 65 g) messages → Among (slice 66 65 g) messages → (slice 1 65 g ≡ slice 66 65 g → ⊥) →
+  two-equal : getD g 0 0 ≡ 1 → Among (slice 1 65 g) messages → Among (slice 66 65 g) messages →
+      (slice 1 65 g ≡ slice 66 65 g → ⊥) →
       sha256 (slice 1 65 g) ≡ sha256 (slice 66 65 g) → NamesFinding messages g
   one-zero : getD g 0 0 ≡ 2 → Among (slice 1 65 g) messages → sha256 (slice 1 65 g) ≡ zeros → NamesFinding messages g
 
@@ -41,8 +44,10 @@ pub record Cost (s : Bytes) (v : ℕ) (k x g : Bytes) : Type 0 where
   pub answer : Verdict
   pub accepts : Accepts (rootOfVersion s v) k x answer
   -- if the proof says something false about that version, a finding is named, and so if the answer is false
-  pub false-is-found : (True (grantsOfVersion s v) (accepts .proof) → ⊥) → NamesFinding (messagesOf s v (accepts .proof)) g
-  pub false-answer-is-found : (answerOf k (grantsOfVersion s v) ≡ answer → ⊥) → NamesFinding (messagesOf s v (accepts .proof)) g
+  pub false-is-found : (True (grantsOfVersion s v) (accepts .proof) → ⊥) →
+      NamesFinding (messagesOf s v (accepts .proof)) g
+  pub false-answer-is-found : (answerOf k (grantsOfVersion s v) ≡ answer → ⊥) →
+      NamesFinding (messagesOf s v (accepts .proof)) g
   -- a finding is named from these messages, which have 65 bytes, or none is
   pub named : NamesFinding (messagesOf s v (accepts .proof)) g ⊎ NamesNone g
   pub of-65-bytes : (m : Bytes) → Among m (messagesOf s v (accepts .proof)) → length m ≡ 65

@@ -1,4 +1,5 @@
--- Document 02, request 2026-04: what a palette is beside single calls, in the words of their contracts. Assumes nothing.
+-- Document 02, request 2026-04: what a palette is beside single calls, in the words of their contracts. Assumes
+-- nothing.
 use Prim.Native.Nat.{ℕ, zero, suc, _*_, _≤_, _<_}
 use mathlib.Core.Path.{_≡_}
 use mathlib.Core.Logic.{_↔_}
@@ -15,25 +16,31 @@ use Rattle.demands.specs.Claims.{grantsOfVersion}
 -- Single calls for keys of version v of the bytes s, one after the other, all accepted, and the proof that each gave.
 pub data SingleCalls (s : Bytes) (v : ℕ) : List Bytes → List Bytes → Type 0 where
   none-asked : SingleCalls s v [] []
-  then-given : {k room f t g : Bytes} {keys proofs : List Bytes} → Proves s v k room f 0 t g → SingleCalls s v keys proofs →
+  then-given : {k room f t g : Bytes} {keys proofs : List Bytes} → Proves s v k room f 0 t g →
+      SingleCalls s v keys proofs →
       SingleCalls s v (k ∷ keys) (take (num g) t ∷ proofs)
 
 -- Single calls with room for any proof, 17,080 bytes; the first refused, in the order asked, answers n.
 pub data FirstRefusal (s : Bytes) (v : ℕ) : List Bytes → ℕ → Type 0 where
-  refused-here : {k room f t g : Bytes} {keys : List Bytes} {n : ℕ} → 17080 ≤ length room → (n ≡ 0 → ⊥) → Proves s v k room f n t g →
+  refused-here : {k room f t g : Bytes} {keys : List Bytes} {n : ℕ} → 17080 ≤ length room → (n ≡ 0 → ⊥) →
+      Proves s v k room f n t g →
       FirstRefusal s v (k ∷ keys) n
-  refused-later : {k room f t g : Bytes} {keys : List Bytes} {n : ℕ} → Proves s v k room f 0 t g → FirstRefusal s v keys n →
+  refused-later : {k room f t g : Bytes} {keys : List Bytes} {n : ℕ} → Proves s v k room f 0 t g →
+      FirstRefusal s v keys n →
       FirstRefusal s v (k ∷ keys) n
 
 -- A palette of a list of whole keys in version v of the bytes s.
 pub record BesideSingleCalls (s : Bytes) (v : ℕ) (list : Bytes) : Type 0 where
-  -- its bytes are those of the single calls joined, in the order asked; the rest of the room stays; it tells the length of all together
-  pub joined : {room f t g : Bytes} {proofs : List Bytes} → Palettes s v list room f 0 t g → SingleCalls s v (keysIn list) proofs →
+  -- its bytes are those of the single calls joined, in the order asked; the rest of the room stays; it tells the length
+  -- of all together
+  pub joined : {room f t g : Bytes} {proofs : List Bytes} → Palettes s v list room f 0 t g →
+      SingleCalls s v (keysIn list) proofs →
       (t ≡ flat proofs ++ drop (length (flat proofs)) room) × (num g ≡ length (flat proofs))
   -- its refusal is that of the first single call refused for a reason other than room
   pub first : {room f t g : Bytes} {r n : ℕ} → Palettes s v list room f r t g → FirstRefusal s v (keysIn list) n → r ≡ n
   -- where there is none, it is accepted exactly if all together fit, and 9 exactly if they don't
-  pub fits : {room f t g : Bytes} {r : ℕ} {k : Bytes} {keys proofs : List Bytes} → Palettes s v list room f r t g → keysIn list ≡ k ∷ keys →
+  pub fits : {room f t g : Bytes} {r : ℕ} {k : Bytes} {keys proofs : List Bytes} → Palettes s v list room f r t g →
+      keysIn list ≡ k ∷ keys →
       SingleCalls s v (keysIn list) proofs →
       ((r ≡ 0) ↔ (length (flat proofs) ≤ length room)) × ((r ≡ 9) ↔ (length room < length (flat proofs)))
 
@@ -57,6 +64,8 @@ EachAccepted s v (k ∷ keys) (x ∷ xs) = AcceptedFor s v k x × EachAccepted s
 -- A palette of a list of whole keys in a kept version of a sound store that holds a grant.
 pub record PaletteShown (s : Bytes) (v : ℕ) (list : Bytes) : Type 0 where
   -- with room for any proof of each key it is accepted
-  pub given : {room f t g : Bytes} {r : ℕ} → Palettes s v list room f r t g → 17080 * length (keysIn list) ≤ length room → r ≡ 0
+  pub given : {room f t g : Bytes} {r : ℕ} → Palettes s v list room f r t g →
+      17080 * length (keysIn list) ≤ length room → r ≡ 0
   -- cut apart, each proof is accepted
-  pub accepted : {room f t g : Bytes} → Palettes s v list room f 0 t g → EachAccepted s v (keysIn list) (cutApart (length (keysIn list)) t)
+  pub accepted : {room f t g : Bytes} → Palettes s v list room f 0 t g →
+      EachAccepted s v (keysIn list) (cutApart (length (keysIn list)) t)

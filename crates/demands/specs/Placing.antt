@@ -24,13 +24,16 @@ slotFor (suc n) (r ∷ rs) = slotFor n rs
 
 -- A batch was applied to the bytes s as a number and accepted, and t are the bytes left.
 pub record Places (number : ℕ) (s t : Bytes) : Type 0 where
-  -- a node of the old tree that isn't in the new one is marked retired since the number, and no other byte of its slot changes
-  pub retires : (i : ℕ) (r : Record) → At (storeOf s) i r → NodeOf (r .version) (r .place) (treeOfVersion s (latestOf s)) [] →
+  -- a node of the old tree that isn't in the new one is marked retired since the number, and no other byte of its slot
+  -- changes
+  pub retires : (i : ℕ) (r : Record) → At (storeOf s) i r →
+      NodeOf (r .version) (r .place) (treeOfVersion s (latestOf s)) [] →
       (NodeOf (r .version) (r .place) (treeOfVersion t number) [] → ⊥) →
       slotIn counted i t ≡ written retiredAt (le 4 number) (slotIn counted i s)
   -- the slot of any other record has the bytes it had
   pub keeps : (i : ℕ) (r : Record) → At (storeOf s) i r →
-      (NodeOf (r .version) (r .place) (treeOfVersion s (latestOf s)) [] → NodeOf (r .version) (r .place) (treeOfVersion t number) []) →
+      (NodeOf (r .version) (r .place) (treeOfVersion s (latestOf s)) [] →
+      NodeOf (r .version) (r .place) (treeOfVersion t number) []) →
       slotIn counted i t ≡ slotIn counted i s
   -- the free slots take the new records from the lowest on, in 01's order; one that is left over stays free
   pub fills : (i : ℕ) → i < length (storeOf s .slots) → getD (storeOf s .slots) i free ≡ free →

@@ -1,4 +1,5 @@
--- Document 02, request 2026-14: what the figures of a range are that were given, in the words of the contract. Assumes nothing.
+-- Document 02, request 2026-14: what the figures of a range are that were given, in the words of the contract. Assumes
+-- nothing.
 use Prim.Native.Nat.{ℕ, _+_, _*_, _-_, _≤_}
 use mathlib.Core.Path.{_≡_}
 use mathlib.Core.List.{[]}
@@ -33,15 +34,18 @@ pub record GivesFigures (first last : ℕ) (s room t g : Bytes) : Type 0 where
   -- the leaves are as many as the grants
   pub grants : (v : ℕ) → first ≤ v → v ≤ last → field 0 4 (partOf first v t) ≡ length (grantsOfVersion s v)
   -- versions with one tree, as from one publishing to the next, have the same bytes, and one without a grant has zeros
-  pub alike : (v w : ℕ) → first ≤ v → v ≤ last → first ≤ w → w ≤ last → treeOfVersion s v ≡ treeOfVersion s w → partOf first v t ≡ partOf first w t
+  pub alike : (v w : ℕ) → first ≤ v → v ≤ last → first ≤ w → w ≤ last → treeOfVersion s v ≡ treeOfVersion s w →
+      partOf first v t ≡ partOf first w t
   pub empty : (v : ℕ) → first ≤ v → v ≤ last → grantsOfVersion s v ≡ [] → partOf first v t ≡ zeroBytes 16
   -- the rest of the room stays
   pub rest : drop (16 * (last - first + 1)) t ≡ drop (16 * (last - first + 1)) room
-  -- distinct records are the different nodes of the range's trees, and the sum is that of each version's leaves and inner nodes
+  -- distinct records are the different nodes of the range's trees, and the sum is that of each version's leaves and
+  -- inner nodes
   pub distinct : field 0 4 g ≡ different (nodesOver (storeOf s) (versions first last))
   pub records : field 4 4 g ≡ recordsOver (storeOf s) (versions first last)
   -- no number is near four bytes' end
-  pub few : (v : ℕ) → first ≤ v → v ≤ last → quarter.leaves (treeOfVersion s v) + quarter.inners (treeOfVersion s v) ≤ 16384
+  pub few : (v : ℕ) → first ≤ v → v ≤ last → quarter.leaves (treeOfVersion s v) + quarter.inners
+      (treeOfVersion s v) ≤ 16384
   pub short : (v : ℕ) → first ≤ v → v ≤ last → quarter.longest (treeOfVersion s v) ≤ 256
   pub small-sum : (v : ℕ) → first ≤ v → v ≤ last → quarter.pathSum (treeOfVersion s v) ≤ 4194304
   pub few-distinct : field 0 4 g ≤ 16384

@@ -1,5 +1,5 @@
--- Document 02, 2026-05: a table kept beside the store: built, told right or wrong, and kept right by format, apply and prune. 'A table of
--- another length gives 1; apply and prune test for 16 after 3.' Assumes nothing.
+-- Document 02, 2026-05: a table kept beside the store: built, told right or wrong, and kept right by format, apply and
+-- prune. 'A table of another length gives 1; apply and prune test for 16 after 3.' Assumes nothing.
 use Prim.Native.Nat.{ℕ, _≤_}
 use mathlib.Core.Bool.{Bool, false}
 use mathlib.Core.List.{List, [], _∷_, _++_}
@@ -40,15 +40,20 @@ applyRowsBy number batch s table =
 abbrev pub pruneRowsBy : ℕ → Bytes → List ℕ → Table
 pruneRowsBy n s table = headerRowsBy s table ++ (3, NotSound s) ∷ (16, WrongTable s table) ∷ versionRows s n
 
--- A store and a table that only public calls wrote, each lent both: they begin by a format of both that was accepted, or by a table built for a
--- store with a life of its own; then come calls that keep both, calls that build the table anew, and calls that only look at the store.
+-- A store and a table that only public calls wrote, each lent both: they begin by a format of both that was accepted,
+-- or by a table built for a store with a life of its own; then come calls that keep both, calls that build the table
+-- anew, and calls that only look at the store.
 pub data Together : Bytes → List ℕ → Type 0 where
   formatted-both : {s t : Bytes} {table u : List ℕ} → FormatsIndexed s table 0 t u → Together t u
-  built-for : {start : List Entry} {history : List (Call × Bool)} {s : Bytes} {table u : List ℕ} → Life start history s →
+  built-for : {start : List Entry} {history : List (Call × Bool)} {s : Bytes} {table u : List ℕ} →
+      Life start history s →
       Indexes s table 0 u → Together s u
-  then-formatted : {s t : Bytes} {table u : List ℕ} {r : ℕ} → Together s table → FormatsIndexed s table r t u → Together t u
-  then-applied : (number : ℕ) (batch : Bytes) {r : ℕ} {s f t g : Bytes} {table u : List ℕ} → number ≤ top32 → All Byte batch → Together s table →
+  then-formatted : {s t : Bytes} {table u : List ℕ} {r : ℕ} → Together s table → FormatsIndexed s table r t u →
+      Together t u
+  then-applied : (number : ℕ) (batch : Bytes) {r : ℕ} {s f t g : Bytes} {table u : List ℕ} → number ≤ top32 →
+      All Byte batch → Together s table →
       AppliesIndexed number batch s table f r t u g → Together t u
-  then-pruned : (n : ℕ) {r : ℕ} {s f t g : Bytes} {table u : List ℕ} → Together s table → PrunesIndexed n s table f r t u g → Together t u
+  then-pruned : (n : ℕ) {r : ℕ} {s f t g : Bytes} {table u : List ℕ} → Together s table →
+      PrunesIndexed n s table f r t u g → Together t u
   then-built : {s : Bytes} {table u : List ℕ} {r : ℕ} → Together s table → Indexes s table r u → Together s u
   then-looked : {s : Bytes} {table : List ℕ} → Together s table → Called s (looking, false) s → Together s table

@@ -1,6 +1,7 @@
--- Document 01, 'Numbers of refusal': the table of each public call. 'Order: 12; then 1, 2; apply 3, 4, 5, 6, 7; prune 3, 8; reads 8, 3, 9;
--- the proof check 10, 11. Format gives only 1.' By 2026-03 proving tests for 14 after 8; by 2026-13 apply tests for 18 where 6 was; by
--- 2026-09 a position is tested for 20 after the root's lookup. Assumes nothing.
+-- Document 01, 'Numbers of refusal': the table of each public call. 'Order: 12; then 1, 2; apply 3, 4, 5, 6, 7; prune
+-- 3, 8; reads 8, 3, 9; the proof check 10, 11. Format gives only 1.' By 2026-03 proving tests for 14 after 8; by
+-- 2026-13 apply tests for 18 where 6 was; by 2026-09 a position is tested for 20 after the root's lookup. Assumes
+-- nothing.
 use Prim.Native.Nat.{ℕ}
 use mathlib.Core.Bool.{cond, _||_}
 use mathlib.Core.List.{[], _∷_, _++_}

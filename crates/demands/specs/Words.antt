@@ -1,5 +1,5 @@
--- Document 02, 2026-07, over the bytes of a store: 'no slot in form matches, but a used slot's version, bit count and bits fields agree' and
--- 'name the lowest such slot'. Assumes nothing.
+-- Document 02, 2026-07, over the bytes of a store: 'no slot in form matches, but a used slot's version, bit count and
+-- bits fields agree' and 'name the lowest such slot'. Assumes nothing.
 use Prim.Native.Nat.{ℕ, _<_}
 use mathlib.Core.Path.{_≡_}
 use lib.ListN.{length}

@@ -1,5 +1,5 @@
--- The figures of a range for a caller in another language: what the call answers for any bytes, and every byte of the room and of its array.
--- Assumes nothing.
+-- The figures of a range for a caller in another language: what the call answers for any bytes, and every byte of the
+-- room and of its array. Assumes nothing.
 use Prim.Native.Nat.{ℕ}
 use mathlib.Core.Path.{_≡_}
 use mathlib.Core.List.{_++_}
@@ -19,8 +19,8 @@ totalsBytes distinct records = le 4 distinct ++ le 4 records
 abbrev pub totalsAfter : Answer Quarter → Bytes → Bytes
 totalsAfter a old = toldOf (λ q. totalsBytes (q .distinct) (q .records)) a old
 
--- The figures of the bytes s from version first to last answer r; the room is left as t, the array f for the totals as g. The answer is the one that
--- the definition gives for any bytes; the store is as it was.
+-- The figures of the bytes s from version first to last answer r; the room is left as t, the array f for the totals as
+-- g. The answer is the one that the definition gives for any bytes; the store is as it was.
 pub record Figures (first last : ℕ) (s room f : Bytes) (r : ℕ) (t g : Bytes) : Type 0 where
   pub answer : Answer Quarter
   pub does : Does (figures first last (length room)) s answer s

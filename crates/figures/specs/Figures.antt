@@ -1,5 +1,5 @@
--- Document 02, request 2026-14: what the figures of a range of versions of the store that bytes hold are for any bytes, and what is left of the room. Order:
--- 1, 2; then 3 by full soundness; then 8, 9. Assumes nothing.
+-- Document 02, request 2026-14: what the figures of a range of versions of the store that bytes hold are for any bytes,
+-- and what is left of the room. Order: 1, 2; then 3 by full soundness; then 8, 9. Assumes nothing.
 use Prim.Native.Nat.{ℕ}
 use mathlib.Core.Path.{_≡_}
 use mathlib.Core.List.{List, map}

@@ -22,7 +22,8 @@ listAdds s list v (suc n) f = slotAdds v (slotNo counted (getD list n 0) s) (lis
 
 -- Some slots split for the versions from first to last: at each of them the numbers with what the listed slots add are
 -- those of all; and they are few.
-pub record Split (s : Bytes) (list : List ℕ) (first last listed : ℕ) (all : declared.Figures) (xs : List Slot) : Type 0 where
+pub record Split (s : Bytes) (list : List ℕ) (first last listed : ℕ) (all : declared.Figures) (xs : List Slot) :
+    Type 0 where
   pub told : (v : ℕ) → first ≤ v → v ≤ last → listAdds s list v listed (figuresSay all) ≡ livingFigures v xs
   pub inside : (j : ℕ) → j < listed → getD list j 0 < roomOf counted (length s)
   pub few : all .leaves + all .inners + listed ≤ length xs

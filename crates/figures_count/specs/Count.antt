@@ -1,4 +1,5 @@
--- Document 02, request 2026-14, over bytes: the slots of a sound store counted. No public promise reaches this file. Assumes nothing.
+-- Document 02, request 2026-14, over bytes: the slots of a sound store counted. No public promise reaches this file.
+-- Assumes nothing.
 use Prim.Native.Nat.{ℕ, _<_, _≤_}
 use mathlib.Core.Path.{_≡_}
 use mathlib.Core.Bool.{true}

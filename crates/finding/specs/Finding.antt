@@ -1,5 +1,5 @@
--- Document 02, request 2026-12: what the call answers for any bytes. Order: 12; then 1, 2; then 3 by full soundness; then 8, 14; then 10, 11.
--- Assumes nothing.
+-- Document 02, request 2026-12: what the call answers for any bytes. Order: 12; then 1, 2; then 3 by full soundness;
+-- then 8, 14; then 10, 11. Assumes nothing.
 use Prim.Native.Nat.{ℕ}
 use mathlib.Core.Path.{_≡_}
 use lib.ListN.{length}
@@ -11,7 +11,8 @@ use Rattle.promises.specs.Calls.{Does}
 use Rattle.forgery.specs.Finding.{Finding}
 use Rattle.finding_rules.specs.Call.{finds}
 
--- The call on the bytes x as a proof for the key k in version v of the bytes s gives this answer; the store is as it was.
+-- The call on the bytes x as a proof for the key k in version v of the bytes s gives this answer; the store is as it
+-- was.
 pub data Answers (s : Bytes) (v : ℕ) (k x : Bytes) : Answer Finding → Type 0 where
   -- 12: the key isn't 32 bytes
   wrong-key : (length k ≡ 32 → ⊥) → Answers s v k x (refused 12)

@@ -1,5 +1,5 @@
--- Document 01, 'Forms to follow': what each case of the code's answer says, and the root of a version. No public promise reaches this file. Assumes
--- nothing.
+-- Document 01, 'Forms to follow': what each case of the code's answer says, and the root of a version. No public
+-- promise reaches this file. Assumes nothing.
 use Prim.Native.Nat.{ℕ}
 use Rattle.terms.specs.Bits.{Bytes}
 use Rattle.meaning.specs.Calls.{Answer, refused, accepted}

@@ -1,5 +1,5 @@
--- Document 02, request 2026-12: what the call answers of a proof for a key in a version of a sound store. Order: 8, 14; then 10, 11. The hash of a
--- message is given: SHA-256 in the call. Assumes nothing.
+-- Document 02, request 2026-12: what the call answers of a proof for a key in a version of a sound store. Order: 8, 14;
+-- then 10, 11. The hash of a message is given: SHA-256 in the call. Assumes nothing.
 use Prim.Native.Nat.{ℕ}
 use mathlib.Core.Bool.{Bool, true, false, cond}
 use mathlib.Core.List.{List, [], _∷_, _++_}

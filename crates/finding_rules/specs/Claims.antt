@@ -20,7 +20,8 @@ module _ (H : Bytes → Bytes) where
   pub record FoundOut (st : Store) (v : ℕ) (k : Bytes) (p : Proof) (answer : Verdict) (found : Finding) : Type 0 where
     -- a proof that says something false about the version always gives a finding, and so does a false answer
     pub false-is-found : (True (grantsIn (treeAtVersion st v)) p → ⊥) → NamedFrom H (theMessages st v p) found
-    pub false-answer-is-found : (answerOf k (grantsIn (treeAtVersion st v)) ≡ answer → ⊥) → NamedFrom H (theMessages st v p) found
+    pub false-answer-is-found : (answerOf k (grantsIn (treeAtVersion st v)) ≡ answer → ⊥) →
+        NamedFrom H (theMessages st v p) found
     -- what is named is a finding, from these messages alone, which have 65 bytes
     pub named-is-a-finding : (found ≡ nothing → ⊥) → NamedFrom H (theMessages st v p) found
     pub of-65-bytes : (m : Bytes) → Among m (theMessages st v p) → length m ≡ 65

@@ -50,7 +50,8 @@ Noted v s words = NotedTo v s words (roomOf counted (length s))
 
 -- It is a node with another message than m and the same hash; or one with hash zero.
 unfoldable pub partnerHere : ℕ → Bytes → Bytes → Bool
-partnerHere v m x = standsHere v (slotOf x) && (not (sameBytes (messageIn x) m) && sameBytes (sha256 (messageIn x)) (sha256 m))
+partnerHere v m x =
+    standsHere v (slotOf x) && (not (sameBytes (messageIn x) m) && sameBytes (sha256 (messageIn x)) (sha256 m))
 
 unfoldable pub zeroHere : ℕ → Bytes → Bool
 zeroHere v x = standsHere v (slotOf x) && sameBytes (sha256 (messageIn x)) zeros

@@ -1,4 +1,5 @@
--- Request 2026-12: what a proof says, held against the grants of a version. No public promise reaches this file. Assumes nothing.
+-- Request 2026-12: what a proof says, held against the grants of a version. No public promise reaches this file.
+-- Assumes nothing.
 use Prim.Native.Nat.{ℕ}
 use mathlib.Core.Bool.{Bool}
 use mathlib.Core.List.{List, _++_}

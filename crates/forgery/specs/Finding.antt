@@ -1,5 +1,5 @@
--- Document 02, request 2026-12: what a proof says, what a finding is, and which finding is named where a proof says something false. Assumes
--- nothing.
+-- Document 02, request 2026-12: what a proof says, what a finding is, and which finding is named where a proof says
+-- something false. Assumes nothing.
 use Prim.Native.Nat.{ℕ}
 use mathlib.Core.Path.{_≡_}
 use mathlib.Core.Logic.{_⊎_}
@@ -25,7 +25,8 @@ abbrev pub neighbourSays : Option Presence → List Saying
 neighbourSays none = []
 neighbourSays (some p) = saying (p .key) (present (p .value)) ∷ []
 
--- What a proof says: of its key that it is present with the value, or absent; and of each neighbour that it is present with its value.
+-- What a proof says: of its key that it is present with the value, or absent; and of each neighbour that it is present
+-- with its value.
 abbrev pub says : Proof → List Saying
 says (presence p) = saying (p .key) (present (p .value)) ∷ []
 says (absence a) = saying (a .key) absent ∷ (neighbourSays (a .leftward) ++ neighbourSays (a .rightward))
@@ -79,7 +80,8 @@ module _ (H : Bytes → Bytes) where
   zeroAmong [] = nothing
   zeroAmong (m ∷ ms) = cond (sameBytes (H m) zeros) (oneZero m) (zeroAmong ms)
 
-  -- One after the other, the messages hashed while checking: its hash is zero, or it has a partner among the nodes' messages. Then the nodes' own.
+  -- One after the other, the messages hashed while checking: its hash is zero, or it has a partner among the nodes'
+  -- messages. Then the nodes' own.
   abbrev pub searched : List Bytes → List Bytes → Finding
   searched nodes [] = zeroAmong nodes
   searched nodes (m ∷ ms) = cond (sameBytes (H m) zeros) (oneZero m) (orElse (partner m nodes) (searched nodes ms))

@@ -1,12 +1,26 @@
--- Document 02, request 2026-12: the 65-byte messages of a version's nodes, and the messages hashed while checking a proof. The hash of a message
--- is given: SHA-256 in the calls. Assumes nothing.
+-- Document 02, request 2026-12: the 65-byte messages of a version's nodes, and the messages hashed while checking a
+-- proof. The hash of a message is given: SHA-256 in the calls. Assumes nothing.
 use Prim.Native.Nat.{ℕ}
 use mathlib.Core.Bool.{Bool, cond, _&&_, not}
 use mathlib.Core.List.{List, [], _∷_, _++_}
 use mathlib.Core.Option as option
 use lib.Dec.{leb}
 use Rattle.terms.specs.Bits.{Bytes}
-use Rattle.terms.specs.Records.{Body, leafBody, innerBody, Record, Slot, free, used, spoiled, Step, Presence, Proof, presence, absence}
+use Rattle.terms.specs.Records.{
+  Body,
+  leafBody,
+  innerBody,
+  Record,
+  Slot,
+  free,
+  used,
+  spoiled,
+  Step,
+  Presence,
+  Proof,
+  presence,
+  absence,
+}
 use Rattle.meaning.specs.Tree.{Tree, none, leaf, inner, hash}
 use Rattle.meaning.specs.Store.{retiredBy}
 

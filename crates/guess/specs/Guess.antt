@@ -10,5 +10,6 @@ use Rattle.layout.specs.Stores.{storeOf}
 
 -- Where the answer is yes, slot i holds the node (v, p).
 abbrev pub NodeAt : Bytes → ℕ → ℕ → Place → Bool → Type 0
-NodeAt s i v p true = (i < length (storeOf s .slots)) × ((r : Record) × (getD (storeOf s .slots) i free ≡ used r) × (isNode v p r ≡ true))
+NodeAt s i v p true =
+    (i < length (storeOf s .slots)) × ((r : Record) × (getD (storeOf s .slots) i free ≡ used r) × (isNode v p r ≡ true))
 NodeAt s i v p false = Unit {0}

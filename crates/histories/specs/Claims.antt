@@ -1,5 +1,5 @@
--- What is claimed of apply and prune: when they refuse, and of the store after they accept; what it is to read alike; when a number leaves
--- no gap. Assumes nothing.
+-- What is claimed of apply and prune: when they refuse, and of the store after they accept; what it is to read alike;
+-- when a number leaves no gap. Assumes nothing.
 use Prim.Native.Nat.{ℕ, suc, _+_, _<_, _≤_}
 use mathlib.Core.Path.{_≡_}
 use mathlib.Core.Bool.{true, false}
@@ -21,7 +21,8 @@ abbrev pub NoChange : List Grant → Ask → Type 0
 NoChange gs (insert k x) = answerOf k gs ≡ present x
 NoChange gs (delete k) = answerOf k gs ≡ absent
 
--- A call leaves no gap: a batch is given latest + 1 (or less, and is refused), and the store isn't made of another one, which may have some.
+-- A call leaves no gap: a batch is given latest + 1 (or less, and is refused), and the store isn't made of another one,
+-- which may have some.
 abbrev pub NoGap : Call → Store → Type 0
 NoGap formatting st = Unit {0}
 NoGap (applying number batch) st = number ≤ suc (st .latest)
@@ -40,15 +41,18 @@ module _ (leafHash innerHash : Bytes → Bytes → Bytes) where
   pub data ApplyRefuses (number : ℕ) (st : Store) : Option (List Ask) → ℕ → Type 0 where
     not-in-form : ApplyRefuses number st none 4
     not-ascending : {batch : List Ask} → ascending batch ≡ false → ApplyRefuses number st (some batch) 5
-    not-above-latest : {batch : List Ask} → ascending batch ≡ true → number ≤ st .latest → ApplyRefuses number st (some batch) 18
+    not-above-latest : {batch : List Ask} → ascending batch ≡ true → number ≤ st .latest →
+        ApplyRefuses number st (some batch) 18
     no-room : {batch : List Ask} →
         ascending batch ≡ true →
         st .latest < number →
-        freeSlots (st .slots) < length (newRecords leafHash innerHash number (nextTree number (treeAtVersion st (st .latest)) batch)) →
+        freeSlots (st .slots) < length
+        (newRecords leafHash innerHash number (nextTree number (treeAtVersion st (st .latest)) batch)) →
         ApplyRefuses number st (some batch) 7
 
-  -- st′ is st with a batch applied as the version of a number, and this was answered: the new version's tree is that of the batch, the
-  -- older ones have their trees, those between have the tree of the latest before, and as many slots fewer are free as the answer counts.
+  -- st′ is st with a batch applied as the version of a number, and this was answered: the new version's tree is that of
+  -- the batch, the older ones have their trees, those between have the tree of the latest before, and as many slots
+  -- fewer are free as the answer counts.
   pub record AfterApply (number : ℕ) (batch : List Ask) (st : Store) (answer : Applied) (st′ : Store) : Type 0 where
     pub sound : Sound leafHash innerHash st′
     pub capacity : length (st′ .slots) ≡ length (st .slots)
@@ -69,8 +73,8 @@ module _ (leafHash innerHash : Bytes → Bytes → Bytes) where
     pub root : answer .root ≡ hash leafHash innerHash (unversioned (treeAtVersion st′ (st′ .latest)))
     pub count : freeSlots (st .slots) ≡ freeSlots (st′ .slots) + answer .count
 
-  -- st′ is st pruned to n, and this was answered: each version that is still kept has its tree, and as many slots more are free as the
-  -- answer counts.
+  -- st′ is st pruned to n, and this was answered: each version that is still kept has its tree, and as many slots more
+  -- are free as the answer counts.
   pub record AfterPrune (n : ℕ) (st : Store) (answer : ℕ) (st′ : Store) : Type 0 where
     pub sound : Sound leafHash innerHash st′
     pub capacity : length (st′ .slots) ≡ length (st .slots)

@@ -1,4 +1,5 @@
--- Document 01 beside 2026-13: a list of calls that leaves no gap between the versions, and 01's rule for roots. Assumes nothing.
+-- Document 01 beside 2026-13: a list of calls that leaves no gap between the versions, and 01's rule for roots. Assumes
+-- nothing.
 use Prim.Native.Nat.{ℕ}
 use mathlib.Core.List.{List, [], _∷_}
 use mathlib.Core.Option.{Option}

@@ -21,7 +21,8 @@ Decided false a = a → ⊥
 -- Whether the record of slot i stands before that of slot j, where both hold one.
 abbrev pub Told : Bytes → ℕ → ℕ → Bool → Type 0
 Told s i j b =
-    (q r : Record) → At (storeOf s) i q → At (storeOf s) j r → b ≡ nodeBefore (q .version) (q .place) (r .version) (r .place)
+    (q r : Record) → At (storeOf s) i q → At (storeOf s) j r → b ≡ nodeBefore (q .version) (q .place) (r .version)
+    (r .place)
 
 -- The same of two slots with the same bits.
 abbrev pub ToldThere : Bytes → ℕ → ℕ → Bool → Type 0
@@ -39,7 +40,8 @@ Began s table k = 1 ≤ k → Named s table (k - 1)
 abbrev pub Follows : Bytes → List ℕ → ℕ → Type 0
 Follows s table k =
     Named s table k
-    × ((q r : Record) → 1 ≤ k → At (storeOf s) (entry (storeOf s) table (k - 1)) q → At (storeOf s) (entry (storeOf s) table k) r →
+    × ((q r : Record) → 1 ≤ k → At (storeOf s) (entry (storeOf s) table (k - 1)) q →
+    At (storeOf s) (entry (storeOf s) table k) r →
     nodeBefore (q .version) (q .place) (r .version) (r .place) ≡ true)
 
 -- Each of the first m entries does.

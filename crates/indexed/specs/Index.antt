@@ -1,4 +1,5 @@
--- Document 02, request 2026-05: how a read finds by a table of slot numbers, for every table and every store, sound or not. Assumes nothing.
+-- Document 02, request 2026-05: how a read finds by a table of slot numbers, for every table and every store, sound or
+-- not. Assumes nothing.
 use Prim.Native.Nat.{ℕ, zero, suc, _+_, _/_}
 use mathlib.Core.Bool.{Bool, true, false, cond, _&&_, _||_}
 use mathlib.Core.List.{List, [], _∷_}
@@ -47,14 +48,17 @@ lookAt look (some r) = look r
 -- Looking for a node by its version and place.
 unfoldable pub nodeLook : ℕ → Place → Record → Look
 nodeLook v p r =
-    cond (nodeBefore (r .version) (r .place) v p) tooSmall (cond (nodeBefore v p (r .version) (r .place)) tooGreat (meets r))
+    cond (nodeBefore (r .version) (r .place) v p) tooSmall (cond (nodeBefore v p (r .version) (r .place)) tooGreat
+    (meets r))
 
--- Looking for the root of a version (2026-13): other places and later versions are too great, a lifetime that covers it matches, and else a root
--- is too small.
+-- Looking for the root of a version (2026-13): other places and later versions are too great, a lifetime that covers it
+-- matches, and else a root is too small.
 unfoldable pub rootLook : ℕ → Record → Look
-rootLook v r = cond (samePlace (r .place) []) (cond (ltb v (r .version)) tooGreat (cond (retiredBy v r) tooSmall (meets r))) tooGreat
+rootLook v r = cond (samePlace (r .place) [])
+    (cond (ltb v (r .version)) tooGreat (cond (retiredBy v r) tooSmall (meets r))) tooGreat
 
--- A search halves: between lo and hi it looks at (lo + hi) / 2, rounded down, and ends on an entry that meets or where nothing is left between.
+-- A search halves: between lo and hi it looks at (lo + hi) / 2, rounded down, and ends on an entry that meets or where
+-- nothing is left between.
 abbrev pub onwards : Look → Option Record → Option Record → Option Record
 onwards tooSmall above below = above
 onwards tooGreat above below = below
@@ -64,7 +68,8 @@ abbrev pub searchFrom : ℕ → (Record → Look) → List ℕ → List Slot →
 searchFrom zero look table s lo hi = none
 searchFrom (suc n) look table s lo hi =
     cond (ltb lo hi)
-    (onwards (lookAt look (named s (getD table ((lo + hi) / 2) (length s)))) (searchFrom n look table s (suc ((lo + hi) / 2)) hi)
+    (onwards (lookAt look (named s (getD table ((lo + hi) / 2) (length s))))
+    (searchFrom n look table s (suc ((lo + hi) / 2)) hi)
     (searchFrom n look table s lo ((lo + hi) / 2)))
     none
 

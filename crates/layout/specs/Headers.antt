@@ -7,7 +7,19 @@ use lib.Dec.{eqb, leb}
 use Rattle.terms.specs.declared.Form.{Form}
 use Rattle.terms.specs.Bits.{Bytes}
 use Rattle.terms.specs.Fields.{le, field, slice, zeroBytes, allZero, flat, allOf}
-use Rattle.layout.specs.Sizes.{headerSize, headerKind, mostSlots, kindAt, gapAt, capacityAt, oldestAt, latestAt, headerTailAt, slotSize, roomOf}
+use Rattle.layout.specs.Sizes.{
+  headerSize,
+  headerKind,
+  mostSlots,
+  kindAt,
+  gapAt,
+  capacityAt,
+  oldestAt,
+  latestAt,
+  headerTailAt,
+  slotSize,
+  roomOf,
+}
 
 -- What reading a header says: a number of refusal, or capacity, oldest and latest.
 pub data Headed : Type 0 where

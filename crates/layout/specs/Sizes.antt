@@ -1,5 +1,5 @@
--- Document 01, 'Bytes': the sizes, kinds and lengths of header and slot, and where their fields begin. All in one place, and nowhere else.
--- Assumes nothing.
+-- Document 01, 'Bytes': the sizes, kinds and lengths of header and slot, and where their fields begin. All in one
+-- place, and nowhere else. Assumes nothing.
 use Rattle.terms.specs.declared.Form.{Form}
 use Rattle.terms.specs.declared.Form.the-variants.{Plain as plain, Counted as counted}
 use Prim.Native.Nat.{ℕ, _+_, _*_, _-_, _/_}
@@ -8,7 +8,8 @@ use lib.Dec.{eqb}
 pub use Rattle.terms.specs.Form.{mostSlots}
 pub use Rattle.terms.specs.Heads.{countAt, bitsAt, versionAt, retiredAt}
 
--- Header, 24 bytes: length 24, kind 1 (4 in the counted form), 2 zero, capacity 4, oldest 4, latest 4, 4 zero. Capacity n is 1 to 16,384.
+-- Header, 24 bytes: length 24, kind 1 (4 in the counted form), 2 zero, capacity 4, oldest 4, latest 4, 4 zero. Capacity
+-- n is 1 to 16,384.
 abbrev pub headerSize : ℕ
 headerSize = 24
 
@@ -31,8 +32,8 @@ latestAt = 16
 abbrev pub headerTailAt : ℕ
 headerTailAt = 20
 
--- Slot, 120 bytes, 128 in the counted form. A leaf says length 112, kind 2; an inner record the slot's size as its length, and kind 3, or 5
--- in the counted form. So a slot's own size tells its form.
+-- Slot, 120 bytes, 128 in the counted form. A leaf says length 112, kind 2; an inner record the slot's size as its
+-- length, and kind 3, or 5 in the counted form. So a slot's own size tells its form.
 abbrev pub plainSize : ℕ
 plainSize = 120
 
@@ -53,7 +54,8 @@ innerKind n = cond (eqb n plainSize) 3 5
 abbrev pub kindAt : ℕ
 kindAt = 4
 
--- Then the fields of `terms/Heads`, and what its kind says. A leaf's key 32, value 32, then zero; key and value are its grant.
+-- Then the fields of `terms/Heads`, and what its kind says. A leaf's key 32, value 32, then zero; key and value are its
+-- grant.
 abbrev pub grantSize : ℕ
 grantSize = 64
 

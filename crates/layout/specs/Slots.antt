@@ -1,6 +1,6 @@
--- Document 01, 'Bytes', slot, and the counted form of 2026-09: what the bytes of a slot say, and the bytes that say it. How many they are
--- tells the form, 120 or 128. In form is exactly what the sentence asks; retired-since,
--- the children's versions and whether a leaf's key begins with its place are matters of soundness. Assumes nothing.
+-- Document 01, 'Bytes', slot, and the counted form of 2026-09: what the bytes of a slot say, and the bytes that say it.
+-- How many they are tells the form, 120 or 128. In form is exactly what the sentence asks; retired-since, the
+-- children's versions and whether a leaf's key begins with its place are matters of soundness. Assumes nothing.
 use Prim.Native.Nat.{ℕ, _+_, _-_, _≤_}
 use mathlib.Core.Path.{_≡_}
 use mathlib.Core.Bool.{Bool, true, false, cond, _||_}
@@ -11,11 +11,38 @@ use Rattle.terms.specs.declared.Form.{Form}
 use Rattle.terms.specs.declared.Form.the-variants.{Plain as plain, Counted as counted}
 use Rattle.terms.specs.Bits.{Bytes, Byte, Side, Place, All, bits, pack, noneSet}
 use Rattle.terms.specs.Fields.{le, field, slice, zeroBytes, allZero, flat, allOf}
-use Rattle.terms.specs.Records.{Child, child, Body, leafBody, innerBody, Tally, tally, Record, Slot, free, used, spoiled}
+use Rattle.terms.specs.Records.{
+  Child,
+  child,
+  Body,
+  leafBody,
+  innerBody,
+  Tally,
+  tally,
+  Record,
+  Slot,
+  free,
+  used,
+  spoiled,
+}
 use Rattle.terms.specs.Form.{placeLimit, RecordForm, FormedAs}
 unfoldable pub use Rattle.terms.specs.Heads.{countIn}
 pub use Rattle.terms.specs.Heads.{bitsIn, versionIn, sinceIn}
-use Rattle.layout.specs.Sizes.{slotSize, leafLength, leafKind, innerKind, kindAt, grantSize, keyAt, valueAt, tailAt, leftAt, rightAt, leftCountAt, rightCountAt}
+use Rattle.layout.specs.Sizes.{
+  slotSize,
+  leafLength,
+  leafKind,
+  innerKind,
+  kindAt,
+  grantSize,
+  keyAt,
+  valueAt,
+  tailAt,
+  leftAt,
+  rightAt,
+  leftCountAt,
+  rightCountAt,
+}
 
 -- As many bytes as a slot of either form has: all that reading them asks for.
 abbrev pub SlotLong : Bytes → Type 0

@@ -1,5 +1,5 @@
--- Document 01, 'Bytes': a store is its header and its slots, one after the other; the store is 24 + 120n bytes, 24 + 128n in the counted
--- form. Which form bytes are read as is said, not read: a header may be damaged. Assumes nothing.
+-- Document 01, 'Bytes': a store is its header and its slots, one after the other; the store is 24 + 120n bytes, 24 +
+-- 128n in the counted form. Which form bytes are read as is said, not read: a header may be damaged. Assumes nothing.
 use Prim.Native.Nat.{ℕ, zero, suc, _+_, _<_, _≤_}
 use mathlib.Core.Path.{_≡_}
 use mathlib.Core.Bool.{true}
@@ -71,7 +71,8 @@ withLatest n s = written latestAt (le 4 n) s
 
 -- The bytes of a store.
 unfoldable pub storeBytes : Store → Bytes
-storeBytes st = headerBytes (st .form) (length (st .slots)) (st .oldest) (st .latest) ++ slotsBytes (st .form) (st .slots)
+storeBytes st =
+    headerBytes (st .form) (length (st .slots)) (st .oldest) (st .latest) ++ slotsBytes (st .form) (st .slots)
 
 -- A store that bytes can be: 1 to 16,384 slots, oldest at most latest, which has four bytes, and each slot in form.
 pub record StoreForm (st : Store) : Type 0 where

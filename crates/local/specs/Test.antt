@@ -1,6 +1,7 @@
--- Soundness as a test that a loop over the slots can run. Of each record it looks at its own fields, counts the slots that hold its node,
--- finds its children, and goes once over its parents: what they say of it, and whether their lifetimes add up to its own. No version is
--- tried, and each record is hashed once. No public promise reaches this file: that it decides 'Sound' is a theorem. Assumes nothing.
+-- Soundness as a test that a loop over the slots can run. Of each record it looks at its own fields, counts the slots
+-- that hold its node, finds its children, and goes once over its parents: what they say of it, and whether their
+-- lifetimes add up to its own. No version is tried, and each record is hashed once. No public promise reaches this
+-- file: that it decides 'Sound' is a theorem. Assumes nothing.
 use Prim.Native.Nat.{ℕ, _+_, _-_, max}
 use mathlib.Core.Bool.{Bool, true, false, cond, not, _&&_, _||_}
 use mathlib.Core.List.{List, [], _∷_}
@@ -10,7 +11,20 @@ use lib.Dec.{eqb, leb, ltb}
 use Rattle.terms.specs.declared.Form.{Form}
 use Rattle.terms.specs.declared.Form.the-variants.{Plain as plain, Counted as counted}
 use Rattle.terms.specs.Bits.{Bytes, Side, left, right, Place, longer, begins, sameBytes, samePlace}
-use Rattle.terms.specs.Records.{Child, Body, leafBody, innerBody, Tally, Record, Slot, free, used, spoiled, Store, zeros}
+use Rattle.terms.specs.Records.{
+  Child,
+  Body,
+  leafBody,
+  innerBody,
+  Tally,
+  Record,
+  Slot,
+  free,
+  used,
+  spoiled,
+  Store,
+  zeros,
+}
 use Rattle.terms.specs.Form.{top32, placeLimit}
 use Rattle.terms.specs.Fields.{allOf}
 use Rattle.meaning.specs.Store.{find, isNode, childOn}
@@ -45,7 +59,8 @@ holders r s = total (byRecord 0 (isSame r)) s
 -- Retired-since is 0, or above the record's version, above oldest and at most latest.
 unfoldable pub lifeTest : Store → Record → Bool
 lifeTest st r =
-    eqb (r .retired) 0 || allOf (ltb (r .version) (r .retired) ∷ ltb (st .oldest) (r .retired) ∷ leb (r .retired) (st .latest) ∷ [])
+    eqb (r .retired) 0 || allOf (ltb (r .version) (r .retired) ∷ ltb (st .oldest) (r .retired) ∷
+    leb (r .retired) (st .latest) ∷ [])
 
 abbrev pub isFound : Option Record → Bool
 isFound none = false
@@ -120,7 +135,8 @@ whole32Test x = eqb (length x) 32 && every (λ b. ltb b 256) x
 
 unfoldable pub childFormTest : Child → Bool
 childFormTest c =
-    allOf (leb (c .version) top32 ∷ whole32Test (c .hash) ∷ (not (eqb (c .version) 0) || sameBytes (c .hash) zeros) ∷ [])
+    allOf (leb (c .version) top32 ∷ whole32Test (c .hash) ∷ (not (eqb (c .version) 0) || sameBytes (c .hash) zeros) ∷
+    [])
 
 abbrev pub bodyFormTest : Body → Bool
 bodyFormTest (leafBody k x) = whole32Test k && whole32Test x
@@ -146,11 +162,12 @@ formTest r = allOf
 -- Size and header are right.
 unfoldable pub headTest : Store → Bool
 headTest st = allOf
-    (leb 1 (length (st .slots)) ∷ leb (length (st .slots)) mostSlots ∷ leb (st .oldest) (st .latest) ∷ leb (st .latest) top32 ∷ [])
+    (leb 1 (length (st .slots)) ∷ leb (length (st .slots)) mostSlots ∷ leb (st .oldest) (st .latest) ∷
+    leb (st .latest) top32 ∷ [])
 
 module _ (leafHash innerHash : Bytes → Bytes → Bytes) where
-  -- What q says of its child r, where it names it on a side: r's hash is the stored one, r lives at each kept version of q's life, and it
-  -- is no lone leaf.
+  -- What q says of its child r, where it names it on a side: r's hash is the stored one, r lives at each kept version
+  -- of q's life, and it is no lone leaf.
   abbrev pub linkOn : Side → Store → Record → Record → Body → Bool
   linkOn b st r q (leafBody k x) = true
   linkOn b st r q (innerBody l m) = not (names b q r) || allOf

@@ -1,6 +1,6 @@
--- Document 01, 'Numbers of refusal', with versions named as in 2026-13: what format, apply and prune answer and leave. 1, 2 and 12 are
--- refused before there is a store or a key to speak of, and 3 by soundness, in the calls that test it; here the store is sound. Assumes
--- nothing.
+-- Document 01, 'Numbers of refusal', with versions named as in 2026-13: what format, apply and prune answer and leave.
+-- 1, 2 and 12 are refused before there is a store or a key to speak of, and 3 by soundness, in the calls that test it;
+-- here the store is sound. Assumes nothing.
 use Prim.Native.Nat.{ℕ, _-_}
 use mathlib.Core.Bool.{Bool, true, cond, _&&_}
 use mathlib.Core.List.{List, [], _∷_}
@@ -69,10 +69,11 @@ module _ (leafHash innerHash : Bytes → Bytes → Bytes) where
 
   -- A batch makes version `new` of the latest tree.
   unfoldable pub applyAs : ℕ → List Ask → Store → Result Applied
-  applyAs new batch st = publish new (treeAtVersion st (st .latest)) (nextTree new (treeAtVersion st (st .latest)) batch) st
+  applyAs new batch st =
+      publish new (treeAtVersion st (st .latest)) (nextTree new (treeAtVersion st (st .latest)) batch) st
 
-  -- Apply, of a batch in form (else 4): keys not strictly ascending 5, a number not above latest 18, too few free slots 7. The batch makes
-  -- the version of that number.
+  -- Apply, of a batch in form (else 4): keys not strictly ascending 5, a number not above latest 18, too few free slots
+  -- 7. The batch makes the version of that number.
   abbrev pub apply : ℕ → Option (List Ask) → Store → Result Applied
   apply number none st = refuse 4 st
   apply number (some batch) st =

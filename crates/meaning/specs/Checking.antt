@@ -1,5 +1,5 @@
--- Document 01, 'Checking': when a proof holds, whoever wrote it; with 2026-03, by which a proof without a neighbour never does. Assumes
--- nothing.
+-- Document 01, 'Checking': when a proof holds, whoever wrote it; with 2026-03, by which a proof without a neighbour
+-- never does. Assumes nothing.
 use mathlib.Core.Bool.{Bool, true, false, cond, _&&_, _||_, not, Bool·beq}
 use mathlib.Core.List.{List, [], _∷_, reverse}
 use mathlib.Core.Option.{Option, none, some}
@@ -21,8 +21,8 @@ outermost b (s ∷ steps) = keepsTo b s && outermost b steps
 unfoldable pub sameStep : Step → Step → Bool
 sameStep s t = Bool·beq (s .side) (t .side) && sameBytes (s .sibling) (t .sibling)
 
--- Two paths from their tops: equal steps are taken off; then a step remains in each, the left's with side 0 and the right's with side 1,
--- and below these the left path is rightmost and the right path leftmost.
+-- Two paths from their tops: equal steps are taken off; then a step remains in each, the left's with side 0 and the
+-- right's with side 1, and below these the left path is rightmost and the right path leftmost.
 abbrev pub partFromTop : List Step → List Step → Bool
 partFromTop [] ys = false
 partFromTop (x ∷ xs) [] = false
@@ -60,6 +60,7 @@ module _ (leafHash innerHash : Bytes → Bytes → Bytes) where
 
   -- The answer for a key and a proof in form, against a root: present with the value, absent, or 11.
   abbrev pub checked : Bytes → Bytes → Proof → Answer Verdict
-  checked root k (presence p) = cond (sameBytes k (p .key) && leadsTo root p) (accepted (present (p .value))) (refused 11)
+  checked root k (presence p) =
+      cond (sameBytes k (p .key) && leadsTo root p) (accepted (present (p .value))) (refused 11)
   checked root k (absence a) =
       cond (sameBytes k (a .key) && absenceHolds root k (a .leftward) (a .rightward)) (accepted absent) (refused 11)

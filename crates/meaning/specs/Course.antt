@@ -1,4 +1,5 @@
--- The course of a store under a list of calls, told from the store. No public promise reaches this file. Assumes nothing.
+-- The course of a store under a list of calls, told from the store. No public promise reaches this file. Assumes
+-- nothing.
 use Prim.Native.Nat.{ℕ, zero, suc, _+_, _-_, _≤_}
 use mathlib.Core.Bool.{Bool, true, false}
 use mathlib.Core.List.{List, [], _∷_}
@@ -26,7 +27,8 @@ isAccepted (refused n) = false
 isAccepted (accepted x) = true
 
 module _ (leafHash innerHash : Bytes → Bytes → Bytes) where
-  -- The store after a call. What is made of another store isn't told from this one alone: here it is as if it were refused.
+  -- The store after a call. What is made of another store isn't told from this one alone: here it is as if it were
+  -- refused.
   abbrev pub after : Call → Store → Store
   after formatting st = formatted (length (st .slots))
   after (applying number batch) st = apply leafHash innerHash number batch st .store
@@ -52,8 +54,8 @@ module _ (leafHash innerHash : Bytes → Bytes → Bytes) where
   history [] st = []
   history (c ∷ calls) st = (c, took c st) ∷ history calls (after c st)
 
--- What a store holds by itself: the grants of its kept versions, the newest first, here of the versions o + n down to o. A history that
--- starts at a sound store starts with this.
+-- What a store holds by itself: the grants of its kept versions, the newest first, here of the versions o + n down to
+-- o. A history that starts at a sound store starts with this.
 abbrev pub heldFrom : Store → ℕ → ℕ → List Entry
 heldFrom st o zero = entry o (grantsIn (treeAtVersion st o)) ∷ []
 heldFrom st o (suc n) = entry (o + suc n) (grantsIn (treeAtVersion st (o + suc n))) ∷ heldFrom st o n

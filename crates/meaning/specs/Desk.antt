@@ -1,6 +1,7 @@
--- Document 01, 'The desk's example': M1 to M12 without M10 as one table, for any two hash functions, each batch with the number latest + 1;
--- and a second table with gaps between the numbers (2026-13). A begins 00, B 010, C 011, D 1; other bits zero. A row has the store before,
--- the call, its answer and the store after; hashes are names. Assumes nothing.
+-- Document 01, 'The desk's example': M1 to M12 without M10 as one table, for any two hash functions, each batch with
+-- the number latest + 1; and a second table with gaps between the numbers (2026-13). A begins 00, B 010, C 011, D 1;
+-- other bits zero. A row has the store before, the call, its answer and the store after; hashes are names. Assumes
+-- nothing.
 use Prim.Native.Nat.{ℕ}
 use mathlib.Core.Path.{_≡_}
 use mathlib.Core.Bool.{Bool, true, false}
@@ -9,7 +10,23 @@ use mathlib.Core.Option.{none, some}
 use lib.ListN.{replicate}
 use Rattle.terms.specs.declared.Form.the-variants.{Counted as counted}
 use Rattle.terms.specs.Bits.{Bytes, Place}
-use Rattle.terms.specs.Records.{Grant, grant, Ask, insert, delete, Store, Slot, free, used, leafBody, innerBody, child, tally, noTally, zeros}
+use Rattle.terms.specs.Records.{
+  Grant,
+  grant,
+  Ask,
+  insert,
+  delete,
+  Store,
+  Slot,
+  free,
+  used,
+  leafBody,
+  innerBody,
+  child,
+  tally,
+  noTally,
+  zeros,
+}
 use Rattle.terms.specs.Form.{top32}
 use Rattle.meaning.specs.Store.{formatted}
 use Rattle.meaning.specs.Calls.{Answer, refused, accepted, Applied, apply, prune}
@@ -93,7 +110,14 @@ lf p v r k x = used (record { place = p; version = v; retired = r; body = leafBo
 
 abbrev pub nd : Place → ℕ → ℕ → ℕ → Bytes → ℕ → Bytes → ℕ → ℕ → Slot
 nd p v r lv lh rv rh lc rc =
-    used (record { place = p; version = v; retired = r; body = innerBody (child lv lh) (child rv rh); counts = tally lc rc })
+    used (record {
+      place = p;
+      version = v;
+      retired = r;
+      body = innerBody (child lv lh) (child rv rh);
+      counts =
+          tally lc rc;
+    })
 
 abbrev pub store : ℕ → ℕ → List Slot → Store
 store old new s = record { form = counted; oldest = old; latest = new; slots = s }
@@ -108,7 +132,8 @@ four = insert A a ∷ insert B b ∷ insert C c ∷ insert D d ∷ []
 abbrev two : List Ask
 two = insert A a ∷ insert F b ∷ []
 
--- M1 to M8 and M11 as the calls of one history; between M3 and M4 come a batch out of order and one that isn't in form, after M4 a read.
+-- M1 to M8 and M11 as the calls of one history; between M3 and M4 come a batch out of order and one that isn't in form,
+-- after M4 a read.
 abbrev pub calls : List Call
 calls =
     applying 1 (some four)
@@ -148,7 +173,8 @@ gapGranted = entry 9 (grant A a ∷ grant C c′ ∷ grant D d ∷ []) ∷ entry
 module _ (leafHash innerHash : Bytes → Bytes → Bytes) where
   -- The call's answer and the store after it are the row's.
   abbrev pub RowHolds : Row → Type 0
-  RowHolds (applies st number batch answer end) = apply leafHash innerHash number (some batch) st ≡ record { answer = answer; store = end }
+  RowHolds (applies st number batch answer end) =
+      apply leafHash innerHash number (some batch) st ≡ record { answer = answer; store = end }
   RowHolds (prunes st n answer end) = prune n st ≡ record { answer = answer; store = end }
   RowHolds (reads st v root) = readRoot leafHash innerHash st v ≡ root
 
@@ -186,46 +212,55 @@ module _ (leafHash innerHash : Bytes → Bytes → Bytes) where
   root₄ = innerHash hC′ hD
 
   abbrev seven : List Slot
-  seven = lf p010 1 0 B b ∷ lf p011 1 0 C c ∷ lf p00 1 0 A a ∷ nd p01 1 0 1 hB 1 hC 1 1 ∷ nd p0 1 0 1 hA 1 h01 1 2 ∷ lf p1 1 0 D d ∷ nd [] 1 0 1 h0 1 hD 3 1 ∷ []
+  seven = lf p010 1 0 B b ∷ lf p011 1 0 C c ∷ lf p00 1 0 A a ∷ nd p01 1 0 1 hB 1 hC 1 1 ∷ nd p0 1 0 1 hA 1 h01 1 2 ∷
+      lf p1 1 0 D d ∷ nd [] 1 0 1 h0 1 hD 3 1 ∷ []
 
   abbrev pub s₁ : Store
   s₁ = store 0 1 (seven ++ replicate 13 free)
 
   abbrev pub s₂ : Store
   s₂ = store 0 2
-      (lf p010 1 2 B b ∷ lf p011 1 2 C c ∷ lf p00 1 0 A a ∷ nd p01 1 2 1 hB 1 hC 1 1 ∷ nd p0 1 2 1 hA 1 h01 1 2 ∷ lf p1 1 0 D d ∷ nd [] 1 2 1 h0 1 hD 3 1
+      (lf p010 1 2 B b ∷ lf p011 1 2 C c ∷ lf p00 1 0 A a ∷ nd p01 1 2 1 hB 1 hC 1 1 ∷ nd p0 1 2 1 hA 1 h01 1 2 ∷
+      lf p1 1 0 D d ∷ nd [] 1 2 1 h0 1 hD 3 1
       ∷ lf p01 2 0 C c′ ∷ nd p0 2 0 1 hA 2 hC′ 1 1 ∷ nd [] 2 0 2 h0′ 1 hD 2 1 ∷ replicate 10 free)
 
   abbrev pub s₃ : Store
   s₃ = store 0 3
-      (lf p010 1 2 B b ∷ lf p011 1 2 C c ∷ lf p00 1 0 A a ∷ nd p01 1 2 1 hB 1 hC 1 1 ∷ nd p0 1 2 1 hA 1 h01 1 2 ∷ lf p1 1 0 D d ∷ nd [] 1 2 1 h0 1 hD 3 1
-      ∷ lf p01 2 0 C c′ ∷ nd p0 2 0 1 hA 2 hC′ 1 1 ∷ nd [] 2 3 2 h0′ 1 hD 2 1 ∷ nd [] 3 0 2 h0′ 1 hD 2 1 ∷ replicate 9 free)
+      (lf p010 1 2 B b ∷ lf p011 1 2 C c ∷ lf p00 1 0 A a ∷ nd p01 1 2 1 hB 1 hC 1 1 ∷ nd p0 1 2 1 hA 1 h01 1 2 ∷
+      lf p1 1 0 D d ∷ nd [] 1 2 1 h0 1 hD 3 1
+      ∷ lf p01 2 0 C c′ ∷ nd p0 2 0 1 hA 2 hC′ 1 1 ∷ nd [] 2 3 2 h0′ 1 hD 2 1 ∷ nd [] 3 0 2 h0′ 1 hD 2 1 ∷
+      replicate 9 free)
 
   abbrev pub s₄ : Store
   s₄ = store 0 4
-      (lf p010 1 2 B b ∷ lf p011 1 2 C c ∷ lf p00 1 4 A a ∷ nd p01 1 2 1 hB 1 hC 1 1 ∷ nd p0 1 2 1 hA 1 h01 1 2 ∷ lf p1 1 0 D d ∷ nd [] 1 2 1 h0 1 hD 3 1
+      (lf p010 1 2 B b ∷ lf p011 1 2 C c ∷ lf p00 1 4 A a ∷ nd p01 1 2 1 hB 1 hC 1 1 ∷ nd p0 1 2 1 hA 1 h01 1 2 ∷
+      lf p1 1 0 D d ∷ nd [] 1 2 1 h0 1 hD 3 1
       ∷ lf p01 2 4 C c′ ∷ nd p0 2 4 1 hA 2 hC′ 1 1 ∷ nd [] 2 3 2 h0′ 1 hD 2 1 ∷ nd [] 3 4 2 h0′ 1 hD 2 1
       ∷ lf p0 4 0 C c′ ∷ nd [] 4 0 4 hC′ 1 hD 1 1 ∷ replicate 7 free)
 
   abbrev pub s₅ : Store
   s₅ = store 0 5
-      (lf p010 1 2 B b ∷ lf p011 1 2 C c ∷ lf p00 1 4 A a ∷ nd p01 1 2 1 hB 1 hC 1 1 ∷ nd p0 1 2 1 hA 1 h01 1 2 ∷ lf p1 1 5 D d ∷ nd [] 1 2 1 h0 1 hD 3 1
+      (lf p010 1 2 B b ∷ lf p011 1 2 C c ∷ lf p00 1 4 A a ∷ nd p01 1 2 1 hB 1 hC 1 1 ∷ nd p0 1 2 1 hA 1 h01 1 2 ∷
+      lf p1 1 5 D d ∷ nd [] 1 2 1 h0 1 hD 3 1
       ∷ lf p01 2 4 C c′ ∷ nd p0 2 4 1 hA 2 hC′ 1 1 ∷ nd [] 2 3 2 h0′ 1 hD 2 1 ∷ nd [] 3 4 2 h0′ 1 hD 2 1
       ∷ lf p0 4 5 C c′ ∷ nd [] 4 5 4 hC′ 1 hD 1 1 ∷ lf [] 5 0 C c′ ∷ replicate 6 free)
 
   abbrev pub s₆ : Store
   s₆ = store 0 6
-      (lf p010 1 2 B b ∷ lf p011 1 2 C c ∷ lf p00 1 4 A a ∷ nd p01 1 2 1 hB 1 hC 1 1 ∷ nd p0 1 2 1 hA 1 h01 1 2 ∷ lf p1 1 5 D d ∷ nd [] 1 2 1 h0 1 hD 3 1
+      (lf p010 1 2 B b ∷ lf p011 1 2 C c ∷ lf p00 1 4 A a ∷ nd p01 1 2 1 hB 1 hC 1 1 ∷ nd p0 1 2 1 hA 1 h01 1 2 ∷
+      lf p1 1 5 D d ∷ nd [] 1 2 1 h0 1 hD 3 1
       ∷ lf p01 2 4 C c′ ∷ nd p0 2 4 1 hA 2 hC′ 1 1 ∷ nd [] 2 3 2 h0′ 1 hD 2 1 ∷ nd [] 3 4 2 h0′ 1 hD 2 1
       ∷ lf p0 4 5 C c′ ∷ nd [] 4 5 4 hC′ 1 hD 1 1 ∷ lf [] 5 6 C c′ ∷ replicate 6 free)
 
   abbrev pub s₇ : Store
   s₇ = store 4 6
-      (replicate 5 free ++ lf p1 1 5 D d ∷ replicate 5 free ++ lf p0 4 5 C c′ ∷ nd [] 4 5 4 hC′ 1 hD 1 1 ∷ lf [] 5 6 C c′ ∷ replicate 6 free)
+      (replicate 5 free ++ lf p1 1 5 D d ∷ replicate 5 free ++ lf p0 4 5 C c′ ∷ nd [] 4 5 4 hC′ 1 hD 1 1 ∷
+      lf [] 5 6 C c′ ∷ replicate 6 free)
 
   abbrev pub s₈ : Store
   s₈ = store 4 7
-      (lf [] 7 0 E e ∷ replicate 4 free ++ lf p1 1 5 D d ∷ replicate 5 free ++ lf p0 4 5 C c′ ∷ nd [] 4 5 4 hC′ 1 hD 1 1 ∷ lf [] 5 6 C c′ ∷ replicate 6 free)
+      (lf [] 7 0 E e ∷ replicate 4 free ++ lf p1 1 5 D d ∷ replicate 5 free ++ lf p0 4 5 C c′ ∷
+      nd [] 4 5 4 hC′ 1 hD 1 1 ∷ lf [] 5 6 C c′ ∷ replicate 6 free)
 
   abbrev pub hF : Bytes
   hF = leafHash F b
@@ -241,11 +276,13 @@ module _ (leafHash innerHash : Bytes → Bytes → Bytes) where
 
   abbrev pub s₉ : Store
   s₉ = store 0 1
-      (lf (o ∷ o ∷ o ∷ o ∷ []) 1 0 A a ∷ lf (o ∷ o ∷ o ∷ i ∷ []) 1 0 F b ∷ nd (o ∷ o ∷ o ∷ []) 1 0 1 hA 1 hF 1 1 ∷ nd p00 1 0 1 r3 0 zeros 2 0 ∷ nd p0 1 0 1 r2 0 zeros 2 0 ∷ nd [] 1 0 1 r1 0 zeros 2 0 ∷ replicate 14 free)
+      (lf (o ∷ o ∷ o ∷ o ∷ []) 1 0 A a ∷ lf (o ∷ o ∷ o ∷ i ∷ []) 1 0 F b ∷ nd (o ∷ o ∷ o ∷ []) 1 0 1 hA 1 hF 1 1 ∷
+      nd p00 1 0 1 r3 0 zeros 2 0 ∷ nd p0 1 0 1 r2 0 zeros 2 0 ∷ nd [] 1 0 1 r1 0 zeros 2 0 ∷ replicate 14 free)
 
   abbrev pub s₁₂ : Store
   s₁₂ = store 0 2
-      (lf p010 1 2 B b ∷ lf p011 1 2 C c ∷ lf p00 1 2 A a ∷ nd p01 1 2 1 hB 1 hC 1 1 ∷ nd p0 1 2 1 hA 1 h01 1 2 ∷ lf p1 1 2 D d ∷ nd [] 1 2 1 h0 1 hD 3 1 ∷ [])
+      (lf p010 1 2 B b ∷ lf p011 1 2 C c ∷ lf p00 1 2 A a ∷ nd p01 1 2 1 hB 1 hC 1 1 ∷ nd p0 1 2 1 hA 1 h01 1 2 ∷
+      lf p1 1 2 D d ∷ nd [] 1 2 1 h0 1 hD 3 1 ∷ [])
 
   abbrev pub table : List Row
   table =
@@ -269,12 +306,14 @@ module _ (leafHash innerHash : Bytes → Bytes → Bytes) where
   -- The same with gaps: M1's batch as version 5, M2's as 9, all withdrawn as 12, and M8's as 15.
   abbrev pub g₅ : Store
   g₅ = store 0 5
-      (lf p010 5 0 B b ∷ lf p011 5 0 C c ∷ lf p00 5 0 A a ∷ nd p01 5 0 5 hB 5 hC 1 1 ∷ nd p0 5 0 5 hA 5 h01 1 2 ∷ lf p1 5 0 D d ∷ nd [] 5 0 5 h0 5 hD 3 1
+      (lf p010 5 0 B b ∷ lf p011 5 0 C c ∷ lf p00 5 0 A a ∷ nd p01 5 0 5 hB 5 hC 1 1 ∷ nd p0 5 0 5 hA 5 h01 1 2 ∷
+      lf p1 5 0 D d ∷ nd [] 5 0 5 h0 5 hD 3 1
       ∷ replicate 13 free)
 
   abbrev nine : List Slot
   nine =
-      lf p010 5 9 B b ∷ lf p011 5 9 C c ∷ lf p00 5 0 A a ∷ nd p01 5 9 5 hB 5 hC 1 1 ∷ nd p0 5 9 5 hA 5 h01 1 2 ∷ lf p1 5 0 D d ∷ nd [] 5 9 5 h0 5 hD 3 1
+      lf p010 5 9 B b ∷ lf p011 5 9 C c ∷ lf p00 5 0 A a ∷ nd p01 5 9 5 hB 5 hC 1 1 ∷ nd p0 5 9 5 hA 5 h01 1 2 ∷
+      lf p1 5 0 D d ∷ nd [] 5 9 5 h0 5 hD 3 1
       ∷ lf p01 9 0 C c′ ∷ nd p0 9 0 5 hA 9 hC′ 1 1 ∷ nd [] 9 0 9 h0′ 5 hD 2 1 ∷ replicate 10 free
 
   abbrev pub g₉ : Store
@@ -286,7 +325,8 @@ module _ (leafHash innerHash : Bytes → Bytes → Bytes) where
 
   abbrev withdrawn : List Slot
   withdrawn =
-      lf p010 5 9 B b ∷ lf p011 5 9 C c ∷ lf p00 5 12 A a ∷ nd p01 5 9 5 hB 5 hC 1 1 ∷ nd p0 5 9 5 hA 5 h01 1 2 ∷ lf p1 5 12 D d ∷ nd [] 5 9 5 h0 5 hD 3 1
+      lf p010 5 9 B b ∷ lf p011 5 9 C c ∷ lf p00 5 12 A a ∷ nd p01 5 9 5 hB 5 hC 1 1 ∷ nd p0 5 9 5 hA 5 h01 1 2 ∷
+      lf p1 5 12 D d ∷ nd [] 5 9 5 h0 5 hD 3 1
       ∷ lf p01 9 12 C c′ ∷ nd p0 9 12 5 hA 9 hC′ 1 1 ∷ nd [] 9 12 9 h0′ 5 hD 2 1 ∷ []
 
   abbrev pub g₁₂ : Store

@@ -1,5 +1,5 @@
--- Demand 3: histories. The calls on a store, and the grants that a history gives to each version, told from the calls and from which of
--- them were accepted. Assumes nothing.
+-- Demand 3: histories. The calls on a store, and the grants that a history gives to each version, told from the calls
+-- and from which of them were accepted. Assumes nothing.
 use Prim.Native.Nat.{ℕ, zero, suc, _+_, _-_}
 use mathlib.Core.Path.{_≡_}
 use mathlib.Core.Bool.{Bool, cond}
@@ -39,9 +39,9 @@ abbrev pub lasting : ℕ → Entry → List Entry → List Entry
 lasting zero e es = e ∷ es
 lasting (suc n) e es = entry (e .version + suc n) (e .grants) ∷ lasting n e es
 
--- What an accepted call does to the grants by version, the newest first: formatting starts anew with the empty version 0; a batch makes
--- the version of its number, and those between it and the newest one (there always is one) hold what that holds; pruning forgets what is
--- older; a store made anew from another one starts with what it took.
+-- What an accepted call does to the grants by version, the newest first: formatting starts anew with the empty version
+-- 0; a batch makes the version of its number, and those between it and the newest one (there always is one) hold what
+-- that holds; pruning forgets what is older; a store made anew from another one starts with what it took.
 abbrev pub noted : Call → List Entry → List Entry
 noted formatting es = entry 0 [] ∷ []
 noted (applying number none) es = es
@@ -62,7 +62,8 @@ abbrev pub grantsOf : ℕ → List Entry → Option (List Grant)
 grantsOf v [] = none
 grantsOf v (e ∷ es) = cond (eqb (e .version) v) (some (e .grants)) (grantsOf v es)
 
--- A store holds what a ledger says: it is sound, each kept version's tree is the tree of its grants, and no other version has any.
+-- A store holds what a ledger says: it is sound, each kept version's tree is the tree of its grants, and no other
+-- version has any.
 module _ (leafHash innerHash : Bytes → Bytes → Bytes) where
   pub record Holds (st : Store) (es : List Entry) : Type 0 where
     pub sound : Sound leafHash innerHash st

@@ -1,5 +1,6 @@
--- Soundness by single records: what a check of a store looks at, each record, its children and its parents. No version is tried one by
--- one. No public promise reaches this file: that a store is sound exactly if it is so is a theorem. Assumes nothing.
+-- Soundness by single records: what a check of a store looks at, each record, its children and its parents. No version
+-- is tried one by one. No public promise reaches this file: that a store is sound exactly if it is so is a theorem.
+-- Assumes nothing.
 use Prim.Native.Nat.{ℕ, suc, _≤_, _<_, max}
 use mathlib.Core.Path.{_≡_}
 use mathlib.Core.Logic.{_⊎_}
@@ -9,7 +10,20 @@ use mathlib.Core.Option.{Option, none, some}
 use lib.ListN.{length, getD}
 use lib.Dec.{eqb}
 use Rattle.terms.specs.Bits.{Bytes, Side, left, right, Place, longer, begins}
-use Rattle.terms.specs.Records.{Child, Body, leafBody, innerBody, Tally, tally, noTally, Record, Slot, free, spoiled, Store}
+use Rattle.terms.specs.Records.{
+  Child,
+  Body,
+  leafBody,
+  innerBody,
+  Tally,
+  tally,
+  noTally,
+  Record,
+  Slot,
+  free,
+  spoiled,
+  Store,
+}
 use Rattle.terms.specs.Form.{RecordForm, top32}
 use Rattle.meaning.specs.Store.{childOn, find, rootOf}
 use Rattle.meaning.specs.Sound.{At, Kept, Lives, mostSlots, CountsAre}
@@ -42,8 +56,8 @@ countsBy s p (innerBody l r) =
     tally (weighed (find (l .version) (longer left p) s)) (weighed (find (r .version) (longer right p) s))
 
 module _ (leafHash innerHash : Bytes → Bytes → Bytes) where
-  -- The child c of the record r, at the place p, beside d: missing, or found as a record that lives at each kept version of r's life, with
-  -- the stored hash, and no lone leaf.
+  -- The child c of the record r, at the place p, beside d: missing, or found as a record that lives at each kept
+  -- version of r's life, with the stored hash, and no lone leaf.
   pub data Linked (st : Store) (r : Record) (p : Place) (c d : Child) : Type 0 where
     missing : c .version ≡ 0 → Linked st r p c d
     found : (i : ℕ) (q : Record) →
@@ -66,15 +80,19 @@ module _ (leafHash innerHash : Bytes → Bytes → Bytes) where
     pub header : (st .oldest ≤ st .latest) × (st .latest ≤ top32)
     pub whole : (i : ℕ) (x : Bytes) → i < length (st .slots) → getD (st .slots) i free ≡ spoiled x → ⊥
     pub formed : (i : ℕ) (r : Record) → At st i r → RecordForm r
-    pub unique : (i j : ℕ) (r q : Record) → At st i r → At st j q → r .version ≡ q .version → r .place ≡ q .place → i ≡ j
+    pub unique : (i j : ℕ) (r q : Record) → At st i r → At st j q → r .version ≡ q .version → r .place ≡ q .place →
+        i ≡ j
     pub versions : (i : ℕ) (r : Record) → At st i r → (1 ≤ r .version) × (r .version ≤ st .latest)
     pub lifetimes : (i : ℕ) (r : Record) →
-        At st i r → (r .retired ≡ 0) ⊎ ((r .version < r .retired) × (st .oldest < r .retired) × (r .retired ≤ st .latest))
+        At st i r → (r .retired ≡ 0) ⊎ ((r .version < r .retired) × (st .oldest < r .retired) ×
+        (r .retired ≤ st .latest))
     -- a root record that lives at a kept version is that version's root
-    pub roots : (v : ℕ) → Kept st v → (i : ℕ) (r : Record) → At st i r → r .place ≡ [] → Lives v r → rootOf st v ≡ some r
+    pub roots : (v : ℕ) → Kept st v → (i : ℕ) (r : Record) → At st i r → r .place ≡ [] → Lives v r →
+        rootOf st v ≡ some r
     pub bodies : (i : ℕ) (r : Record) → At st i r → BodyFits st r (r .body)
     -- each count is what the record found as that child says of the leaves there
-    pub counts : (i : ℕ) (r : Record) → At st i r → CountsAre (st .form) (r .counts) (countsBy (st .slots) (r .place) (r .body))
+    pub counts : (i : ℕ) (r : Record) → At st i r →
+        CountsAre (st .form) (r .counts) (countsBy (st .slots) (r .place) (r .body))
     -- at each kept version of its life, a record below the root is named by a record one bit shorter that lives then
     pub parents : (i : ℕ) (r : Record) (p : Place) (b : Side) →
         At st i r →

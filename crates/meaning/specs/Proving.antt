@@ -1,5 +1,5 @@
--- Document 01, 'Reading and proving': the neighbours of a key, and the proof that the prover writes, for every store; with 2026-03: no
--- neighbour, no absence proof; and 2026-07: which record is missing. Assumes nothing.
+-- Document 01, 'Reading and proving': the neighbours of a key, and the proof that the prover writes, for every store;
+-- with 2026-03: no neighbour, no absence proof; and 2026-07: which record is missing. Assumes nothing.
 use Prim.Native.Nat.{ℕ, _+_, _*_}
 use mathlib.Core.Path.{_≡_}
 use mathlib.Core.Bool.{Bool, true, false, cond, _&&_, not, Bool·beq}
@@ -13,7 +13,23 @@ use Rattle.meaning.specs.Tree.{grantsIn}
 use Rattle.meaning.specs.Store.{treeAtVersion}
 use Rattle.meaning.specs.Sight.{Sight, matches, nothing, spoilt, Looking, scan}
 use Rattle.meaning.specs.Calls.{Answer, refused, accepted, isKept}
-use Rattle.meaning.specs.Reading.{Trouble, lostRecord, refusalOf, Seen, lost, gap, leafSeen, fork, seen, Pass, End, broken, atLeaf, atGap, walk}
+use Rattle.meaning.specs.Reading.{
+  Trouble,
+  lostRecord,
+  refusalOf,
+  Seen,
+  lost,
+  gap,
+  leafSeen,
+  fork,
+  seen,
+  Pass,
+  End,
+  broken,
+  atLeaf,
+  atGap,
+  walk,
+}
 
 abbrev pub step : Side → Bytes → Step
 step b h = record { side = b; sibling = h }
@@ -53,8 +69,8 @@ abbrev pub raisedBy : List Step → Descended → Descended
 raisedBy steps (stuck t) = stuck t
 raisedBy steps (reached p) = reached (raised steps p)
 
--- The descent into a child: to side b where there is a child on side b, else to the other. An inner record in form has a child, so no descent
--- from a present child ends at a missing one.
+-- The descent into a child: to side b where there is a child on side b, else to the other. An inner record in form has
+-- a child, so no descent from a present child ends at a missing one.
 abbrev pub descend : Side → Seen → Descended
 descend b (lost t) = stuck t
 descend b gap = stuck lostRecord
@@ -88,10 +104,12 @@ beyond true l k = before k l
 -- The neighbour of a key on side b: the leaf at the end, if its key is on that side; else from the trail.
 abbrev pub neighbour : Side → Bytes → End → Sought
 neighbour b k (broken t) = lostWay t
-neighbour b k (atLeaf l x trail) = cond (beyond b l k) (somebody (presenceOf l x (map stepUp trail))) (fromTrail b trail)
+neighbour b k (atLeaf l x trail) =
+    cond (beyond b l k) (somebody (presenceOf l x (map stepUp trail))) (fromTrail b trail)
 neighbour b k (atGap trail) = fromTrail b trail
 
--- The proof of absence from what the two searches found; at least one neighbour is needed. The left one's trouble is met first.
+-- The proof of absence from what the two searches found; at least one neighbour is needed. The left one's trouble is
+-- met first.
 abbrev pub absenceFrom : Bytes → Sought → Sought → Answer Proof
 absenceFrom k (lostWay t) r = refused (refusalOf t)
 absenceFrom k nobody (lostWay t) = refused (refusalOf t)
@@ -126,7 +144,8 @@ emptyVersion (spoilt i) = false
 
 -- The proof for a key in a version: 8, then 14 in an empty version, then the first of 3 and 17 that is met.
 abbrev pub proofBy : Looking → Store → ℕ → Bytes → Answer Proof
-proofBy look st v k = cond (isKept st v) (cond (emptyVersion (look .root v)) (refused 14) (proveSeen k (seen look v))) (refused 8)
+proofBy look st v k =
+    cond (isKept st v) (cond (emptyVersion (look .root v)) (refused 14) (proveSeen k (seen look v))) (refused 8)
 
 unfoldable pub proof : Store → ℕ → Bytes → Answer Proof
 proof st v k = proofBy (scan st) st v k

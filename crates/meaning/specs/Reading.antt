@@ -9,8 +9,8 @@ use Rattle.meaning.specs.Store.{childOn}
 use Rattle.meaning.specs.Sight.{Sight, matches, nothing, spoilt, Looking, scan}
 use Rattle.meaning.specs.Calls.{Answer, refused, accepted, isKept}
 
--- What stops a read: a present child that no slot matches; a record that is spoilt, by its slot; a found leaf whose key doesn't begin with its
--- place.
+-- What stops a read: a present child that no slot matches; a record that is spoilt, by its slot; a found leaf whose key
+-- doesn't begin with its place.
 pub data Trouble : Type 0 where
   lostRecord : Trouble
   spoiltRecord : ℕ → Trouble
@@ -26,8 +26,8 @@ refusalOf lostRecord = 17
 refusalOf (spoiltRecord i) = beside 3 i
 refusalOf strayLeaf = 3
 
--- What a read sees at a place: trouble; no child; a leaf; or an inner node, with its children's hashes as stored and what is seen there, by the
--- side.
+-- What a read sees at a place: trouble; no child; a leaf; or an inner node, with its children's hashes as stored and
+-- what is seen there, by the side.
 pub data Seen : Type 0 where
   lost : Trouble → Seen
   gap : Seen
@@ -43,10 +43,12 @@ seenChild p (matches r) kid = seenBody p (r .body) kid
 seenChild p nothing kid = lost lostRecord
 seenChild p (spoilt i) kid = lost (spoiltRecord i)
 
--- At a child, at a place which is n bits short of a key. Below the place of a whole key, which no inner record in form has, all is lost.
+-- At a child, at a place which is n bits short of a key. Below the place of a whole key, which no inner record in form
+-- has, all is lost.
 abbrev pub seenAt : ℕ → Looking → Place → Child → Seen
 seenAt zero look p c = cond (eqb (c .version) 0) gap (seenChild p (look .node (c .version) p) (λ b d. lost lostRecord))
-seenAt (suc n) look p c = cond (eqb (c .version) 0) gap (seenChild p (look .node (c .version) p) (λ b d. seenAt n look (longer b p) d))
+seenAt (suc n) look p c =
+    cond (eqb (c .version) 0) gap (seenChild p (look .node (c .version) p) (λ b d. seenAt n look (longer b p) d))
 
 -- No slot that matches a root means an empty version.
 abbrev pub seenRoot : Sight → (Side → Child → Seen) → Seen
@@ -87,7 +89,8 @@ readEnd k (broken t) = refused (refusalOf t)
 readEnd k (atLeaf l x trail) = accepted (cond (sameBytes k l) (present x) absent)
 readEnd k (atGap trail) = accepted absent
 
--- A key read answers the value or "absent": 8, then the first of 3 and 17 that is met; by how it finds, and by looking at every slot.
+-- A key read answers the value or "absent": 8, then the first of 3 and 17 that is met; by how it finds, and by looking
+-- at every slot.
 abbrev pub readKeyBy : Looking → Store → ℕ → Bytes → Answer Verdict
 readKeyBy look st v k = cond (isKept st v) (readEnd k (walk k 0 [] (seen look v))) (refused 8)
 

@@ -1,5 +1,5 @@
--- Document 01, 'The tree of a set of grants': each child is handed its own run of the batch. No public promise reaches this file: runs are the
--- code's and the steps'. Assumes nothing.
+-- Document 01, 'The tree of a set of grants': each child is handed its own run of the batch. No public promise reaches
+-- this file: runs are the code's and the steps'. Assumes nothing.
 use Prim.Native.Nat.{ℕ}
 use mathlib.Core.Bool.{Bool, Bool·beq}
 use mathlib.Core.List.{List}

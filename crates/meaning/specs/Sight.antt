@@ -1,4 +1,5 @@
--- Document 02, 2026-07, with 2026-13's sentence for roots: what finding a node tells apart, for every store, sound or not. Assumes nothing.
+-- Document 02, 2026-07, with 2026-13's sentence for roots: what finding a node tells apart, for every store, sound or
+-- not. Assumes nothing.
 use Prim.Native.Nat.{ℕ, suc}
 use mathlib.Core.Bool.{Bool, cond, _&&_, not}
 use mathlib.Core.List.{List, [], _∷_}
@@ -11,8 +12,8 @@ use Rattle.terms.specs.Heads.{countIn, bitsIn, versionIn, sinceIn}
 use Rattle.terms.specs.Records.{Record, Slot, free, used, spoiled, Store}
 use Rattle.meaning.specs.Store.{find, rootOf}
 
--- A slot in form matches, with this record; no slot matches; or no slot in form matches, but a used slot's fields agree, and this is the lowest
--- such slot.
+-- A slot in form matches, with this record; no slot matches; or no slot in form matches, but a used slot's fields
+-- agree, and this is the lowest such slot.
 pub data Sight : Type 0 where
   matches : Record → Sight
   nothing : Sight
@@ -30,8 +31,8 @@ livesBy v x = leb (versionIn x) v && not (leb 1 (sinceIn x) && leb (sinceIn x) v
 unfoldable pub agreesRoot : ℕ → Bytes → Bool
 agreesRoot v x = allOf (eqb (countIn x) 0 ∷ allZero (bitsIn x) ∷ livesBy v x ∷ [])
 
--- The lowest slot that is neither free nor in form and whose bytes pass a test, where the list begins with slot i. A slot in form that agrees
--- matches.
+-- The lowest slot that is neither free nor in form and whose bytes pass a test, where the list begins with slot i. A
+-- slot in form that agrees matches.
 abbrev pub lowestSpoilt : (Bytes → Bool) → ℕ → List Slot → Option ℕ
 lowestSpoilt test i [] = none
 lowestSpoilt test i (free ∷ s) = lowestSpoilt test (suc i) s

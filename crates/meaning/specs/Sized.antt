@@ -1,4 +1,5 @@
--- An answer of which the code hands on a number only, as a length or a count. No public promise reaches this file. Assumes nothing.
+-- An answer of which the code hands on a number only, as a length or a count. No public promise reaches this file.
+-- Assumes nothing.
 use Prim.Native.Nat.{ℕ}
 use Rattle.meaning.specs.Calls.{Answer, refused, accepted}
 

@@ -8,7 +8,23 @@ use lib.ListN.{replicate}
 use lib.Dec.{eqb, leb}
 use Rattle.terms.specs.declared.Form.the-variants.{Counted as counted}
 use Rattle.terms.specs.Bits.{Bytes, Side, left, right, Place, longer, filter, samePlace}
-use Rattle.terms.specs.Records.{grant, Child, child, Body, leafBody, innerBody, Tally, tally, noTally, Record, Slot, free, used, spoiled, Store}
+use Rattle.terms.specs.Records.{
+  grant,
+  Child,
+  child,
+  Body,
+  leafBody,
+  innerBody,
+  Tally,
+  tally,
+  noTally,
+  Record,
+  Slot,
+  free,
+  used,
+  spoiled,
+  Store,
+}
 use Rattle.meaning.specs.Tree.{hash, VTree, vnone, vleaf, vinner, topVersion, unversioned, leaves}
 
 -- Formatted: oldest and latest are 0 and all slots free, in the counted form (2026-09).
@@ -56,7 +72,8 @@ abbrev pub treeFound : Option Record → (Side → ℕ → VTree) → VTree
 treeFound none below = vnone
 treeFound (some r) below = treeBelow (r .version) (r .body) below
 
--- The tree that stands at a version and place which is n bits short of a key; below a place of a whole key there is none.
+-- The tree that stands at a version and place which is n bits short of a key; below a place of a whole key there is
+-- none.
 abbrev pub treeFrom : ℕ → List Slot → ℕ → Place → VTree
 treeFrom zero s v p = cond (eqb v 0) vnone (treeFound (find v p s) (λ b w. vnone))
 treeFrom (suc n) s v p = cond (eqb v 0) vnone (treeFound (find v p s) (λ b w. treeFrom n s w (longer b p)))
@@ -122,17 +139,32 @@ module _ (leafHash innerHash : Bytes → Bytes → Bytes) where
   -- The record of the node at a place, not retired.
   abbrev pub recordAt : Place → VTree → List Record
   recordAt p vnone = []
-  recordAt p (vleaf v g) = record { place = p; version = v; retired = 0; body = leafBody (g .key) (g .value); counts = countsOf (vleaf v g) } ∷ []
+  recordAt p (vleaf v g) = record {
+    place = p;
+    version = v;
+    retired = 0;
+    body = leafBody (g .key) (g .value);
+    counts =
+        countsOf (vleaf v g);
+  } ∷ []
   recordAt p (vinner v l r) =
-      record { place = p; version = v; retired = 0; body = innerBody (childOf l) (childOf r); counts = countsOf (vinner v l r) } ∷ []
+      record {
+        place = p;
+        version = v;
+        retired = 0;
+        body = innerBody (childOf l) (childOf r);
+        counts =
+            countsOf (vinner v l r);
+      } ∷ []
 
-  -- The records strictly below a node in the order of placing: first all strictly below its left child, then strictly below its right,
-  -- then the left child, then the right.
+  -- The records strictly below a node in the order of placing: first all strictly below its left child, then strictly
+  -- below its right, then the left child, then the right.
   abbrev pub recordsBelow : Place → VTree → List Record
   recordsBelow p vnone = []
   recordsBelow p (vleaf v g) = []
   recordsBelow p (vinner v l r) =
-      recordsBelow (longer left p) l ++ recordsBelow (longer right p) r ++ recordAt (longer left p) l ++ recordAt (longer right p) r
+      recordsBelow (longer left p) l ++ recordsBelow (longer right p) r ++
+      recordAt (longer left p) l ++ recordAt (longer right p) r
 
   -- The root last.
   unfoldable pub recordsOf : VTree → List Record

@@ -1,4 +1,5 @@
--- What varints, fields and inner ops that were read from lent bytes are, beside `messages/Reading`: where they stand instead of the bytes themselves. Assumes nothing.
+-- What varints, fields and inner ops that were read from lent bytes are, beside `messages/Reading`: where they stand
+-- instead of the bytes themselves. Assumes nothing.
 use Prim.Native.Nat.{ℕ, suc, _+_, _*_, _-_, _<_, _≤_, _^_}
 use mathlib.Core.Path.{_≡_}
 use mathlib.Core.Bool.{true, false, cond}

@@ -1,5 +1,5 @@
--- What a message that was read from lent bytes says, beside `messages/Reading`: where its parts stand instead of the bytes themselves. No public promise reaches
--- this file. Assumes nothing.
+-- What a message that was read from lent bytes says, beside `messages/Reading`: where its parts stand instead of the
+-- bytes themselves. No public promise reaches this file. Assumes nothing.
 use Prim.Native.Nat.{ℕ, _+_, _-_, _≤_}
 use mathlib.Core.Path.{_≡_}
 use mathlib.Core.Bool.{Bool, true, false, cond}
@@ -12,14 +12,28 @@ use Rattle.terms.specs.Fields.{allOf}
 use Rattle.terms.specs.Records.{Presence, Absence, Proof, presence, absence}
 use Rattle.messages.specs.Wire.{messageField}
 use Rattle.messages.specs.Message.{existence, nonexistence, RawPresence}
-use Rattle.messages.specs.Reading.{Front, onward, onlyIf, existenceIn, neighbourFrom, somebody, nonexistenceIn, fieldAlone, messageIn}
+use Rattle.messages.specs.Reading.{
+  Front,
+  onward,
+  onlyIf,
+  existenceIn,
+  neighbourFrom,
+  somebody,
+  nonexistenceIn,
+  fieldAlone,
+  messageIn,
+}
 use Rattle.messages.specs.Spots.{fieldHead}
 use Rattle.message_leaf.specs.declared.Shown.{Shown}
 use Rattle.message_leaf.specs.Shown.{between, presenceAt, Inside, Nothing}
 use Rattle.message_form.specs.declared.Neighbour.{Neighbour}
 use Rattle.message_form.specs.declared.Absent.{Absent}
 use Rattle.message_form.specs.declared.Said.{Said}
-use Rattle.message_form.specs.declared.Said.the-variants.{Nothing as nothing, Presence as isPresent, Absence as isAbsent}
+use Rattle.message_form.specs.declared.Said.the-variants.{
+  Nothing as nothing,
+  Presence as isPresent,
+  Absence as isAbsent,
+}
 
 -- An existence proof that is shown, by its places in bytes that it ends.
 abbrev pub shownIn : Bytes → Shown → Option Presence

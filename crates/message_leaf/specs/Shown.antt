@@ -1,5 +1,5 @@
--- What an existence proof that was read from lent bytes is, beside `messages/Reading`: where its parts stand instead of the bytes themselves. No public promise
--- reaches this file. Assumes nothing.
+-- What an existence proof that was read from lent bytes is, beside `messages/Reading`: where its parts stand instead of
+-- the bytes themselves. No public promise reaches this file. Assumes nothing.
 use Prim.Native.Nat.{ℕ, _+_, _-_, _≤_}
 use mathlib.Core.Path.{_≡_}
 use mathlib.Core.Bool.{Bool, true, false, cond}

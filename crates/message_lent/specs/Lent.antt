@@ -1,4 +1,5 @@
--- What is lent beside a record, over bytes, and the lengths of what is written of it. No public promise reaches this file. Assumes nothing.
+-- What is lent beside a record, over bytes, and the lengths of what is written of it. No public promise reaches this
+-- file. Assumes nothing.
 use Prim.Native.Nat.{ℕ, _+_}
 use mathlib.Core.Path.{_≡_}
 use mathlib.Core.Bool.{Bool, true, cond}

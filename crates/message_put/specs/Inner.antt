@@ -1,4 +1,5 @@
--- A step's 33 bytes, and what stands before its sibling in the field of its inner op. No public promise reaches this file. Assumes nothing.
+-- A step's 33 bytes, and what stands before its sibling in the field of its inner op. No public promise reaches this
+-- file. Assumes nothing.
 use Prim.Native.Nat.{ℕ, _≤_}
 use mathlib.Core.Bool.{cond}
 use mathlib.Core.List.{[], _∷_}

@@ -1,4 +1,5 @@
--- What is known of the parts of a message when our own record is written from them. No public promise reaches this file. Assumes nothing.
+-- What is known of the parts of a message when our own record is written from them. No public promise reaches this
+-- file. Assumes nothing.
 use Prim.Native.Nat.{ℕ, _+_, _*_, _≤_}
 use mathlib.Core.Path.{_≡_}
 use mathlib.Core.Bool.{true, cond}
@@ -52,4 +53,9 @@ pub record AbsentReady (x : Bytes) (a : Absent) : Type 0 where
 
 abbrev pub ownAbsence : Absence → Absence
 ownAbsence a =
-    record { key = sha256 (a .key); leftward = ownNeighbour sha256 (a .leftward); rightward = ownNeighbour sha256 (a .rightward) }
+    record {
+      key = sha256 (a .key);
+      leftward = ownNeighbour sha256 (a .leftward);
+      rightward =
+          ownNeighbour sha256 (a .rightward);
+    }

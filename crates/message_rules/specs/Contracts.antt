@@ -1,4 +1,5 @@
--- Document 02, request 2026-02, over bytes: what writing and reading a message answer to any bytes, and every byte that they leave. Assumes nothing.
+-- Document 02, request 2026-02, over bytes: what writing and reading a message answer to any bytes, and every byte that
+-- they leave. Assumes nothing.
 use Prim.Native.Nat.{ℕ}
 use mathlib.Core.Path.{_≡_}
 use mathlib.Core.List.{[], _∷_, _++_}
@@ -19,10 +20,16 @@ abbrev pub roomAfter : {A : Type 0} → (A → Bytes) → Answer A → Bytes →
 roomAfter bytes (refused n) room = room
 roomAfter bytes (accepted a) room = bytes a ++ drop (length (bytes a)) room
 
--- What is lent: the raw key asked for, and raw key and value of the leaf shown or the left of two, and of the right of two.
+-- What is lent: the raw key asked for, and raw key and value of the leaf shown or the left of two, and of the right of
+-- two.
 abbrev pub lentOf : Bytes → Bytes → Bytes → Bytes → Bytes → Lent
 lentOf asked key1 value1 key2 value2 =
-    record { asked = asked; first = record { key = key1; value = value1 }; second = record { key = key2; value = value2 } }
+    record {
+      asked = asked;
+      first = record { key = key1; value = value1 };
+      second =
+          record { key = key2; value = value2 };
+    }
 
 -- The message of the record x, with what is lent, into a room: 10, 15, 9.
 abbrev pub writtenInto : Bytes → Lent → Bytes → Answer Bytes
@@ -48,13 +55,15 @@ Said m (some q) = Encodes m q
 abbrev pub readInto : Option Proof → Bytes → Answer Proof
 readInto said room = readFrom sha256 said (length room)
 
--- The record's length, then where the raw key asked for and raw key and value of each leaf stand: offset and length, 4 bytes each.
+-- The record's length, then where the raw key asked for and raw key and value of each leaf stand: offset and length, 4
+-- bytes each.
 abbrev pub spotBytes : Spot → Bytes
 spotBytes s = le 4 (s .at) ++ le 4 (s .size)
 
 abbrev pub spotsBytes : Spots → Bytes
 spotsBytes s =
-    flat (spotBytes (s .asked) ∷ spotBytes (s .key1) ∷ spotBytes (s .value1) ∷ spotBytes (s .key2) ∷ spotBytes (s .value2) ∷ [])
+    flat (spotBytes (s .asked) ∷ spotBytes (s .key1) ∷ spotBytes (s .value1) ∷ spotBytes (s .key2) ∷
+    spotBytes (s .value2) ∷ [])
 
 abbrev pub answerBytes : Proof → Bytes
 answerBytes q = le 4 (length (recordOf sha256 q)) ++ spotsBytes (spotsIn q)

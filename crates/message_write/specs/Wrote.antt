@@ -1,4 +1,5 @@
--- What the code answers when it writes a message, beside `messages/Lending`. No public promise reaches this file. Assumes nothing.
+-- What the code answers when it writes a message, beside `messages/Lending`. No public promise reaches this file.
+-- Assumes nothing.
 use Prim.Native.Nat.{ℕ, _≤_}
 use mathlib.Core.Path.{_≡_}
 use mathlib.Core.Option.{Option}
@@ -25,7 +26,8 @@ fittedIn q room = fitted sha256 (length room) (messageBytes q) (messageBytes q)
 
 -- An absence with raw neighbours.
 abbrev pub besides : Bytes → Leaf → Option Presence → Leaf → Option Presence → Proof
-besides asked left l right r = absence (record { key = asked; leftward = rawNeighbour left l; rightward = rawNeighbour right r })
+besides asked left l right r =
+    absence (record { key = asked; leftward = rawNeighbour left l; rightward = rawNeighbour right r })
 
 abbrev pub AskedRaw : Bytes → Type 0
 AskedRaw asked = (1 ≤ length asked) × (length asked ≤ 256)

@@ -34,7 +34,13 @@ uncounted r = noTally
 
 -- Over: into the counted form.
 unfoldable pub over : Store → Store
-over st = record { form = counted; oldest = st .oldest; latest = st .latest; slots = recounted (countsIn (st .slots)) (st .slots) }
+over st = record {
+  form = counted;
+  oldest = st .oldest;
+  latest = st .latest;
+  slots =
+      recounted (countsIn (st .slots)) (st .slots);
+}
 
 -- Back: into the plain form.
 unfoldable pub back : Store → Store

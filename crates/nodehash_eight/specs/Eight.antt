@@ -1,4 +1,5 @@
--- The messages of eight nodes side by side: their first blocks, and after these the first word of each second block. Assumes nothing.
+-- The messages of eight nodes side by side: their first blocks, and after these the first word of each second block.
+-- Assumes nothing.
 use Prim.Native.Nat.{ℕ, _+_, _<_}
 use mathlib.Core.Path.{_≡_}
 use mathlib.Core.List.{List}
@@ -18,7 +19,8 @@ noHash = record { a = 0; b = 0; c = 0; d = 0 }
 unfoldable pub laneHash : List ℕ → ℕ → Bytes
 laneHash x l = stateBytes (folded (folded H0 (wordsIn x l)) (secondBlock (getD x (128 + l) 0)))
 
--- The hash values of eight messages before their first block, the second blocks of those in x, and the hash values after both.
+-- The hash values of eight messages before their first block, the second blocks of those in x, and the hash values
+-- after both.
 abbrev pub Starts : ℕ → List ℕ → Type 0
 Starts n r = (i : ℕ) → i < n → valueIn r i ≡ H0
 

@@ -1,4 +1,5 @@
--- A table that names the slots in form of a store, each once, in the order of their nodes; for every store, sound or not. Assumes nothing.
+-- A table that names the slots in form of a store, each once, in the order of their nodes; for every store, sound or
+-- not. Assumes nothing.
 use Prim.Native.Nat.{ℕ, suc, _-_, _*_, _<_, _≤_}
 use mathlib.Core.Path.{_≡_}
 use mathlib.Core.Logic.{_⊎_}
@@ -46,7 +47,8 @@ pub record Ordered (s : List Slot) (t : List ℕ) (n : ℕ) : Type 0 where
   -- each slot in form is named
   pub named : (i : ℕ) → InForm s i → Named t n i
 
--- A table to find by: its first n entries name the slots in form in their order; without entries every slot is looked at.
+-- A table to find by: its first n entries name the slots in form in their order; without entries every slot is looked
+-- at.
 pub record Guide (s : List Slot) (t : List ℕ) (n : ℕ) : Type 0 where
   pub short : n ≤ mostSlots
   pub sure : 1 ≤ n → Ordered s t n

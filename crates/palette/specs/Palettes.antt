@@ -1,5 +1,5 @@
--- Document 02, request 2026-04, over bytes, for every store, sound or damaged. Order: 12, for the list alone; then 1, 2; then 8, as the single
--- calls, 9. Assumes nothing.
+-- Document 02, request 2026-04, over bytes, for every store, sound or damaged. Order: 12, for the list alone; then 1,
+-- 2; then 8, as the single calls, 9. Assumes nothing.
 use Prim.Native.Nat.{ℕ}
 use mathlib.Core.Bool.{cond}
 use mathlib.Core.List.{List, [], _∷_, _++_}
@@ -16,16 +16,18 @@ use Rattle.layout.specs.Headers.{headerOf}
 use Rattle.layout.specs.Stores.{storeOf}
 use Rattle.read_open.specs.Headed.{byHeader, headerWith}
 
--- The proofs for a list of keys in version v of the store s, into this much room: 12 where the list isn't 0 to 256 whole keys, then 1, 2, 8, what the
--- single calls are refused with, 9.
+-- The proofs for a list of keys in version v of the store s, into this much room: 12 where the list isn't 0 to 256
+-- whole keys, then 1, 2, 8, what the single calls are refused with, 9.
 unfoldable pub paletteAnswer : Bytes → ℕ → Bytes → ℕ → Answer (List Proof)
-paletteAnswer s v list room = cond (wholeKeys list) (byHeader (headerOf counted s) (palette (storeOf s) v (keysIn list) room)) (refused 12)
+paletteAnswer s v list room =
+    cond (wholeKeys list) (byHeader (headerOf counted s) (palette (storeOf s) v (keysIn list) room)) (refused 12)
 
 -- Document 02, 2026-05: the same by a table lent with the store, where 1 is also for its length.
 unfoldable pub paletteIndexed : Bytes → List ℕ → ℕ → Bytes → ℕ → Answer (List Proof)
 paletteIndexed s table v list room =
     cond (wholeKeys list)
-    (byHeader (headerWith s table) (paletteOf (proofBy (byTable table (storeOf s)) (storeOf s) v) (storeOf s) v (keysIn list) room))
+    (byHeader (headerWith s table) (paletteOf (proofBy (byTable table (storeOf s)) (storeOf s) v) (storeOf s) v
+    (keysIn list) room))
     (refused 12)
 
 -- The proofs one after the other.

@@ -23,7 +23,8 @@ use Rattle.palette.specs.Palettes.{proofsBytes, roomAfter}
 unfoldable pub paletteAnswerBy : Bytes → List ℕ → ℕ → Bytes → ℕ → Answer (List Proof)
 paletteAnswerBy s table v list room =
     cond (wholeKeys list)
-    (byHeader (headerOf counted s) (paletteOf (proofBy (byTable table (storeOf s)) (storeOf s) v) (storeOf s) v (keysIn list) room))
+    (byHeader (headerOf counted s) (paletteOf (proofBy (byTable table (storeOf s)) (storeOf s) v) (storeOf s) v
+    (keysIn list) room))
     (refused 12)
 
 -- What is planned for a key in a kept version, and for each key of a list.

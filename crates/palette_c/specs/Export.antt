@@ -1,4 +1,5 @@
--- A palette for a caller in another language: what the call answers for any bytes, and every byte of the room and of its array. Assumes nothing.
+-- A palette for a caller in another language: what the call answers for any bytes, and every byte of the room and of
+-- its array. Assumes nothing.
 use Prim.Native.Nat.{ℕ}
 use mathlib.Core.Path.{_≡_}
 use mathlib.Core.List.{List}
@@ -26,7 +27,8 @@ pub record PaletteTold (a : Answer (List Proof)) (room f : Bytes) (r : ℕ) (t g
   pub proofs : t ≡ roomAfter a room
   pub told : g ≡ lengthBytes a f
 
--- Proving each key of a list in version v of the bytes s answers r; the room is left as t, the array f for the length of all together as g.
+-- Proving each key of a list in version v of the bytes s answers r; the room is left as t, the array f for the length
+-- of all together as g.
 pub record Palettes (s : Bytes) (v : ℕ) (list room f : Bytes) (r : ℕ) (t g : Bytes) : Type 0 where
   pub answer : r ≡ numberOf (palettedInto s v list room)
   pub proofs : t ≡ roomAfter (palettedInto s v list room) room

@@ -1,4 +1,5 @@
--- What is proved of a list of keys by a table of any length, within the code. No public promise reaches this file. Assumes nothing.
+-- What is proved of a list of keys by a table of any length, within the code. No public promise reaches this file.
+-- Assumes nothing.
 use Prim.Native.Nat.{ℕ}
 use mathlib.Core.List.{List}
 use lib.ListN.{length}

@@ -13,4 +13,5 @@ use Rattle.layout.specs.Stores.{storeOf}
 -- The record in the slot one lower is what a read by the table finds for its node; 0 names none.
 pub record LedBy (s : Bytes) (table : List ℕ) (e : ℕ) : Type 0 where
   pub most : e ≤ mostSlots
-  pub finds : (r : Record) → 1 ≤ e → getD (storeOf s .slots) (e - 1) free ≡ used r → nodeBy table (storeOf s) (r .version) (r .place) ≡ matches r
+  pub finds : (r : Record) → 1 ≤ e → getD (storeOf s .slots) (e - 1) free ≡ used r →
+      nodeBy table (storeOf s) (r .version) (r .place) ≡ matches r

@@ -1,5 +1,5 @@
--- Document 02, request 2026-04: the proofs for a list of keys in one call, for every store. Order: 12, for the list alone; then 1, 2; then 8; then
--- what the single calls are refused with, in the order asked; then 9. Assumes nothing.
+-- Document 02, request 2026-04: the proofs for a list of keys in one call, for every store. Order: 12, for the list
+-- alone; then 1, 2; then 8; then what the single calls are refused with, in the order asked; then 9. Assumes nothing.
 use Prim.Native.Nat.{ℕ, zero, suc, _+_, _/_, _%_}
 use mathlib.Core.Bool.{Bool, cond, _&&_}
 use mathlib.Core.List.{List, [], _∷_}
@@ -50,7 +50,8 @@ abbrev pub fittedTogether : ℕ → Answer (List Proof) → Answer (List Proof)
 fittedTogether room (refused n) = refused n
 fittedTogether room (accepted ps) = cond (ltb room (lengthTogether ps)) (refused 9) (accepted ps)
 
--- The proofs for the keys in a version into a buffer of `room` bytes: 8, also where there are no keys; then as the single calls; then 9.
+-- The proofs for the keys in a version into a buffer of `room` bytes: 8, also where there are no keys; then as the
+-- single calls; then 9.
 abbrev pub paletteOf : (Bytes → Answer Proof) → Store → ℕ → List Bytes → ℕ → Answer (List Proof)
 paletteOf single st v keys room = cond (isKept st v) (fittedTogether room (inTurn single keys)) (refused 8)
 

@@ -1,5 +1,5 @@
--- Document 01, 'The tree of a set of grants': a place is a string of bits, and it grows by one bit at a time. Here it is a value of 32 bytes
--- and a count, its bits in key order, unused bits zero ('Bytes', slot). Assumes nothing.
+-- Document 01, 'The tree of a set of grants': a place is a string of bits, and it grows by one bit at a time. Here it
+-- is a value of 32 bytes and a count, its bits in key order, unused bits zero ('Bytes', slot). Assumes nothing.
 use Prim.Native.Nat.{ℕ, _+_, _≤_}
 use mathlib.Core.Path.{_≡_}
 use lib.ListN.{take}

@@ -1,5 +1,5 @@
--- The proof of the pocket profile for a caller in another language: what the call answers for any bytes, and every byte of the room and of its array.
--- Assumes nothing.
+-- The proof of the pocket profile for a caller in another language: what the call answers for any bytes, and every byte
+-- of the room and of its array. Assumes nothing.
 use Prim.Native.Nat.{ℕ}
 use mathlib.Core.Path.{_≡_}
 use lib.ListN.{length}
@@ -16,8 +16,8 @@ use Rattle.pocket_prove.specs.Proving.{pocketAnswer}
 abbrev pub pocketInto : Bytes → ℕ → Bytes → Bytes → Answer Proof
 pocketInto s v k room = pocketAnswer s v k (length room)
 
--- Proving the key k in version v of the bytes s in the profile answers r; the room is left as t, the array f for the proof's length, 4 bytes
--- little-endian, as g.
+-- Proving the key k in version v of the bytes s in the profile answers r; the room is left as t, the array f for the
+-- proof's length, 4 bytes little-endian, as g.
 pub record PocketProves (s : Bytes) (v : ℕ) (k room f : Bytes) (r : ℕ) (t g : Bytes) : Type 0 where
   pub answer : r ≡ numberOf (pocketInto s v k room)
   pub proof : t ≡ roomAfter (pocketInto s v k room) room

@@ -21,9 +21,11 @@ pocketJudged root k (some p) = pocketChecked leafHash innerHash root k p
 
 -- 12 if the root or the key isn't 32 bytes; else 10, 19, 11, "present" with the value, or "absent".
 unfoldable pub pocketVerified : Bytes → Bytes → Bytes → Answer Verdict
-pocketVerified root k x = cond (eqb (length root) 32 && eqb (length k) 32) (pocketJudged root k (proofIn x)) (refused 12)
+pocketVerified root k x =
+    cond (eqb (length root) 32 && eqb (length k) 32) (pocketJudged root k (proofIn x)) (refused 12)
 
--- Checking the bytes x as a proof of the profile for the key k against a root answers r; the array f for what is found is left as g.
+-- Checking the bytes x as a proof of the profile for the key k against a root answers r; the array f for what is found
+-- is left as g.
 pub record PocketVerifies (root k x f : Bytes) (r : ℕ) (g : Bytes) : Type 0 where
   pub answer : r ≡ numberOf (pocketVerified root k x)
   pub found : g ≡ foundAfter (pocketVerified root k x) f

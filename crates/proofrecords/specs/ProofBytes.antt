@@ -102,7 +102,8 @@ isPresence x = allOf (presenceTests x)
 unfoldable pub presenceIn : Bytes → Presence
 presenceIn x = record { key = slice 8 32 x; value = slice 40 32 x; steps = stepsIn (stepCount x) (drop presenceHead x) }
 
--- An absence proof's neighbours fill it after its head; of two, the left one's own length says where the right one starts.
+-- An absence proof's neighbours fill it after its head; of two, the left one's own length says where the right one
+-- starts.
 unfoldable pub leftLength : Bytes → ℕ
 leftLength x = field absenceHead 4 x
 
@@ -150,7 +151,8 @@ absenceIn x = record {
 
 -- The proof that bytes stand for; none where they aren't one whole record in form (10).
 unfoldable pub proofIn : Bytes → Option Proof
-proofIn x = cond (isPresence x) (some (presence (presenceIn x))) (cond (isAbsence x) (some (absence (absenceIn x))) none)
+proofIn x =
+    cond (isPresence x) (some (presence (presenceIn x))) (cond (isAbsence x) (some (absence (absenceIn x))) none)
 
 -- Which proofs have a form in bytes.
 abbrev pub StepForm : Step → Type 0
@@ -170,4 +172,5 @@ NeighbourForm (some p) = PresenceForm p
 abbrev pub ProofForm : Proof → Type 0
 ProofForm (presence p) = PresenceForm p
 ProofForm (absence a) =
-    Whole32 (a .key) × NeighbourForm (a .leftward) × NeighbourForm (a .rightward) × (1 ≤ flagsOf (a .leftward) (a .rightward))
+    Whole32 (a .key) × NeighbourForm (a .leftward) × NeighbourForm (a .rightward) ×
+    (1 ≤ flagsOf (a .leftward) (a .rightward))

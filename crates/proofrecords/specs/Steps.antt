@@ -1,4 +1,5 @@
--- The steps of a presence proof where they lie, as the code reads them. No public promise reaches this file. Assumes nothing.
+-- The steps of a presence proof where they lie, as the code reads them. No public promise reaches this file. Assumes
+-- nothing.
 use Prim.Native.Nat.{ℕ, _+_, _*_, _≤_}
 use mathlib.Core.List.{List}
 use lib.ListN.{length, getD, drop}

@@ -1,5 +1,5 @@
--- What the helpers of proving promise each other, and what each case of an answer of the code says. No public promise reaches this file.
--- Assumes nothing.
+-- What the helpers of proving promise each other, and what each case of an answer of the code says. No public promise
+-- reaches this file. Assumes nothing.
 use Prim.Native.Nat.{ℕ}
 use mathlib.Core.Path.{_≡_}
 use mathlib.Core.Bool.{cond}
@@ -23,7 +23,8 @@ use Rattle.prove.specs.Proving.{roomAfter}
 -- What is proved by a table of any length; one without entries is the scan.
 unfoldable pub proveAnswerBy : Bytes → List ℕ → ℕ → Bytes → ℕ → Answer Proof
 proveAnswerBy s table v k room =
-    cond (eqb (length k) 32) (byHeader (headerOf counted s) (proveBy (byTable table (storeOf s)) (storeOf s) v k room)) (refused 12)
+    cond (eqb (length k) 32) (byHeader (headerOf counted s) (proveBy (byTable table (storeOf s)) (storeOf s) v k room))
+    (refused 12)
 
 -- Proving answers the proof's length.
 abbrev pub lengthAnswer : Answer Proof → Answer ℕ

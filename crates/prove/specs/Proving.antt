@@ -1,5 +1,5 @@
--- Document 01, 'Reading and proving' and 'Numbers of refusal', with 2026-03 and 2026-07, of the call that proves, over bytes, for every store, sound or
--- damaged. Order: 12; then 1, 2; then 8, 14, 3 or 17, 9. Assumes nothing.
+-- Document 01, 'Reading and proving' and 'Numbers of refusal', with 2026-03 and 2026-07, of the call that proves, over
+-- bytes, for every store, sound or damaged. Order: 12; then 1, 2; then 8, 14, 3 or 17, 9. Assumes nothing.
 use Prim.Native.Nat.{ℕ}
 use mathlib.Core.Bool.{cond}
 use mathlib.Core.List.{List, _++_}
@@ -16,14 +16,17 @@ use Rattle.layout.specs.Headers.{headerOf}
 use Rattle.layout.specs.Stores.{storeOf}
 use Rattle.read_open.specs.Headed.{byHeader, headerWith}
 
--- The proof for key k in version v of the store s, into this much room: 12 where the key isn't 32 bytes, then 1, 2, 8, 14, 3 or 17, 9.
+-- The proof for key k in version v of the store s, into this much room: 12 where the key isn't 32 bytes, then 1, 2, 8,
+-- 14, 3 or 17, 9.
 unfoldable pub proveAnswer : Bytes → ℕ → Bytes → ℕ → Answer Proof
-proveAnswer s v k room = cond (eqb (length k) 32) (byHeader (headerOf counted s) (prove (storeOf s) v k room)) (refused 12)
+proveAnswer s v k room =
+    cond (eqb (length k) 32) (byHeader (headerOf counted s) (prove (storeOf s) v k room)) (refused 12)
 
 -- Document 02, 2026-05: the same by a table lent with the store, where 1 is also for its length.
 unfoldable pub proveIndexed : Bytes → List ℕ → ℕ → Bytes → ℕ → Answer Proof
 proveIndexed s table v k room =
-    cond (eqb (length k) 32) (byHeader (headerWith s table) (proveBy (byTable table (storeOf s)) (storeOf s) v k room)) (refused 12)
+    cond (eqb (length k) 32) (byHeader (headerWith s table) (proveBy (byTable table (storeOf s)) (storeOf s) v k room))
+    (refused 12)
 
 -- An accepted proof fills the front of the buffer, the rest stays; a refusal writes nothing.
 abbrev pub roomAfter : Answer Proof → Bytes → Bytes

@@ -1,5 +1,5 @@
--- The proof for a caller in another language: what the call answers for any bytes, and every byte of the room and of its array.
--- Assumes nothing.
+-- The proof for a caller in another language: what the call answers for any bytes, and every byte of the room and of
+-- its array. Assumes nothing.
 use Prim.Native.Nat.{ℕ}
 use mathlib.Core.Path.{_≡_}
 use mathlib.Core.List.{List}
@@ -27,7 +27,8 @@ pub record ProofTold (a : Answer Proof) (room f : Bytes) (r : ℕ) (t g : Bytes)
   pub proof : t ≡ roomAfter a room
   pub told : g ≡ lengthBytes a f
 
--- Proving the key k in version v of the bytes s answers r; the room is left as t, the array f for the proof's length as g.
+-- Proving the key k in version v of the bytes s answers r; the room is left as t, the array f for the proof's length as
+-- g.
 pub record Proves (s : Bytes) (v : ℕ) (k room f : Bytes) (r : ℕ) (t g : Bytes) : Type 0 where
   pub answer : r ≡ numberOf (provedInto s v k room)
   pub proof : t ≡ roomAfter (provedInto s v k room) room

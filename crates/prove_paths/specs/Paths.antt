@@ -1,5 +1,5 @@
--- Document 01, 'Bytes', presence proof, and 'Reading and proving': the steps of a path whose inner nodes are known by their slots. Siblings'
--- hashes are taken as stored. Assumes nothing.
+-- Document 01, 'Bytes', presence proof, and 'Reading and proving': the steps of a path whose inner nodes are known by
+-- their slots. Siblings' hashes are taken as stored. Assumes nothing.
 use Prim.Native.Nat.{ℕ, zero, suc, _<_}
 use mathlib.Core.Bool.{not}
 use mathlib.Core.List.{List, [], _∷_}

@@ -40,8 +40,8 @@ ended w shape i len = record {
   length = len;
 }
 
--- What is proved where a walk has ended: the leaf in slot i, by its path; absence, by the neighbours on both sides; and one or the other, by the
--- key of the leaf in slot i.
+-- What is proved where a walk has ended: the leaf in slot i, by its path; absence, by the neighbours on both sides; and
+-- one or the other, by the key of the leaf in slot i.
 abbrev pub presentAt : Bytes → declared-walked.Walked → ℕ → Answer Proof
 presentAt s w i = accepted (presence (presenceAt s (pathOf (w .trail) i)))
 

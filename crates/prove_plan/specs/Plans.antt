@@ -1,4 +1,5 @@
--- Document 01, 'Forms to follow': what a plan says of the proof that it is for, and when it can be written from lent memory. Assumes nothing.
+-- Document 01, 'Forms to follow': what a plan says of the proof that it is for, and when it can be written from lent
+-- memory. Assumes nothing.
 use Prim.Native.Nat.{ℕ, _+_, _*_}
 use mathlib.Core.Path.{_≡_}
 use Rattle.terms.specs.Bits.{Bytes}
@@ -14,7 +15,8 @@ use Rattle.prove_plan.specs.declared.Shape.the-variants.{Refused, Presen
 use Rattle.prove_plan.specs.declared.Plan as declared
 
 -- The refusal, the presence proof of the leaf shown, or the absence proof of key k with the neighbours shown.
-abbrev pub shapeSays : Bytes → Bytes → declared-shape.Shape → declared-sought.Sought → declared-sought.Sought → Answer Proof
+abbrev pub shapeSays : Bytes → Bytes → declared-shape.Shape → declared-sought.Sought → declared-sought.Sought →
+    Answer Proof
 shapeSays s k (Refused n) a b = refused n
 shapeSays s k Presence a b = accepted (presence (presenceAt s (a .path)))
 shapeSays s k Absence a b = accepted (absenceOf k (neighbourAt s a) (neighbourAt s b))

@@ -49,4 +49,5 @@ endSays s k t b (Inner i) x = x
 
 -- The neighbour of key k on side b where a walk has ended.
 unfoldable pub neighbourSays : Bytes → List ℕ → Bytes → declared-walked.Walked → Side → Sought
-neighbourSays s table k w b = endSays s k (w .trail) b (w .trail .seen) (forkSays s table (w .trail .slots) b (forkOn b (w .left) (w .right)))
+neighbourSays s table k w b =
+    endSays s k (w .trail) b (w .trail .seen) (forkSays s table (w .trail .slots) b (forkOn b (w .left) (w .right)))

@@ -1,5 +1,5 @@
--- Document 01, 'Reading and proving': the trail of a walk in lent memory, which finds by a table of slot numbers (2026-05), and where its forks
--- lead to a neighbour. Assumes nothing.
+-- Document 01, 'Reading and proving': the trail of a walk in lent memory, which finds by a table of slot numbers
+-- (2026-05), and where its forks lead to a neighbour. Assumes nothing.
 use Prim.Native.Nat.{ℕ, _-_, _<_}
 use mathlib.Core.Path.{_≡_}
 use mathlib.Core.Bool.{true, false, cond, _&&_, not, Bool·beq}
@@ -70,23 +70,26 @@ pub record Started (s : Bytes) (table : List ℕ) (v : ℕ) (r : declared.Trail)
   pub shown : shownBy s table r ≡ seen (byTable table (storeOf s)) v
 
 -- The trail r is t, one inner node further, that in slot i, to side b.
-pub record Further (s : Bytes) (table : List ℕ) (t : declared.Trail) (i : ℕ) (b : Side) (r : declared.Trail) : Type 0 where
+pub record Further (s : Bytes) (table : List ℕ) (t : declared.Trail) (i : ℕ) (b : Side) (r : declared.Trail) :
+    Type 0 where
   pub trail : TrailIn s r
   pub place : Grown b (t .place) (r .place)
   pub slots : r .slots ≡ set (t .slots) (t .place .count) i
   pub shown : shownBy s table r ≡ seenBelow s table (placeOf (r .place)) (kidIn i s b)
 
--- The fork towards side b after a turn at the inner node in slot i, at place p: that node, if the walk turned away from b and a child is
--- there.
+-- The fork towards side b after a turn at the inner node in slot i, at place p: that node, if the walk turned away from
+-- b and a child is there.
 unfoldable pub forkAfter : Bytes → ℕ → declared-place.Place → Side → Side → declared-fork.Fork → declared-fork.Fork
-forkAfter s i p turn b f = cond (Bool·beq turn (not b) && not (eqb (kidIn i s b .version) 0)) (record { there = true; place = p }) f
+forkAfter s i p turn b f =
+    cond (Bool·beq turn (not b) && not (eqb (kidIn i s b .version) 0)) (record { there = true; place = p }) f
 
 -- What is found from the inner node at place p into its child on side b, then to the other side where there is a child.
 unfoldable pub sideways : Bytes → List ℕ → List ℕ → Side → declared-place.Place → Sought
 sideways s table slots b p =
     sought
     (raisedBy (stepAt s (getD slots (p .count) 0) b ∷ stepsOf s slots (placeOf p) (p .count))
-    (descend (not b) (seenAt (255 - length (placeOf p)) (byTable table (storeOf s)) (longer b (placeOf p)) (kidIn (getD slots (p .count) 0) s b))))
+    (descend (not b) (seenAt (255 - length (placeOf p)) (byTable table (storeOf s)) (longer b (placeOf p))
+    (kidIn (getD slots (p .count) 0) s b))))
 
 unfoldable pub forkSays : Bytes → List ℕ → List ℕ → Side → declared-fork.Fork → Sought
 forkSays s table slots b f = cond (f .there) (sideways s table slots b (f .place)) nobody
@@ -101,9 +104,10 @@ abbrev pub forkOn : Side → declared-fork.Fork → declared-fork.Fork → decla
 forkOn false l r = l
 forkOn true l r = r
 
--- The walk by key k in version v goes on from the end of trail t, with the inner nodes passed: their steps are the trail's, and what is found
--- from them is what the forks l and r say.
-pub record Walking (s : Bytes) (table : List ℕ) (v : ℕ) (k : Bytes) (t : declared.Trail) (l r : declared-fork.Fork) : Type 0 where
+-- The walk by key k in version v goes on from the end of trail t, with the inner nodes passed: their steps are the
+-- trail's, and what is found from them is what the forks l and r say.
+pub record Walking (s : Bytes) (table : List ℕ) (v : ℕ) (k : Bytes) (t : declared.Trail) (l r : declared-fork.Fork) :
+    Type 0 where
   pub trail : TrailIn s t
   pub fork : (b : Side) → ForkIn (t .place .count) (forkOn b l r)
   pub passes : List Pass

@@ -1,5 +1,5 @@
--- Document 01, 'Pruning': what freeing the retired records of a store leaves and answers, before oldest is set. No public promise reaches
--- this file. Assumes nothing.
+-- Document 01, 'Pruning': what freeing the retired records of a store leaves and answers, before oldest is set. No
+-- public promise reaches this file. Assumes nothing.
 use Prim.Native.Nat.{ℕ, _-_, _<_}
 use mathlib.Core.Path.{_≡_}
 use mathlib.Core.Bool.{Bool, cond, _&&_}

@@ -1,5 +1,5 @@
--- Document 01, 'Pruning' and 'Numbers of refusal': what pruning bytes to a version answers, and the bytes it leaves. Order: 1, 2; then 3, 8.
--- Assumes nothing.
+-- Document 01, 'Pruning' and 'Numbers of refusal': what pruning bytes to a version answers, and the bytes it leaves.
+-- Order: 1, 2; then 3, 8. Assumes nothing.
 use Prim.Native.Nat.{ℕ}
 use Rattle.terms.specs.Bits.{Bytes}
 use Rattle.meaning.specs.Calls.{Answer, refused, accepted, prune}

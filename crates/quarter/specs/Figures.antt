@@ -1,5 +1,5 @@
--- Document 02, request 2026-14: the figures of a range of 1 to 1,024 kept versions of a sound store, each a count over the trees. Order: 8, 9; 1, 2 and 3 are
--- refused before, as in the other calls that test soundness. Assumes nothing.
+-- Document 02, request 2026-14: the figures of a range of 1 to 1,024 kept versions of a sound store, each a count over
+-- the trees. Order: 8, 9; 1, 2 and 3 are refused before, as in the other calls that test soundness. Assumes nothing.
 use Prim.Native.Nat.{ℕ, zero, suc, _+_, _*_, _-_, max}
 use mathlib.Core.Bool.{Bool, true, false, cond, _&&_, _||_}
 use mathlib.Core.List.{List, [], _∷_, _++_, map}
@@ -12,7 +12,8 @@ use Rattle.meaning.specs.Tree.{VTree, vnone, vleaf, vinner}
 use Rattle.meaning.specs.Store.{treeAtVersion}
 use Rattle.meaning.specs.Calls.{Result, accepted, refuse, isKept}
 
--- A figure of a tree is what its nodes give, taken together: a leaf with n inner nodes above it gives `leaf n`, an inner node gives `inner`.
+-- A figure of a tree is what its nodes give, taken together: a leaf with n inner nodes above it gives `leaf n`, an
+-- inner node gives `inner`.
 abbrev pub figure : (ℕ → ℕ → ℕ) → (ℕ → ℕ) → ℕ → ℕ → VTree → ℕ
 figure together leaf inner n vnone = 0
 figure together leaf inner n (vleaf v g) = leaf n
@@ -115,9 +116,11 @@ quarterOf st first last = record {
   records = recordsOver st (versions first last);
 }
 
--- 8 if the range isn't 1 to 1,024 kept versions, 9 if the numbers don't fit in the room; else the figures, and the store stays as it is.
+-- 8 if the range isn't 1 to 1,024 kept versions, 9 if the numbers don't fit in the room; else the figures, and the
+-- store stays as it is.
 unfoldable pub figures : ℕ → ℕ → ℕ → Store → Result Quarter
 figures first last room st =
     cond (rangeRight st first last)
-    (cond (ltb room (figuresSize * (suc last - first))) (refuse 9 st) (record { answer = accepted (quarterOf st first last); store = st }))
+    (cond (ltb room (figuresSize * (suc last - first))) (refuse 9 st)
+    (record { answer = accepted (quarterOf st first last); store = st }))
     (refuse 8 st)

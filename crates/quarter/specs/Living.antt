@@ -1,5 +1,5 @@
--- How the figures are counted without walking a tree: over the slots, by the lifetimes of their records. No public promise reaches this file: that
--- these counts are those over the trees is a theorem. Assumes nothing.
+-- How the figures are counted without walking a tree: over the slots, by the lifetimes of their records. No public
+-- promise reaches this file: that these counts are those over the trees is a theorem. Assumes nothing.
 use Prim.Native.Nat.{ℕ, suc, _+_, max}
 use mathlib.Core.Bool.{Bool, false, cond, _&&_, not}
 use mathlib.Core.List.{List, [], _∷_}
@@ -34,7 +34,8 @@ overSlots together f (spoiled x ∷ s) = overSlots together f s
 
 -- The four numbers of a version with a leaf more, and with an inner node more.
 abbrev pub withLeaf : ℕ → Figures → Figures
-withLeaf n f = record { leaves = suc (f .leaves); inners = f .inners; longest = max n (f .longest); pathSum = n + f .pathSum }
+withLeaf n f =
+    record { leaves = suc (f .leaves); inners = f .inners; longest = max n (f .longest); pathSum = n + f .pathSum }
 
 abbrev pub withInner : Figures → Figures
 withInner f = record { leaves = f .leaves; inners = suc (f .inners); longest = f .longest; pathSum = f .pathSum }

@@ -1,5 +1,5 @@
--- What the root read and the key read answer by a table of any length, within the code: one without entries is the scan. No public promise
--- reaches this file. Assumes nothing.
+-- What the root read and the key read answer by a table of any length, within the code: one without entries is the
+-- scan. No public promise reaches this file. Assumes nothing.
 use Prim.Native.Nat.{ℕ}
 use mathlib.Core.Bool.{cond}
 use mathlib.Core.List.{List}
@@ -16,8 +16,10 @@ use Rattle.layout.specs.Stores.{storeOf}
 use Rattle.read_open.specs.Headed.{byHeader}
 
 unfoldable pub rootAnswerBy : Bytes → List ℕ → ℕ → Answer Bytes
-rootAnswerBy s table v = byHeader (headerOf counted s) (readRootBy leafHash innerHash (byTable table (storeOf s)) (storeOf s) v)
+rootAnswerBy s table v =
+    byHeader (headerOf counted s) (readRootBy leafHash innerHash (byTable table (storeOf s)) (storeOf s) v)
 
 unfoldable pub keyAnswerBy : Bytes → List ℕ → ℕ → Bytes → Answer Verdict
 keyAnswerBy s table v k =
-    cond (eqb (length k) 32) (byHeader (headerOf counted s) (readKeyBy (byTable table (storeOf s)) (storeOf s) v k)) (refused 12)
+    cond (eqb (length k) 32) (byHeader (headerOf counted s) (readKeyBy (byTable table (storeOf s)) (storeOf s) v k))
+    (refused 12)

@@ -1,5 +1,5 @@
--- Document 01, 'Reading and proving' and 'Numbers of refusal', with 2026-07, of the root read and the key read over bytes, for every store, sound or not.
--- Order: 12; then 1, 2; then 8; then 3 or 17, the first met. Assumes nothing.
+-- Document 01, 'Reading and proving' and 'Numbers of refusal', with 2026-07, of the root read and the key read over
+-- bytes, for every store, sound or not. Order: 12; then 1, 2; then 8; then 3 or 17, the first met. Assumes nothing.
 use Prim.Native.Nat.{ℕ}
 use mathlib.Core.Bool.{cond}
 use mathlib.Core.List.{List}
@@ -25,8 +25,10 @@ keyAnswer s v k = cond (eqb (length k) 32) (byHeader (headerOf counted s) (readK
 
 -- Document 02, 2026-05: the same by a table lent with the store, where 1 is also for its length.
 unfoldable pub rootIndexed : Bytes → List ℕ → ℕ → Answer Bytes
-rootIndexed s table v = byHeader (headerWith s table) (readRootBy leafHash innerHash (byTable table (storeOf s)) (storeOf s) v)
+rootIndexed s table v =
+    byHeader (headerWith s table) (readRootBy leafHash innerHash (byTable table (storeOf s)) (storeOf s) v)
 
 unfoldable pub keyIndexed : Bytes → List ℕ → ℕ → Bytes → Answer Verdict
 keyIndexed s table v k =
-    cond (eqb (length k) 32) (byHeader (headerWith s table) (readKeyBy (byTable table (storeOf s)) (storeOf s) v k)) (refused 12)
+    cond (eqb (length k) 32)
+    (byHeader (headerWith s table) (readKeyBy (byTable table (storeOf s)) (storeOf s) v k)) (refused 12)

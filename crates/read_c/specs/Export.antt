@@ -1,4 +1,5 @@
--- The reads for a caller in another language: what each answers for any bytes, and every byte of its array. Assumes nothing.
+-- The reads for a caller in another language: what each answers for any bytes, and every byte of its array. Assumes
+-- nothing.
 use Prim.Native.Nat.{ℕ}
 use mathlib.Core.Path.{_≡_}
 use mathlib.Core.List.{List}
@@ -12,12 +13,14 @@ use Rattle.read.specs.Reads.{rootAnswer, rootIndexed, keyAnswer, keyIndexed}
 abbrev pub rootBytes : Answer Bytes → Bytes → Bytes
 rootBytes a old = toldOf (λ root. root) a old
 
--- A root read's answer is told, within the code: r is the number of refusal or 0; the array f for the root is left as g.
+-- A root read's answer is told, within the code: r is the number of refusal or 0; the array f for the root is left as
+-- g.
 pub record RootTold (a : Answer Bytes) (f : Bytes) (r : ℕ) (g : Bytes) : Type 0 where
   pub answer : r ≡ numberOf a
   pub root : g ≡ rootBytes a f
 
--- A key read's answer is told, within the code: r is the number of refusal or 0; the array f for what is found is left as g.
+-- A key read's answer is told, within the code: r is the number of refusal or 0; the array f for what is found is left
+-- as g.
 pub record KeyTold (a : Answer Verdict) (f : Bytes) (r : ℕ) (g : Bytes) : Type 0 where
   pub answer : r ≡ numberOf a
   pub found : g ≡ foundAfter a f

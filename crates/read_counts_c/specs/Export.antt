@@ -1,4 +1,5 @@
--- The two reads of counts for a caller in another language: what each answers for any bytes, and every byte of its array. Assumes nothing.
+-- The two reads of counts for a caller in another language: what each answers for any bytes, and every byte of its
+-- array. Assumes nothing.
 use Prim.Native.Nat.{ℕ}
 use mathlib.Core.Path.{_≡_}
 use mathlib.Core.List.{List, _++_}
@@ -20,7 +21,8 @@ pub record NumberTold (a : Answer ℕ) (f : Bytes) (r : ℕ) (g : Bytes) : Type 
   pub answer : r ≡ numberOf a
   pub count : g ≡ toldOf (le 8) a f
 
--- A position's answer is told, within the code: r is the number of refusal or 0; the array f for the grant is left as g.
+-- A position's answer is told, within the code: r is the number of refusal or 0; the array f for the grant is left as
+-- g.
 pub record GrantTold (a : Answer Grant) (f : Bytes) (r : ℕ) (g : Bytes) : Type 0 where
   pub answer : r ≡ numberOf a
   pub grant : g ≡ toldOf grantBytes a f

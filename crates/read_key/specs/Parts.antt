@@ -1,4 +1,5 @@
--- What each case of a key read's answer says, and what the walk by a key says. No public promise reaches this file. Assumes nothing.
+-- What each case of a key read's answer says, and what the walk by a key says. No public promise reaches this file.
+-- Assumes nothing.
 use Prim.Native.Nat.{ℕ}
 use mathlib.Core.List.{List, []}
 use Rattle.terms.specs.Bits.{Bytes}

@@ -22,7 +22,8 @@ use Rattle.read_position.specs.declared.Turn as declared-turn
 
 -- What a leaf's bytes say of a position at a place.
 abbrev pub leafAnswer : Place → Bytes → ℕ → Answer Grant
-leafAnswer p x n = cond (begins p (keyIn x)) (cond (eqb n 0) (accepted (grant (keyIn x) (valueIn x))) (refused 3)) (refused 3)
+leafAnswer p x n =
+    cond (begins p (keyIn x)) (cond (eqb n 0) (accepted (grant (keyIn x) (valueIn x))) (refused 3)) (refused 3)
 
 -- What is found from an inner record's place on, at its child on a side.
 abbrev pub kidsFrom : Bytes → List ℕ → Place → Side → Child → ℕ → Answer Grant
@@ -38,9 +39,11 @@ childAnswer s table p c n = descend (256 - length p) (byTable table (storeOf s))
 
 -- The side that a position is on by the left count, and the position there.
 abbrev pub Turned : ℕ → ℕ → declared-turn.Turn → Type 0
-Turned lefts n r = (below : Side → ℕ → Answer Grant) → below (r .right) (r .rest) ≡ cond (ltb n lefts) (below left n) (below right (n - lefts))
+Turned lefts n r = (below : Side → ℕ → Answer Grant) → below (r .right) (r .rest) ≡ cond (ltb n lefts) (below left n)
+    (below right (n - lefts))
 
 -- A child is refused, or is the record in this slot.
 abbrev pub Steps : Bytes → List ℕ → declared-place.Place → Child → declared-step.Step → Type 0
 Steps s table p c (step.Refused m) = (n : ℕ) → refused m ≡ childAnswer s table (placeOf p) c n
-Steps s table p c (step.At j) = SlotHolds s j p × ((n : ℕ) → bodyAt s table (placeOf p) j n ≡ childAnswer s table (placeOf p) c n)
+Steps s table p c (step.At j) =
+    SlotHolds s j p × ((n : ℕ) → bodyAt s table (placeOf p) j n ≡ childAnswer s table (placeOf p) c n)

@@ -29,4 +29,5 @@ positionIndexed s table v i = byHeader (headerWith s table) (readPositionBy (byT
 
 -- And by a table of any length, within the code: one without entries is the scan. No public promise reaches it.
 unfoldable pub positionAnswerBy : Bytes → List ℕ → ℕ → ℕ → Answer Grant
-positionAnswerBy s table v i = byHeader (headerOf counted s) (readPositionBy (byTable table (storeOf s)) (storeOf s) v i)
+positionAnswerBy s table v i =
+    byHeader (headerOf counted s) (readPositionBy (byTable table (storeOf s)) (storeOf s) v i)

@@ -9,7 +9,19 @@ use Rattle.terms.specs.declared.Form.the-variants.{Counted as counted}
 use Rattle.terms.specs.Bits.{Bytes, Side, Place, longer}
 use Rattle.terms.specs.Records.{Child, Body}
 use Rattle.meaning.specs.Store.{childOn}
-use Rattle.meaning.specs.Reading.{Trouble, lostRecord, spoiltRecord, strayLeaf, Seen, lost, gap, leafSeen, fork, seenBody, seenAt}
+use Rattle.meaning.specs.Reading.{
+  Trouble,
+  lostRecord,
+  spoiltRecord,
+  strayLeaf,
+  Seen,
+  lost,
+  gap,
+  leafSeen,
+  fork,
+  seenBody,
+  seenAt,
+}
 use Rattle.indexed.specs.Index.{byTable}
 use Rattle.layout.specs.Sizes.{roomOf}
 use Rattle.layout.specs.Headers.{sizeRight}
@@ -43,7 +55,8 @@ unfoldable pub leafAt : ℕ → Bytes → Seen
 leafAt i s = leafSeen (keyIn (slotIn counted i s)) (valueIn (slotIn counted i s))
 
 unfoldable pub forkAt : ℕ → Bytes → List ℕ → Place → Seen
-forkAt i s table p = fork (λ b. kidIn i s b .hash) (λ b. seenAt (255 - length p) (byTable table (storeOf s)) (longer b p) (kidIn i s b))
+forkAt i s table p =
+    fork (λ b. kidIn i s b .hash) (λ b. seenAt (255 - length p) (byTable table (storeOf s)) (longer b p) (kidIn i s b))
 
 -- What each case of trouble says.
 abbrev pub troubleSays : declared-trouble.Trouble → Trouble
@@ -51,8 +64,8 @@ troubleSays trouble.Lost = lostRecord
 troubleSays (trouble.Spoilt i) = spoiltRecord i
 troubleSays trouble.Stray = strayLeaf
 
--- What each case of an answer says is seen at a place: a gap, trouble, a leaf or an inner node in a slot of the store. An inner node's place is
--- shorter than a key.
+-- What each case of an answer says is seen at a place: a gap, trouble, a leaf or an inner node in a slot of the store.
+-- An inner node's place is shorter than a key.
 abbrev pub Sees : Bytes → List ℕ → Place → Seen → declared.Seen → Type 0
 Sees s table p x Gap = x ≡ gap
 Sees s table p x (Lost t) = x ≡ lost (troubleSays t)

@@ -1,12 +1,56 @@
--- Document 01, 'Numbers of refusal', 14 of 2026-03, 17 of 2026-07, 18 of 2026-13, 19 of 2026-14, 20 of 2026-09 and 21 of shelves: rows in the order in which they are tested, as far as the calls
--- share them or the definitions of `meaning` test them. Assumes nothing.
+-- Document 01, 'Numbers of refusal', 14 of 2026-03, 17 of 2026-07, 18 of 2026-13, 19 of 2026-14, 20 of 2026-09 and 21
+-- of shelves: rows in the order in which they are tested, as far as the calls share them or the definitions of
+-- `meaning` test them. Assumes nothing.
 use Prim.Native.Nat.{ℕ}
 use mathlib.Core.List.{List, [], _∷_}
 use Rattle.terms.specs.declared.Form.{Form}
 use Rattle.terms.specs.Bits.{Bytes}
 use Rattle.refusals.specs.Exactly.{Table}
-use Rattle.refusals.specs.Rows.{WrongLength, WrongHeader, StopsRoot, StopsGet, StopsProve, StopsAt, PastNumber, Lost, Unsound, BatchOffForm, NotAscending, NotAbove, TooFewFree, NotKept, TooLong, ProofOffForm, DoesNotHold, EmptyVersion, NotBothKept, TooManyVisits, ListTooLong, AskedOfEmpty, StopsPalette, TooLongTogether, NotRootAndKeys, NotPieces, AnswersTooLong, WrongSizes, OldestAbove, NoVersion, WrongRoom, WrongHeaderIn, NotSoundIn}
-use Rattle.refusals.specs.Rows.{NoKeptRange, FiguresTooLong, OutsidePocket, ProvedOutside, NotRaw, MessageTooLong, NoMessage, RecordTooLong}
+use Rattle.refusals.specs.Rows.{
+  WrongLength,
+  WrongHeader,
+  StopsRoot,
+  StopsGet,
+  StopsProve,
+  StopsAt,
+  PastNumber,
+  Lost,
+  Unsound,
+  BatchOffForm,
+  NotAscending,
+  NotAbove,
+  TooFewFree,
+  NotKept,
+  TooLong,
+  ProofOffForm,
+  DoesNotHold,
+  EmptyVersion,
+  NotBothKept,
+  TooManyVisits,
+  ListTooLong,
+  AskedOfEmpty,
+  StopsPalette,
+  TooLongTogether,
+  NotRootAndKeys,
+  NotPieces,
+  AnswersTooLong,
+  WrongSizes,
+  OldestAbove,
+  NoVersion,
+  WrongRoom,
+  WrongHeaderIn,
+  NotSoundIn,
+}
+use Rattle.refusals.specs.Rows.{
+  NoKeptRange,
+  FiguresTooLong,
+  OutsidePocket,
+  ProvedOutside,
+  NotRaw,
+  MessageTooLong,
+  NoMessage,
+  RecordTooLong,
+}
 use Rattle.messages.specs.Lending.{Lent}
 use Rattle.refusals.specs.Rows.{HoldsNoGrant, rootOfVersion}
 use Rattle.refusals.specs.Rows.{TooManyBits, ShelfOffForm, ShelfDoesNotHold}
@@ -24,8 +68,8 @@ batchRows number batch s =
 abbrev pub versionRows : Bytes → ℕ → Table
 versionRows s v = (8, NotKept s v) ∷ []
 
--- The reads' own, each with the rows that it tests before it looks for records. 17 and 3 exclude each other: the first met is given.
--- Of the root: 8, 3.
+-- The reads' own, each with the rows that it tests before it looks for records. 17 and 3 exclude each other: the first
+-- met is given. Of the root: 8, 3.
 abbrev pub lookupRows : Bytes → ℕ → Table
 lookupRows s v = (8, NotKept s v) ∷ (3, Unsound (StopsRoot s v)) ∷ []
 
@@ -33,8 +77,9 @@ lookupRows s v = (8, NotKept s v) ∷ (3, Unsound (StopsRoot s v)) ∷ []
 abbrev pub keyRows : Bytes → ℕ → Bytes → Table
 keyRows s v k = (8, NotKept s v) ∷ (17, Lost (StopsGet s v k)) ∷ (3, Unsound (StopsGet s v k)) ∷ []
 
--- Of a position (document 02, 2026-09): 8; then the root's lookup, by whose number 20 is given; then 17 or 3. A root that is spoilt has no
--- number, so that 20 is after its 3; and what is met below the root is met where the position is below the number.
+-- Of a position (document 02, 2026-09): 8; then the root's lookup, by whose number 20 is given; then 17 or 3. A root
+-- that is spoilt has no number, so that 20 is after its 3; and what is met below the root is met where the position is
+-- below the number.
 abbrev pub placingRows : Bytes → ℕ → ℕ → Table
 placingRows s v i = (8, NotKept s v) ∷ (20, PastNumber s v i) ∷ []
 
@@ -48,7 +93,8 @@ provingRows s v = (8, NotKept s v) ∷ (14, EmptyVersion s v) ∷ []
 
 abbrev pub proofRows : Bytes → ℕ → Bytes → Bytes → Table
 proofRows s v k room =
-    (8, NotKept s v) ∷ (14, EmptyVersion s v) ∷ (17, Lost (StopsProve s v k)) ∷ (3, Unsound (StopsProve s v k)) ∷ (9, TooLong s v k room) ∷ []
+    (8, NotKept s v) ∷ (14, EmptyVersion s v) ∷
+    (17, Lost (StopsProve s v k)) ∷ (3, Unsound (StopsProve s v k)) ∷ (9, TooLong s v k room) ∷ []
 
 -- A palette's own (document 02, 2026-04): 8, 14, then 17 or 3 of the first key refused, 9.
 abbrev pub askingRows : Bytes → ℕ → List Bytes → Table
@@ -56,12 +102,14 @@ askingRows s v keys = (8, NotKept s v) ∷ (14, AskedOfEmpty s v keys) ∷ []
 
 abbrev pub togetherRows : Bytes → ℕ → List Bytes → Bytes → Table
 togetherRows s v keys room =
-    (8, NotKept s v) ∷ (14, AskedOfEmpty s v keys) ∷ (17, Lost (StopsPalette s v keys)) ∷ (3, Unsound (StopsPalette s v keys)) ∷ (9, TooLongTogether s v keys room) ∷ []
+    (8, NotKept s v) ∷ (14, AskedOfEmpty s v keys) ∷ (17, Lost (StopsPalette s v keys)) ∷
+    (3, Unsound (StopsPalette s v keys)) ∷ (9, TooLongTogether s v keys room) ∷ []
 
 -- A comparison's own (document 02, 2026-01): 8, 13, 9.
 abbrev pub comparisonRows : Bytes → ℕ → ℕ → ℕ → Bytes → Table
 comparisonRows s first second limit room =
-    (8, NotBothKept s first second) ∷ (13, TooManyVisits s first second limit) ∷ (9, ListTooLong s first second room) ∷ []
+    (8, NotBothKept s first second) ∷
+    (13, TooManyVisits s first second limit) ∷ (9, ListTooLong s first second room) ∷ []
 
 -- The proof check's own: 10, 11.
 abbrev pub holdingRows : Bytes → Bytes → Bytes → Table
@@ -74,7 +122,8 @@ rowRows root list n row room =
 
 -- A rescue (document 02, 2026-08): 1, 2, 3.
 abbrev pub rescueRows : Bytes → Bytes → ℕ → ℕ → Table
-rescueRows s old oldest latest = (1, WrongSizes s old) ∷ (2, OldestAbove oldest latest) ∷ (3, NoVersion s oldest latest) ∷ []
+rescueRows s old oldest latest =
+    (1, WrongSizes s old) ∷ (2, OldestAbove oldest latest) ∷ (3, NoVersion s oldest latest) ∷ []
 
 -- The figures' own (document 02, 2026-14): 8, 9.
 abbrev pub rangeRows : Bytes → ℕ → ℕ → Bytes → Table
@@ -83,7 +132,8 @@ rangeRows s first last room = (8, NoKeptRange s first last) ∷ (9, FiguresTooLo
 -- The pocket prover's own (document 02, 2026-14): 8, 14, then 17 or 3, 19, 9.
 abbrev pub pocketRows : Bytes → ℕ → Bytes → Bytes → Table
 pocketRows s v k room =
-    (8, NotKept s v) ∷ (14, EmptyVersion s v) ∷ (17, Lost (StopsProve s v k)) ∷ (3, Unsound (StopsProve s v k)) ∷ (19, ProvedOutside s v k) ∷ (9, TooLong s v k room) ∷ []
+    (8, NotKept s v) ∷ (14, EmptyVersion s v) ∷ (17, Lost (StopsProve s v k)) ∷ (3, Unsound (StopsProve s v k)) ∷
+    (19, ProvedOutside s v k) ∷ (9, TooLong s v k room) ∷ []
 
 -- The pocket check's own (document 02, 2026-14): 10, 19, 11.
 abbrev pub pocketHoldingRows : Bytes → Bytes → Bytes → Table

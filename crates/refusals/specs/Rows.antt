@@ -1,4 +1,5 @@
--- Document 01, 'Numbers of refusal', 14 of 2026-03, 17 of 2026-07, 18 of 2026-13, 19 of 2026-14, 20 of 2026-09 and 21 of shelves: the rows, each a proposition in its words. Assumes nothing.
+-- Document 01, 'Numbers of refusal', 14 of 2026-03, 17 of 2026-07, 18 of 2026-13, 19 of 2026-14, 20 of 2026-09 and 21
+-- of shelves: the rows, each a proposition in its words. Assumes nothing.
 use Prim.Native.Nat.{ℕ, _+_, _*_, _-_, _≤_, _<_}
 use mathlib.Core.Path.{_≡_}
 use mathlib.Core.Logic.{_⊎_}
@@ -75,8 +76,9 @@ StopsGet s v k t = KeyStopped (storeOf s) v k t
 abbrev pub StopsProve : Bytes → ℕ → Bytes → Trouble → Type 0
 StopsProve s v k t = ProofStopped (storeOf s) v k t
 
--- What stops the read of a position (2026-09): the root's lookup, or the descent by counts. A missing child that it meets and a leaf with a
--- position left over give 3 and name no slot, as a leaf does whose key doesn't begin with its place.
+-- What stops the read of a position (2026-09): the root's lookup, or the descent by counts. A missing child that it
+-- meets and a leaf with a position left over give 3 and name no slot, as a leaf does whose key doesn't begin with its
+-- place.
 abbrev pub StopsAt : Bytes → ℕ → ℕ → Trouble → Type 0
 StopsAt s v i t = Position (storeOf s) v i (refused (refusalOf t))
 
@@ -113,11 +115,13 @@ NotAbove number s = number ≤ storeOf s .latest
 -- How many new records a batch makes of the latest tree, as the version of a number.
 unfoldable pub newCount : ℕ → Bytes → List Ask → ℕ
 newCount number s as′ =
-    let st = storeOf s in length (newRecords leafHash innerHash number (nextTree number (treeAtVersion st (st .latest)) as′))
+    let st = storeOf s in length (newRecords leafHash innerHash number (nextTree number (treeAtVersion st (st .latest))
+    as′))
 
 -- 7: fewer free slots than new records.
 abbrev pub TooFewFree : ℕ → Bytes → Bytes → Type 0
-TooFewFree number batch s = (as′ : List Ask) × AskedBy batch as′ × (freeSlots (storeOf s .slots) < newCount number s as′)
+TooFewFree number batch s =
+    (as′ : List Ask) × AskedBy batch as′ × (freeSlots (storeOf s .slots) < newCount number s as′)
 
 -- 8: the version isn't in oldest to latest.
 abbrev pub NotKept : Bytes → ℕ → Type 0
@@ -174,7 +178,8 @@ StopsPalette s v keys t = FirstAsked (proof (storeOf s) v) (λ k. StopsProve s v
 
 -- 9 of a palette: all together don't fit.
 abbrev pub TooLongTogether : Bytes → ℕ → List Bytes → Bytes → Type 0
-TooLongTogether s v keys room = (ps : List Proof) × ProofOfEach (proof (storeOf s) v) keys ps × (length room < lengthTogether ps)
+TooLongTogether s v keys room =
+    (ps : List Proof) × ProofOfEach (proof (storeOf s) v) keys ps × (length room < lengthTogether ps)
 
 -- 12 of many proofs: the root isn't 32 bytes, or the list isn't 0 to 256 whole keys.
 abbrev pub NotRootAndKeys : Bytes → Bytes → Type 0
@@ -194,7 +199,8 @@ AnswersTooLong n room = length room < 34 * n
 
 -- 1 of a rescue (document 02, 2026-08): a size that is wrong or not equal.
 abbrev pub WrongSizes : Bytes → Bytes → Type 0
-WrongSizes s old = (n : ℕ) → 1 ≤ n → n ≤ mostSlots → length s ≡ headerSize + slotSize counted * n → length old ≡ headerSize + slotSize counted * n → ⊥
+WrongSizes s old = (n : ℕ) → 1 ≤ n → n ≤ mostSlots → length s ≡ headerSize + slotSize counted * n →
+    length old ≡ headerSize + slotSize counted * n → ⊥
 
 -- 2 of a rescue: oldest above latest.
 abbrev pub OldestAbove : ℕ → ℕ → Type 0
@@ -219,7 +225,8 @@ NoKeptRange s first last = KeptRange s first last → ⊥
 abbrev pub FiguresTooLong : ℕ → ℕ → Bytes → Type 0
 FiguresTooLong first last room = length room < figuresSize * (last - first + 1)
 
--- 19 (document 02, 2026-14), of the pocket check: the bytes are a proof in form, and a leaf that it shows has more than 32 steps;
+-- 19 (document 02, 2026-14), of the pocket check: the bytes are a proof in form, and a leaf that it shows has more than
+-- 32 steps;
 abbrev pub OutsidePocket : Bytes → Type 0
 OutsidePocket x = (p : Proof) × ProofIs x p × Outside p
 
@@ -268,7 +275,8 @@ abbrev pub ShelfDoesNotHold : Bytes → ℕ → Bytes → Bytes → Type 0
 ShelfDoesNotHold root b k x =
     (p : ShelfProof) × ShelfIs x p × ((answer : Verdict) → ShelfHolds root b k p answer → ⊥)
 
--- 15 (document 02, 2026-02), of a proof in form: a raw key or value has another length or doesn't hash to what the proof holds, or a leaf too many is lent.
+-- 15 (document 02, 2026-02), of a proof in form: a raw key or value has another length or doesn't hash to what the
+-- proof holds, or a leaf too many is lent.
 abbrev pub NotRaw : Bytes → Lent → Type 0
 NotRaw x lent = (p : Proof) × ProofIs x p × (lentFits sha256 lent p ≡ true → ⊥)
 

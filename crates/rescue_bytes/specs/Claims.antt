@@ -42,17 +42,21 @@ pub record Worth (oldest latest : ℕ) (s t : Bytes) (r : Report) : Type 0 where
   -- the lowest slot is used: no lower slot of the source holds that node
   pub lowest : (i : ℕ) (q : Record) → At (storeOf t) i q → (j : ℕ) (x : Record) → j < i → At (storeOf s) j x →
       isNode (q .version) (q .place) x ≡ false
-  -- the numbers are those of the two buffers compared: a record counts as kept as it was exactly if its slot has the same bytes in both
+  -- the numbers are those of the two buffers compared: a record counts as kept as it was exactly if its slot has the
+  -- same bytes in both
   pub same-bytes : (i : ℕ) (q x : Record) → At (storeOf t) i q → At (storeOf s) i x →
       (x .retired ≡ q .retired) ↔ (slotIn counted i s ≡ slotIn counted i t)
-  -- the three numbers and the source's free slots add up to the capacity; so do the records kept and the target's free slots
+  -- the three numbers and the source's free slots add up to the capacity; so do the records kept and the target's free
+  -- slots
   pub adds-up : r .numbers .same + r .numbers .other + r .numbers .out + freeSlots (slotsIn s) ≡ length (slotsIn s)
   pub kept-adds-up : r .numbers .same + r .numbers .other + freeSlots (slotsIn t) ≡ length (slotsIn s)
 
--- The grants of the run's versions, from the source's trees, the newest first: a rescued store's history begins with these (demand 3).
+-- The grants of the run's versions, from the source's trees, the newest first: a rescued store's history begins with
+-- these (demand 3).
 abbrev pub runLedger : List Slot → ℕ → ℕ → List Entry
 runLedger s first zero = entry first (grantsIn (sourceTree s first)) ∷ []
-runLedger s first (suc more) = entry (first + suc more) (grantsIn (sourceTree s (first + suc more))) ∷ runLedger s first more
+runLedger s first (suc more) =
+    entry (first + suc more) (grantsIn (sourceTree s (first + suc more))) ∷ runLedger s first more
 
 -- Nothing changed and nothing left out.
 abbrev pub AsItWas : Report → Type 0

@@ -1,5 +1,6 @@
--- Document 02, request 2026-08: what a rescue answers for any bytes of a source and of a target, and what it leaves of the target. 'A size that
--- is wrong or not equal gives 1, then oldest above latest 2. No version: 3.' Of the source its slots alone are looked at. Assumes nothing.
+-- Document 02, request 2026-08: what a rescue answers for any bytes of a source and of a target, and what it leaves of
+-- the target. 'A size that is wrong or not equal gives 1, then oldest above latest 2. No version: 3.' Of the source its
+-- slots alone are looked at. Assumes nothing.
 use Prim.Native.Nat.{ℕ, _+_, _≤_, _<_}
 use mathlib.Core.Path.{_≡_}
 use mathlib.Core.Bool.{true}
@@ -34,12 +35,13 @@ pub record Report : Type 0 where
   pub first : ℕ
   pub numbers : Counts
 
--- Of the source s and a target left as t, with a run that begins at f: the numbers are those of the two buffers compared.
+-- Of the source s and a target left as t, with a run that begins at f: the numbers are those of the two buffers
+-- compared.
 abbrev pub reportOf : Bytes → ℕ → Bytes → Report
 reportOf s f t = record { first = f; numbers = counts (slotsIn s) (slotsIn t) }
 
--- Rescuing the source s, with oldest and latest given by the caller, into a target that holds the bytes old gives this answer and leaves these
--- bytes of the target.
+-- Rescuing the source s, with oldest and latest given by the caller, into a target that holds the bytes old gives this
+-- answer and leaves these bytes of the target.
 pub data Rescues (oldest latest : ℕ) (s old : Bytes) : Answer Report → Bytes → Type 0 where
   -- 1: a size that is wrong or not equal; nothing is written
   wrong-size : (SameSize s old → ⊥) → Rescues oldest latest s old (refused 1) old
@@ -48,16 +50,20 @@ pub data Rescues (oldest latest : ℕ) (s old : Bytes) : Answer Report → Bytes
   -- 3: no version; nothing is written
   no-version : SameSize s old → oldest ≤ latest → NoRun s oldest latest → Rescues oldest latest s old (refused 3) old
   -- else the bytes are those of the rescued store of the longest run
-  rescues : {f m : ℕ} {t : Bytes} → SameSize s old → oldest ≤ latest → Longest leafHash innerHash (slotsIn s) oldest latest f m →
+  rescues : {f m : ℕ} {t : Bytes} → SameSize s old → oldest ≤ latest →
+      Longest leafHash innerHash (slotsIn s) oldest latest f m →
       t ≡ storeBytes (rescued (slotsIn s) f m) →
       Rescues oldest latest s old (accepted (reportOf s f t)) t
 
--- What is told in C: the first version, then the records kept as they were, those with another retired-since, the used slots left out, 4 bytes
--- each.
+-- What is told in C: the first version, then the records kept as they were, those with another retired-since, the used
+-- slots left out, 4 bytes each.
 unfoldable pub reportBytes : Report → Bytes
 reportBytes r = le 4 (r .first) ++ (le 4 (r .numbers .same) ++ (le 4 (r .numbers .other) ++ le 4 (r .numbers .out)))
 
--- The same call for C: it answers 0 where it is accepted, else the number of refusal; the report goes to the array f, which a refused call leaves.
+-- The same call for C: it answers 0 where it is accepted, else the number of refusal; the report goes to the array f,
+-- which a refused call leaves.
 pub data RescueExports (oldest latest : ℕ) (s old f : Bytes) : ℕ → Bytes → Bytes → Type 0 where
-  exports-refusal : {n : ℕ} {t : Bytes} → Rescues oldest latest s old (refused n) t → RescueExports oldest latest s old f n t f
-  exports-report : {r : Report} {t : Bytes} → Rescues oldest latest s old (accepted r) t → RescueExports oldest latest s old f 0 t (reportBytes r)
+  exports-refusal : {n : ℕ} {t : Bytes} → Rescues oldest latest s old (refused n) t →
+      RescueExports oldest latest s old f n t f
+  exports-report : {r : Report} {t : Bytes} → Rescues oldest latest s old (accepted r) t →
+      RescueExports oldest latest s old f 0 t (reportBytes r)

@@ -1,4 +1,5 @@
--- Document 02, request 2026-08, over bytes: the records of a tree entered in the target. No public promise reaches this file. Assumes nothing.
+-- Document 02, request 2026-08, over bytes: the records of a tree entered in the target. No public promise reaches this
+-- file. Assumes nothing.
 use Prim.Native.Nat.{ℕ, _-_}
 use mathlib.Core.Path.{_≡_}
 use mathlib.Core.Bool.{true}
@@ -30,7 +31,8 @@ Held s Nothing = Unit {0}
 -- What was found is put into its slot of the target, retired since n.
 pub record Puts (s : Bytes) (f : found.Found) (n : ℕ) (t u : Bytes) : Type 0 where
   pub target : Target s u
-  pub puts : (v : ℕ) (p : Place) → LowestIn (storeOf s .slots) v p f → Put (storeOf s .slots) n v p (storeOf t .slots) (storeOf u .slots)
+  pub puts : (v : ℕ) (p : Place) → LowestIn (storeOf s .slots) v p f → Put (storeOf s .slots) n v p (storeOf t .slots)
+      (storeOf u .slots)
 
 -- A place of a source with its target.
 pub record Entering (s t : Bytes) (p : place.Place) : Type 0 where

@@ -1,4 +1,5 @@
--- Document 02, request 2026-08, over bytes: the target filled with the longest run. No public promise reaches this file. Assumes nothing.
+-- Document 02, request 2026-08, over bytes: the target filled with the longest run. No public promise reaches this
+-- file. Assumes nothing.
 use Prim.Native.Nat.{ℕ, _-_, _≤_}
 use mathlib.Core.Path.{_≡_}
 use mathlib.Core.Bool.{true}
@@ -14,7 +15,8 @@ use Rattle.rescue_step.specs.Step.{Joins}
 
 -- The target's bytes with other bounds.
 abbrev pub bounded : ℕ → ℕ → Bytes → Bytes
-bounded oldest latest t = storeBytes (record { oldest = oldest; latest = latest; slots = storeOf t .slots; form = counted })
+bounded oldest latest t =
+    storeBytes (record { oldest = oldest; latest = latest; slots = storeOf t .slots; form = counted })
 
 -- Bytes of the right size that are those of the store they are read as.
 pub record Shaped (t : Bytes) : Type 0 where

@@ -1,5 +1,5 @@
--- Document 02, request 2026-08, over the bytes of a source: whether one tree joins the next from a place on. No public promise reaches this
--- file. Assumes nothing.
+-- Document 02, request 2026-08, over the bytes of a source: whether one tree joins the next from a place on. No public
+-- promise reaches this file. Assumes nothing.
 use Prim.Native.Nat.{ℕ, _-_}
 use mathlib.Core.Path.{_≡_}
 use mathlib.Core.Bool.{Bool, true, false}
@@ -13,7 +13,8 @@ use Rattle.rescue_rules.specs.Joining.{joinAt, newestChild}
 use Rattle.rescue_join.specs.declared.Joined as declared
 use Rattle.rescue_join.specs.declared.Joined.the-variants.{Broken, Fits}
 
--- From a place on: the node of version a joins that of version b, and the greatest version of a child newer than its parent.
+-- From a place on: the node of version a joins that of version b, and the greatest version of a child newer than its
+-- parent.
 unfoldable pub joinsHere : Bytes → ℕ → place.Place → ℕ → ℕ → Bool
 joinsHere s next p a b = joinAt leafHash innerHash (256 - p .count) (storeOf s .slots) next a b (placeOf p)
 

@@ -1,5 +1,5 @@
--- Document 02, request 2026-08, over the bytes of a source: what a search for a node found. No public promise reaches this file.
--- Assumes nothing.
+-- Document 02, request 2026-08, over the bytes of a source: what a search for a node found. No public promise reaches
+-- this file. Assumes nothing.
 use Prim.Native.Nat.{ℕ, _<_}
 use mathlib.Core.Path.{_≡_}
 use mathlib.Core.Bool.{Bool, true, not, cond, _&&_}
@@ -27,7 +27,8 @@ use Rattle.rescue_rules.specs.Entering.{LowestAt}
 
 -- Where slot i has the version v, it holds the node at a place or it doesn't.
 abbrev pub StandsSay : Bytes → ℕ → place.Place → Bool → Type 0
-StandsSay s i p r = (v : ℕ) → versionIn (slotIn counted i s) ≡ v → cond r 1 0 ≡ byRecord 0 (countNode v (placeOf p)) (slotNo counted i s)
+StandsSay s i p r = (v : ℕ) → versionIn (slotIn counted i s) ≡ v → cond r 1 0 ≡ byRecord 0 (countNode v (placeOf p))
+    (slotNo counted i s)
 
 -- What a search for a node found: its lowest slot, or nothing.
 abbrev pub LowestIn : List Slot → ℕ → Place → found.Found → Type 0
@@ -52,15 +53,18 @@ KidSays s f b r = (v : ℕ) (p : Place) → LowestIn (storeOf s .slots) v p f �
 -- Whether the child on a side of the inner record in slot i, sought at a place, is linked.
 unfoldable pub linkedAt : Bytes → ℕ → Side → Place → Bool
 linkedAt s i b p =
-    linked leafHash innerHash (find (kidOn b (slotIn counted i s) .version) p (storeOf s .slots)) (kidOn b (slotIn counted i s)) (kidOn (not b) (slotIn counted i s))
+    linked leafHash innerHash (find (kidOn b (slotIn counted i s) .version) p (storeOf s .slots))
+    (kidOn b (slotIn counted i s)) (kidOn (not b) (slotIn counted i s))
 
 -- Whether the count on a side is that of the leaves at whatever child was sought.
 abbrev pub WeighsSay : Bytes → ℕ → Side → found.Found → Bool → Type 0
 WeighsSay s i b f r =
-    (v : ℕ) (p : Place) → LowestIn (storeOf s .slots) v p f → r ≡ eqb (countOn b (countsIn (slotIn counted i s))) (weighed (find v p (storeOf s .slots)))
+    (v : ℕ) (p : Place) → LowestIn (storeOf s .slots) v p f → r ≡ eqb (countOn b (countsIn (slotIn counted i s)))
+    (weighed (find v p (storeOf s .slots)))
 
 unfoldable pub weighsAt : Bytes → ℕ → Side → Place → Bool
-weighsAt s i b p = eqb (countOn b (countsIn (slotIn counted i s))) (weighed (find (kidOn b (slotIn counted i s) .version) p (storeOf s .slots)))
+weighsAt s i b p = eqb (countOn b (countsIn (slotIn counted i s)))
+    (weighed (find (kidOn b (slotIn counted i s) .version) p (storeOf s .slots)))
 
 -- It is linked, and its count is right.
 unfoldable pub tiedAt : Bytes → ℕ → Side → Place → Bool

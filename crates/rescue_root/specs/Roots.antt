@@ -1,5 +1,5 @@
--- Documents 02, 2026-08 and 2026-13, over the bytes of a source: the newest root record not above a version. No public promise reaches this
--- file. Assumes nothing.
+-- Documents 02, 2026-08 and 2026-13, over the bytes of a source: the newest root record not above a version. No public
+-- promise reaches this file. Assumes nothing.
 use Prim.Native.Nat.{ℕ}
 use mathlib.Core.Bool.{Bool, _&&_}
 use lib.Dec.{ltb}

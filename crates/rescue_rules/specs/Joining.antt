@@ -1,4 +1,5 @@
--- 2026-08 by versions compared two by two. No public promise reaches this file: that it decides runs is a theorem. Assumes nothing.
+-- 2026-08 by versions compared two by two. No public promise reaches this file: that it decides runs is a theorem.
+-- Assumes nothing.
 use Prim.Native.Nat.{ℕ, zero, suc, _+_, _-_, _≤_, _<_, max}
 use mathlib.Core.Path.{_≡_}
 use mathlib.Core.Logic.{_⊎_}
@@ -46,7 +47,8 @@ abbrev pub kidOf : Side → Option Record → ℕ
 kidOf b none = 0
 kidOf b (some r) = childVersion b (r .body)
 
--- Two trees at a place: where they have the same version they are the same; else what is asked here, and below on both sides.
+-- Two trees at a place: where they have the same version they are the same; else what is asked here, and below on both
+-- sides.
 abbrev pub parted : Bool → Bool → (Side → Bool) → Bool
 parted true here below = true
 parted false here below = here && (below left && below right)
@@ -59,7 +61,8 @@ partedMost false here below = max here (max (below left) (below right))
 unfoldable pub newer : ℕ → ℕ → ℕ
 newer a c = cond (ltb a c) c 0
 
--- The greatest version of a child newer than its parent, here and below, among the records of the first tree that the second lacks.
+-- The greatest version of a child newer than its parent, here and below, among the records of the first tree that the
+-- second lacks.
 abbrev pub newestChild : ℕ → List Slot → ℕ → ℕ → Place → ℕ
 newestChild zero s a b p = 0
 newestChild (suc n) s a b p =
@@ -80,10 +83,12 @@ metAt (suc n) s a b p w q =
 unfoldable pub rootVersion : List Slot → ℕ → ℕ
 rootVersion s v = versionOf (sourceRoot s v)
 
--- No version before this one can begin a run: it is the greatest version of a child newer than its parent, in all trees of the run.
+-- No version before this one can begin a run: it is the greatest version of a child newer than its parent, in all trees
+-- of the run.
 abbrev pub floor : List Slot → ℕ → ℕ → ℕ
 floor s first zero = newestChild 256 s (rootVersion s first) 0 []
-floor s first (suc more) = max (floor s (suc first) more) (newestChild 256 s (rootVersion s first) (rootVersion s (suc first)) [])
+floor s first (suc more) =
+    max (floor s (suc first) more) (newestChild 256 s (rootVersion s first) (rootVersion s (suc first)) [])
 
 module _ (leafHash innerHash : Bytes → Bytes → Bytes) where
   -- A child beside another is missing, or found with the stored hash and no lone leaf.
@@ -97,13 +102,14 @@ module _ (leafHash innerHash : Bytes → Bytes → Bytes) where
   bodyRight s p (innerBody l r) =
       linked (find (l .version) (longer left p) s) l r && linked (find (r .version) (longer right p) s) r l
 
-  -- No node was asked for, or it is found and right by itself, and each of its counts is what the record found as that child says (2026-09).
+  -- No node was asked for, or it is found and right by itself, and each of its counts is what the record found as that
+  -- child says (2026-09).
   abbrev pub recordRight : List Slot → ℕ → Place → Option Record → Bool
   recordRight s v p none = eqb v 0
   recordRight s v p (some r) = bodyRight s p (r .body) && countsAre counted (r .counts) (countsBy s p (r .body))
 
-  -- The node of version a joins that of version b in the next version's tree, at a place n bits short of a key, and so does all below: what
-  -- the first tree alone has is right, what the second alone has is of the version `next`.
+  -- The node of version a joins that of version b in the next version's tree, at a place n bits short of a key, and so
+  -- does all below: what the first tree alone has is right, what the second alone has is of the version `next`.
   abbrev pub joinAt : ℕ → List Slot → ℕ → ℕ → ℕ → Place → Bool
   joinAt zero s next a b p = parted (eqb a b) ((eqb b 0 || eqb b next) && recordRight s a p (find a p s)) (λ c. true)
   joinAt (suc n) s next a b p =
@@ -112,12 +118,14 @@ module _ (leafHash innerHash : Bytes → Bytes → Bytes) where
 
   -- A version has a root, joins the next tree, whose root has version b, and begins no run too early.
   unfoldable pub joinsNext : List Slot → ℕ → ℕ → ℕ → Bool
-  joinsNext s v b lowest = not (eqb (rootVersion s v) 0) && (joinAt 256 s (suc v) (rootVersion s v) b [] && leb lowest v)
+  joinsNext s v b lowest =
+      not (eqb (rootVersion s v) 0) && (joinAt 256 s (suc v) (rootVersion s v) b [] && leb lowest v)
 
   -- A run, from its last version backwards: each version is compared with the next one alone.
   abbrev pub runTest : List Slot → ℕ → ℕ → Bool
   runTest s first zero = joinsNext s first 0 (floor s first 0)
-  runTest s first (suc more) = runTest s (suc first) more && joinsNext s first (rootVersion s (suc first)) (floor s first (suc more))
+  runTest s first (suc more) =
+      runTest s (suc first) more && joinsNext s first (rootVersion s (suc first)) (floor s first (suc more))
 
   -- From the run of more + 1 versions that begins k after oldest, back as far as versions join: the first version.
   abbrev pub backFrom : List Slot → ℕ → ℕ → ℕ → ℕ

@@ -1,5 +1,5 @@
--- Document 02, request 2026-08, over the bytes of a source: whether a version joins the next one's tree. No public promise reaches this file.
--- Assumes nothing.
+-- Document 02, request 2026-08, over the bytes of a source: whether a version joins the next one's tree. No public
+-- promise reaches this file. Assumes nothing.
 use Prim.Native.Nat.{ℕ, _≤_, _<_, max}
 use mathlib.Core.Path.{_≡_}
 use mathlib.Core.Bool.{Bool, true, false}
@@ -11,7 +11,8 @@ use Rattle.rescue_rules.specs.Joining.{rootVersion, newestChild, joinAt}
 use Rattle.rescue_step.specs.declared.Stepped as declared
 use Rattle.rescue_step.specs.declared.Stepped.the-variants.{No, Yes}
 
--- The tree of a root of version a joins that of a root of version b, and the greatest version of a child newer than its parent.
+-- The tree of a root of version a joins that of a root of version b, and the greatest version of a child newer than its
+-- parent.
 unfoldable pub joinsTop : Bytes → ℕ → ℕ → ℕ → Bool
 joinsTop s next a b = joinAt leafHash innerHash 256 (storeOf s .slots) next a b []
 

@@ -1,5 +1,5 @@
--- The words of a block, and the rounds as the code goes through them: it holds sixteen words of the message schedule at a time.
--- `proofs/Rolling.antt` shows that this comes to FIPS's rounds. Assumes nothing.
+-- The words of a block, and the rounds as the code goes through them: it holds sixteen words of the message schedule at
+-- a time. `proofs/Rolling.antt` shows that this comes to FIPS's rounds. Assumes nothing.
 use Prim.Native.Nat.{ℕ, zero, suc, _+_}
 use lib.ListN.{getD}
 use Rattle.terms.specs.Bits.{Bytes}

@@ -1,5 +1,5 @@
--- SHA-256 after FIPS 180-4 from section 4.2.2 on, in its order and its names, for a message of whole bytes. What comes before, sums, rotations and the
--- six functions, is in `sha256_words`. Assumes nothing.
+-- SHA-256 after FIPS 180-4 from section 4.2.2 on, in its order and its names, for a message of whole bytes. What comes
+-- before, sums, rotations and the six functions, is in `sha256_words`. Assumes nothing.
 use Prim.Native.Nat.{ℕ, zero, suc, _+_, _*_, _-_, _/_, _%_, _^_}
 use mathlib.Core.Bool.{cond}
 use mathlib.Core.List.{List, [], _∷_, _++_}
@@ -23,12 +23,13 @@ K =
     0x748f82ee ∷ 0x78a5636f ∷ 0x84c87814 ∷ 0x8cc70208 ∷ 0x90befffa ∷ 0xa4506ceb ∷ 0xbef9a3f7 ∷ 0xc67178f2 ∷
     []
 
--- 5.1.1: the bit 1, which begins the byte 128, and as few zero bytes as bring the message to 56 bytes beyond whole blocks of 64.
+-- 5.1.1: the bit 1, which begins the byte 128, and as few zero bytes as bring the message to 56 bytes beyond whole
+-- blocks of 64.
 abbrev pub marked : Bytes → Bytes
 marked m = m ++ (128 ∷ replicate ((119 - length m % 64) % 64) 0)
 
--- 5.1.1: the padded message ends with the message's number of bits in 64 bits. FIPS hashes no message of 2 ^ 64 bits or more; of such a
--- message, which no machine holds, this takes the number modulo 2 ^ 64.
+-- 5.1.1: the padded message ends with the message's number of bits in 64 bits. FIPS hashes no message of 2 ^ 64 bits or
+-- more; of such a message, which no machine holds, this takes the number modulo 2 ^ 64.
 unfoldable pub padded : Bytes → Bytes
 padded m = marked m ++ big 8 (length m * 8)
 
@@ -59,7 +60,8 @@ abbrev pub W : (ℕ → ℕ) → ℕ → List ℕ
 W m zero = []
 W m (suc t) =
     let w = W m t in
-    w ++ (cond (ltb t 16) (m t) (scheduled (getD w (t - 2) 0) (getD w (t - 7) 0) (getD w (t - 15) 0) (getD w (t - 16) 0)) ∷ [])
+    w ++ (cond (ltb t 16) (m t) (scheduled (getD w (t - 2) 0) (getD w (t - 7) 0) (getD w (t - 15) 0)
+    (getD w (t - 16) 0)) ∷ [])
 
 -- 6.2.2, 3: the two sums of a round, with its constant k and its word w.
 abbrev pub T₁ : State → ℕ → ℕ → ℕ
@@ -111,7 +113,8 @@ hashValue l (suc i) = compressed (hashValue l i) (M l i)
 -- 6.2.2: the message digest is the last hash value, word after word.
 abbrev pub stateBytes : State → Bytes
 stateBytes s =
-    big 4 (s .a) ++ (big 4 (s .b) ++ (big 4 (s .c) ++ (big 4 (s .d) ++ (big 4 (s .e) ++ (big 4 (s .f) ++ (big 4 (s .g) ++ big 4 (s .h)))))))
+    big 4 (s .a) ++ (big 4 (s .b) ++
+    (big 4 (s .c) ++ (big 4 (s .d) ++ (big 4 (s .e) ++ (big 4 (s .f) ++ (big 4 (s .g) ++ big 4 (s .h)))))))
 
 unfoldable pub sha256 : Bytes → Bytes
 sha256 m = stateBytes (hashValue (padded m) (length (padded m) / 64))

@@ -2,7 +2,8 @@
 use Prim.Native.Nat.{ℕ}
 use Rattle.sha256.specs.declared.Words.{Words}
 
--- The second block, whose first word has the message's last byte and the byte 128: then zeros, and 520, the message's number of bits.
+-- The second block, whose first word has the message's last byte and the byte 128: then zeros, and 520, the message's
+-- number of bits.
 abbrev pub secondBlock : ℕ → Words
 secondBlock k =
     record {

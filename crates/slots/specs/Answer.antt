@@ -1,5 +1,5 @@
--- Document 01, 'Forms to follow': what a slot that was read says, case by case; its hashes are four numbers, its key, value and counts stay in
--- its bytes. Assumes nothing.
+-- Document 01, 'Forms to follow': what a slot that was read says, case by case; its hashes are four numbers, its key,
+-- value and counts stay in its bytes. Assumes nothing.
 use mathlib.Core.Path.{_≡_}
 use Rattle.terms.specs.Bits.{Bytes}
 use Rattle.terms.specs.Fields.{slice}

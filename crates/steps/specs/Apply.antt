@@ -29,6 +29,11 @@ module _ (leafHash innerHash : Bytes → Bytes → Bytes) where
       cond (ltb (freeSlots (st .slots)) (length (o .fresh)))
       (refuse 7 st)
       (record {
-        answer = accepted (record { version = new; root = hash leafHash innerHash (unversioned (o .node)); count = length (o .fresh) });
+        answer = accepted (record {
+          version = new;
+          root = hash leafHash innerHash (unversioned (o .node));
+          count =
+              length (o .fresh);
+        });
         store = stepped new batch st;
       })

@@ -1,5 +1,6 @@
--- Document 01, 'The tree of a set of grants': the algorithm of source document 000, on trees. 'The step at a node, the step at an inner
--- node and the step at a child call each other. Each child is handed its own run of the batch.' Assumes nothing.
+-- Document 01, 'The tree of a set of grants': the algorithm of source document 000, on trees. 'The step at a node, the
+-- step at an inner node and the step at a child call each other. Each child is handed its own run of the batch.'
+-- Assumes nothing.
 use Prim.Native.Nat.{ℕ, zero, suc}
 use mathlib.Core.Bool.{Bool, true, false, cond, not, _&&_, Bool·beq}
 use mathlib.Core.List.{List, [], _∷_, _++_}
@@ -27,8 +28,8 @@ pub record Node : Type 0 where
   pub version : ℕ
   pub place : Place
 
--- 'An outcome carries the node that now stands there', and what is strictly below it: the new records in the order of placing, and the old
--- nodes that end. What becomes of the node itself is for its parent to say.
+-- 'An outcome carries the node that now stands there', and what is strictly below it: the new records in the order of
+-- placing, and the old nodes that end. What becomes of the node itself is for its parent to say.
 pub record Outcome : Type 0 where
   pub change : Change
   pub node : VTree
@@ -102,7 +103,8 @@ byChildren (vinner v l r) t nothing lone both = both
 abbrev pub Step : Type 0
 Step = Place → VTree → List Ask → Outcome
 
--- The step at a child: without a run it is unchanged, and not looked into; with one it is the step at the node, which grows where none is.
+-- The step at a child: without a run it is unchanged, and not looked into; with one it is the step at the node, which
+-- grows where none is.
 abbrev pub stepChild : Step → Step
 stepChild node p t [] = outcome unchanged t
 stepChild node p t (a ∷ asks) = node p t (a ∷ asks)
@@ -119,7 +121,8 @@ module _ (leafHash innerHash : Bytes → Bytes → Bytes) (new : ℕ) where
   abbrev pub fork : Place → Outcome → Outcome → List Node → Outcome
   fork p a b ending =
       above updated (vinner new (a .node) (b .node)) a b
-      (placesAt leafHash innerHash (a .change) (longer left p) (a .node) ++ placesAt leafHash innerHash (b .change) (longer right p) (b .node))
+      (placesAt leafHash innerHash (a .change) (longer left p) (a .node) ++
+      placesAt leafHash innerHash (b .change) (longer right p) (b .node))
       ending
 
   -- By the grants that are to grow: none, no node; one, a leaf; two or more, an inner node.
@@ -128,14 +131,15 @@ module _ (leafHash innerHash : Bytes → Bytes → Bytes) (new : ℕ) where
   growBy p (g ∷ []) child = outcome updated (vleaf new g)
   growBy p (g ∷ h ∷ gs) child = fork p (child left) (child right) []
 
-  -- 'A run of inserts with no node there grows a subtree; at a leaf, with the leaf if it stays.' The place is n bits short of a key; where
-  -- n is 0, no two keys begin with it.
+  -- 'A run of inserts with no node there grows a subtree; at a leaf, with the leaf if it stays.' The place is n bits
+  -- short of a key; where n is 0, no two keys begin with it.
   unfoldable pub grow : ℕ → Place → Option Grant → List Ask → Outcome
   grow zero p stays asks = growBy p (toGrow stays asks) (λ b. outcome unchanged vnone)
   grow (suc n) p stays asks =
       growBy p (toGrow stays asks) (λ b. grow n (longer b p) (leafOn (length p) b stays) (run (length p) b asks))
 
-  -- At a leaf, by what the run asks for its key and inserts beside it; an insert of the value already there is no change.
+  -- At a leaf, by what the run asks for its key and inserts beside it; an insert of the value already there is no
+  -- change.
   abbrev pub leafBy : ℕ → Grant → Option Ask → List Grant → (Option Grant → Outcome) → Outcome
   leafBy v g none [] grown = outcome unchanged (vleaf v g)
   leafBy v g none (h ∷ hs) grown = grown (some g)
@@ -148,8 +152,8 @@ module _ (leafHash innerHash : Bytes → Bytes → Bytes) (new : ℕ) where
   unfoldable pub stepLeaf : ℕ → Place → ℕ → Grant → List Ask → Outcome
   stepLeaf n p v g asks = leafBy v g (ownAsk (g .key) asks) (otherInserts (g .key) asks) (λ stays. grow n p stays asks)
 
-  -- At an inner node (v, p) above l and r, by the outcomes at its children: both unchanged, it is unchanged. A lone leaf moves up, and its
-  -- old record retires though it be unchanged.
+  -- At an inner node (v, p) above l and r, by the outcomes at its children: both unchanged, it is unchanged. A lone
+  -- leaf moves up, and its old record retires though it be unchanged.
   unfoldable pub innerBy : Place → ℕ → VTree → VTree → Outcome → Outcome → Outcome
   innerBy p v l r a b =
       let ending : List Node = nodeAt (longer left p) l ++ nodeAt (longer right p) r in

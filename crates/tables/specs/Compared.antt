@@ -1,5 +1,6 @@
--- The rows of the table of comparisons, document 02, request 2026-01. The keys of the tables part within their first eight bits, so that the
--- places visited from nine bits above the end of a place are those visited from a whole key's. Assumes nothing.
+-- The rows of the table of comparisons, document 02, request 2026-01. The keys of the tables part within their first
+-- eight bits, so that the places visited from nine bits above the end of a place are those visited from a whole key's.
+-- Assumes nothing.
 use Prim.Native.Nat.{ℕ}
 use mathlib.Core.Path.{_≡_}
 use mathlib.Core.List.{List, []}
@@ -16,7 +17,8 @@ pub data Comparison : Type 0 where
 
 abbrev pub ComparisonHolds : Comparison → Type 0
 ComparisonHolds (comparison st first second places listed) =
-    (visited 9 [] (treeAtVersion st first) (treeAtVersion st second) ≡ places) × (items (changesOf st first second) ≡ listed)
+    (visited 9 [] (treeAtVersion st first) (treeAtVersion st second) ≡ places) ×
+    (items (changesOf st first second) ≡ listed)
 
 unfoldable pub compared : Unit {0}
 unfolding changesOf noDeeper longer

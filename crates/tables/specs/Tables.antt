@@ -7,7 +7,21 @@ use lib.ListN.{replicate}
 use Rattle.terms.specs.declared.Form.the-variants.{Counted as counted}
 use Rattle.terms.specs.Bits.{Bytes, Place, pack}
 use Rattle.terms.specs.Fields.{le}
-use Rattle.terms.specs.Records.{Ask, Slot, free, used, spoiled, leafBody, innerBody, child, tally, noTally, Grant, Store, Proof}
+use Rattle.terms.specs.Records.{
+  Ask,
+  Slot,
+  free,
+  used,
+  spoiled,
+  leafBody,
+  innerBody,
+  child,
+  tally,
+  noTally,
+  Grant,
+  Store,
+  Proof,
+}
 use Rattle.meaning.specs.Calls.{Answer, refused, accepted, Applied, apply, prune}
 use Rattle.meaning.specs.Reading.{Verdict, readKey, readRoot}
 use Rattle.meaning.specs.Counting.{readNumber, readPosition}
@@ -22,7 +36,14 @@ leafSlot p v r k x = used (record { place = p; version = v; retired = r; body = 
 
 abbrev pub innerSlot : Place → ℕ → ℕ → ℕ → Bytes → ℕ → Bytes → ℕ → ℕ → Slot
 innerSlot p v r lv lh rv rh lc rc =
-    used (record { place = p; version = v; retired = r; body = innerBody (child lv lh) (child rv rh); counts = tally lc rc })
+    used (record {
+      place = p;
+      version = v;
+      retired = r;
+      body = innerBody (child lv lh) (child rv rh);
+      counts =
+          tally lc rc;
+    })
 
 -- A slot off form, with these bit count, bits, version and retired-since fields.
 abbrev pub spoiltSlot : ℕ → Place → ℕ → ℕ → Slot

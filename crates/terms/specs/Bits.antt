@@ -1,5 +1,5 @@
--- Document 01, 'Bytes' and the first lines of 'The tree of a set of grants': byte strings, keys, places, and the order of keys.
--- Assumes nothing.
+-- Document 01, 'Bytes' and the first lines of 'The tree of a set of grants': byte strings, keys, places, and the order
+-- of keys. Assumes nothing.
 use Prim.Native.Nat.{ℕ, zero, suc, _+_, _*_, _<_, _/_, _%_}
 use mathlib.Core.Path.{_≡_}
 use mathlib.Core.Bool.{Bool, true, false, cond, not, _&&_, _||_, Bool·beq}

@@ -1,10 +1,26 @@
--- Document 01, 'Bytes': which records have a form in bytes. A number has four bytes; a child's version 0 means no child, and its hash is
--- then zero; at least one child is present. A count has four bytes (2026-09). Assumes nothing.
+-- Document 01, 'Bytes': which records have a form in bytes. A number has four bytes; a child's version 0 means no
+-- child, and its hash is then zero; at least one child is present. A count has four bytes (2026-09). Assumes nothing.
 use Prim.Native.Nat.{ℕ, _≤_}
 use mathlib.Core.Path.{_≡_}
 use lib.ListN.{length}
 use Rattle.terms.specs.Bits.{Whole32}
-use Rattle.terms.specs.Records.{Grant, Ask, insert, delete, Child, Body, leafBody, innerBody, Tally, noTally, Record, Form, plain, counted, zeros}
+use Rattle.terms.specs.Records.{
+  Grant,
+  Ask,
+  insert,
+  delete,
+  Child,
+  Body,
+  leafBody,
+  innerBody,
+  Tally,
+  noTally,
+  Record,
+  Form,
+  plain,
+  counted,
+  zeros,
+}
 
 -- The largest number of four bytes.
 abbrev pub top32 : ℕ

@@ -1,5 +1,5 @@
--- Document 01, 'Bytes', slot: the fields at the head of a slot that leaf and inner records share, as raw bytes, whatever the slot holds.
--- Assumes nothing.
+-- Document 01, 'Bytes', slot: the fields at the head of a slot that leaf and inner records share, as raw bytes,
+-- whatever the slot holds. Assumes nothing.
 use Prim.Native.Nat.{ℕ}
 use Rattle.terms.specs.Bits.{Bytes}
 use Rattle.terms.specs.Fields.{field, slice}

@@ -1,12 +1,13 @@
--- Document 01, 'Bytes': what the records say, apart from their bytes. Grants, what a batch asks for, slots and stores, and proofs.
--- Assumes nothing.
+-- Document 01, 'Bytes': what the records say, apart from their bytes. Grants, what a batch asks for, slots and stores,
+-- and proofs. Assumes nothing.
 use Prim.Native.Nat.{ℕ}
 use mathlib.Core.Bool.{true, false}
 use mathlib.Core.List.{List}
 use mathlib.Core.Option.{Option}
 use lib.ListN.{replicate}
 use Rattle.terms.specs.Bits.{Bytes, Side, Place}
--- The form of a store is the code's own type: the plain one of document 01, whose records hold no counts, or the counted one of 2026-09.
+-- The form of a store is the code's own type: the plain one of document 01, whose records hold no counts, or the
+-- counted one of 2026-09.
 pub use Rattle.terms.specs.declared.Form.{Form}
 pub use Rattle.terms.specs.declared.Form.the-variants.{Plain as plain, Counted as counted}
 
@@ -39,13 +40,14 @@ pub record Child : Type 0 where
 abbrev pub child : ℕ → Bytes → Child
 child v h = record { version = v; hash = h }
 
--- What a record holds beside its node (version, place): a leaf its key and value, an inner node its left and right child.
+-- What a record holds beside its node (version, place): a leaf its key and value, an inner node its left and right
+-- child.
 pub data Body : Type 0 where
   leafBody : Bytes → Bytes → Body
   innerBody : Child → Child → Body
 
--- What an inner record says of the numbers of leaves below its left and its right child (2026-09). They stand beside the body: no hash
--- covers them, and no tree is read by them.
+-- What an inner record says of the numbers of leaves below its left and its right child (2026-09). They stand beside
+-- the body: no hash covers them, and no tree is read by them.
 pub record Tally : Type 0 where
   pub leftward : ℕ
   pub rightward : ℕ

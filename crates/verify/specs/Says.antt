@@ -1,4 +1,5 @@
--- Document 01, 'Forms to follow': what each case of the answer of the code says. No public promise reaches this file. Assumes nothing.
+-- Document 01, 'Forms to follow': what each case of the answer of the code says. No public promise reaches this file.
+-- Assumes nothing.
 use Rattle.meaning.specs.Calls.{Answer, refused, accepted}
 use Rattle.meaning.specs.Reading.{Verdict, present, absent}
 use Rattle.hash.specs.Hash.{hashBytes}

@@ -1,4 +1,5 @@
--- Document 01, 'Checking', with the numbers of refusal 10, 11 and 12: what the proof check answers to any bytes. Assumes nothing.
+-- Document 01, 'Checking', with the numbers of refusal 10, 11 and 12: what the proof check answers to any bytes.
+-- Assumes nothing.
 use Prim.Native.Nat.{ℕ}
 use mathlib.Core.Path.{_≡_}
 use mathlib.Core.Bool.{cond, _&&_}

@@ -1,4 +1,5 @@
--- Document 01, 'Checking', of neighbours where they lie in bytes: each part of when they show that a key is absent. Assumes nothing.
+-- Document 01, 'Checking', of neighbours where they lie in bytes: each part of when they show that a key is absent.
+-- Assumes nothing.
 use mathlib.Core.Bool.{Bool, not, _&&_}
 use mathlib.Core.Option.{some}
 use Rattle.terms.specs.Bits.{Bytes, Side}

@@ -1,5 +1,5 @@
--- A presence proof where it lies in bytes, by itself or inside an absence proof: the message of its leaf and of each step, where its steps lead, and
--- what is entered of it. Assumes nothing.
+-- A presence proof where it lies in bytes, by itself or inside an absence proof: the message of its leaf and of each
+-- step, where its steps lead, and what is entered of it. Assumes nothing.
 use Prim.Native.Nat.{ℕ, _+_, _*_, _-_, _<_}
 use mathlib.Core.Path.{_≡_}
 use lib.ListN.{drop}
@@ -30,7 +30,8 @@ Lies p a = Room (stepCount (from p a)) (from p a)
 abbrev pub digestOf : Message → Bytes
 digestOf m = sha256 (message (m .kind) (m .left) (m .right))
 
--- The hash of a record's leaf, and of the parent that step i of a record leads to from hash h, where the record has step i.
+-- The hash of a record's leaf, and of the parent that step i of a record leads to from hash h, where the record has
+-- step i.
 abbrev pub LeafHash : Bytes → Bytes → Type 0
 LeafHash x hash = hash ≡ leafHash (slice 8 32 x) (slice 40 32 x)
 

@@ -1,8 +1,8 @@
--- Document 01, 'Reading and proving', and document 02, 2026-07, in their words, over the slots of any store. 'The walk follows the key's bits; a
--- present child not found, or a found leaf whose key doesn't begin with its place, gives 3. It ends at a leaf or at a missing child. The
--- descent to a neighbour gives 3 for the same two causes.' 'In reads, a present child of the second kind now gives 17 and the third stays 3,
--- with the slot number beside it. A root lookup of the third kind also gives 3. The first met is given: walk, left descent, right descent.'
--- Assumes nothing.
+-- Document 01, 'Reading and proving', and document 02, 2026-07, in their words, over the slots of any store. 'The walk
+-- follows the key's bits; a present child not found, or a found leaf whose key doesn't begin with its place, gives 3.
+-- It ends at a leaf or at a missing child. The descent to a neighbour gives 3 for the same two causes.' 'In reads, a
+-- present child of the second kind now gives 17 and the third stays 3, with the slot number beside it. A root lookup of
+-- the third kind also gives 3. The first met is given: walk, left descent, right descent.' Assumes nothing.
 use Prim.Native.Nat.{ℕ, _<_, _≤_}
 use mathlib.Core.Path.{_≡_}
 use mathlib.Core.Logic.{_⊎_}
@@ -82,8 +82,8 @@ pub data Stop : Type 0 where
   leaf : Bytes → Bytes → Stop
   missing : Stop
 
--- The way from the child c at the place p, before which some inner records were passed, ends so; in the end these have been passed, the
--- deepest first.
+-- The way from the child c at the place p, before which some inner records were passed, ends so; in the end these have
+-- been passed, the deepest first.
 pub data Way (st : Store) (rule : Rule) : List Inner → Place → Child → List Inner → Stop → Type 0 where
   -- a missing child
   no-child : {before : List Inner} {p : Place} {c : Child} → c .version ≡ 0 → Way st rule before p c before missing
@@ -94,15 +94,18 @@ pub data Way (st : Store) (rule : Rule) : List Inner → Place → Child → Lis
   spoilt : {before : List Inner} {p : Place} {c : Child} (i : ℕ) → Present c → NoMatch st (c .version) p →
       SpoiltIn st (Agrees (c .version) p) i → Way st rule before p c before (lost (spoiltRecord i))
   -- a found leaf whose key doesn't begin with its place
-  misplaced : {before : List Inner} {p : Place} {c : Child} (k x : Bytes) → Present c → Found st (c .version) p (leafBody k x) →
+  misplaced : {before : List Inner} {p : Place} {c : Child} (k x : Bytes) → Present c →
+      Found st (c .version) p (leafBody k x) →
       begins p k ≡ false → Way st rule before p c before (lost strayLeaf)
   -- a found leaf whose key does
-  at-leaf : {before : List Inner} {p : Place} {c : Child} (k x : Bytes) → Present c → Found st (c .version) p (leafBody k x) →
+  at-leaf : {before : List Inner} {p : Place} {c : Child} (k x : Bytes) → Present c →
+      Found st (c .version) p (leafBody k x) →
       begins p k ≡ true → Way st rule before p c before (leaf k x)
   -- a found inner record, and on from there
   onward : {before : List Inner} {p : Place} {c : Child} (l r : Child) {passed : List Inner} {end : Stop} → Present c →
       Found st (c .version) p (innerBody l r) →
-      Way st rule (inner p l r ∷ before) (longer (rule p l r) p) (childOn (rule p l r) l r) passed end → Way st rule before p c passed end
+      Way st rule (inner p l r ∷ before) (longer (rule p l r) p) (childOn (rule p l r) l r) passed end →
+      Way st rule before p c passed end
 
 -- The root of version v is found, with this body.
 abbrev pub Root : Store → ℕ → Body → Type 0
@@ -120,8 +123,8 @@ pub data Walk (st : Store) (v : ℕ) (k : Bytes) : List Inner → Stop → Type 
 abbrev pub TurnedAway : Side → Bytes → Inner → Type 0
 TurnedAway b k i = (bit (length (i .place)) k ≡ not b) × Present (childOn b (i .left) (i .right))
 
--- The descent to the neighbour on side b is stopped: from the deepest such record, into that child, then to the other side where there is a
--- child.
+-- The descent to the neighbour on side b is stopped: from the deepest such record, into that child, then to the other
+-- side where there is a child.
 pub record DescentLost (st : Store) (k : Bytes) (passed : List Inner) (b : Side) (t : Trouble) : Type 0 where
   -- such a record, and none deeper
   pub deeper : List Inner
@@ -156,18 +159,22 @@ EndIsKey k missing = ⊥
 abbrev pub KeyStopped : Store → ℕ → Bytes → Trouble → Type 0
 KeyStopped st v k t = (passed : List Inner) × Walk st v k passed (lost t)
 
--- Where the walk ends, the descent to the neighbour on side b is stopped by t; there is none where the leaf at the end is that neighbour.
-pub record SideStopped (st : Store) (k : Bytes) (passed : List Inner) (end : Stop) (b : Side) (t : Trouble) : Type 0 where
+-- Where the walk ends, the descent to the neighbour on side b is stopped by t; there is none where the leaf at the end
+-- is that neighbour.
+pub record SideStopped (st : Store) (k : Bytes) (passed : List Inner) (end : Stop) (b : Side) (t : Trouble) :
+    Type 0 where
   pub other : EndIsBeyond b k end → ⊥
   pub descent : DescentLost st k passed b t
 
--- Proving is stopped by t, the first that is met: the walk's; else, if it doesn't end at the key, the left descent's; else the right one's.
+-- Proving is stopped by t, the first that is met: the walk's; else, if it doesn't end at the key, the left descent's;
+-- else the right one's.
 pub data ProofStopped (st : Store) (v : ℕ) (k : Bytes) (t : Trouble) : Type 0 where
   walk-stopped : KeyStopped st v k t → ProofStopped st v k t
   left-stopped : {passed : List Inner} {end : Stop} → Walk st v k passed end → Ended end → (EndIsKey k end → ⊥) →
       SideStopped st k passed end left t → ProofStopped st v k t
   right-stopped : {passed : List Inner} {end : Stop} → Walk st v k passed end → Ended end → (EndIsKey k end → ⊥) →
-      ((u : Trouble) → SideStopped st k passed end left u → ⊥) → SideStopped st k passed end right t → ProofStopped st v k t
+      ((u : Trouble) → SideStopped st k passed end left u → ⊥) → SideStopped st k passed end right t →
+      ProofStopped st v k t
 
 -- A root read is stopped by t: the root is spoilt.
 pub data RootStopped (st : Store) (v : ℕ) : Trouble → Type 0 where
