@@ -652,7 +652,7 @@ pub fn named(seed: u64, tally: &mut Tally) {
     let used = stack::of_apply().into_iter().map(|(_, used)| used).max().unwrap();
     println!("stack apply {used}");
     tally.equal("apply's stack is below 256 KiB", 0, used < stack::BAR, true);
-    for (call, used) in stack::of_check_and_prune() {
+    for (call, used) in stack::of_check_and_prune().into_iter().chain([("changes", stack::of_changes())]) {
         println!("stack {call} {used}");
         tally.equal("its stack is below 256 KiB", 0, used < stack::BAR, true);
     }

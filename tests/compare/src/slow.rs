@@ -206,8 +206,8 @@ fn checked(processor: &dyn Fn(&mut dyn FnMut()) -> f64, s: &[u8]) -> f64 {
     best(5, processor, &mut || assert_eq!(ours::check(s), Ok(())))
 }
 
-/// Prints each figure beside its bar, and gives how many keep it and how many don't.
-pub fn bars(processor: &dyn Fn(&mut dyn FnMut()) -> f64) -> (usize, usize) {
+/// Prints each figure beside its bar, that many times over, and gives how many keep it and how many don't.
+pub fn bars(processor: &dyn Fn(&mut dyn FnMut()) -> f64, times: f64) -> (usize, usize) {
     let mut random = Random(47);
     let stores = [
         ("two-ways-of-255-records", two_ways(&mut random)),
@@ -247,7 +247,7 @@ pub fn bars(processor: &dyn Fn(&mut dyn FnMut()) -> f64) -> (usize, usize) {
         let changes = compared(processor, &s, beside);
         let on = format!("{name}-{order}, {} used, {} versions", cases::taken(&s), latest + 1 - oldest);
         for (what, took, bar) in [("palette-256-keys", palette, PALETTE_BAR), ("rescue", rescue, RESCUE_BAR), ("changes", changes, CHANGES_BAR)] {
-            keeps.push(within(what, took, check, bar, &on));
+            keeps.push(within(what, took, check, times * bar, &on));
         }
     }
     let oldest = u32::MAX - 2;
@@ -257,7 +257,7 @@ pub fn bars(processor: &dyn Fn(&mut dyn FnMut()) -> f64) -> (usize, usize) {
         let shuffled = cases::scattered(&mut random, &s, CAPACITY - cases::taken(&s));
         for (order, s) in [("in-order", s), ("shuffled", shuffled)] {
             let took = compared(processor, &s, order == "in-order");
-            keeps.push(within("changes", took, checked(processor, &s), CHANGES_BAR, &format!("{name}-{order}, {} used", cases::taken(&s))));
+            keeps.push(within("changes", took, checked(processor, &s), times * CHANGES_BAR, &format!("{name}-{order}, {} used", cases::taken(&s))));
         }
     }
     let kept = keeps.iter().filter(|k| **k).count();

@@ -1,7 +1,7 @@
 //! The most stack that a call takes.
 
 use crate::cases;
-use second::bytes::{ask_bytes, Ask};
+use second::bytes::{ask_bytes, Ask, HEADER, SLOT};
 use second::{Bytes32, ZEROS};
 use std::hint::black_box;
 
@@ -131,11 +131,13 @@ fn deepest_two() -> Vec<u8> {
     s
 }
 
-/// A comparison's most.
-#[allow(dead_code)]
+/// A comparison's most: of a sound store, and of one that check refuses, which then has all of its arrays below the room lent to it.
 pub fn of_changes() -> usize {
     let s = deepest_two();
-    most(move || assert_eq!(crate::ours::changes(&s, 1, 2, u32::MAX, &mut vec![0; 288]), Ok(4)))
+    let mut harmed = s.clone();
+    harmed[HEADER + SLOT - 1] ^= 1;
+    let sound = most(move || assert_eq!(crate::ours::changes(&s, 1, 2, u32::MAX, &mut vec![0; 288]), Ok(4)));
+    sound.max(most(move || assert!(crate::ours::changes(&harmed, 1, 2, u32::MAX, &mut vec![0; 288]).is_err())))
 }
 
 /// The figures' most: two versions, what lives at one of them listed.

@@ -580,10 +580,10 @@ fn rescues() {
     }
 }
 
-/// Palettes, rescues and comparisons beside check on stores made to be slow. Fails above a bar.
-fn slows() {
+/// Palettes, rescues and comparisons beside check on stores made to be slow. Fails above a bar, or so many times it.
+fn slows(times: f64) {
     slow::pairs();
-    let (kept, broken) = slow::bars(&processor);
+    let (kept, broken) = slow::bars(&processor, times);
     println!("{kept} passed, {broken} failed");
     if broken != 0 {
         std::process::exit(1);
@@ -693,7 +693,7 @@ fn measured() {
         return tables();
     }
     if std::env::args().nth(1).as_deref() == Some("slow") {
-        return slows();
+        return slows(std::env::args().nth(2).map_or(1.0, |times| times.parse().unwrap()));
     }
     let mut random = Random(11);
     let proofs: Vec<_> = (0..1000).map(|_| path(&mut random, 20)).collect();
@@ -738,6 +738,6 @@ fn measured() {
     rescues();
     moves();
     tables();
-    slows();
+    slows(1.0);
     stacks();
 }
