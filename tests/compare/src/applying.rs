@@ -652,6 +652,11 @@ pub fn named(seed: u64, tally: &mut Tally) {
     let used = stack::of_apply().into_iter().map(|(_, used)| used).max().unwrap();
     println!("stack apply {used}");
     tally.equal("apply's stack is below 256 KiB", 0, used < stack::BAR, true);
+    let indexed = stack::of_indexed();
+    println!("stack apply-indexed {}", indexed.iter().map(|(_, used)| used).max().unwrap());
+    for (call, used) in &indexed {
+        tally.equal(&format!("the stack of {call} is below 256 KiB"), 0, *used < stack::BAR, true);
+    }
     for (call, used) in stack::of_check_and_prune().into_iter().chain([("changes", stack::of_changes())]) {
         println!("stack {call} {used}");
         tally.equal("its stack is below 256 KiB", 0, used < stack::BAR, true);

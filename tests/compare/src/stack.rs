@@ -213,3 +213,24 @@ pub fn of_apply() -> Vec<(String, usize)> {
     };
     deepest_batches().into_iter().map(each).collect()
 }
+
+/// Apply's with a table for each of those, and prune's and a palette's with a table.
+#[allow(dead_code)]
+pub fn of_indexed() -> Vec<(String, usize)> {
+    let tabled = |s: &[u8]| {
+        let mut table = vec![0; (s.len() - HEADER) / SLOT];
+        assert!(crate::ours::index(s, &mut table).is_ok());
+        table
+    };
+    let mut out = vec![];
+    for (name, s, b) in deepest_batches() {
+        let (next, table) = (cases::next(&s), tabled(&s));
+        out.push((format!("apply-indexed-{name}"), most(move || assert!(crate::ours::apply_indexed(&mut s.clone(), &mut table.clone(), next, &b).is_ok()))));
+    }
+    let (s, t) = (deepest_two(), deepest_two());
+    let (table, other) = (tabled(&s), tabled(&t));
+    out.push(("prune-indexed".into(), most(move || assert!(crate::ours::prune_indexed(&mut s.clone(), &mut table.clone(), 1).is_ok()))));
+    let list = ZEROS.repeat(8);
+    out.push(("palette-indexed".into(), most(move || assert!(crate::ours::palette_indexed(&t, &other, 2, &list, &mut vec![0; 8 * 17_080]).is_ok()))));
+    out
+}
