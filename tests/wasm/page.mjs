@@ -405,6 +405,7 @@ async function usable() {
   }
   await browser.send('Emulation.setEmulatedMedia', { features: [] });
   await browser.send('Emulation.setDeviceMetricsOverride', { width: 360, height: 740, deviceScaleFactor: 2, mobile: true });
+  await browser.until('document.documentElement.clientWidth === 360');
   tally.equal('on a phone nothing is wider than the page', await browser.ask('document.documentElement.scrollWidth <= 360'), true);
   await browser.send('Emulation.clearDeviceMetricsOverride');
 }
