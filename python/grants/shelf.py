@@ -7,7 +7,7 @@ import re
 from collections import OrderedDict
 from typing import Callable, Dict, Iterator, List, Mapping, NamedTuple, Optional, Sequence, Set, Tuple, Union
 
-from .library import PALETTE_KEYS, Bytes, Refused, as_bytes
+from .library import MOST_SLOTS, PALETTE_KEYS, Bytes, Refused, as_bytes
 from .store import Change, Store
 
 SHELF_BITS = 12
@@ -44,7 +44,7 @@ class _File(NamedTuple):
     name: str
 
 
-_NAME = re.compile(r"part-([0-9a-f]{3})-(0|[1-9][0-9]{0,9})-(0|[1-9][0-9]{0,9})-(0|[1-9][0-9]*)", re.ASCII)
+_NAME = re.compile(r"part-([0-9a-f]{3})-(0|[1-9][0-9]{0,9})-(0|[1-9][0-9]{0,9})-(0|[1-9][0-9]{0,4})", re.ASCII)
 
 
 def _file(name: str) -> Optional[_File]:
@@ -52,7 +52,7 @@ def _file(name: str) -> Optional[_File]:
     if not read:
         return None
     part, latest, oldest, grants = int(read[1], 16), int(read[2]), int(read[3]), int(read[4])
-    return _File(latest, oldest, grants, part, name) if max(latest, oldest) < 2**32 else None
+    return _File(latest, oldest, grants, part, name) if max(latest, oldest) < 2**32 and grants <= MOST_SLOTS else None
 
 
 def _bits(text: str, published: bool) -> Optional[int]:
@@ -77,7 +77,7 @@ def _of(part: Optional[int]) -> Iterator[None]:
 
 
 class Shelf:
-    """A shelf as its files were when it was opened: `files` gives, by their names, how to read them. Its list is checked at once, and each part when it is asked for; what a part says counts only
+    """A shelf as its files were when it was opened, to be opened again once it was written: `files` gives, by their names, how to read them. Its list is checked at once, and each part when it is asked for; what a part says counts only
     where it has the root that the list names. For one thread at a time."""
 
     def __init__(self, files: Mapping[str, Callable[[], bytes]]) -> None:

@@ -298,7 +298,7 @@ class Shelves(unittest.TestCase):
             changed = [part for part in range(3) if changes[part]]
             roots = {top(part): parts[part].apply(version, changes[part]).root for part in changed}
             listed.apply(version, {key: None if root == bytes(32) else root for key, root in roots.items()})
-        self.files = {"shelf": b"# A shelf\nbits 2\nslots 20\n", "list": listed.to_bytes(), "list.book": b"", "part-3": b"", "part-003-9-0-1": b"newer than the list"}
+        self.files = {"shelf": b"# A shelf\nbits 2\nslots 20\n", "list": listed.to_bytes(), "list.book": b"", "part-3": b"", "part-003-9-0-1": b"newer than the list", "part-001-5-0-16385": b"more than a store holds"}
         for part, store in enumerate(parts):
             self.files["part-%03x-%d-0-%d" % (part, store.latest, store.count(store.latest))] = store.to_bytes()
 
@@ -324,11 +324,10 @@ class Shelves(unittest.TestCase):
         shelf = self.shelf()
         for wanted, call, given in [(8, shelf.root, (7,)), (8, shelf.get, (7, A)), (12, shelf.get, (1, A[1:])), (12, shelf.palette, (1, [A] * 257)), (14, shelf.prove, (0, A)), (8, shelf.count, (7,)), (8, shelf.changes, (0, 7))]:
             self.assertEqual(number(call, *given), wanted)
-        files = {name: data for name, data in self.files.items() if re.match("part-00[012]", name)}
-        lost, other = next(name for name in files if name.startswith("part-001")), next(name for name in files if name.startswith("part-002"))
-        spoilt = bytearray(files[lost])
+        lost, other = "part-001-4-0-1", "part-002-6-0-2"
+        spoilt = bytearray(self.files[lost])
         spoilt[library.HEADER_BYTES] ^= 1
-        for data, why in [(None, "lost"), (files[other], "another root"), (bytes(spoilt), "sound"), (b"", "length")]:
+        for data, why in [(None, "lost"), (self.files[other], "another root"), (bytes(spoilt), "sound"), (b"", "length")]:
             shelf = self.shelf(**{lost: data})
             self.assertEqual((shelf.get(6, D), shelf.get(6, A)), (V, None))
             for call, given in [(shelf.get, (6, C)), (shelf.prove, (6, C)), (shelf.count, (6,)), (shelf.changes, (1, 6))]:
