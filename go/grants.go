@@ -5,7 +5,7 @@
 //
 //	cd go && CGO_CFLAGS=-I$PWD/../include CGO_LDFLAGS=$PWD/../target/native/libverify.a go build ./cmd/grants-verify
 //
-// The root must come from who signs it, the proof may come from anybody; docs/EDITOR.md says what an editor keeps so that a stale root is refused. Where the signed root is 32
+// The root must come from who signs it, the proof may come from anybody; docs/EDITOR.md says what an editor keeps so that a stale root is refused, and grants/statement does it. Where the signed root is 32
 // zero bytes nothing is granted, and no proof is needed.
 package grants
 

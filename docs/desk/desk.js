@@ -4,7 +4,7 @@ import { Refused, load, toHex, fromHex } from '../../js/grants.js';
 import { Shelf } from '../../js/shelf.js';
 import { Statement } from '../../js/statement.js';
 import { bookOf, latestAt, saidOf, shownText } from '../inspect/book.js';
-import { at, calledBy, counted, element, shortHex, tableOf } from '../inspect/elements.js';
+import { at, busyWith, calledBy, counted, element, shortHex, tableOf } from '../inspect/elements.js';
 import { filesIn, shelfIn } from './folder.js';
 
 const grants = await load(Uint8Array.from(atob(at('wasm').textContent.trim()), (c) => c.charCodeAt(0)));
@@ -209,7 +209,7 @@ function refresh() {
     at('about-statement').textContent = `The statement is of version ${statement.version}, made ${dateText(statement.made)}${statement.notAfter === null ? ', without a date' : `, good until ${dateText(statement.notAfter)}`}: this ${kindHeld()} ${has}. Its signature is not looked at here; the page that shows a proof checks it.`;
   }
   for (const id of ['who', 'changed', 'proof']) at(id).replaceChildren();
-  for (const id of ['who-said', 'changed-said']) at(id).textContent = '';
+  for (const id of ['who-said', 'changed-said', 'proof-said']) at(id).textContent = '';
   at('shown').hidden = true;
 }
 
@@ -309,12 +309,12 @@ asked('ask-proof', () => {
     sayProof('nothing', 'no proof', element('p', {}, error.message));
   }
 });
-for (const id of ['file', 'folder']) at(id).addEventListener('change', (event) => takeAll(Array.from(event.target.files, (file) => ({ path: file.webkitRelativePath || file.name, name: file.name, file }))));
+for (const id of ['file', 'folder']) at(id).addEventListener('change', (event) => busyWith(() => takeAll(Array.from(event.target.files, (file) => ({ path: file.webkitRelativePath || file.name, name: file.name, file })))));
 for (const kind of ['dragover', 'dragleave', 'drop']) {
   document.addEventListener(kind, (event) => {
     event.preventDefault();
     document.body.classList.toggle('over', kind === 'dragover');
-    if (kind === 'drop') takeAll(filesIn(event.dataTransfer));
+    if (kind === 'drop') busyWith(() => takeAll(filesIn(event.dataTransfer)));
   });
 }
 document.documentElement.dataset.ready = 'true';

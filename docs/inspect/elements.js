@@ -27,6 +27,18 @@ export function calledBy(book, sha256OfName, bytes) {
   return element('span', { class: 'named' }, element('bdi', {}, `“${shownText(name)}”`), ' ', digits, mark);
 }
 
+// Does work during which the page is busy, and tells who can't see it: what it then says is whole only when the work is done.
+let works = 0;
+export async function busyWith(work) {
+  const say = (more) => document.body.setAttribute('aria-busy', `${(works += more) > 0}`);
+  say(1);
+  try {
+    await work();
+  } finally {
+    say(-1);
+  }
+}
+
 export function tableOf(heads, rows) {
   const head = element('tr', {}, ...heads.map((text) => element('th', { scope: 'col' }, text)));
   const body = rows.map((cells) => element('tr', {}, ...cells.map((cell) => element('td', {}, cell))));

@@ -47,7 +47,7 @@ export class Held {
     at('page-no').textContent = '';
     at('store-title').textContent = `Store ${shownText(name)}`;
     for (const id of ['tree', 'versions', 'history']) at(id).replaceChildren();
-    at('history-said').textContent = '';
+    for (const id of ['history-said', 'sound']) at(id).textContent = '';
     this.#store?.close();
     this.#store = await this.#page.grants.open(bytes);
     try {

@@ -4,7 +4,7 @@ import { Refused, fromHex, load, toHex } from '../../js/grants.js';
 import { bookOf, shownText } from './book.js';
 import { MOST_BYTES, MOST_KEYS, keyIn, kindOf, proofsIn } from './files.js';
 import { faultsOf, hashesOf, proofOf } from './drawing.js';
-import { at, calledBy, counted, element, shortHex, tableOf } from './elements.js';
+import { at, busyWith, calledBy, counted, element, shortHex, tableOf } from './elements.js';
 import { Held } from './held.js';
 import { byHand, publicKeyOf, signatureCheck, signatureOf } from './signature.js';
 
@@ -406,12 +406,12 @@ at('by-number').addEventListener('submit', (event) => {
   event.preventDefault();
   held.openVersion(at('number').value.trim());
 });
-at('file').addEventListener('change', (event) => takeAll(event.target.files));
+at('file').addEventListener('change', (event) => busyWith(() => takeAll(event.target.files)));
 for (const kind of ['dragover', 'dragleave', 'drop']) {
   document.addEventListener(kind, (event) => {
     event.preventDefault();
     document.body.classList.toggle('over', kind === 'dragover');
-    if (kind === 'drop') takeAll(event.dataTransfer.files);
+    if (kind === 'drop') busyWith(() => takeAll(event.dataTransfer.files));
   });
 }
 document.documentElement.dataset.ready = 'true';

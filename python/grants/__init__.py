@@ -20,6 +20,7 @@ The root must come from who signs it, the proof may come from anybody. What a st
 
 from .library import Message, Refused, name, read_message, sha256, shelf_verify, verify, verify_many, verify_palette, verify_pocket, version, write_message
 from .refusals import REFUSALS
+from .shelf import Shelf, ShelfRefused
 from .statement import Seen, Statement, Verdict
 from .store import Applied, Change, Figures, Finding, Report, Rescued, Store, batch, move_back, move_over, rescue
 
@@ -34,6 +35,8 @@ __all__ = [
     "Report",
     "Rescued",
     "Seen",
+    "Shelf",
+    "ShelfRefused",
     "Statement",
     "Store",
     "Verdict",

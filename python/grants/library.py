@@ -42,7 +42,7 @@ class Refused(Exception):
         beside = "" if slot is None else "; the record in slot %d is spoilt" % slot
         super().__init__("refused with %d: %s%s" % (number, self.sentence, beside))
 
-    def __reduce__(self) -> Tuple[type, Tuple[int, Optional[int]]]:
+    def __reduce__(self) -> Tuple[type, Tuple[object, ...]]:
         return (Refused, (self.number, self.slot))
 
 

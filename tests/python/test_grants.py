@@ -5,7 +5,9 @@ import doctest
 import os
 import pickle
 import re
+import subprocess
 import sys
+import tempfile
 import threading
 import unittest
 
@@ -13,7 +15,7 @@ TOP = os.path.dirname(os.path.dirname(os.path.dirname(os.path.abspath(__file__))
 sys.path.insert(0, os.environ.get("GRANTS_PACKAGE", TOP + "/python"))
 
 import grants  # noqa: E402
-from grants import Change, Refused, Seen, Statement, Store, Verdict, batch, library, move_back, move_over, name, rescue, sha256, shelf_verify  # noqa: E402
+from grants import Change, Refused, Seen, Shelf, ShelfRefused, Statement, Store, Verdict, batch, library, move_back, move_over, name, rescue, sha256, shelf_verify  # noqa: E402
 from grants import verify, verify_many, verify_palette, verify_pocket, version  # noqa: E402
 
 
@@ -283,6 +285,89 @@ class Proofs(unittest.TestCase):
         self.assertEqual(sha256(b"abc").hex(), "ba7816bf8f01cfea414140de5dae2223b00361a396177a9cb410ff61f20015ad")
         self.assertEqual(sha256(b"").hex()[:8], "e3b0c442")
         self.assertEqual(name("chords sonata").hex()[:8], "7455075c")
+
+
+class Shelves(unittest.TestCase):
+    """A shelf of two bits: A in its part 0, B and C in 1, D and E in 2, nothing in 3."""
+
+    def setUp(self):
+        parts = [Store.format(400) for _ in range(3)]
+        listed = Store.format(40)
+        top = lambda part: bytes([part << 6]) + bytes(31)  # noqa: E731
+        for version, changes in [(1, [{A: V}, {B: V}, {}]), (4, [{}, {B: None, C: W}, {D: V}]), (6, [{A: None}, {}, {E: V}])]:
+            changed = [part for part in range(3) if changes[part]]
+            roots = {top(part): parts[part].apply(version, changes[part]).root for part in changed}
+            listed.apply(version, {key: None if root == bytes(32) else root for key, root in roots.items()})
+        self.files = {"shelf": b"# A shelf\nbits 2\nslots 20\n", "list": listed.to_bytes(), "list.book": b"", "part-3": b"", "part-003-9-0-1": b"newer than the list", "part-001-5-0-16385": b"more than a store holds"}
+        for part, store in enumerate(parts):
+            self.files["part-%03x-%d-0-%d" % (part, store.latest, store.count(store.latest))] = store.to_bytes()
+
+    def shelf(self, **other):
+        given = {name.replace("_", "-"): data for name, data in other.items()}
+        return Shelf({name: lambda data=data: data for name, data in {**self.files, **given}.items() if data is not None})
+
+    def test_reads(self):
+        shelf = self.shelf()
+        self.assertEqual((shelf.bits, shelf.oldest, shelf.latest), (2, 0, 6))
+        keys = [A, B, C, D, E, key(0xC0)]
+        for version, values in {0: [None] * 6, 1: [V, V, None, None, None, None], 5: [V, None, W, V, None, None], 6: [None, None, W, V, V, None]}.items():
+            self.assertEqual([shelf.get(version, it) for it in keys], values)
+            self.assertEqual(shelf.count(version), sum(it is not None for it in values))
+            if version:
+                row = shelf.palette(version, keys)
+                self.assertEqual(row, [shelf.prove(version, it) for it in keys])
+                self.assertEqual([shelf_verify(shelf.root(version), 2, *it) for it in zip(keys, row)], values)
+        self.assertEqual(shelf.changes(1, 6), [Change(A, V, None), Change(B, V, None), Change(C, None, W), Change(D, None, V), Change(E, None, V)])
+        self.assertEqual(shelf.changes(4, 5), [])
+
+    def test_refusals(self):
+        shelf = self.shelf()
+        for wanted, call, given in [(8, shelf.root, (7,)), (8, shelf.get, (7, A)), (12, shelf.get, (1, A[1:])), (12, shelf.palette, (1, [A] * 257)), (14, shelf.prove, (0, A)), (8, shelf.count, (7,)), (8, shelf.changes, (0, 7))]:
+            self.assertEqual(number(call, *given), wanted)
+        lost, other = "part-001-4-0-1", "part-002-6-0-2"
+        spoilt = bytearray(self.files[lost])
+        spoilt[library.HEADER_BYTES] ^= 1
+        for data, why in [(None, "lost"), (self.files[other], "another root"), (bytes(spoilt), "sound"), (b"", "length")]:
+            shelf = self.shelf(**{lost: data})
+            self.assertEqual((shelf.get(6, D), shelf.get(6, A)), (V, None))
+            for call, given in [(shelf.get, (6, C)), (shelf.prove, (6, C)), (shelf.count, (6,)), (shelf.changes, (1, 6))]:
+                with self.assertRaises(ShelfRefused) as refused:
+                    call(*given)
+                self.assertEqual((refused.exception.part, why in str(refused.exception)), (1, True), refused.exception)
+        copy = pickle.loads(pickle.dumps(refused.exception))
+        self.assertEqual((copy.number, copy.part, str(copy)), (refused.exception.number, 1, str(refused.exception)))
+
+    def test_no_shelf(self):
+        for given in [{"shelf": None}, {"list": None}, {"shelf": b"bits 13\nslots 20\n"}, {"shelf": b"bits 2\n"}, {"shelf": b"\xff"}]:
+            self.assertRaises(ValueError, self.shelf, **given)
+        with self.assertRaises(ShelfRefused) as refused:
+            self.shelf(list=self.files["list"][1:])
+        self.assertEqual((refused.exception.number, refused.exception.part), (1, None))
+        # One that is made afresh: the new bits hold as long as nothing was published.
+        fresh = b"bits 2\nslots 20\nfresh 5 20\n"
+        self.assertEqual((self.shelf(shelf=fresh).bits, self.shelf(shelf=fresh, list=Store.format(40).to_bytes()).bits), (2, 5))
+
+    @unittest.skipUnless("GRANTS_TOOL" in os.environ, "no tool")
+    def test_of_the_tool(self):
+        """The folder that the tool writes, and its own proofs."""
+
+        def tool(*words, **how):
+            return subprocess.run([os.environ["GRANTS_TOOL"]] + list(words), check=True, stdout=subprocess.PIPE, **how).stdout
+
+        with tempfile.TemporaryDirectory() as place:
+            folder = place + "/market"
+            names = ["chords %d" % i for i in range(30)]
+            tool("format", folder + "/", "--bits", "3")
+            tool("apply", folder, "-", "--no-book", input="".join('+ "%s" "read"\n' % it for it in names).encode())
+            tool("apply", folder, "-", "--no-book", input=b'- "chords 3"\n+ "chords 7" "write"\n')
+            shelf = Shelf.open(folder)
+            self.assertEqual((shelf.bits, shelf.latest, shelf.count(1), shelf.count(2)), (3, 2, 30, 29))
+            self.assertEqual(shelf.root(2).hex(), tool("root", folder).decode().strip())
+            self.assertEqual(len(shelf.changes(1, 2)), 2)
+            for it in ["chords 3", "chords 7", "tuner"]:
+                tool("prove", folder, '"%s"' % it, "--out", place + "/proof", "--force")
+                with open(place + "/proof", "rb") as f:
+                    self.assertEqual(shelf.prove(2, name(it)), f.read())
 
 
 class Lists(unittest.TestCase):

@@ -5,6 +5,7 @@ export class Browser {
   #next = 0;
   #waiting = new Map();
   #rest = '';
+  #gone;
   events = [];
 
   static async start(program, profile) {
@@ -13,11 +14,14 @@ export class Browser {
     browser.process = spawn(program, [...words, `--user-data-dir=${profile}`, '--remote-debugging-pipe', 'about:blank'], { stdio: ['ignore', 'ignore', 'ignore', 'pipe', 'pipe'] });
     browser.process.on('error', (error) => browser.#fail(error));
     browser.process.on('exit', () => browser.#fail(new Error('the browser ended')));
-    browser.process.stdio[4].on('data', (data) => browser.#took(data));
+    browser.process.stdio[3].on('error', (error) => browser.#fail(error));
+    // A letter of several bytes may come in two pieces.
+    browser.process.stdio[4].setEncoding('utf8').on('data', (data) => browser.#took(data));
     return browser;
   }
 
   #fail(error) {
+    this.#gone ??= error;
     for (const { not } of this.#waiting.values()) not(error);
     this.#waiting.clear();
   }
@@ -36,6 +40,7 @@ export class Browser {
   }
 
   send(method, params = {}, sessionId = this.session) {
+    if (this.#gone) return Promise.reject(this.#gone);
     const id = (this.#next += 1);
     this.process.stdio[3].write(`${JSON.stringify({ id, method, params, sessionId })}\0`);
     return new Promise((done, not) => this.#waiting.set(id, { done, not }));
@@ -58,9 +63,10 @@ export class Browser {
   }
 
   async until(expression) {
-    for (let i = 0; i < 600; i += 1) {
+    for (let i = 0; i < 1200; i += 1) {
       // While a page is being left, there is nothing to ask.
       if (await this.ask(expression).catch(() => false)) return;
+      if (this.#gone) throw this.#gone;
       await new Promise((done) => setTimeout(done, 50));
     }
     throw new Error(`it never came: ${expression}; the page says: ${await this.ask(`document.body.innerText.slice(0, 600)`).catch(String)}`);
@@ -73,14 +79,14 @@ export class Browser {
     await this.send('Input.dispatchKeyEvent', { type: 'keyUp', ...given, text: undefined });
   }
 
-  // Drops files on the page. A browser may lose such an event while it is busy with another, so it is sent again until the page had one more.
+  // Drops files on the page, and waits until it has taken them. A browser may lose such an event while it is busy with another, so it is sent again until the page had one more.
   async drop(...files) {
     const data = { items: [], files, dragOperationsMask: 1 };
     const before = await this.ask(`window.hadDrops ??= (document.addEventListener('drop', () => { window.hadDrops += 1; }, true), 0)`);
     for (let i = 0; i < 5; i += 1) {
       for (const type of ['dragEnter', 'dragOver', 'drop']) await this.send('Input.dispatchDragEvent', { type, x: 60, y: 60, data });
-      for (let j = 0; j < 100; j += 1) {
-        if ((await this.ask('window.hadDrops')) > before) return;
+      for (let j = 0; j < 200; j += 1) {
+        if ((await this.ask('window.hadDrops')) > before) return this.until(`document.body.getAttribute('aria-busy') === 'false'`);
         await new Promise((done) => setTimeout(done, 50));
       }
     }
@@ -99,6 +105,10 @@ export class Browser {
   }
 
   async end() {
+    if (this.#gone) {
+      this.process.kill('SIGKILL');
+      return;
+    }
     const gone = new Promise((done) => this.process.once('exit', done));
     this.send('Browser.close', {}, undefined).catch(() => {});
     const late = setTimeout(() => this.process.kill('SIGKILL'), 5000);

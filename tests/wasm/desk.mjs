@@ -249,6 +249,7 @@ async function usable() {
     else tally.fail(`no ${role} called '${name}': ${JSON.stringify(roles.filter((it) => it.role === role))}`);
   }
   await browser.send('Emulation.setDeviceMetricsOverride', { width: 360, height: 740, deviceScaleFactor: 2, mobile: true });
+  await browser.until('document.documentElement.clientWidth === 360');
   tally.equal('on a phone nothing is wider than the page', await browser.ask('document.documentElement.scrollWidth <= 360'), true);
   await browser.send('Emulation.clearDeviceMetricsOverride');
 }

@@ -318,17 +318,17 @@ async function earlier() {
 
 // Files that are no proof are taken for what they are, or not at all.
 async function otherFiles() {
-  const statement = (until) => `the root of a grant store\nversion 2\nroot ${now}\nmade 2026-05-11T00:00:00Z\nnot-after ${until}T23:59:59Z\n`;
+  const statement = (until, made = '2026-05-11') => `the root of a grant store\nversion 2\nroot ${now}\nmade ${made}T00:00:00Z\nnot-after ${until}T23:59:59Z\n`;
   await fill('root', '');
   await browser.drop(file('root.txt', statement('2999-01-01')));
   await browser.until(`document.getElementById('root').value !== ''`);
   tally.equal('a statement', await browser.ask(`document.getElementById('root').value`), now);
   tally.equal('what it says', await text('stated'), 'By root.txt the root of version 2, made 2026-05-11T00:00:00Z, good until 2999-01-01T23:59:59Z.');
   tally.equal('no signature', await text('signed'), 'Its signature was not given, so that anybody signed it is not shown.');
-  await browser.drop(file('old.txt', statement('2026-05-12')));
+  await browser.drop(file('old.txt', statement('2001-05-12', '2001-05-11')));
   await browser.until(`document.getElementById('stated').className === 'bad'`);
-  tally.holds('one past its date', (await text('stated')).includes('past its date 2026-05-12'));
-  tally.equal('and no grant by it', [await asked(now, 'chords sonata', store.prove(2, key('chords sonata'))), (await text('reason')).startsWith('Under this root alone: granted.'), await text('standing')], ['past its date', true, 'The statement old.txt of this root was good until 2026-05-12T23:59:59Z: get a newer one.']);
+  tally.holds('one past its date', (await text('stated')).includes('past its date 2001-05-12'));
+  tally.equal('and no grant by it', [await asked(now, 'chords sonata', store.prove(2, key('chords sonata'))), (await text('reason')).startsWith('Under this root alone: granted.'), await text('standing')], ['past its date', true, 'The statement old.txt of this root was good until 2001-05-12T23:59:59Z: get a newer one.']);
   await fill('proof', '');
   await browser.drop(file('now.txt', now));
   await browser.until(`document.getElementById('stated').textContent === ''`);
@@ -405,6 +405,7 @@ async function usable() {
   }
   await browser.send('Emulation.setEmulatedMedia', { features: [] });
   await browser.send('Emulation.setDeviceMetricsOverride', { width: 360, height: 740, deviceScaleFactor: 2, mobile: true });
+  await browser.until('document.documentElement.clientWidth === 360');
   tally.equal('on a phone nothing is wider than the page', await browser.ask('document.documentElement.scrollWidth <= 360'), true);
   await browser.send('Emulation.clearDeviceMetricsOverride');
 }

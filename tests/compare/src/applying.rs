@@ -308,7 +308,8 @@ fn deserved(tally: &mut Tally, random: &mut Random) {
         let mut b = b.clone();
         let mut s = cases::scattered(random, &s, if deserves(7) { count - 1 } else { count });
         let now = latest(&s);
-        let mut number = [now + 1, now + 2, now + 4_000_000, u32::MAX][random.below(4)];
+        // A store may stand near the last number; there is one above latest in any case, since the example publishes.
+        let mut number = [now + 1, now.saturating_add(2), now.saturating_add(4_000_000), u32::MAX][random.below(4)];
         if deserves(18) {
             number = [now, now - 1, 0, random.below(now as usize) as u32][random.below(4)];
             if random.one_in(4) {

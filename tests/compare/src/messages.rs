@@ -13,7 +13,7 @@ use second::message::{answer, message, record, Leaf};
 use second::proof::{absence_bytes, presence_bytes, Presence, Step};
 use second::sha256::{inner_hash, leaf_hash, sha256};
 use second::Bytes32;
-use std::collections::HashMap;
+use std::collections::BTreeMap;
 
 /// What is lent beside a record.
 #[derive(Clone, Default, PartialEq, Debug)]
@@ -395,7 +395,7 @@ fn damage(random: &mut Random, m: &mut Vec<u8>, other: &[u8]) {
 }
 
 /// A value with its raw bytes, and names as raw keys: publishings of names, some taken back.
-fn history(random: &mut Random) -> (Vec<u8>, u32, HashMap<Bytes32, Vec<u8>>) {
+fn history(random: &mut Random) -> (Vec<u8>, u32, BTreeMap<Bytes32, Vec<u8>>) {
     let names: Vec<Vec<u8>> = (0..2 + random.below(30))
         .map(|i| {
             let n = [1, 3, 9, 40, 127, 128, 256][random.below(7)];
@@ -404,7 +404,7 @@ fn history(random: &mut Random) -> (Vec<u8>, u32, HashMap<Bytes32, Vec<u8>>) {
             name
         })
         .collect();
-    let mut book: HashMap<Bytes32, Vec<u8>> = names.iter().map(|n| (sha256(n), n.clone())).collect();
+    let mut book: BTreeMap<Bytes32, Vec<u8>> = names.iter().map(|n| (sha256(n), n.clone())).collect();
     let mut s = cases::fresh(400, 0, 0);
     let mut latest = 0;
     for _ in 0..1 + random.below(3) {
@@ -426,7 +426,7 @@ fn history(random: &mut Random) -> (Vec<u8>, u32, HashMap<Bytes32, Vec<u8>>) {
     (s, latest, book)
 }
 
-fn lent_for(own: &[u8], asked: &[u8], book: &HashMap<Bytes32, Vec<u8>>) -> Option<Raw> {
+fn lent_for(own: &[u8], asked: &[u8], book: &BTreeMap<Bytes32, Vec<u8>>) -> Option<Raw> {
     let of = |hash: &Bytes32| book.get(hash).cloned();
     let mut raw = Raw { asked: asked.to_vec(), ..Raw::default() };
     let leaves = match decode(own)? {

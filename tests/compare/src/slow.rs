@@ -11,6 +11,9 @@ const PALETTE_BAR: f64 = 12.0;
 const RESCUE_BAR: f64 = 6.0;
 const CHANGES_BAR: f64 = 4.0;
 
+/// Milliseconds of processor time that a call takes.
+type Processor = dyn Fn(&mut dyn FnMut()) -> f64;
+
 /// Publishes these keys with one value; whether they fit.
 fn published(s: &mut [u8], keys: &mut [Bytes32], value: u8) -> bool {
     keys.sort();
@@ -144,7 +147,7 @@ fn two_trees(random: &mut Random, under: &dyn Fn(&Place) -> u32, oldest: u32) ->
     holding(&records, oldest, oldest + 1)
 }
 
-fn best(turns: usize, processor: &dyn Fn(&mut dyn FnMut()) -> f64, call: &mut dyn FnMut()) -> f64 {
+fn best(turns: usize, processor: &Processor, call: &mut dyn FnMut()) -> f64 {
     (0..turns).map(|_| processor(call)).fold(f64::MAX, f64::min)
 }
 
@@ -178,8 +181,16 @@ pub fn pairs() {
     assert!(a == b, "the second program's rescue of a store with pairs");
 }
 
-/// Prints a figure beside its bar; whether it keeps it.
-fn within(what: &str, took: f64, check: f64, bar: f64, on: &str) -> bool {
+/// Prints what a call takes on a store beside its bar, of so many times check; whether it keeps it. Where it doesn't, both are measured again, up to four times, and the best of each
+/// counts: other work on the machine disturbs processor time too.
+fn within(what: &str, processor: &Processor, (s, on): (&[u8], &str), bar: f64, mut check: f64, mut call: impl FnMut() -> f64) -> bool {
+    let mut took = call();
+    for _ in 0..4 {
+        if took > bar * check {
+            took = took.min(call());
+            check = check.min(checked(processor, s));
+        }
+    }
     println!("bar {what} {:.1} bar {bar} ({took:.1}ms, check {check:.2}ms) on {on}", took / check);
     if took > bar * check {
         println!("{what} takes more than {bar} times check on {on}");
@@ -187,27 +198,35 @@ fn within(what: &str, took: f64, check: f64, bar: f64, on: &str) -> bool {
     took <= bar * check
 }
 
-/// What the oldest version and the latest are compared in; with `beside`, the list beside the second program's.
-fn compared(processor: &dyn Fn(&mut dyn FnMut()) -> f64, s: &[u8], beside: bool) -> f64 {
+/// The oldest version and the latest, which are compared.
+fn ends(s: &[u8]) -> (u32, u32) {
     let store = second::bytes::store(s).unwrap();
-    let (oldest, latest) = (store.oldest.max(1), store.latest);
-    let limit = 1_000_000;
-    let mut changed = vec![0; 72 * CAPACITY];
-    let took = best(3, processor, &mut || assert!(ours::changes(s, oldest, latest, limit, &mut changed).is_ok()));
-    if beside {
-        let mut other = vec![0; changed.len()];
-        assert!(second::changes(s, oldest, latest, limit, &mut other).is_ok());
-        assert!(changed == other, "the second program's list of changes");
-    }
-    took
+    (store.oldest.max(1), store.latest)
 }
 
-fn checked(processor: &dyn Fn(&mut dyn FnMut()) -> f64, s: &[u8]) -> f64 {
+const MOST_VISITS: u32 = 1_000_000;
+
+/// What they are compared in.
+fn compared(processor: &Processor, s: &[u8]) -> f64 {
+    let (oldest, latest) = ends(s);
+    let mut changed = vec![0; 72 * CAPACITY];
+    best(3, processor, &mut || assert!(ours::changes(s, oldest, latest, MOST_VISITS, &mut changed).is_ok()))
+}
+
+/// Their list is the second program's.
+fn same_changes(s: &[u8]) {
+    let (oldest, latest) = ends(s);
+    let (mut a, mut b) = (vec![0; 72 * CAPACITY], vec![0; 72 * CAPACITY]);
+    assert!(ours::changes(s, oldest, latest, MOST_VISITS, &mut a).is_ok() && second::changes(s, oldest, latest, MOST_VISITS, &mut b).is_ok());
+    assert!(a == b, "the second program's list of changes");
+}
+
+fn checked(processor: &Processor, s: &[u8]) -> f64 {
     best(5, processor, &mut || assert_eq!(ours::check(s), Ok(())))
 }
 
 /// Prints each figure beside its bar, that many times over, and gives how many keep it and how many don't.
-pub fn bars(processor: &dyn Fn(&mut dyn FnMut()) -> f64, times: f64) -> (usize, usize) {
+pub fn bars(processor: &Processor, times: f64) -> (usize, usize) {
     let mut random = Random(47);
     let stores = [
         ("two-ways-of-255-records", two_ways(&mut random)),
@@ -232,11 +251,13 @@ pub fn bars(processor: &dyn Fn(&mut dyn FnMut()) -> f64, times: f64) -> (usize, 
         };
         let singles: Vec<u8> = list[..16 * 32].chunks(32).flat_map(single).collect();
         let check = checked(processor, &s);
+        let on = format!("{name}-{order}, {} used, {} versions", cases::taken(&s), latest + 1 - oldest);
+        let mut keeps_bar = |what, bar, call: &mut dyn FnMut() -> f64| keeps.push(within(what, processor, (&s, &on), times * bar, check, call));
         let mut room = vec![0; 256 * 17_080];
-        let palette = best(3, processor, &mut || assert!(ours::palette(&s, latest, &list, &mut room).is_ok()));
+        keeps_bar("palette-256-keys", PALETTE_BAR, &mut || best(3, processor, &mut || assert!(ours::palette(&s, latest, &list, &mut room).is_ok())));
         assert!(room.starts_with(&singles), "the proofs of single calls, one after the other");
         let mut target = vec![0; s.len()];
-        let rescue = best(3, processor, &mut || assert!(ours::rescue(&s, oldest, latest, &mut target).is_ok()));
+        keeps_bar("rescue", RESCUE_BAR, &mut || best(3, processor, &mut || assert!(ours::rescue(&s, oldest, latest, &mut target).is_ok())));
         // The second program goes over all kept versions: beside it where there are few, and once for each kind of store.
         let beside = latest - oldest < 100 && order == "in-order";
         let mut other = vec![0; s.len()];
@@ -244,10 +265,9 @@ pub fn bars(processor: &dyn Fn(&mut dyn FnMut()) -> f64, times: f64) -> (usize, 
             assert!(second::rescue::rescue(&s, oldest, latest, &mut other).is_ok());
             assert!(target == other, "the second program's rescue");
         }
-        let changes = compared(processor, &s, beside);
-        let on = format!("{name}-{order}, {} used, {} versions", cases::taken(&s), latest + 1 - oldest);
-        for (what, took, bar) in [("palette-256-keys", palette, PALETTE_BAR), ("rescue", rescue, RESCUE_BAR), ("changes", changes, CHANGES_BAR)] {
-            keeps.push(within(what, took, check, times * bar, &on));
+        keeps_bar("changes", CHANGES_BAR, &mut || compared(processor, &s));
+        if beside {
+            same_changes(&s);
         }
     }
     let oldest = u32::MAX - 2;
@@ -256,8 +276,11 @@ pub fn bars(processor: &dyn Fn(&mut dyn FnMut()) -> f64, times: f64) -> (usize, 
     for (name, s) in [("two-trees", plain), ("two-trees-that-collide", collided)] {
         let shuffled = cases::scattered(&mut random, &s, CAPACITY - cases::taken(&s));
         for (order, s) in [("in-order", s), ("shuffled", shuffled)] {
-            let took = compared(processor, &s, order == "in-order");
-            keeps.push(within("changes", took, checked(processor, &s), times * CHANGES_BAR, &format!("{name}-{order}, {} used", cases::taken(&s))));
+            let on = format!("{name}-{order}, {} used", cases::taken(&s));
+            keeps.push(within("changes", processor, (&s, &on), times * CHANGES_BAR, checked(processor, &s), || compared(processor, &s)));
+            if order == "in-order" {
+                same_changes(&s);
+            }
         }
     }
     let kept = keeps.iter().filter(|k| **k).count();
