@@ -165,9 +165,12 @@ def a_shelf_is_made_afresh():
     # Stopped at any point, it is the shelf that it was or the empty one, with its bits; and the next writer ends what was begun.
     fresh("m")
     number = calls(afresh)
+    with open("../calls.log") as f:
+        settings = [at for at, line in enumerate(f, 1) if line.startswith("rename ") and line.endswith("/.shelf.grants-new\n")]
+    assert len(settings) == 2, settings
     rng = random.Random(6)
     seen = set()
-    for at in sorted(rng.sample(range(1, number + 1), min(12, number))):
+    for at in sorted({*rng.sample(range(1, number + 1), min(11, number)), settings[0]}):
         for kind in ("kill", "fail"):
             fresh("m")
             ran = grants(*afresh, env={"LD_PRELOAD": FAULT, "FAULT": kind, "FAULT_AT": str(at)})
@@ -179,6 +182,7 @@ def a_shelf_is_made_afresh():
             answered(0, "apply", "w", "-", "--number", 90, input="+ %s %s\n" % (key(3), value(9)))
             stat = told("stat", "w")
             assert (stat["bits"], stat["slots"]) == whole[:2] and b"fresh" not in read("w/shelf"), (ran, stat)
+            assert [f for f in os.listdir("w") if f.startswith(".")] == [], os.listdir("w")
             answered(0, "check", "w")
     assert len(seen) == 2
     assert state("m") == root

@@ -66,16 +66,10 @@ pub fn read_shelf(path: &Path) -> Result<Shelf, Fail> {
     Ok(shelf)
 }
 
-/// Why a shelf can't be opened; one whose stores are of the old form is known by its list.
+/// Why a shelf can't be opened.
 fn opening(path: &Path, error: ShelfError) -> Fail {
-    let old = |path: &Path| {
-        let list = files::read(&path.join(grants::LIST_FILE), STORE_LIMIT);
-        list.is_ok_and(|list| Store::over(list).is_old_form())
-    };
     match error {
-        ShelfError::Refused { error: error @ (Error::Size | Error::Header), part: None } if old(path) => {
-            Fail::Refused(error, old_form(&trimmed(path), "shelf"))
-        }
+        ShelfError::OldForm { error } => Fail::Refused(error, old_form(&trimmed(path), "shelf")),
         error => shelf_refused(None, path, error),
     }
 }
@@ -335,7 +329,11 @@ pub fn shelf_refused(shelf: Option<&Shelf>, path: &Path, error: ShelfError) -> F
         error => (None, error.to_string()),
     };
     let refusal = refusal.unwrap_or(Error::Unsound);
-    if refusal == Error::Unsound && shelf.is_some_and(|shelf| replaced(shelf, path)) {
+    let damage = matches!(
+        refusal,
+        Error::Size | Error::Header | Error::Unsound | Error::Spoilt { .. } | Error::Lost
+    );
+    if damage && shelf.is_some_and(|shelf| replaced(shelf, path)) {
         return Fail::File(format!(
             "{name} was written while it was read: run the command again"
         ));
