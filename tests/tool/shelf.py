@@ -1,6 +1,7 @@
 """A shelf: a folder where a store was a file. What it answers is held against a store with the same grants, a writer is stopped at any point, and its files are spoilt in
 every way that a folder can be."""
 
+import fcntl
 import json
 import os
 import random
@@ -252,10 +253,7 @@ def a_shelf_s_writer_is_killed_after_any_time():
     rng, seen = random.Random(8), set()
     for _ in range(20):
         fresh("m")
-        run = subprocess.Popen([TOOL, "apply", "w", "b"], stdout=subprocess.DEVNULL, stderr=subprocess.DEVNULL)
-        time.sleep(rng.random() * whole)
-        run.kill()
-        run.wait()
+        whole *= killed_within(whole, rng, "apply", "w", "b")
         left = state("w")
         assert left in (before, after), "neither the old shelf nor the new one"
         seen.add(left == before)
@@ -263,10 +261,7 @@ def a_shelf_s_writer_is_killed_after_any_time():
     # A shelf that was being made is there whole, or not at all.
     for _ in range(8):
         shutil.rmtree("n", ignore_errors=True)
-        run = subprocess.Popen([TOOL, "shelf", "m", "n", "--bits", "3"], stdout=subprocess.DEVNULL, stderr=subprocess.DEVNULL)
-        time.sleep(rng.random() * whole)
-        run.kill()
-        run.wait()
+        killed_within(whole, rng, "shelf", "m", "n", "--bits", 3)
         if os.path.exists("n"):
             answered(0, "check", "n")
     shutil.rmtree("n", ignore_errors=True)
@@ -292,12 +287,10 @@ def two_writers_and_readers_of_a_shelf():
     assert (stat["latest"], stat["grants"]) == (12, 12), stat
     assert [v["book"] for v in told("log", "m")] == [None] + ["agrees"] * 12
     # A writer that is waited for no longer.
-    holder = subprocess.Popen(["flock", "m/list", "sleep", "5"])
-    time.sleep(0.3)
-    refused(3, "is being written by", "apply", "m", "/dev/null", "--wait", 0)
-    answered(0, "check", "m")
-    holder.kill()
-    holder.wait()
+    with open("m/list", "rb") as holder:
+        fcntl.flock(holder, fcntl.LOCK_EX)
+        refused(3, "is being written by process %d" % os.getpid(), "apply", "m", "/dev/null", "--wait", 0)
+        answered(0, "check", "m")
 
 
 @test
