@@ -118,6 +118,16 @@ def a_shelf_answers_as_a_store():
 
 
 @test
+def the_commands_of_docs_scale():
+    with open(os.path.join(TOP, "docs/SCALE.md")) as f:
+        block = f.read().split("```sh\n")[1].split("```")[0]
+    write("list", '+ "lyrics sonata" "read"\nend 1\n')
+    env = dict(os.environ, PATH=os.path.dirname(TOOL) + ":" + os.environ["PATH"])
+    done = subprocess.run(["bash", "-euc", block], capture_output=True, text=True, env=env, timeout=60)
+    assert done.returncode == 0 and done.stdout.splitlines()[-1].startswith("present ") and done.stderr == "", (block, done)
+
+
+@test
 def a_shelf_s_proofs():
     batches = history(2)
     publish_all(shelf(), batches)
@@ -238,6 +248,7 @@ def a_shelf_s_writer_is_stopped():
         seen = stopped(apply, kind, seed, 9)
         assert False in seen, kind
         stopped(("prune", "w", 7), kind, seed + 10, 5)
+        stopped(("grow", "w", 200), kind, seed + 20, 4)
 
 
 @test
@@ -402,6 +413,15 @@ def a_shelf_takes_as_much_as_it_says():
     write("b", record(A, value(1)) + record(D, value(1)) + record(B, value(1)))
     refused(15, "Sort binary records", "apply", "m", "b")
     assert sorted(os.listdir("m")) == before
+    # How many slots it takes, how many are there, and only what would help.
+    shelf("few", "--bits", 1, "--slots", 5, "--list-slots", 60)
+    for batch, takes, free in ((asked([A, B, C, D]), 6, 5), ("- %s\n" % A, 2, 0)):
+        refused(17, "It takes %d new records, and part 000 of few has %d free slots. To make room, give the parts more slots (grants grow few %d, or more). few is as it was." % (takes, free, 6 if free else 8), "apply", "few", "-", input=batch)
+        answered(0, "grow", "few", 6 if free else 8)
+        answered(0, "apply", "few", "-", input=batch)
+    refused(17, "prune versions that no one asks for any more (grants prune frees up to 3 slots), or give the parts", "apply", "few", "-", input="- %s\n" % B)
+    answered(0, "prune", "few", 2)
+    answered(0, "apply", "few", "-", input="- %s\n" % B)
     # What changes nothing touches no part.
     ran = grants("apply", "m", "-", input="- %s\n+ %s %s\n" % ("7f" * 32, low[0], value(1)))
     assert ran.status == 0 and "0 parts changed" in ran.out and ran.err.count("no change") == 2, ran
@@ -412,6 +432,28 @@ def a_shelf_takes_as_much_as_it_says():
     answered(0, "shelf", "m", "n/", "--bits", 2)
     assert answered(0, "export", "n").splitlines()[1:] == answered(0, "export", "m").splitlines()[1:]
     answered(0, "check", "m")
+
+
+@test
+def how_many_publishings_a_shelf_has_room_for():
+    shelf("m", "--bits", 2, "--slots", 256, "--list-slots", 64)
+    assert told("stat", "m")["publishings_left"] is None
+    write("list", many(60))
+    answered(0, "import", "m", "list", "--no-end")
+    # Each changes one key, all of one part: that part is full before the list is, or the list before the part.
+    one = next(line.split()[1] for line in read("list").decode().splitlines())
+    for name, full in (("m", "the list"), ("n", "part 00%d" % (int(one[0], 16) >> 2))):
+        if name == "n":
+            answered(0, "shelf", "m", "n", "--bits", 2, "--slots", 400, "--list-slots", 4096)
+        for n in range(11):
+            answered(0, "apply", name, "-", input="+ %s %s\n" % (one, value(n + 1)))
+        left = told("stat", name)["publishings_left"]
+        assert answered(0, "stat", name).splitlines()[-1] == "left      about %d publishings, if they go as the last ones did; then %s is full" % (left, full)
+        for made in range(left + 2):
+            ran = grants("apply", name, "-", input="+ %s %s\n" % (one, value(made + 20)))
+            if ran.status != 0:
+                break
+        assert ran.status == 17 and full in ran.err and made == left > 3, (made, left, ran)
 
 
 @test
@@ -451,7 +493,8 @@ def a_store_becomes_a_shelf():
 
 @test
 def what_is_whole_of_a_shelf_comes_back():
-    batches = history(7)
+    # One part is empty in between, and one at the end.
+    batches = history(42)
     publish_all(shelf(), batches)
     roots = {version: answered(0, "root", "m", version).strip() for version in (3, 9, 13)}
     listed = told("list", "m")["grants"]
@@ -462,10 +505,11 @@ def what_is_whole_of_a_shelf_comes_back():
     assert roots[13] in answered(0, "rescue", "w")
     refused(4, "not what was signed", "rescue", "w", "r", "--latest", 13, "--root", ZERO)
     assert not os.path.exists("r")
-    # A part that was empty in between comes back from then on, as a store does.
+    # Every part is whole, so each publishing comes back, also where a part was empty then or is empty now.
     came = told("rescue", "w", "r/", "--latest", 13, "--root", roots[13])
-    assert came["first"] <= 9 and came["root"] == roots[13] and came["root_compared"], came
-    assert told("list", "r")["grants"] == listed and answered(0, "root", "r", 9).strip() == roots[9]
+    assert came["first"] == 3 and came["root"] == roots[13] and came["root_compared"], came
+    assert came["parts"] == len(parts("m")) and [f for f in parts("m") if f.endswith("-0")], came
+    assert told("list", "r")["grants"] == listed and all(answered(0, "root", "r", v).strip() == root for v, root in roots.items())
     answered(0, "check", "r")
     answered(0, "apply", "r", "-", input="+ %s %s\n" % (key(3), value(98)))
     # A part lost a record that only old versions want: the run begins later.
