@@ -305,6 +305,30 @@ def two_writers_and_readers_of_a_shelf():
 
 
 @test
+def a_shelf_is_written_between_any_two_calls_of_a_reader():
+    """It is answered as it was before or as it is after, at once and without a word beside it."""
+    batches = history(8)
+    publish_all(shelf(), batches)
+    known = told("list", "m")["grants"][0]["key"]
+    write("b", "- %s\n" % known)
+    many_ = "'%s' apply w b >/dev/null && '%s' prune w 14 >/dev/null" % (TOOL, TOOL)
+    writers = ("'%s' apply w b >/dev/null" % TOOL, many_, "'%s' prune w 13 >/dev/null" % TOOL)
+    rng = random.Random(4)
+    for words in (("get", known), ("prove", known), ("list", "--full"), ("check",), ("log",), ("report",), ("history", known), ("diff", "--stat")):
+        words = (words[0], "w", *words[1:])
+        for writer in writers:
+            fresh("m")
+            number = calls(words)
+            wanted = [grants(*words).out]
+            subprocess.run(["sh", "-c", writer], check=True)
+            wanted.append(grants(*words).out)
+            for at in rng.sample(range(1, number + 1), min(4, number)):
+                fresh("m")
+                ran = grants(*words, env={"LD_PRELOAD": FAULT, "FAULT": "run", "FAULT_AT": str(at), "FAULT_RUN": writer})
+                assert ran.out in wanted and ran.status in (0, 1) and ran.err == "", (at, number, writer, ran, wanted)
+
+
+@test
 def a_shelf_s_files_are_spoilt():
     batches = history(5)
     publish_all(shelf(), batches[:3])

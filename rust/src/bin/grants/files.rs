@@ -12,6 +12,7 @@ use std::os::unix::ffi::OsStrExt;
 use std::os::unix::fs::{fchown, FileTypeExt, MetadataExt, OpenOptionsExt};
 use std::path::{Path, PathBuf};
 use std::rc::Rc;
+use std::sync::atomic::{AtomicBool, Ordering};
 use std::time::{Duration, Instant};
 
 /// One byte more than the largest store, so that a longer file is seen to be too long and is not read to its end.
@@ -33,6 +34,13 @@ const NOFOLLOW: i32 = if cfg!(any(
 };
 const NONBLOCK: i32 = 0o4000;
 
+static TOOK_INPUT: AtomicBool = AtomicBool::new(false);
+
+/// Whether something was read that can't be read again: standard input, a fifo.
+pub fn took_input() -> bool {
+    TOOK_INPUT.load(Ordering::Relaxed)
+}
+
 /// The bytes of a file, or of standard input for '-'.
 pub fn read(path: &Path, limit: u64) -> Result<Vec<u8>, Fail> {
     let mut bytes = Vec::new();
@@ -42,9 +50,13 @@ pub fn read(path: &Path, limit: u64) -> Result<Vec<u8>, Fail> {
         ));
     }
     let read = if path.as_os_str() == "-" {
+        TOOK_INPUT.store(true, Ordering::Relaxed);
         io::stdin().lock().take(limit).read_to_end(&mut bytes)
     } else {
-        File::open(path).and_then(|f| f.take(limit).read_to_end(&mut bytes))
+        File::open(path).and_then(|f| {
+            TOOK_INPUT.fetch_or(!f.metadata()?.is_file(), Ordering::Relaxed);
+            f.take(limit).read_to_end(&mut bytes)
+        })
     };
     read.map_err(|e| file("read", path, &e))?;
     Ok(bytes)

@@ -329,12 +329,14 @@ pub fn shelf_refused(shelf: Option<&Shelf>, path: &Path, error: ShelfError) -> F
         error => (None, error.to_string()),
     };
     let refusal = refusal.unwrap_or(Error::Unsound);
-    let damage = matches!(
-        refusal,
-        Error::Size | Error::Header | Error::Unsound | Error::Spoilt { .. } | Error::Lost
-    );
-    if damage && shelf.is_some_and(|shelf| replaced(shelf, path)) {
-        return Fail::File(format!(
+    let odd = match refusal {
+        Error::Size | Error::Header | Error::Unsound | Error::Spoilt { .. } | Error::Lost => true,
+        // Of a part alone, since the list has the version.
+        Error::VersionNotKept => part.is_some(),
+        _ => false,
+    };
+    if odd && shelf.is_some_and(|shelf| replaced(shelf, path)) {
+        return Fail::Meanwhile(format!(
             "{name} was written while it was read: run the command again"
         ));
     }
