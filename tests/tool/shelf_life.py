@@ -3,6 +3,7 @@
 import json
 import os
 import random
+import re
 import shutil
 import subprocess
 
@@ -141,7 +142,7 @@ def a_move_of_a_shelf_is_stopped():
 def a_shelf_is_made_afresh():
     batches = history(14)
     publish_all(shelf(), batches)
-    refused(3, "is there already and was left alone", "format", "m", *SMALL)
+    refused(3, "is there already and was left alone: a shelf is made in a folder that isn't there yet; --force makes one that is there afresh", "format", "m", *SMALL)
     refused(31, "13 bits", "format", "m", "--bits", 13, "--force")
     refused(11, "1 to 16,384", "format", "m", "--bits", 3, "--slots", 0, "--force")
     refused(11, "1 to 16,384", "format", "m", "--bits", 3, "--list-slots", 16385, "--force")
@@ -370,6 +371,24 @@ def a_list_is_made_of_the_parts():
     came = told("rescue", "w", "re", "--latest", 13, "--root", roots[13])
     assert came["first"] == 8 and answered(0, "root", "re", 8).strip() == roots[7], came
     assert [f for f in os.listdir(".") if f.startswith(".")] == []
+
+
+@test
+def a_terminal_is_told_how_many_parts_are_done():
+    publish_all(shelf(), history(19))
+    number = calls(("check", "m"))
+    ours, theirs = os.openpty()
+    # It is held up near its end until the bar was seen.
+    held = dict(os.environ, LD_PRELOAD=FAULT, FAULT="run", FAULT_AT=str(number - 4), FAULT_RUN="until [ -e seen ]; do sleep .05; done")
+    run = subprocess.Popen([TOOL, "check", "m"], stdout=subprocess.PIPE, stderr=theirs, text=True, env=held)
+    os.close(theirs)
+    said = b""
+    while not re.search(rb"check: \[#+ *\] \d of %d parts, \d+ s" % len(parts("m")), said):
+        said += os.read(ours, 1000)
+    write("seen", "")
+    out, _ = run.communicate(timeout=60)
+    said += os.read(ours, 1000)
+    assert run.returncode == 0 and out == "m is sound, versions 0 to 13\n" and said.endswith(b"\r\x1b[K"), (out, said)
 
 
 @test

@@ -41,8 +41,12 @@ impl Wanted {
         let empty = fs::read_dir(&wanted.folder).is_ok_and(|mut files| files.next().is_none());
         match there && !empty && !wanted.afresh(args) {
             true => Err(Fail::File(format!(
-                "{} is there already and was left alone: a shelf is made in a folder that isn't there yet",
-                trimmed(folder)
+                "{} is there already and was left alone: a shelf is made in a folder that isn't there yet{}",
+                trimmed(folder),
+                match args.has("--force") || !is_shelf(&wanted.folder) {
+                    true => "",
+                    false => "; --force makes one that is there afresh",
+                }
             ))),
             false => Ok(wanted),
         }
