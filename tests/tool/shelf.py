@@ -407,6 +407,74 @@ def a_shelf_s_files_are_spoilt():
     wrong = kept[0].rsplit("-", 1)[0] + "-99"
     os.rename("w/" + kept[0], "w/" + wrong)
     refused(13, "not what its name says", "check", "w")
+    # How many grants there were is counted by the names, so no publishing goes by one that is wrong.
+    part_key = "%02x" % (int(kept[0][5:8], 16) << 5) + "77" * 31
+    refused(13, "not what its name says", "apply", "w", "-", input="+ %s %s\n" % (part_key, value(1)))
+    assert read("w/list") == read("m/list")
+
+
+@test
+def any_bytes_in_a_shelf():
+    """Files that are lost, spoilt, or under other names: always one of the statuses, the list as it was where a writer refuses, and what is made of it sound."""
+    batches = history(9)
+    publish_all(shelf(), batches)
+    rng = random.Random(10)
+    known = sorted(batches[-1][1])
+    seen = set()
+
+    def harm(path):
+        content = bytearray(read(path))
+        for _ in range(rng.choice((1, 1, 4))):
+            content[rng.randrange(len(content))] = rng.choice((0, 1, 255, rng.randrange(256)))
+        write(path, bytes(content))
+
+    for _ in range(150):
+        fresh("m")
+        shutil.rmtree("o", ignore_errors=True)
+        for name in sorted(os.listdir("w")):
+            turn, words = rng.random(), name.split("-")
+            if turn < 0.06:
+                harm("w/" + name)
+            elif turn < 0.09:
+                os.remove("w/" + name)
+            elif turn < 0.14 and len(words) == 5:
+                words[rng.randrange(1, 5)] = rng.choice(("000", "005", "fff", "0", "7", "13", "4294967295", "18446744073709551615"))
+                os.rename("w/" + name, "w/" + "-".join(words))
+        k, version = rng.choice(known), rng.choice(("0", "5", "13", "99"))
+        write("b", "- %s\n+ %s %s\n" % (k, key(39), value(9)) if k != key(39) else "")
+        words = rng.choice(
+            (
+                ["check", "w"],
+                ["apply", "w", "b"],
+                ["import", "w", "b", "--dry-run"],
+                ["prune", "w", version],
+                ["grow", "w", "200"],
+                ["get", "w", k, version],
+                ["prove", "w", k],
+                ["list", "w", version],
+                ["log", "w"],
+                ["diff", "w", "5"],
+                ["stat", "w", "--json"],
+                ["show", "w"],
+                ["report", "w"],
+                ["move", "w", "--to", "old", "--no-keep"],
+                ["shelf", "w", "o", "--bits", "2"],
+                ["rescue", "w"],
+                ["rescue", "w", "o", "--latest", "13"],
+                ["rescue", "w", "o", "--latest", "13", "--parts-alone"],
+                ["format", "w", *map(str, SMALL), "--force"],
+            )
+        )
+        before = os.path.exists("w/list") and read("w/list")
+        ran = grants(*words)
+        assert ran.status in (0, 1, 2, 3, 4, 5, *range(11, 32)) and "panicked" not in ran.err, ran
+        assert ran.status in (0, 1) or ran.err.startswith("grants: "), ran
+        if ran.status != 0:
+            assert before == (os.path.exists("w/list") and read("w/list")), ran
+        if os.path.exists("o"):
+            answered(0, "check", "o")
+        seen.add((words[0], ran.status == 0))
+    assert len(seen) > 25, seen
 
 
 @test

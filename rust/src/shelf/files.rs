@@ -45,7 +45,7 @@ impl fmt::Display for PartFile {
 }
 
 impl PartFile {
-    /// The very names that `Display` writes.
+    /// The very names that `Display` writes, of no more grants than a store has slots.
     pub fn of(name: &str) -> Option<PartFile> {
         let mut words = name.strip_prefix("part-")?.split('-');
         let file = PartFile {
@@ -54,7 +54,7 @@ impl PartFile {
             oldest: words.next()?.parse().ok()?,
             grants: words.next()?.parse().ok()?,
         };
-        (file.to_string() == name).then_some(file)
+        (file.grants <= MOST_SLOTS.into() && file.to_string() == name).then_some(file)
     }
 
     /// Its name in a shelf of the old form: `old-0a3-7-2-3906`.
@@ -614,6 +614,7 @@ mod tests {
             "part-0a3-7-2-1-1",
             "part-0a3-7-2",
             "part-0a3-+7-2-1",
+            "part-0a3-7-2-16385",
             "list",
         ] {
             assert_eq!(PartFile::of(wrong), None, "{wrong}");

@@ -119,17 +119,18 @@ impl Shelf {
         self.part_with(part, latest, self.part_root(latest, part)?)
     }
 
-    /// The same for who changes it: a part that is newer than the list is not built upon.
+    /// The same for who changes it: nothing is built on a part that is newer than the list, or whose name says something else than it holds, which is what a publishing counts by.
     pub(super) fn newest_to_change(&self, part: u16) -> Result<Option<PartAt>, ShelfError> {
-        let (at, version) = (self.newest(part)?, self.header.latest);
-        let latest = at.as_ref().map(|at| at.store.header()).transpose();
-        match latest
-            .map_err(ShelfError::of(part))?
-            .is_some_and(|header| header.latest > version)
-        {
-            true => Err(ShelfError::OtherPart { part, version }),
-            false => Ok(at),
+        let version = self.header.latest;
+        let Some(at) = self.newest(part)? else {
+            return Ok(None);
+        };
+        let header = at.store.header().map_err(ShelfError::of(part))?;
+        if header.latest > version {
+            return Err(ShelfError::OtherPart { part, version });
         }
+        self.check_name(part, &at.store)?;
+        Ok(Some(at))
     }
 
     /// What the work gives for each part that has a file, in the order of keys.
