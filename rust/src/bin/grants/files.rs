@@ -262,12 +262,17 @@ pub fn one_file(a: &Path, b: &Path) -> bool {
 fn holder(file: &File) -> String {
     let process = file.metadata().ok().and_then(|about| {
         let locks = fs::read_to_string("/proc/locks").ok()?;
-        let inode = format!(":{}", about.ino());
-        let line = locks.lines().find(|line| {
-            let mut words = line.split_whitespace();
-            words.nth(1) == Some("FLOCK") && words.nth(3).is_some_and(|at| at.ends_with(&inode))
-        })?;
-        line.split_whitespace().nth(4)?.parse::<u32>().ok()
+        let locks: Vec<Vec<&str>> = locks.lines().map(|l| l.split_whitespace().collect()).collect();
+        let held = |at: &dyn Fn(&str) -> bool| {
+            let mut lines = locks.iter().filter(|l| l.get(1) == Some(&"FLOCK"));
+            lines.find(|l| l.get(5).is_some_and(|l| at(l))).cloned()
+        };
+        let (dev, inode) = (about.dev(), format!(":{}", about.ino()));
+        let [major, minor] = [dev >> 8 & 0xfff, dev & 0xff | dev >> 12 & 0xf_ff00];
+        let exact = format!("{major:02x}:{minor:02x}{inode}");
+        // Some file systems have another device there than they tell of a file.
+        let line = held(&|at| at == exact).or_else(|| held(&|at| at.ends_with(&inode)))?;
+        line.get(4)?.parse::<u32>().ok()
     });
     let Some(process) = process.filter(|n| *n != 0) else {
         return "another process".to_string();
