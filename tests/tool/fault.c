@@ -35,7 +35,7 @@ static void note(const char *name, const char *about) {
 }
 
 static const char *of(int fd) {
-    static char path[500];
+    static __thread char path[500];
     char link[40];
     ssize_t n;
     snprintf(link, sizeof link, "/proc/self/fd/%d", fd);
@@ -60,8 +60,9 @@ static void run(const char *command) {
 /* Whether this call is to fail; a call that is to kill doesn't come back. */
 static int wrong(const char *name, const char *about, int fd, const void *bytes, size_t count) {
     const char *at = getenv("FAULT_AT"), *kind = getenv("FAULT");
-    calls++;
-    if (!at || !kind || calls != atoi(at)) {
+    /* Each call has a number of its own, whichever thread makes it. */
+    int call = __atomic_add_fetch(&calls, 1, __ATOMIC_SEQ_CST);
+    if (!at || !kind || call != atoi(at)) {
         note(name, about);
         return 0;
     }
