@@ -304,28 +304,43 @@ def two_writers_and_readers_of_a_shelf():
         answered(0, "check", "m")
 
 
+def written_between(words, writer, trials, rng):
+    """Whatever call the writer falls before, w is answered as it was before or as it is after, at once and without a word beside it."""
+    fresh("m")
+    number = calls(words)
+    wanted = [grants(*words).out]
+    subprocess.run(["sh", "-c", writer], check=True)
+    wanted.append(grants(*words).out)
+    for at in rng.sample(range(1, number + 1), min(trials, number)):
+        fresh("m")
+        ran = grants(*words, env={"LD_PRELOAD": FAULT, "FAULT": "run", "FAULT_AT": str(at), "FAULT_RUN": writer})
+        assert ran.out in wanted and ran.status in (0, 1) and ran.err == "", (at, number, writer, ran, wanted)
+
+
 @test
 def a_shelf_is_written_between_any_two_calls_of_a_reader():
-    """It is answered as it was before or as it is after, at once and without a word beside it."""
     batches = history(8)
     publish_all(shelf(), batches)
     known = told("list", "m")["grants"][0]["key"]
     write("b", "- %s\n" % known)
-    many_ = "'%s' apply w b >/dev/null && '%s' prune w 14 >/dev/null" % (TOOL, TOOL)
-    writers = ("'%s' apply w b >/dev/null" % TOOL, many_, "'%s' prune w 13 >/dev/null" % TOOL)
+    publish = "'%s' apply w b --date 2026-05-09 >/dev/null" % TOOL
+    writers = (publish, publish + " && '%s' prune w 14 >/dev/null" % TOOL, "'%s' prune w 13 >/dev/null" % TOOL)
     rng = random.Random(4)
     for words in (("get", known), ("prove", known), ("list", "--full"), ("check",), ("log",), ("report",), ("history", known), ("diff", "--stat")):
-        words = (words[0], "w", *words[1:])
         for writer in writers:
-            fresh("m")
-            number = calls(words)
-            wanted = [grants(*words).out]
-            subprocess.run(["sh", "-c", writer], check=True)
-            wanted.append(grants(*words).out)
-            for at in rng.sample(range(1, number + 1), min(4, number)):
-                fresh("m")
-                ran = grants(*words, env={"LD_PRELOAD": FAULT, "FAULT": "run", "FAULT_AT": str(at), "FAULT_RUN": writer})
-                assert ran.out in wanted and ran.status in (0, 1) and ran.err == "", (at, number, writer, ran, wanted)
+            written_between((words[0], "w", *words[1:]), writer, 4, rng)
+
+
+@test
+def a_store_is_written_between_any_two_calls_of_a_reader():
+    os.mkdir("m")
+    for n in range(3):
+        n or answered(0, "format", "m/s", 100)
+        answered(0, "apply", "m/s", "-", "--date", "2026-05-0%d" % (n + 1), input="+ %s %s\n" % (A, value(n + 1)))
+    write("b", "- %s\n" % A)
+    publish = "'%s' apply w/s b --date 2026-05-09 >/dev/null" % TOOL
+    for words in (("log",), ("list", "--full"), ("history", A), ("report",)):
+        written_between((words[0], "w/s", *words[1:]), publish, 99, random.Random(1))
 
 
 @test

@@ -12,7 +12,7 @@ pub enum Fail {
     Usage(String),
     /// A file, or standard input or output, could not be read or written: 3.
     File(String),
-    /// A shelf was written while it was read: 3. To be tried again.
+    /// A store or a shelf was written while it was read: 3. To be tried again.
     Meanwhile(String),
     /// The book beside the store can't say it, or a signed root is past its date: 4.
     Book(String),

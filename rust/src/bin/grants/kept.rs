@@ -243,6 +243,17 @@ impl Kept {
         Ok(ledger)
     }
 
+    /// Whether another store, or another list of a shelf, is there by now than the one that was read.
+    pub fn was_replaced(&self, path: &Path) -> bool {
+        match self {
+            Kept::Store(store) => {
+                let now = (path.as_os_str() != "-").then(|| files::read(path, STORE_LIMIT));
+                now.is_some_and(|now| now.is_ok_and(|now| now != store.as_bytes()))
+            }
+            Kept::Shelf(shelf) => replaced(shelf, path),
+        }
+    }
+
     pub fn shelf(&self) -> Option<&Shelf> {
         match self {
             Kept::Store(_) => None,
@@ -309,6 +320,14 @@ fn either(error: Error, name: &str, header: Option<Header>) -> String {
     }
 }
 
+/// What was read doesn't belong together.
+pub fn meanwhile(path: &Path) -> Fail {
+    Fail::Meanwhile(format!(
+        "{} was written while it was read: run the command again",
+        trimmed(path)
+    ))
+}
+
 /// What to do about an error of a shelf.
 pub fn shelf_refused(shelf: Option<&Shelf>, path: &Path, error: ShelfError) -> Fail {
     let name = trimmed(path);
@@ -336,9 +355,7 @@ pub fn shelf_refused(shelf: Option<&Shelf>, path: &Path, error: ShelfError) -> F
         _ => false,
     };
     if odd && shelf.is_some_and(|shelf| replaced(shelf, path)) {
-        return Fail::Meanwhile(format!(
-            "{name} was written while it was read: run the command again"
-        ));
+        return meanwhile(path);
     }
     let what = match part {
         Some(part) => format!("part {part:03x} of {name}"),

@@ -143,10 +143,10 @@ fn run(given: &[OsString], out: &mut Out) -> Result<u8, Fail> {
     }
 }
 
-/// How often a shelf is read that is written all the time.
+/// How often what is written all the time is read.
 const TRIES: usize = 10;
 
-/// A shelf that was written while it was read is read again, as long as nothing was said, changed or taken from standard input by then.
+/// What was written while it was read is read again, as long as nothing was said, changed or taken from standard input by then.
 fn tried(command: &Command, args: &Args, out: &mut Out) -> Result<u8, Fail> {
     for _ in 1..TRIES {
         match (command.run)(args, out) {
