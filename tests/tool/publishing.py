@@ -460,3 +460,8 @@ def dates_and_splits_that_are_said():
     refused(2, "would take minutes", "show", "large", "--svg", "-")
     told = json.loads(answered(0, "stat", "large", "--json"))
     assert told["free"] / 20 < told["publishings_left"] < told["free"] / 8, told
+    answered(0, "format", "once", 2000)
+    answered(0, "import", "once", "-", "--no-end", input=many(300))
+    answered(0, "apply", "once", "-", "--no-book", input="+ %s %s\n" % (A, value(1)))
+    told = json.loads(answered(0, "stat", "once", "--json"))
+    assert told["free"] / 20 < told["publishings_left"] < told["free"] / 4, told

@@ -76,15 +76,11 @@ pub fn made<'a>(records: impl Iterator<Item = &'a Record>, versions: &[u32]) -> 
     made
 }
 
-/// The number in the middle, none where there is none or it is 0.
+/// The number in the middle, of two the lesser; none where there is none or it is 0.
 pub fn middle(mut made: Vec<usize>) -> Option<f64> {
     made.sort_unstable();
-    let middle = made.len() / 2;
-    let usual = match made.len() % 2 {
-        0 => (*made.get(middle.checked_sub(1)?)? + *made.get(middle)?) as f64 / 2.0,
-        _ => *made.get(middle)? as f64,
-    };
-    (usual > 0.0).then_some(usual)
+    let usual = made[made.len().checked_sub(1)? / 2];
+    (usual > 0).then_some(usual as f64)
 }
 
 /// How many records one of the last publishings made: the one in the middle, by their number, so that a list that came all at once counts for no more than
