@@ -1,6 +1,6 @@
 // A shelf (docs/SCALE.md): more grants than one store holds, under one root. It is a folder of files, of which this knows names and bytes alone: who opens one says how they are read, and who changes
 // one how they are written. The list says which root a part has in a version, and what a part's file says counts only where it has that root.
-import { AT, RECORD_BYTES, sameBytes, u32 } from './form.js';
+import { AT, MOST_SLOTS, RECORD_BYTES, sameBytes, u32 } from './form.js';
 import { Refused, batch, toHex } from './grants.js';
 
 export const SHELF_BITS = 12;
@@ -51,7 +51,7 @@ export function partFileOf(name) {
   const read = /^part-([0-9a-f]{3,4})-(0|[1-9]\d{0,9})-(0|[1-9]\d{0,9})-(0|[1-9]\d*)$/.exec(name);
   if (!read) return undefined;
   const file = { name, part: parseInt(read[1], 16), latest: Number(read[2]), oldest: Number(read[3]), grants: Number(read[4]) };
-  return partName(file.part) === read[1] && file.latest <= 0xffff_ffff && file.oldest <= 0xffff_ffff ? file : undefined;
+  return partName(file.part) === read[1] && file.latest <= 0xffff_ffff && file.oldest <= 0xffff_ffff && file.grants <= MOST_SLOTS ? file : undefined;
 }
 
 const fileName = ({ part, latest, oldest, grants }) => `part-${partName(part)}-${latest}-${oldest}-${grants}`;

@@ -1,7 +1,7 @@
 //! A shelf beside a plain map: what it holds in every kept version, its proofs, what a reader sees while a writer is at work, and what is refused.
 
 use grants::{
-    shelf_verify, Batch, Error, Key, Root, Rounds, Shelf, ShelfError, ShelfRescue, Value,
+    shelf_verify, Batch, Error, Key, PartFile, Root, Rounds, Shelf, ShelfError, ShelfRescue, Value,
     BATCH_RECORDS, MOST_VISITS,
 };
 use std::collections::BTreeMap;
@@ -135,6 +135,12 @@ fn a_reader_has_the_shelf_that_it_opened() {
     let reader = Shelf::open(&folder.0).unwrap();
     for (number, batch, _) in &history[1..] {
         shelf.publish(*number, batch).unwrap();
+        // A writer is at work on the next one: its files are half written, and no list uses them.
+        for file in shelf.files() {
+            let next = PartFile { latest: number + 1, ..*file };
+            let bytes = std::fs::read(folder.0.join(file.to_string())).unwrap();
+            std::fs::write(folder.0.join(next.to_string()), &bytes[..bytes.len() / 2]).unwrap();
+        }
         same(&reader, 3, &history[0].2);
         assert!(matches!(
             reader.get(*number, key(1)),
@@ -151,6 +157,21 @@ fn a_reader_has_the_shelf_that_it_opened() {
         shelf.files().count(),
         std::fs::read_dir(&folder.0).unwrap().count() - 2
     );
+}
+
+#[test]
+fn the_old_form_is_told_by_the_list_that_was_read() {
+    let folder = Folder::new("old-form");
+    let shelf = published(&folder, 2);
+    let old = shelf.list().move_back().unwrap();
+    std::fs::write(folder.0.join(grants::LIST_FILE), &old).unwrap();
+    let refused = Shelf::open(&folder.0).unwrap_err();
+    assert!(matches!(refused, ShelfError::OldForm { .. }), "{refused}");
+    assert!(matches!(refused.refusal(), Some(Error::Size | Error::Header)));
+    // Bytes that are no store of either form are not said to be one.
+    std::fs::write(folder.0.join(grants::LIST_FILE), &old[1..]).unwrap();
+    let refused = Shelf::open(&folder.0).unwrap_err();
+    assert!(matches!(refused, ShelfError::Refused { .. }), "{refused}");
 }
 
 #[test]

@@ -288,9 +288,9 @@ def show_draws_a_picture_where_dot_is():
 def stat_tells_sizes():
     s = desk()
     told = json.loads(answered(0, "stat", s, "--json"))
-    assert told == {"form": "new", "capacity": 20, "used": 10, "free": 10, "oldest": 0, "latest": 2, "kept": 3, "publishings": 3, "grants": 3, "bytes": size(20), "publishings_left": 2}
+    assert told == {"form": "new", "capacity": 20, "used": 10, "free": 10, "oldest": 0, "latest": 2, "kept": 3, "publishings": 3, "grants": 3, "bytes": size(20), "publishings_left": 3}
     out = answered(0, "stat", s)
-    assert out.startswith("form      new, slots of 128 bytes\ncapacity  20 slots\nused      10\nfree      10\nkept      0 to 2, 3 versions\ngrants    3 in version 2\nbytes     2584\nleft      about 2 publishings, "), out
+    assert out.startswith("form      new, slots of 128 bytes\ncapacity  20 slots\nused      10\nfree      10\nkept      0 to 2, 3 versions\ngrants    3 in version 2\nbytes     2584\nleft      about 3 publishings, "), out
     answered(0, "format", "one", 1)
     assert answered(0, "stat", "one") == "form      new, slots of 128 bytes\ncapacity  1 slot\nused      0\nfree      1\nkept      0 to 0, 1 version\ngrants    0 in version 0\nbytes     152\n"
     # All versions there can be, in a store that is sound: no loop over them.

@@ -4,6 +4,7 @@ import os
 import random
 import subprocess
 import sys
+import time
 
 TOOL, FAULT, README = [os.path.abspath(p) for p in sys.argv[1:4]]
 TOP = os.path.dirname(README)
@@ -131,6 +132,16 @@ def root_slot(name, version):
 def many(count, seed=1):
     rng = random.Random(seed)
     return "".join("+ %s %s\n" % (rng.randbytes(32).hex(), rng.randbytes(32).hex()) for _ in range(count))
+
+
+def killed_within(seconds, rng, *words):
+    """Kills a run after a part of this time. The answer is by what to lengthen the time for the next one: what was slow once may be fast the next time, and kills shall fall before the end and after it."""
+    run = subprocess.Popen([TOOL] + [str(w) for w in words], stdout=subprocess.DEVNULL, stderr=subprocess.DEVNULL)
+    time.sleep(rng.random() * seconds)
+    ended = run.poll() is not None
+    run.kill()
+    run.wait()
+    return 0.8 if ended else 1.1
 
 
 def untouched(path, status, sentence, *words, **more):

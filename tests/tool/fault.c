@@ -2,12 +2,14 @@
  *   FAULT=kill   the process is killed just before the call
  *   FAULT=half   the same, but of a write the first half is done
  *   FAULT=fail   the call fails with 'no space left on device'
+ *   FAULT=run    before the call the shell runs FAULT_RUN, and the call goes on as if nothing were
  * FAULT_LOG names a file that gets a line for each call. So a test can stop the tool at every point without the tool having a hook for it. */
 #define _GNU_SOURCE
 #include <dlfcn.h>
 #include <errno.h>
 #include <fcntl.h>
 #include <signal.h>
+#include <spawn.h>
 #include <stdarg.h>
 #include <stdio.h>
 #include <stdlib.h>
@@ -15,6 +17,7 @@
 #include <sys/file.h>
 #include <sys/stat.h>
 #include <sys/syscall.h>
+#include <sys/wait.h>
 #include <unistd.h>
 
 static int calls;
@@ -32,7 +35,7 @@ static void note(const char *name, const char *about) {
 }
 
 static const char *of(int fd) {
-    static char path[500];
+    static __thread char path[500];
     char link[40];
     ssize_t n;
     snprintf(link, sizeof link, "/proc/self/fd/%d", fd);
@@ -41,11 +44,25 @@ static const char *of(int fd) {
     return path;
 }
 
+/* Runs a command without any of this. */
+static void run(const char *command) {
+    extern char **environ;
+    char *words[] = {"sh", "-c", (char *)command, 0}, *plain[1000];
+    int n = 0, status;
+    pid_t child;
+    for (char **one = environ; *one && n < 999; one++) {
+        if (strncmp(*one, "LD_PRELOAD=", 11) != 0 && strncmp(*one, "FAULT", 5) != 0) plain[n++] = *one;
+    }
+    plain[n] = 0;
+    if (posix_spawn(&child, "/bin/sh", 0, 0, words, plain) != 0 || waitpid(child, &status, 0) < 0 || status != 0) abort();
+}
+
 /* Whether this call is to fail; a call that is to kill doesn't come back. */
 static int wrong(const char *name, const char *about, int fd, const void *bytes, size_t count) {
     const char *at = getenv("FAULT_AT"), *kind = getenv("FAULT");
-    calls++;
-    if (!at || !kind || calls != atoi(at)) {
+    /* Each call has a number of its own, whichever thread makes it. */
+    int call = __atomic_add_fetch(&calls, 1, __ATOMIC_SEQ_CST);
+    if (!at || !kind || call != atoi(at)) {
         note(name, about);
         return 0;
     }
@@ -53,6 +70,11 @@ static int wrong(const char *name, const char *about, int fd, const void *bytes,
         note(name, "fails");
         errno = ENOSPC;
         return 1;
+    }
+    if (strcmp(kind, "run") == 0) {
+        note(name, about);
+        run(getenv("FAULT_RUN"));
+        return 0;
     }
     if (strcmp(kind, "half") == 0 && bytes && count > 1 && syscall(SYS_write, fd, bytes, count / 2) < 0) abort();
     raise(SIGKILL);

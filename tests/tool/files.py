@@ -3,6 +3,7 @@
 import fcntl
 import json
 import os
+import re
 import shutil
 import stat
 import subprocess
@@ -140,13 +141,15 @@ def a_terminal_is_told_how_long_it_takes():
     both = [subprocess.Popen([TOOL, "apply", s, "/dev/null"], stdout=subprocess.PIPE, stderr=err, text=True) for err in (theirs, subprocess.PIPE)]
     os.close(theirs)
     said = b""
-    while b"apply: 3 s" not in said:
+    # On busy cores a second may be passed over, so the numbers are not.
+    while len(re.findall(rb"apply: \d+ s", said)) < 2:
         said += os.read(ours, 1000)
     os.close(holder)
     (out, _), (_, plain) = [run.communicate(timeout=60) for run in both]
     # The line is gone before the answer, and where standard error is no terminal there is none.
     said += os.read(ours, 1000)
-    assert said.count(b"apply: 2 s") == 1 and said.endswith(b"\r\x1b[K") and out.startswith("version "), (said, out)
+    seconds = [int(n) for n in re.findall(rb"apply: (\d+) s", said)]
+    assert seconds[0] >= 2 and seconds == sorted(seconds) and said.endswith(b"\r\x1b[K") and out.startswith("version "), (said, out)
     assert all(line.startswith("grants: ") for line in plain.splitlines()) and "\r" not in plain, plain
 
 

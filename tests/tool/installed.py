@@ -104,7 +104,8 @@ def built_without_proofs():
     for name in ("crates", "crates.txt", "rust", "tests", "include", "Makefile"):
         at = os.path.join(TOP, name)
         shutil.copytree(at, name) if os.path.isdir(at) else shutil.copy(at, name)
-    env = {name: value for name, value in os.environ.items() if name != "GRANTS_LIB_DIR"}
+    # Not optimised, which is quicker: how fast it is, is not asked here.
+    env = {name: value for name, value in os.environ.items() if name != "GRANTS_LIB_DIR"} | {"CARGO_PROFILE_RELEASE_OPT_LEVEL": "0"}
 
     def made(what):
         done = subprocess.run(["make", "--no-print-directory", what], capture_output=True, text=True, env=env, timeout=900)

@@ -6,8 +6,8 @@ import json
 import os
 import pwd
 import random
+import resource
 import subprocess
-import time
 
 from common import *
 
@@ -21,6 +21,12 @@ def listed(name="m", count=4):
     answered(0, "format", name, 100 + 4 * count)
     answered(0, "apply", name, "-", input="".join('+ "plugin %d" "read"\n' % n for n in range(count)))
     return name
+
+
+def processor(work):
+    """The seconds of the processor that what is run takes."""
+    before, _, after = resource.getrusage(resource.RUSAGE_CHILDREN), work(), resource.getrusage(resource.RUSAGE_CHILDREN)
+    return after.ru_utime + after.ru_stime - before.ru_utime - before.ru_stime
 
 
 def spread(script):
@@ -249,17 +255,15 @@ def many_keys_and_one_book():
     with open("m.book", "a") as book:
         book.writelines('name %064x "other %d"\n' % (n, n) for n in range(1, 20000))
     write("keys", "# all of them\n\n" + "".join('"%s"\n' % name for name in names[:255]) + digest(names[255]).upper() + " # by its digits\n")
-    start = time.time()
-    out = answered(0, "prove", m, "--keys", "keys", "--out", "proofs")
-    took = time.time() - start
-    assert out.startswith("proofs: 256 proofs, "), out
-    start = time.time()
-    answered(0, "prove", m, *['"%s"' % name for name in names], "--version", 1, "--out", "again")
-    # The book is read once and not for each of them: some 256 times as long.
-    once = time.time()
-    answered(0, "name", m)
-    once = time.time() - once
-    assert time.time() - start < 60 * once and took < 60 * once, (took, once)
+    # The book is read once, and not for each of them, which takes some 256 times as long; in processor time, since cores may be busy.
+    once = processor(lambda: answered(0, "name", m))
+    by_file, by_words = ("prove", m, "--keys", "keys", "--out", "proofs"), ("prove", m, *['"%s"' % name for name in names], "--version", 1, "--out", "again")
+    for words in (by_file, by_words):
+        took = processor(lambda: answered(0, *words, env={"LD_PRELOAD": FAULT, "FAULT_LOG": "../calls.log"}))
+        opened = read("../calls.log").decode().splitlines()
+        assert sum(line.startswith("open ") and line.endswith("m.book") for line in opened) == 1 and took < 60 * once, (took, once)
+        os.remove("../calls.log")
+    assert answered(0, *by_file, "--force").startswith("proofs: 256 proofs, ")
     assert read("proofs") == read("again")
     root = answered(0, "root", m).strip()
     assert answered(0, "verify", root, "proofs", "--keys", "keys").count(" present ") == 256
@@ -456,3 +460,8 @@ def dates_and_splits_that_are_said():
     refused(2, "would take minutes", "show", "large", "--svg", "-")
     told = json.loads(answered(0, "stat", "large", "--json"))
     assert told["free"] / 20 < told["publishings_left"] < told["free"] / 8, told
+    answered(0, "format", "once", 2000)
+    answered(0, "import", "once", "-", "--no-end", input=many(300))
+    answered(0, "apply", "once", "-", "--no-book", input="+ %s %s\n" % (A, value(1)))
+    told = json.loads(answered(0, "stat", "once", "--json"))
+    assert told["free"] / 20 < told["publishings_left"] < told["free"] / 4, told

@@ -1,6 +1,7 @@
 """A shelf: a folder where a store was a file. What it answers is held against a store with the same grants, a writer is stopped at any point, and its files are spoilt in
 every way that a folder can be."""
 
+import fcntl
 import json
 import os
 import random
@@ -114,6 +115,16 @@ def a_shelf_answers_as_a_store():
     for line in ("name", "chords"), ("name", "lyrics", "ab" * 32):
         answered(0, line[0], "m", *line[1:])
     assert "chords" in answered(0, "name", "m") and os.path.exists("m/list.book")
+
+
+@test
+def the_commands_of_docs_scale():
+    with open(os.path.join(TOP, "docs/SCALE.md")) as f:
+        block = f.read().split("```sh\n")[1].split("```")[0]
+    write("list", '+ "lyrics sonata" "read"\nend 1\n')
+    env = dict(os.environ, PATH=os.path.dirname(TOOL) + ":" + os.environ["PATH"])
+    done = subprocess.run(["bash", "-euc", block], capture_output=True, text=True, env=env, timeout=60)
+    assert done.returncode == 0 and done.stdout.splitlines()[-1].startswith("present ") and done.stderr == "", (block, done)
 
 
 @test
@@ -237,6 +248,7 @@ def a_shelf_s_writer_is_stopped():
         seen = stopped(apply, kind, seed, 9)
         assert False in seen, kind
         stopped(("prune", "w", 7), kind, seed + 10, 5)
+        stopped(("grow", "w", 200), kind, seed + 20, 4)
 
 
 @test
@@ -252,10 +264,7 @@ def a_shelf_s_writer_is_killed_after_any_time():
     rng, seen = random.Random(8), set()
     for _ in range(20):
         fresh("m")
-        run = subprocess.Popen([TOOL, "apply", "w", "b"], stdout=subprocess.DEVNULL, stderr=subprocess.DEVNULL)
-        time.sleep(rng.random() * whole)
-        run.kill()
-        run.wait()
+        whole *= killed_within(whole, rng, "apply", "w", "b")
         left = state("w")
         assert left in (before, after), "neither the old shelf nor the new one"
         seen.add(left == before)
@@ -263,10 +272,7 @@ def a_shelf_s_writer_is_killed_after_any_time():
     # A shelf that was being made is there whole, or not at all.
     for _ in range(8):
         shutil.rmtree("n", ignore_errors=True)
-        run = subprocess.Popen([TOOL, "shelf", "m", "n", "--bits", "3"], stdout=subprocess.DEVNULL, stderr=subprocess.DEVNULL)
-        time.sleep(rng.random() * whole)
-        run.kill()
-        run.wait()
+        killed_within(whole, rng, "shelf", "m", "n", "--bits", 3)
         if os.path.exists("n"):
             answered(0, "check", "n")
     shutil.rmtree("n", ignore_errors=True)
@@ -292,12 +298,49 @@ def two_writers_and_readers_of_a_shelf():
     assert (stat["latest"], stat["grants"]) == (12, 12), stat
     assert [v["book"] for v in told("log", "m")] == [None] + ["agrees"] * 12
     # A writer that is waited for no longer.
-    holder = subprocess.Popen(["flock", "m/list", "sleep", "5"])
-    time.sleep(0.3)
-    refused(3, "is being written by", "apply", "m", "/dev/null", "--wait", 0)
-    answered(0, "check", "m")
-    holder.kill()
-    holder.wait()
+    with open("m/list", "rb") as holder:
+        fcntl.flock(holder, fcntl.LOCK_EX)
+        refused(3, "is being written by process %d" % os.getpid(), "apply", "m", "/dev/null", "--wait", 0)
+        answered(0, "check", "m")
+
+
+def written_between(words, writer, trials, rng):
+    """Whatever call the writer falls before, w is answered as it was before or as it is after, at once and without a word beside it."""
+    fresh("m")
+    number = calls(words)
+    wanted = [grants(*words).out]
+    subprocess.run(["sh", "-c", writer], check=True)
+    wanted.append(grants(*words).out)
+    for at in rng.sample(range(1, number + 1), min(trials, number)):
+        fresh("m")
+        ran = grants(*words, env={"LD_PRELOAD": FAULT, "FAULT": "run", "FAULT_AT": str(at), "FAULT_RUN": writer})
+        assert ran.out in wanted and ran.status in (0, 1) and ran.err == "", (at, number, writer, ran, wanted)
+
+
+@test
+def a_shelf_is_written_between_any_two_calls_of_a_reader():
+    batches = history(8)
+    publish_all(shelf(), batches)
+    known = told("list", "m")["grants"][0]["key"]
+    write("b", "- %s\n" % known)
+    publish = "'%s' apply w b --date 2026-05-09 >/dev/null" % TOOL
+    writers = (publish, publish + " && '%s' prune w 14 >/dev/null" % TOOL, "'%s' prune w 13 >/dev/null" % TOOL)
+    rng = random.Random(4)
+    for words in (("get", known), ("prove", known), ("list", "--full"), ("check",), ("log",), ("report",), ("history", known), ("diff", "--stat")):
+        for writer in writers:
+            written_between((words[0], "w", *words[1:]), writer, 4, rng)
+
+
+@test
+def a_store_is_written_between_any_two_calls_of_a_reader():
+    os.mkdir("m")
+    for n in range(3):
+        n or answered(0, "format", "m/s", 100)
+        answered(0, "apply", "m/s", "-", "--date", "2026-05-0%d" % (n + 1), input="+ %s %s\n" % (A, value(n + 1)))
+    write("b", "- %s\n" % A)
+    publish = "'%s' apply w/s b --date 2026-05-09 >/dev/null" % TOOL
+    for words in (("log",), ("list", "--full"), ("history", A), ("report",)):
+        written_between((words[0], "w/s", *words[1:]), publish, 99, random.Random(1))
 
 
 @test
@@ -379,6 +422,74 @@ def a_shelf_s_files_are_spoilt():
     wrong = kept[0].rsplit("-", 1)[0] + "-99"
     os.rename("w/" + kept[0], "w/" + wrong)
     refused(13, "not what its name says", "check", "w")
+    # How many grants there were is counted by the names, so no publishing goes by one that is wrong.
+    part_key = "%02x" % (int(kept[0][5:8], 16) << 5) + "77" * 31
+    refused(13, "not what its name says", "apply", "w", "-", input="+ %s %s\n" % (part_key, value(1)))
+    assert read("w/list") == read("m/list")
+
+
+@test
+def any_bytes_in_a_shelf():
+    """Files that are lost, spoilt, or under other names: always one of the statuses, the list as it was where a writer refuses, and what is made of it sound."""
+    batches = history(9)
+    publish_all(shelf(), batches)
+    rng = random.Random(10)
+    known = sorted(batches[-1][1])
+    seen = set()
+
+    def harm(path):
+        content = bytearray(read(path))
+        for _ in range(rng.choice((1, 1, 4))):
+            content[rng.randrange(len(content))] = rng.choice((0, 1, 255, rng.randrange(256)))
+        write(path, bytes(content))
+
+    for _ in range(150):
+        fresh("m")
+        shutil.rmtree("o", ignore_errors=True)
+        for name in sorted(os.listdir("w")):
+            turn, words = rng.random(), name.split("-")
+            if turn < 0.06:
+                harm("w/" + name)
+            elif turn < 0.09:
+                os.remove("w/" + name)
+            elif turn < 0.14 and len(words) == 5:
+                words[rng.randrange(1, 5)] = rng.choice(("000", "005", "fff", "0", "7", "13", "4294967295", "18446744073709551615"))
+                os.rename("w/" + name, "w/" + "-".join(words))
+        k, version = rng.choice(known), rng.choice(("0", "5", "13", "99"))
+        write("b", "- %s\n+ %s %s\n" % (k, key(39), value(9)) if k != key(39) else "")
+        words = rng.choice(
+            (
+                ["check", "w"],
+                ["apply", "w", "b"],
+                ["import", "w", "b", "--dry-run"],
+                ["prune", "w", version],
+                ["grow", "w", "200"],
+                ["get", "w", k, version],
+                ["prove", "w", k],
+                ["list", "w", version],
+                ["log", "w"],
+                ["diff", "w", "5"],
+                ["stat", "w", "--json"],
+                ["show", "w"],
+                ["report", "w"],
+                ["move", "w", "--to", "old", "--no-keep"],
+                ["shelf", "w", "o", "--bits", "2"],
+                ["rescue", "w"],
+                ["rescue", "w", "o", "--latest", "13"],
+                ["rescue", "w", "o", "--latest", "13", "--parts-alone"],
+                ["format", "w", *map(str, SMALL), "--force"],
+            )
+        )
+        before = os.path.exists("w/list") and read("w/list")
+        ran = grants(*words)
+        assert ran.status in (0, 1, 2, 3, 4, 5, *range(11, 32)) and "panicked" not in ran.err, ran
+        assert ran.status in (0, 1) or ran.err.startswith("grants: "), ran
+        if ran.status != 0:
+            assert before == (os.path.exists("w/list") and read("w/list")), ran
+        if os.path.exists("o"):
+            answered(0, "check", "o")
+        seen.add((words[0], ran.status == 0))
+    assert len(seen) > 25, seen
 
 
 @test
@@ -409,6 +520,15 @@ def a_shelf_takes_as_much_as_it_says():
     write("b", record(A, value(1)) + record(D, value(1)) + record(B, value(1)))
     refused(15, "Sort binary records", "apply", "m", "b")
     assert sorted(os.listdir("m")) == before
+    # How many slots it takes, how many are there, and only what would help.
+    shelf("few", "--bits", 1, "--slots", 5, "--list-slots", 60)
+    for batch, takes, free in ((asked([A, B, C, D]), 6, 5), ("- %s\n" % A, 2, 0)):
+        refused(17, "It takes %d new records, and part 000 of few has %d free slots. To make room, give the parts more slots (grants grow few %d, or more). few is as it was." % (takes, free, 6 if free else 8), "apply", "few", "-", input=batch)
+        answered(0, "grow", "few", 6 if free else 8)
+        answered(0, "apply", "few", "-", input=batch)
+    refused(17, "prune versions that no one asks for any more (grants prune frees up to 3 slots), or give the parts", "apply", "few", "-", input="- %s\n" % B)
+    answered(0, "prune", "few", 2)
+    answered(0, "apply", "few", "-", input="- %s\n" % B)
     # What changes nothing touches no part.
     ran = grants("apply", "m", "-", input="- %s\n+ %s %s\n" % ("7f" * 32, low[0], value(1)))
     assert ran.status == 0 and "0 parts changed" in ran.out and ran.err.count("no change") == 2, ran
@@ -419,6 +539,28 @@ def a_shelf_takes_as_much_as_it_says():
     answered(0, "shelf", "m", "n/", "--bits", 2)
     assert answered(0, "export", "n").splitlines()[1:] == answered(0, "export", "m").splitlines()[1:]
     answered(0, "check", "m")
+
+
+@test
+def how_many_publishings_a_shelf_has_room_for():
+    shelf("m", "--bits", 2, "--slots", 256, "--list-slots", 64)
+    assert told("stat", "m")["publishings_left"] is None
+    write("list", many(60))
+    answered(0, "import", "m", "list", "--no-end")
+    # Each changes one key, all of one part: that part is full before the list is, or the list before the part.
+    one = next(line.split()[1] for line in read("list").decode().splitlines())
+    for name, full in (("m", "the list"), ("n", "part 00%d" % (int(one[0], 16) >> 2))):
+        if name == "n":
+            answered(0, "shelf", "m", "n", "--bits", 2, "--slots", 400, "--list-slots", 4096)
+        for n in range(11):
+            answered(0, "apply", name, "-", input="+ %s %s\n" % (one, value(n + 1)))
+        left = told("stat", name)["publishings_left"]
+        assert answered(0, "stat", name).splitlines()[-1] == "left      about %d publishings, if they go as the last ones did; then %s is full" % (left, full)
+        for made in range(left + 2):
+            ran = grants("apply", name, "-", input="+ %s %s\n" % (one, value(made + 20)))
+            if ran.status != 0:
+                break
+        assert ran.status == 17 and full in ran.err and made == left > 3, (made, left, ran)
 
 
 @test
@@ -458,7 +600,8 @@ def a_store_becomes_a_shelf():
 
 @test
 def what_is_whole_of_a_shelf_comes_back():
-    batches = history(7)
+    # One part is empty in between, and one at the end.
+    batches = history(42)
     publish_all(shelf(), batches)
     roots = {version: answered(0, "root", "m", version).strip() for version in (3, 9, 13)}
     listed = told("list", "m")["grants"]
@@ -469,10 +612,11 @@ def what_is_whole_of_a_shelf_comes_back():
     assert roots[13] in answered(0, "rescue", "w")
     refused(4, "not what was signed", "rescue", "w", "r", "--latest", 13, "--root", ZERO)
     assert not os.path.exists("r")
-    # A part that was empty in between comes back from then on, as a store does.
+    # Every part is whole, so each publishing comes back, also where a part was empty then or is empty now.
     came = told("rescue", "w", "r/", "--latest", 13, "--root", roots[13])
-    assert came["first"] <= 9 and came["root"] == roots[13] and came["root_compared"], came
-    assert told("list", "r")["grants"] == listed and answered(0, "root", "r", 9).strip() == roots[9]
+    assert came["first"] == 3 and came["root"] == roots[13] and came["root_compared"], came
+    assert came["parts"] == len(parts("m")) and [f for f in parts("m") if f.endswith("-0")], came
+    assert told("list", "r")["grants"] == listed and all(answered(0, "root", "r", v).strip() == root for v, root in roots.items())
     answered(0, "check", "r")
     answered(0, "apply", "r", "-", input="+ %s %s\n" % (key(3), value(98)))
     # A part lost a record that only old versions want: the run begins later.

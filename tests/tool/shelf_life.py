@@ -3,6 +3,7 @@
 import json
 import os
 import random
+import re
 import shutil
 import subprocess
 
@@ -141,7 +142,7 @@ def a_move_of_a_shelf_is_stopped():
 def a_shelf_is_made_afresh():
     batches = history(14)
     publish_all(shelf(), batches)
-    refused(3, "is there already and was left alone", "format", "m", *SMALL)
+    refused(3, "is there already and was left alone: a shelf is made in a folder that isn't there yet; --force makes one that is there afresh", "format", "m", *SMALL)
     refused(31, "13 bits", "format", "m", "--bits", 13, "--force")
     refused(11, "1 to 16,384", "format", "m", "--bits", 3, "--slots", 0, "--force")
     refused(11, "1 to 16,384", "format", "m", "--bits", 3, "--list-slots", 16385, "--force")
@@ -165,9 +166,12 @@ def a_shelf_is_made_afresh():
     # Stopped at any point, it is the shelf that it was or the empty one, with its bits; and the next writer ends what was begun.
     fresh("m")
     number = calls(afresh)
+    with open("../calls.log") as f:
+        settings = [at for at, line in enumerate(f, 1) if line.startswith("rename ") and line.endswith("/.shelf.grants-new\n")]
+    assert len(settings) == 2, settings
     rng = random.Random(6)
     seen = set()
-    for at in sorted(rng.sample(range(1, number + 1), min(12, number))):
+    for at in sorted({*rng.sample(range(1, number + 1), min(11, number)), settings[0]}):
         for kind in ("kill", "fail"):
             fresh("m")
             ran = grants(*afresh, env={"LD_PRELOAD": FAULT, "FAULT": kind, "FAULT_AT": str(at)})
@@ -179,6 +183,7 @@ def a_shelf_is_made_afresh():
             answered(0, "apply", "w", "-", "--number", 90, input="+ %s %s\n" % (key(3), value(9)))
             stat = told("stat", "w")
             assert (stat["bits"], stat["slots"]) == whole[:2] and b"fresh" not in read("w/shelf"), (ran, stat)
+            assert [f for f in os.listdir("w") if f.startswith(".")] == [], os.listdir("w")
             answered(0, "check", "w")
     assert len(seen) == 2
     assert state("m") == root
@@ -366,6 +371,24 @@ def a_list_is_made_of_the_parts():
     came = told("rescue", "w", "re", "--latest", 13, "--root", roots[13])
     assert came["first"] == 8 and answered(0, "root", "re", 8).strip() == roots[7], came
     assert [f for f in os.listdir(".") if f.startswith(".")] == []
+
+
+@test
+def a_terminal_is_told_how_many_parts_are_done():
+    publish_all(shelf(), history(19))
+    number = calls(("check", "m"))
+    ours, theirs = os.openpty()
+    # It is held up near its end until the bar was seen.
+    held = dict(os.environ, LD_PRELOAD=FAULT, FAULT="run", FAULT_AT=str(number - 4), FAULT_RUN="until [ -e seen ]; do sleep .05; done")
+    run = subprocess.Popen([TOOL, "check", "m"], stdout=subprocess.PIPE, stderr=theirs, text=True, env=held)
+    os.close(theirs)
+    said = b""
+    while not re.search(rb"check: \[#+ *\] \d of %d parts, \d+ s" % len(parts("m")), said):
+        said += os.read(ours, 1000)
+    write("seen", "")
+    out, _ = run.communicate(timeout=60)
+    said += os.read(ours, 1000)
+    assert run.returncode == 0 and out == "m is sound, versions 0 to 13\n" and said.endswith(b"\r\x1b[K"), (out, said)
 
 
 @test

@@ -191,10 +191,7 @@ def killed_after_any_time():
     seen = {True: 0, False: 0}
     for _ in range(150):
         write("s", before)
-        run = subprocess.Popen([TOOL, "apply", "s", "b"], stdout=subprocess.DEVNULL, stderr=subprocess.DEVNULL)
-        time.sleep(rng.random() * whole * 1.3)
-        run.kill()
-        run.wait()
+        whole *= killed_within(whole, rng, "apply", "s", "b")
         left = read("s")
         assert left in (before, after), "neither the old store nor the new one"
         seen[left == after] += 1

@@ -27,6 +27,8 @@ import shelf_life
 import rescue_with
 import table
 
+LONG = ("built_without_proofs",)
+
 
 def toured(text):
     """The README with what the blocks of its tour print now, all of them pasted into one shell."""
@@ -71,31 +73,58 @@ def write_tour():
     subprocess.run(["dot", "-Tsvg", "tree.dot", "-o", os.path.join(docs, "tree.svg")], check=True)
 
 
+def passes(function, top):
+    """Runs one test in a folder of its own; where it fails, says why."""
+    folder = os.path.join(top, function.__name__, "here")
+    os.makedirs(folder)
+    os.chdir(folder)
+    try:
+        function()
+        return True
+    except Exception:
+        sys.stdout.write("%s failed\n%s" % (function.__name__, traceback.format_exc()))
+        return False
+    finally:
+        sys.stdout.flush()
+        os.chdir("/")
+
+
+def work(jobs, results, chosen, top):
+    """Takes tests by their numbers, a byte each, until there are no more, and gives a byte for each that ended."""
+    while number := os.read(jobs, 1):
+        os.write(results, b"\1" if passes(chosen[number[0]], top) else b"\0")
+
+
 def main():
-    passed = failed = 0
     os.umask(0o022)
     top = tempfile.mkdtemp(prefix="grants-tool-")
+    os.chmod(top, 0o755)
     only = sys.argv[4:]
     if only == ["--write-tour"]:
         return write_tour()
-    for function in tests:
-        if only and function.__name__ not in only:
-            continue
-        folder = os.path.join(top, function.__name__, "here")
-        os.makedirs(folder)
-        os.chmod(top, 0o755)
-        os.chdir(folder)
-        try:
-            function()
-            passed += 1
-        except Exception:
-            failed += 1
-            print("%s failed" % function.__name__)
-            traceback.print_exc(file=sys.stdout)
-    os.chdir("/")
+    chosen = [function for function in tests if not only or function.__name__ in only]
+    # What takes long begins first, and as many run at once as there are cores: each is a folder and processes of its own.
+    chosen.sort(key=lambda function: function.__name__ not in LONG)
+    jobs, results = os.pipe(), os.pipe()
+    os.write(jobs[1], bytes(range(len(chosen))))
+    os.close(jobs[1])
+    workers = []
+    for _ in range(min(len(chosen), len(os.sched_getaffinity(0)))):
+        worker = os.fork()
+        if worker == 0:
+            os.close(results[0])
+            work(jobs[0], results[1], chosen, top)
+            os._exit(0)
+        workers.append(worker)
+    os.close(results[1])
+    with os.fdopen(results[0], "rb") as ended:
+        passed = ended.read().count(b"\1")
+    for worker in workers:
+        os.waitpid(worker, 0)
     shutil.rmtree(top)
-    print("%d passed, %d failed" % (passed, failed))
-    sys.exit(failed != 0)
+    # A test that ended without a word failed too.
+    print("%d passed, %d failed" % (passed, len(chosen) - passed))
+    sys.exit(passed != len(chosen))
 
 
 main()

@@ -322,6 +322,15 @@ def help_is_there():
 
 
 @test
+def every_refusal_has_its_row():
+    """The table of docs/TOOL.md has each number of the header but those that it says don't occur."""
+    numbers = {int(n) for n in re.findall(r"^ \*  +(\d+)  ", read(os.path.join(TOP, "include/grants.h")).decode(), re.M)}
+    page = read(os.path.join(TOP, "docs/TOOL.md")).decode()
+    rows = [(int(n), int(status)) for n, status in re.findall(r"^\| (\d+) \| (\d+) \| ", page, re.M)]
+    assert "\n9 and 16 don't occur" in page and numbers - {9, 16} == {n for n, _ in rows} and all(status == 10 + n for n, status in rows), (numbers, rows)
+
+
+@test
 def any_bytes_and_words():
     """Noise, and good files with noise in them: always one of the statuses, never a file changed that the command refused."""
     rng = random.Random(9)

@@ -70,6 +70,7 @@ async function harmed(tally, grants, { folder, snapshots, names, kept }) {
   const [key, file] = [fromHex(names[4]), [...folder.keys()].find((name) => partFileOf(name)?.part === part)];
   const other = [...folder.keys()].find((name) => partFileOf(name) && partFileOf(name).part !== part);
   const said = async (files) => partBy((await opened(files)).get(12, key));
+  tally.equal('names of no part', ['part-0a3-7-2-16385', 'part-0a3-07-2-1', 'part-0A3-7-2-1', 'list'].map(partFileOf), [undefined, undefined, undefined, undefined]);
   const without = new Map(folder);
   without.delete(file);
   tally.equal('a lost part', await said(without), [3, part, 'it is lost: the list names it in version 12, and it has no file']);

@@ -117,7 +117,8 @@ impl Shelf {
         }
     }
 
-    fn check_name(&self, part: u16, store: &Bytes) -> Result<(), ShelfError> {
+    /// Whether the name of a part's file says what the file holds.
+    pub(super) fn check_name(&self, part: u16, store: &Bytes) -> Result<(), ShelfError> {
         let of = ShelfError::of(part);
         let header = store.header().map_err(&of)?;
         let grants = store.count(header.latest).map_err(&of)?;

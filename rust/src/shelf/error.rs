@@ -13,6 +13,8 @@ pub enum ShelfError {
     File { path: PathBuf, error: io::Error },
     /// The folder is no shelf.
     NoShelf { folder: PathBuf, why: &'static str },
+    /// The list is a store of the old form, and was to be one of today's.
+    OldForm { error: Error },
     /// The list names the part in a version, and it has no file.
     LostPart { part: u16, version: u32 },
     /// The part's file has another root in a version than the list: it is older, newer, another part's, or changed.
@@ -47,7 +49,7 @@ impl ShelfError {
     /// The number of refusal that it comes to: a part that isn't the one that the list names makes the shelf unsound.
     pub fn refusal(&self) -> Option<Error> {
         match self {
-            ShelfError::Refused { error, .. } => Some(*error),
+            ShelfError::Refused { error, .. } | ShelfError::OldForm { error } => Some(*error),
             ShelfError::File { .. } | ShelfError::NoShelf { .. } | ShelfError::OtherRoot { .. } => {
                 None
             }
@@ -64,6 +66,7 @@ impl fmt::Display for ShelfError {
             ShelfError::Refused { error, part: Some(part) } => write!(f, "part {part:03x}: {error}"),
             ShelfError::File { path, error } => write!(f, "{}: {error}", path.display()),
             ShelfError::NoShelf { folder, why } => write!(f, "{} is no shelf: {why}", folder.display()),
+            ShelfError::OldForm { error } => write!(f, "the list: {error}: it is of the old form"),
             ShelfError::LostPart { part, version } => write!(
                 f,
                 "part {part:03x} is lost: the list names it in version {version}, and it has no file"

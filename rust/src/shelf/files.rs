@@ -19,6 +19,7 @@ pub const SHELF_FILE: &str = "shelf";
 
 const HEAD: &str = "# A shelf of grant stores: how many bits of a key name its part, and how many slots a new part gets. Neither is changed by hand.\n";
 const NEW_LIST: &str = ".list.grants-new";
+const NEW_SETTINGS: &str = ".shelf.grants-new";
 /// How the names of files that are to get another's name end.
 const NEW: &str = ".grants-new";
 
@@ -44,7 +45,7 @@ impl fmt::Display for PartFile {
 }
 
 impl PartFile {
-    /// The very names that `Display` writes.
+    /// The very names that `Display` writes, of no more grants than a store has slots.
     pub fn of(name: &str) -> Option<PartFile> {
         let mut words = name.strip_prefix("part-")?.split('-');
         let file = PartFile {
@@ -53,7 +54,7 @@ impl PartFile {
             oldest: words.next()?.parse().ok()?,
             grants: words.next()?.parse().ok()?,
         };
-        (file.to_string() == name).then_some(file)
+        (file.grants <= MOST_SLOTS.into() && file.to_string() == name).then_some(file)
     }
 
     /// Its name in a shelf of the old form: `old-0a3-7-2-3906`.
@@ -224,7 +225,7 @@ pub(super) fn settings_text(bits: Bits, slots: u32) -> String {
 
 /// Puts a text in the place of the file 'shelf'.
 fn put_settings(folder: &Path, text: &str) -> Result<(), ShelfError> {
-    let new = folder.join(".shelf.grants-new");
+    let new = folder.join(NEW_SETTINGS);
     let _ = fs::remove_file(&new);
     put(&new, text.as_bytes())?;
     let path = folder.join(SHELF_FILE);
@@ -292,7 +293,8 @@ impl Shelf {
         self.clean()
     }
 
-    /// The shelf of a folder, as it is now. The list and its header are read, and the names of the parts' files. Refused: 1, 2 (the list).
+    /// The shelf of a folder, as it is now. The list and its header are read, and the names of the parts' files. Refused: 1, 2 (the list; [`ShelfError::OldForm`] where it is of
+    /// the old form).
     pub fn open(folder: &Path) -> Result<Shelf, ShelfError> {
         Shelf::opened(folder, false)
     }
@@ -308,7 +310,10 @@ impl Shelf {
         if old {
             list = list.move_over()?;
         }
-        let header = list.header()?;
+        let header = match list.header() {
+            Err(error) if list.is_old_form() => return Err(ShelfError::OldForm { error }),
+            header => header?,
+        };
         let (bits, slots) = settings.of_list(header);
         let mut files = BTreeMap::new();
         let ours = |name: &PartFile| u32::from(name.part) < bits.parts() && name.within(header);
@@ -358,7 +363,7 @@ impl Shelf {
         }
     }
 
-    /// Whether a file is a part's that this list has no use for, or was to get a part's name.
+    /// Whether a file is a part's that this list has no use for, or was to get a part's name or that of the file 'shelf'.
     fn is_left(&self, name: &str) -> bool {
         let (own, other) = match self.old {
             true => (PartFile::of_old(name), PartFile::of(name)),
@@ -367,32 +372,42 @@ impl Shelf {
         let used = own.is_some_and(|own| self.files.get(&own.part) == Some(&own));
         let named = name.strip_prefix('.').and_then(|name| name.strip_suffix(NEW));
         let to_be = named.is_some_and(|name| PartFile::of(name).is_some());
-        to_be || other.is_some() || own.is_some() && !used
+        to_be || name == NEW_SETTINGS || other.is_some() || own.is_some() && !used
     }
 
-    /// The bytes of a part's file, none where it has none. Where it was replaced since the shelf was opened, the newest one there.
+    /// The bytes of a part's file, none where it has none. Where it was replaced since the shelf was opened, the one that is in use now.
     pub fn part(&self, part: u16) -> Result<Option<Store<Vec<u8>>>, ShelfError> {
         let Some(name) = self.files.get(&part) else {
             return Ok(None);
         };
-        let path = self.folder.join(name.name(self.old));
-        match read(&path) {
-            Ok(store) => return self.brought_over(part, store).map(Some),
-            Err(e) if e.kind() == io::ErrorKind::NotFound => {}
-            Err(e) => return Err(file(&path)(e)),
+        let mut name = *name;
+        loop {
+            let path = self.folder.join(name.name(self.old));
+            match read(&path) {
+                Ok(store) => return self.brought_over(part, store).map(Some),
+                Err(e) if e.kind() == io::ErrorKind::NotFound => {}
+                Err(e) => return Err(file(&path)(e)),
+            }
+            match self.in_use(part)? {
+                Some(now) if now != name => name = now,
+                _ => {
+                    let version = self.header.latest;
+                    return Err(ShelfError::LostPart { part, version });
+                }
+            }
         }
-        let newest = names(&self.folder, self.old)?
-            .into_iter()
-            .rfind(|name| name.part == part);
-        let Some(newest) = newest else {
-            return Err(ShelfError::LostPart {
-                part,
-                version: self.header.latest,
-            });
+    }
+
+    /// The file of a part that the folder's list uses now. One that is newer than that list may be half written.
+    fn in_use(&self, part: u16) -> Result<Option<PartFile>, ShelfError> {
+        let (list, names, _) = at_one_moment(&self.folder, self.old)?;
+        let list = match self.old {
+            true => list.move_over(),
+            false => Ok(list),
         };
-        let path = self.folder.join(newest.name(self.old));
-        let store = read(&path).map_err(file(&path))?;
-        self.brought_over(part, store).map(Some)
+        let header = list.and_then(|list| list.header()).ok();
+        let ours = |name: &PartFile| name.part == part && header.is_some_and(|h| name.within(h));
+        Ok(names.into_iter().rfind(ours))
     }
 
     /// A part as it is read, in the form of today.
@@ -599,6 +614,7 @@ mod tests {
             "part-0a3-7-2-1-1",
             "part-0a3-7-2",
             "part-0a3-+7-2-1",
+            "part-0a3-7-2-16385",
             "list",
         ] {
             assert_eq!(PartFile::of(wrong), None, "{wrong}");

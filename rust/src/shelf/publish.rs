@@ -85,6 +85,12 @@ impl Rounds {
     pub fn is_empty(&self) -> bool {
         self.parts.is_empty()
     }
+
+    /// A part's records, with the round that publishes them, 0 the first.
+    pub fn of_part(&self, part: u16) -> impl Iterator<Item = (usize, &[u8])> {
+        let runs = self.parts.iter().filter(move |(own, _)| *own == part);
+        runs.flat_map(|(_, runs)| runs.iter().map(|(round, run)| (*round, &run[..])))
+    }
 }
 
 /// What was made: the new list, which is in force once it is in the old one's place, and what is told of it.

@@ -6,7 +6,9 @@ use super::{Shelf, ShelfError};
 use crate::changes::Changes;
 use crate::figures::{Figures, RangeFigures};
 use crate::records::Record;
-use crate::{Error, Finding, Key, Lookup, Palette, Proof, Root, Store, Value, MOST_VISITS, PALETTE_KEYS};
+use crate::{
+    Error, Finding, Header, Key, Lookup, Palette, Proof, Root, Store, Value, MOST_VISITS, PALETTE_KEYS,
+};
 use std::collections::BTreeMap;
 
 /// A part in a version of the shelf: its store, and the version of its own that the shelf's reads as.
@@ -113,23 +115,30 @@ impl Shelf {
         )
     }
 
-    /// A part in the latest version, whether or not it holds a grant there; none where it has no file.
+    /// A part in the latest version, whether or not it holds a grant there, with all that the shelf keeps of it; none where it has no file.
     pub fn newest(&self, part: u16) -> Result<Option<PartAt>, ShelfError> {
-        let latest = self.header.latest;
-        self.part_with(part, latest, self.part_root(latest, part)?)
+        let Header { latest, oldest, .. } = self.header;
+        let at = self.part_with(part, latest, self.part_root(latest, part)?)?;
+        let own = at.as_ref().map(|at| at.store.header()).transpose();
+        // One that was pruned since the shelf was opened has less.
+        match own.map_err(ShelfError::of(part))? {
+            Some(own) if own.oldest > oldest => Err(ShelfError::OtherPart { part, version: oldest }),
+            _ => Ok(at),
+        }
     }
 
-    /// The same for who changes it: a part that is newer than the list is not built upon.
+    /// The same for who changes it: nothing is built on a part that is newer than the list, or whose name says something else than it holds, which is what a publishing counts by.
     pub(super) fn newest_to_change(&self, part: u16) -> Result<Option<PartAt>, ShelfError> {
-        let (at, version) = (self.newest(part)?, self.header.latest);
-        let latest = at.as_ref().map(|at| at.store.header()).transpose();
-        match latest
-            .map_err(ShelfError::of(part))?
-            .is_some_and(|header| header.latest > version)
-        {
-            true => Err(ShelfError::OtherPart { part, version }),
-            false => Ok(at),
+        let version = self.header.latest;
+        let Some(at) = self.newest(part)? else {
+            return Ok(None);
+        };
+        let header = at.store.header().map_err(ShelfError::of(part))?;
+        if header.latest > version {
+            return Err(ShelfError::OtherPart { part, version });
         }
+        self.check_name(part, &at.store)?;
+        Ok(Some(at))
     }
 
     /// What the work gives for each part that has a file, in the order of keys.

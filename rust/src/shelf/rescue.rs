@@ -149,7 +149,8 @@ impl ShelfRescue<'_> {
         Ok(told(first, signed, &saved, counts, false))
     }
 
-    /// The newest of a part's files that has, in `latest`, the root that is named there; none where none is named. Of a part that the list no longer names, its history isn't kept.
+    /// The newest of a part's files that has, in `latest`, the root that is named there. Of a part that the list names no more, one that is sound and holds nothing there, so that the versions
+    /// before come back too; none where there is none, since a rescue makes no store whose latest version is empty.
     fn saved(
         &self,
         files: &Files,
@@ -160,16 +161,21 @@ impl ShelfRescue<'_> {
         let at_last = |(_, from, until): &&Named| {
             *from <= version && until.is_none_or(|until| version < until)
         };
-        let Some((root, ..)) = lives.iter().find(at_last) else {
-            return Ok(None);
-        };
+        let named = lives.iter().find(at_last).map(|(root, ..)| *root);
         for (name, paths) in files.iter().rev().filter(|(name, _)| name.part == part) {
             let own = version.min(name.latest);
-            if let Some(came) = best(part, &stores(paths), self.oldest.min(own), own, Some(*root)) {
-                return Ok(Some(came));
+            let came = match named {
+                Some(root) => best(part, &stores(paths), self.oldest.min(own), own, Some(root)),
+                None => whole_with(part, &stores(paths), own, Some(Root::EMPTY)),
+            };
+            if came.is_some() {
+                return Ok(came);
             }
         }
-        Err(ShelfError::LostPart { part, version })
+        match named {
+            Some(_) => Err(ShelfError::LostPart { part, version }),
+            None => Ok(None),
+        }
     }
 
     /// The same without the list, which is lost: another one is made of the roots that the parts have in the versions that all of them have. **Nothing but the signed root shows that no part is
@@ -266,14 +272,12 @@ fn best(
     latest: u32,
     root: Option<Root>,
 ) -> Option<Saved> {
-    let right = |came: &Saved| root.is_none_or(|root| came.store.root(latest) == Ok(root));
-    let mut whole = stores.iter().filter_map(|store| whole(part, store, latest));
-    if let Some(came) = whole.find(right) {
+    if let Some(came) = whole_with(part, stores, latest, root) {
         return Some(came);
     }
     let [first, second] = stores else {
         let mut rescued = stores.iter().filter_map(|store| rescued(part, store, oldest, latest));
-        return rescued.find(right);
+        return rescued.find(|came| came.has(root));
     };
     let came = first.rescue_with(second, oldest, latest, root)?;
     Some(Saved::of(part, came.store, came.what, latest))
@@ -489,7 +493,18 @@ fn needed(lives: &[Named], part: Option<&Saved>, latest: u32) -> u32 {
     agree.last().unwrap_or(latest)
 }
 
+/// The copy of a part's file that is sound and ends at this version, with this root there if it is known.
+fn whole_with(part: u16, stores: &[Bytes], latest: u32, root: Option<Root>) -> Option<Saved> {
+    let mut whole = stores.iter().filter_map(|store| whole(part, store, latest));
+    whole.find(|came| came.has(root))
+}
+
 impl Saved {
+    /// Whether it has this root in its latest version, where one is known.
+    fn has(&self, root: Option<Root>) -> bool {
+        root.is_none_or(|root| self.store.root(self.latest) == Ok(root))
+    }
+
     fn of(part: u16, store: Bytes, what: Rescued, latest: u32) -> Saved {
         let counts = [what.same, what.other, what.out].map(u64::from);
         let first = what.first;

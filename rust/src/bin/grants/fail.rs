@@ -12,6 +12,8 @@ pub enum Fail {
     Usage(String),
     /// A file, or standard input or output, could not be read or written: 3.
     File(String),
+    /// A store or a shelf was written while it was read: 3. To be tried again.
+    Meanwhile(String),
     /// The book beside the store can't say it, or a signed root is past its date: 4.
     Book(String),
     /// What would be published looks wrong, and an option that the sentence names lets it through: 5.
@@ -33,7 +35,7 @@ impl Fail {
     pub fn status(&self) -> u8 {
         match self {
             Fail::Usage(_) => 2,
-            Fail::File(_) => 3,
+            Fail::File(_) | Fail::Meanwhile(_) => 3,
             Fail::Book(_) => 4,
             Fail::Held(_) => 5,
             Fail::Refused(error, _) | Fail::Damaged(error, ..) => 10 + error.number() as u8,
@@ -56,9 +58,10 @@ impl Fail {
 impl fmt::Display for Fail {
     fn fmt(&self, f: &mut fmt::Formatter<'_>) -> fmt::Result {
         match self {
-            Fail::Usage(sentence) | Fail::File(sentence) | Fail::Book(sentence) => {
-                f.write_str(sentence)
-            }
+            Fail::Usage(sentence)
+            | Fail::File(sentence)
+            | Fail::Meanwhile(sentence)
+            | Fail::Book(sentence) => f.write_str(sentence),
             Fail::Held(sentence) => write!(f, "held back: {sentence} Nothing was changed."),
             Fail::Refused(error, advice) | Fail::Damaged(error, advice, ..) => {
                 write!(f, "refused with {}: {error}. {advice}", error.number())

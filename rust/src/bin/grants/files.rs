@@ -12,6 +12,7 @@ use std::os::unix::ffi::OsStrExt;
 use std::os::unix::fs::{fchown, FileTypeExt, MetadataExt, OpenOptionsExt};
 use std::path::{Path, PathBuf};
 use std::rc::Rc;
+use std::sync::atomic::{AtomicBool, Ordering};
 use std::time::{Duration, Instant};
 
 /// One byte more than the largest store, so that a longer file is seen to be too long and is not read to its end.
@@ -33,6 +34,13 @@ const NOFOLLOW: i32 = if cfg!(any(
 };
 const NONBLOCK: i32 = 0o4000;
 
+static TOOK_INPUT: AtomicBool = AtomicBool::new(false);
+
+/// Whether something was read that can't be read again: standard input, a fifo.
+pub fn took_input() -> bool {
+    TOOK_INPUT.load(Ordering::Relaxed)
+}
+
 /// The bytes of a file, or of standard input for '-'.
 pub fn read(path: &Path, limit: u64) -> Result<Vec<u8>, Fail> {
     let mut bytes = Vec::new();
@@ -42,9 +50,13 @@ pub fn read(path: &Path, limit: u64) -> Result<Vec<u8>, Fail> {
         ));
     }
     let read = if path.as_os_str() == "-" {
+        TOOK_INPUT.store(true, Ordering::Relaxed);
         io::stdin().lock().take(limit).read_to_end(&mut bytes)
     } else {
-        File::open(path).and_then(|f| f.take(limit).read_to_end(&mut bytes))
+        File::open(path).and_then(|f| {
+            TOOK_INPUT.fetch_or(!f.metadata()?.is_file(), Ordering::Relaxed);
+            f.take(limit).read_to_end(&mut bytes)
+        })
     };
     read.map_err(|e| file("read", path, &e))?;
     Ok(bytes)
@@ -250,12 +262,17 @@ pub fn one_file(a: &Path, b: &Path) -> bool {
 fn holder(file: &File) -> String {
     let process = file.metadata().ok().and_then(|about| {
         let locks = fs::read_to_string("/proc/locks").ok()?;
-        let inode = format!(":{}", about.ino());
-        let line = locks.lines().find(|line| {
-            let mut words = line.split_whitespace();
-            words.nth(1) == Some("FLOCK") && words.nth(3).is_some_and(|at| at.ends_with(&inode))
-        })?;
-        line.split_whitespace().nth(4)?.parse::<u32>().ok()
+        let locks: Vec<Vec<&str>> = locks.lines().map(|l| l.split_whitespace().collect()).collect();
+        let held = |at: &dyn Fn(&str) -> bool| {
+            let mut lines = locks.iter().filter(|l| l.get(1) == Some(&"FLOCK"));
+            lines.find(|l| l.get(5).is_some_and(|l| at(l))).cloned()
+        };
+        let (dev, inode) = (about.dev(), format!(":{}", about.ino()));
+        let [major, minor] = [dev >> 8 & 0xfff, dev & 0xff | dev >> 12 & 0xf_ff00];
+        let exact = format!("{major:02x}:{minor:02x}{inode}");
+        // Some file systems have another device there than they tell of a file.
+        let line = held(&|at| at == exact).or_else(|| held(&|at| at.ends_with(&inode)))?;
+        line.get(4)?.parse::<u32>().ok()
     });
     let Some(process) = process.filter(|n| *n != 0) else {
         return "another process".to_string();

@@ -59,25 +59,34 @@ pub use grants::{publishings as spans, Publishing as Span};
 /// How many publishings a guess goes by.
 const LAST: usize = 10;
 
+/// The last publishings, newest first; the oldest kept one isn't among them, since what it made may be pruned.
+pub fn last(spans: &[Span]) -> Vec<u32> {
+    let last = spans.iter().skip(1).rev().take(LAST);
+    last.map(|span| span.first).collect()
+}
+
+/// How many records each of these versions made.
+pub fn made<'a>(records: impl Iterator<Item = &'a Record>, versions: &[u32]) -> Vec<usize> {
+    let mut made = vec![0; versions.len()];
+    for record in records {
+        if let Some(i) = versions.iter().position(|v| *v == record.version) {
+            made[i] += 1;
+        }
+    }
+    made
+}
+
+/// The number in the middle, of two the lesser; none where there is none or it is 0.
+pub fn middle(mut made: Vec<usize>) -> Option<f64> {
+    made.sort_unstable();
+    let usual = made[made.len().checked_sub(1)? / 2];
+    (usual > 0).then_some(usual as f64)
+}
+
 /// How many records one of the last publishings made: the one in the middle, by their number, so that a list that came all at once counts for no more than
 /// another one. None where no publishing is kept but the oldest, or none made a record.
 pub fn usual(slots: &[Option<Record>], spans: &[Span]) -> Option<f64> {
-    let last = spans.iter().skip(1).rev().take(LAST);
-    let mut made: Vec<usize> = last
-        .map(|span| {
-            let records = slots.iter().flatten();
-            records
-                .filter(|record| record.version == span.first)
-                .count()
-        })
-        .collect();
-    made.sort_unstable();
-    let middle = made.len() / 2;
-    let usual = match made.len() % 2 {
-        0 => (*made.get(middle.checked_sub(1)?)? + *made.get(middle)?) as f64 / 2.0,
-        _ => *made.get(middle)? as f64,
-    };
-    (usual > 0.0).then_some(usual)
+    middle(made(slots.iter().flatten(), &last(spans)))
 }
 
 /// The number under which a kept version was published: its own, or the one before it that it reads as.

@@ -66,16 +66,10 @@ pub fn read_shelf(path: &Path) -> Result<Shelf, Fail> {
     Ok(shelf)
 }
 
-/// Why a shelf can't be opened; one whose stores are of the old form is known by its list.
+/// Why a shelf can't be opened.
 fn opening(path: &Path, error: ShelfError) -> Fail {
-    let old = |path: &Path| {
-        let list = files::read(&path.join(grants::LIST_FILE), STORE_LIMIT);
-        list.is_ok_and(|list| Store::over(list).is_old_form())
-    };
     match error {
-        ShelfError::Refused { error: error @ (Error::Size | Error::Header), part: None } if old(path) => {
-            Fail::Refused(error, old_form(&trimmed(path), "shelf"))
-        }
+        ShelfError::OldForm { error } => Fail::Refused(error, old_form(&trimmed(path), "shelf")),
         error => shelf_refused(None, path, error),
     }
 }
@@ -249,6 +243,17 @@ impl Kept {
         Ok(ledger)
     }
 
+    /// Whether another store, or another list of a shelf, is there by now than the one that was read.
+    pub fn was_replaced(&self, path: &Path) -> bool {
+        match self {
+            Kept::Store(store) => {
+                let now = (path.as_os_str() != "-").then(|| files::read(path, STORE_LIMIT));
+                now.is_some_and(|now| now.is_ok_and(|now| now != store.as_bytes()))
+            }
+            Kept::Shelf(shelf) => replaced(shelf, path),
+        }
+    }
+
     pub fn shelf(&self) -> Option<&Shelf> {
         match self {
             Kept::Store(_) => None,
@@ -315,6 +320,14 @@ fn either(error: Error, name: &str, header: Option<Header>) -> String {
     }
 }
 
+/// What was read doesn't belong together.
+pub fn meanwhile(path: &Path) -> Fail {
+    Fail::Meanwhile(format!(
+        "{} was written while it was read: run the command again",
+        trimmed(path)
+    ))
+}
+
 /// What to do about an error of a shelf.
 pub fn shelf_refused(shelf: Option<&Shelf>, path: &Path, error: ShelfError) -> Fail {
     let name = trimmed(path);
@@ -335,10 +348,14 @@ pub fn shelf_refused(shelf: Option<&Shelf>, path: &Path, error: ShelfError) -> F
         error => (None, error.to_string()),
     };
     let refusal = refusal.unwrap_or(Error::Unsound);
-    if refusal == Error::Unsound && shelf.is_some_and(|shelf| replaced(shelf, path)) {
-        return Fail::File(format!(
-            "{name} was written while it was read: run the command again"
-        ));
+    let odd = match refusal {
+        Error::Size | Error::Header | Error::Unsound | Error::Spoilt { .. } | Error::Lost => true,
+        // Of a part alone, since the list has the version.
+        Error::VersionNotKept => part.is_some(),
+        _ => false,
+    };
+    if odd && shelf.is_some_and(|shelf| replaced(shelf, path)) {
+        return meanwhile(path);
     }
     let what = match part {
         Some(part) => format!("part {part:03x} of {name}"),

@@ -6,6 +6,7 @@ use crate::book::{Book, Said};
 use crate::fail::Fail;
 use crate::held::{self, Span};
 use crate::json::{object, Json};
+use crate::kept::meanwhile;
 use crate::missing::refused_read;
 use crate::out::{Out, ABSENT};
 use crate::page::{Page, Placed};
@@ -201,6 +202,11 @@ pub fn log(args: &Args, out: &mut Out) -> Result<u8, Fail> {
     let slots = store.slots().map_err(&refused)?;
     let header = store.header().map_err(&refused)?;
     let book = Book::of(args, Some(path))?;
+    // A book that is newer may be so by a publishing since the store was read.
+    let newer = book.latest().is_some_and(|most| most > header.latest);
+    if newer && store.was_replaced(path) {
+        return Err(meanwhile(path));
+    }
     let last = last(args)?;
     let mut spans = publishings(&store, &slots, header, &book).map_err(&refused)?;
     spans.drain(..spans.len().saturating_sub(last));

@@ -45,6 +45,7 @@ mod sizing;
 mod statement;
 mod table;
 
+use args::Args;
 use fail::Fail;
 use json::Json;
 use out::Out;
@@ -134,12 +135,26 @@ fn run(given: &[OsString], out: &mut Out) -> Result<u8, Fail> {
     match args::parse(command.form(), rest)? {
         Some(args) => {
             progress::begin(command.name, rest.iter().any(|word| word == "-"));
-            let done = (command.run)(&args, out);
+            let done = tried(command, &args, out);
             progress::end();
             done
         }
         None => told("help", help::of(command), out),
     }
+}
+
+/// How often what is written all the time is read.
+const TRIES: usize = 10;
+
+/// What was written while it was read is read again, as long as nothing was said, changed or taken from standard input by then.
+fn tried(command: &Command, args: &Args, out: &mut Out) -> Result<u8, Fail> {
+    for _ in 1..TRIES {
+        match (command.run)(args, out) {
+            Err(Fail::Meanwhile(_)) if !out.changed && !out::said() && !files::took_input() => {}
+            done => return done,
+        }
+    }
+    (command.run)(args, out)
 }
 
 fn told(what: &'static str, text: String, out: &mut Out) -> Result<u8, Fail> {

@@ -5,6 +5,7 @@ use crate::json::Json;
 use crate::progress;
 use std::fmt;
 use std::io::{self, BufWriter, ErrorKind, Write};
+use std::sync::atomic::{AtomicBool, Ordering};
 
 /// The exit status of an accepted command that shows a key to be absent.
 pub const ABSENT: u8 = 1;
@@ -13,8 +14,16 @@ pub fn both_to_output() -> Fail {
     Fail::Usage("--out - and --json would both write standard output".to_string())
 }
 
+static SAID: AtomicBool = AtomicBool::new(false);
+
+/// Whether a line was written beside the answer.
+pub fn said() -> bool {
+    SAID.load(Ordering::Relaxed)
+}
+
 /// A line on standard error beside the answer, in one write, so that no other process's line falls into it.
 pub fn beside(line: fmt::Arguments<'_>) {
+    SAID.store(true, Ordering::Relaxed);
     progress::hide();
     // Where this can't be written the answer stands all the same.
     let _ = io::stderr().write_all(format!("grants: {line}\n").as_bytes());

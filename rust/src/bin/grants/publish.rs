@@ -14,7 +14,7 @@ use crate::kept::{read_shelf, shelf_refused, trimmed};
 use crate::lines::{self, Named};
 use crate::out::{beside, Out};
 use crate::plain::{counted, quoted, shown};
-use crate::room;
+use crate::room::{self, Words};
 use grants::{
     dates, to_hex, Applied, Batch, Error, Key, Root, Rounds, Shelf, ShelfError, Store, BATCH_RECORDS,
 };
@@ -179,7 +179,7 @@ fn publish(
             )),
             Error::BatchForm => Fail::Refused(e, form(&name)),
             Error::BatchOrder => Fail::Refused(e, order(&name)),
-            Error::NoRoom => match room::advice(&before, &name, &numbers, &batches) {
+            Error::NoRoom => match room::advice(&before, &Words::of_store(&name), &numbers, &batches) {
                 Ok(advice) => Fail::Refused(e, advice),
                 Err(_) => refused(e),
             },
@@ -238,8 +238,30 @@ fn shelve(args: &Args, shelf: &Shelf, asked: &Asked, keep: bool) -> Result<grant
         Some(error @ Error::NotAboveLatest) if numbers.len() > 1 && args.has("--number") => {
             Fail::Refused(error, too_few(&name, &numbers))
         }
+        Some(Error::NoRoom) => no_room(shelf, &rounds, &numbers, e, path),
         _ => refused(e),
     })
+}
+
+/// What to do where a store of the shelf has too few free slots.
+fn no_room(shelf: &Shelf, rounds: &Rounds, numbers: &[u32], e: ShelfError, path: &Path) -> Fail {
+    let advice = |part: u16| {
+        let store = match shelf.newest(part)? {
+            Some(at) => at.store,
+            None => Store::with_capacity(shelf.slots())?,
+        };
+        let runs = rounds.of_part(part);
+        let (numbers, runs): (Vec<u32>, Vec<&[u8]>) = runs.map(|(i, run)| (numbers[i], run)).unzip();
+        let words = Words::of_part(part, &trimmed(path));
+        Ok::<_, ShelfError>(room::advice(&store, &words, &numbers, &runs)?)
+    };
+    match e {
+        ShelfError::Refused { error, part: Some(part) } => match advice(part) {
+            Ok(advice) => Fail::Refused(error, advice),
+            Err(_) => shelf_refused(Some(shelf), path, e),
+        },
+        e => shelf_refused(Some(shelf), path, e),
+    }
 }
 
 /// Whether the library takes the records on both sides of a seam for ascending.

@@ -11,7 +11,7 @@ use crate::json::Json;
 use crate::out::Out;
 use crate::picture;
 use crate::plain::shown;
-use grants::{dates, Error, Figures, RangeFigures, RANGE_VERSIONS};
+use grants::{dates, Error, Figures, RangeFigures, ShelfError, RANGE_VERSIONS};
 use std::path::Path;
 
 /// Versions of the range that read alike, with the date of their publishing where the book has it.
@@ -167,9 +167,9 @@ pub fn report(args: &Args, out: &mut Out) -> Result<u8, Fail> {
     let last = end(args, "--to", &store, path, header.latest)?;
     let most = last.saturating_sub(RANGE_VERSIONS - 1).max(header.oldest);
     let first = end(args, "--from", &store, path, most)?;
-    let range = store.figures(first, last).map_err(|e| match e.refusal() {
-        Some(error @ Error::VersionNotKept) => Fail::Refused(error, format!("The range was {first} to {last}; a range has 1 to {RANGE_VERSIONS} versions, and {} keeps versions {} to {}.", shown(path), header.oldest, header.latest)),
-        _ => store.refused(path)(e),
+    let range = store.figures(first, last).map_err(|e| match e {
+        ShelfError::Refused { error: error @ Error::VersionNotKept, part: None } => Fail::Refused(error, format!("The range was {first} to {last}; a range has 1 to {RANGE_VERSIONS} versions, and {} keeps versions {} to {}.", shown(path), header.oldest, header.latest)),
+        e => store.refused(path)(e),
     })?;
     if let Some(to) = args.value("--svg").map(Path::new) {
         let text = drawn(&rows(args, &store, path, &range, last)?, last);

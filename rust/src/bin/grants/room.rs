@@ -27,13 +27,46 @@ fn needed(store: &Bytes, numbers: &[u32], batches: &[&[u8]]) -> Result<Option<us
     Ok(Some(sum))
 }
 
+/// What is said of the store that has too few slots.
+pub struct Words {
+    /// What it is called.
+    store: String,
+    /// What gives it more slots, up to their number.
+    grow: String,
+    /// What helps where no store has as many slots.
+    wider: String,
+    /// What is as it was.
+    whole: String,
+}
+
+impl Words {
+    pub fn of_store(name: &str) -> Words {
+        Words {
+            store: name.to_string(),
+            grow: format!("give the store more slots (grants grow {name}"),
+            wider: format!("Make a shelf of it (grants shelf {name} DIR --bits 8; docs/SCALE.md)"),
+            whole: name.to_string(),
+        }
+    }
+
+    pub fn of_part(part: u16, shelf: &str) -> Words {
+        Words {
+            store: format!("part {part:03x} of {shelf}"),
+            grow: format!("give the parts more slots (grants grow {shelf}"),
+            wider: format!("Make a shelf of more bits of it (grants shelf {shelf} NEW --bits B; docs/SCALE.md)"),
+            whole: shelf.to_string(),
+        }
+    }
+}
+
 /// What to do where these batches found too few free slots in a store that the library calls sound.
 pub fn advice(
     store: &Bytes,
-    name: &str,
+    words: &Words,
     numbers: &[u32],
     batches: &[&[u8]],
 ) -> Result<String, Error> {
+    let Words { store: name, grow, wider, whole } = words;
     let slots = store.slots()?;
     let free = slots.iter().filter(|slot| slot.is_none()).count();
     let records = slots.iter().flatten();
@@ -44,7 +77,7 @@ pub fn advice(
     let has = counted(free, "free slot");
     let Some(needed) = needed(store, numbers, batches)? else {
         return Ok(format!(
-            "{name} has {has}, and no store has room for this: {MOST_SLOTS} slots at most, so some 6,000 grants. Make a shelf of it (grants shelf {name} DIR --bits 8; docs/SCALE.md). {name} is as it was."
+            "{name} has {has}, and no store has room for this: {MOST_SLOTS} slots at most, so some 6,000 grants. {wider}. {whole} is as it was."
         ));
     };
     let takes = format!(
@@ -59,16 +92,13 @@ pub fn advice(
         ));
     }
     if used + needed <= MOST_SLOTS as usize {
-        ways.push(format!(
-            "give the store more slots (grants grow {name} {}, or more)",
-            used + needed
-        ));
+        ways.push(format!("{grow} {}, or more)", used + needed));
     }
     let ways = match ways.len() {
         0 => "prune, then grow".to_string(),
         _ => ways.join(", or "),
     };
     Ok(format!(
-        "{takes} To make room, {ways}. {name} is as it was."
+        "{takes} To make room, {ways}. {whole} is as it was."
     ))
 }

@@ -41,8 +41,12 @@ impl Wanted {
         let empty = fs::read_dir(&wanted.folder).is_ok_and(|mut files| files.next().is_none());
         match there && !empty && !wanted.afresh(args) {
             true => Err(Fail::File(format!(
-                "{} is there already and was left alone: a shelf is made in a folder that isn't there yet",
-                trimmed(folder)
+                "{} is there already and was left alone: a shelf is made in a folder that isn't there yet{}",
+                trimmed(folder),
+                match args.has("--force") || !is_shelf(&wanted.folder) {
+                    true => "",
+                    false => "; --force makes one that is there afresh",
+                }
             ))),
             false => Ok(wanted),
         }
@@ -177,28 +181,44 @@ fn in_place(
     Ok((pruned.list, pruned.freed))
 }
 
-/// How full a store of the shelf is.
+/// How full a store of the shelf is; and how many records each of the last publishings made in it.
 struct Filled {
     part: u16,
     used: usize,
     free: usize,
     grants: u64,
     bytes: usize,
+    made: Vec<usize>,
 }
 
-fn filled(part: u16, store: &Bytes, latest: u32, old: bool) -> Result<Filled, Error> {
-    let slots = store.slots_found()?;
-    let free = slots.iter().filter(|slot| **slot == Slot::Free).count();
-    Ok(Filled {
-        part,
-        used: slots.len() - free,
-        free,
-        grants: store.count(latest)?,
-        bytes: match old {
-            true => old_store_bytes(slots.len() as u32),
-            false => store.as_bytes().len(),
-        },
-    })
+impl Filled {
+    fn of(part: u16, store: &Bytes, latest: u32, old: bool, last: &[u32]) -> Result<Filled, Error> {
+        let slots = store.slots_found()?;
+        let free = slots.iter().filter(|slot| **slot == Slot::Free).count();
+        let records = slots.iter().filter_map(|slot| match slot {
+            Slot::Record(record) => Some(record),
+            _ => None,
+        });
+        Ok(Filled {
+            part,
+            used: slots.len() - free,
+            free,
+            grants: store.count(latest)?,
+            bytes: match old {
+                true => old_store_bytes(slots.len() as u32),
+                false => store.as_bytes().len(),
+            },
+            made: held::made(records, last),
+        })
+    }
+
+    /// A guess how many publishings there is room for: those of the last that changed it make as many records as the one in the middle, and come as often. None where none did.
+    fn left(&self) -> Option<usize> {
+        let touched: Vec<usize> = self.made.iter().copied().filter(|n| *n > 0).collect();
+        let often = touched.len() as f64 / self.made.len() as f64;
+        let each = held::middle(touched)? * often;
+        Some((self.free as f64 / each) as usize)
+    }
 }
 
 /// How full a shelf is.
@@ -213,13 +233,24 @@ struct Fullness {
 impl Fullness {
     fn of(shelf: &Shelf) -> Result<Fullness, ShelfError> {
         let (header, old) = (shelf.header(), shelf.is_old_form());
+        let spans = shelf.list().publishings().ok();
+        // Where the list isn't sound nothing is guessed.
+        let last = spans.as_deref().map_or(vec![], held::last);
+        let filled = |at: &PartAt| Filled::of(at.part, &at.store, at.version, old, &last);
         Ok(Fullness {
-            list: filled(0, shelf.list(), header.latest, old)?,
-            parts: shelf.each_file(|at: &PartAt| filled(at.part, &at.store, at.version, old))?,
+            list: Filled::of(0, shelf.list(), header.latest, old, &last)?,
+            parts: shelf.each_file(filled)?,
             header,
             kept: u64::from(header.latest - header.oldest) + 1,
-            publishings: shelf.list().publishings().ok().map(|all| all.len()),
+            publishings: spans.map(|all| all.len()),
         })
+    }
+
+    /// How many publishings there is room for, by the store of the shelf that is full first, and which one that is.
+    fn left(&self) -> Option<(usize, String)> {
+        let parts = self.parts.iter().map(|part| (part.left(), format!("part {:03x}", part.part)));
+        let all = [(self.list.left(), "the list".to_string())].into_iter().chain(parts);
+        all.filter_map(|(left, name)| Some((left?, name))).min()
     }
 
     fn fullest(&self) -> Option<&Filled> {
@@ -256,6 +287,7 @@ impl Fullness {
             ("publishings", self.publishings.into()),
             ("grants", Json::Number(self.grants())),
             ("bytes", self.bytes().into()),
+            ("publishings_left", self.left().map(|(left, _)| left).into()),
         ])
     }
 
@@ -266,6 +298,10 @@ impl Fullness {
         });
         let gaps = self.publishings.filter(|n| *n as u64 != self.kept);
         let among = gaps.map_or(String::new(), |n| format!(", {}", counted(n, "publishing")));
+        let left = self.left().map_or(String::new(), |(left, full)| {
+            let left = counted(left, "publishing");
+            format!("\nleft      about {left}, if they go as the last ones did; then {full} is full")
+        });
         [
             format!(
                 "form      a shelf of {}{}",
@@ -288,7 +324,7 @@ impl Fullness {
                 counted(self.kept, "version")
             ),
             format!("grants    {} in version {latest}", self.grants()),
-            format!("bytes     {}", self.bytes()),
+            format!("bytes     {}{left}", self.bytes()),
         ]
         .join("\n")
     }
