@@ -1,8 +1,8 @@
 // The right table of a sound store, document 02, request 2026-05: guessed and looked at, and where the guess is wrong picked entry by entry.
 use index_fewer::fewer;
-use index_guess::guess_all;
 use index_look::is_right;
 use index_more::more;
+use index_pick::fill;
 use index_pick::pick;
 use store::slot_count;
 use terms::Form;
@@ -19,7 +19,8 @@ pub fn build(store: &[u8], table: &mut [u32])
     ensures { λ _. ⌜ Right (storeOf (now (store .entry))) (now (table .exit)) ⌝ }
 {
     let n = slot_count(Form::Counted, store);
-    guess_all(store, n, table);
+    fill(table, n as u32);
+    more(store, n, table, 1);
     if is_right(store, table) {
         return;
     }
@@ -37,15 +38,11 @@ fn settle(store: &[u8], table: &mut [u32])
     build(store, table);
 }
 
-// The same, from the right table of the store before `count` records of a version came to it: few are put in one by one.
-pub fn keep_more(store: &[u8], table: &mut [u32], version: u32, count: u32)
+// The same, from the right table of the store before a version was made.
+pub fn keep_more(store: &[u8], table: &mut [u32], version: u32)
     requires { ⌜ SoundBytes (now store) × (length (now table) ≡ roomOf Form.Counted (length (now store))) ⌝ }
     ensures { λ _. ⌜ Right (storeOf (now (store .entry))) (now (table .exit)) ⌝ }
 {
-    if 128 < count {
-        build(store, table);
-        return;
-    }
     let n = slot_count(Form::Counted, store);
     more(store, n, table, version);
     settle(store, table);

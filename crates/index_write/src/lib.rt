@@ -33,7 +33,7 @@ pub fn apply_both(
             root,
             count,
         } => {
-            keep_more(store, table, version, count);
+            keep_more(store, table, version);
             put_answer(answer, version, root, count);
             0
         }

@@ -22,7 +22,7 @@ fn wide(x: u16) -> usize
 }
 
 // The first entry that isn't before a version and place.
-fn first(store: &[u8], table: &[u16; 16384], many: usize, version: u32, place: Place) -> usize
+pub fn first(store: &[u8], table: &[u16; 16384], many: usize, version: u32, place: Place) -> usize
     requires { ⌜ (sizeRight Form.Counted (length (now store)) ≡ true) × (many ≤ 16384) × Ordered (storeOf (now store) .slots) (now table) many × Proper place ⌝ }
     ensures { λ r. ⌜ First (storeOf (now (store .entry)) .slots) (now (table .entry)) many (nodeKey version (placeOf place)) r ⌝ }
 {

@@ -26,12 +26,12 @@ both-right true b e = e
 both-right false b e = absurd (true≢false (sym e))
 
 -- a root record not above a version
-up-to : (v : ℕ) (r : Record) → rootUpTo v r ≡ true → (samePlace (r .place) [] ≡ true) × (r .version ≤ v)
+pub up-to : (v : ℕ) (r : Record) → rootUpTo v r ≡ true → (samePlace (r .place) [] ≡ true) × (r .version ≤ v)
 unfolding rootUpTo
 up-to v r e = (both-left (samePlace (r .place) []) _ e, leb-true (r .version) v (both-right (samePlace (r .place) []) _ e))
 
 -- where it is not the node itself it is of an earlier version
-earlier : (v : ℕ) (r : Record) → rootUpTo v r ≡ true → isNode v [] r ≡ false → r .version < v
+pub earlier : (v : ℕ) (r : Record) → rootUpTo v r ≡ true → isNode v [] r ≡ false → r .version < v
 unfolding isNode
 earlier v r e f = go (leb v (r .version)) refl
   where
@@ -99,3 +99,6 @@ pub exact-located : (s : List Slot) (v : ℕ) {p : Place} {f : found.Found} {i :
 exact-located s v {p} {f} {i} top w e =
     let h = subst (λ z. Located s (find v p s) z) e w in
     (h .0, (h .1 .0, h .1 .1, exact s v (h .1 .0) (subst (λ z. find v z s ≡ some (h .1 .0)) top (h .1 .2))))
+
+pub none-own : (s : List Slot) (v : ℕ) {p : Place} {f : found.Found} → p ≡ [] → FoundIn s v p f → f ≡ Nothing → find v [] s ≡ none
+none-own s v {p} top w e = subst (λ z. find v z s ≡ none) top (subst (λ z. Located s (find v p s) z) e w)

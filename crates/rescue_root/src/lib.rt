@@ -2,6 +2,7 @@
 use lookup::Found;
 use lookup::holds_record;
 use order_find::find_by;
+use order_find::first;
 use place::Place;
 use store::count_at;
 use store::retired_at;
@@ -10,13 +11,17 @@ use store::slot_of;
 use store::version_at;
 use terms::Form;
 ghost use mathlib.Core.Path.{_≡_};
+ghost use Prim.Native.Nat.{_≤_};
 ghost use mathlib.Core.Bool.{true, false};
+ghost use mathlib.Core.List.{[]};
+ghost use mathlib.Core.Option.{none};
 ghost use lib.ListN.{length};
+ghost use Rattle.meaning.specs.Store.{find};
 ghost use Rattle.local.specs.Test.{byRecord};
 ghost use Rattle.layout.specs.Headers.{sizeRight};
 ghost use Rattle.layout.specs.Stores.{storeOf, slotNo, Has};
 ghost use Rattle.lookup.specs.Lookup.{Located};
-ghost use Rattle.ordered.specs.Ordered.{Guide};
+ghost use Rattle.ordered.specs.Ordered.{Guide, Ordered};
 ghost use Rattle.rescue_rules.specs.Rescue.{newestRoot};
 ghost use Rattle.rescue_rules.specs.Joining.{rootVersion};
 ghost use Rattle.rescue_root.specs.Roots.{rootAbove};
@@ -62,7 +67,27 @@ fn newest_root(source: &[u8], version: u32) -> Found
     }
 }
 
-// The same by a table to find by: a root record of the version itself is the newest. Where there is none, the scan.
+fn wide(x: u16) -> usize
+    ensures { λ r. ⌜ r ≡ x ⌝ }
+{
+    x as usize
+}
+
+// The same by a table, where no root record is of the version itself: that of the entry before, the lowest of its version. Where no entry is before, the scan.
+fn newest_before(source: &[u8], table: &[u16; 16384], many: usize, version: u32) -> Found
+    requires { ⌜ (sizeRight Form.Counted (length (now source)) ≡ true) × (many ≤ 16384) × Ordered (storeOf (now source) .slots) (now table) many × (find version [] (storeOf (now source) .slots) ≡ none) ⌝ }
+    ensures { λ r. ⌜ Located (storeOf (now (source .entry)) .slots) (newestRoot version (storeOf (now (source .entry)) .slots)) r ⌝ }
+{
+    let top = Place::top();
+    let k = first(source, table, many, version, top);
+    if k == 0 {
+        return newest_root(source, version);
+    }
+    let own = version_at(Form::Counted, source, wide(table[k - 1]));
+    find_by(source, table, many, own, top)
+}
+
+// The same by a table to find by: a root record of the version itself is the newest.
 fn newest_by(source: &[u8], table: &[u16; 16384], many: usize, version: u32) -> Found
     requires { ⌜ (sizeRight Form.Counted (length (now source)) ≡ true) × Guide (storeOf (now source) .slots) (now table) many ⌝ }
     ensures { λ r. ⌜ Located (storeOf (now (source .entry)) .slots) (newestRoot version (storeOf (now (source .entry)) .slots)) r ⌝ }
@@ -75,7 +100,7 @@ fn newest_by(source: &[u8], table: &[u16; 16384], many: usize, version: u32) -> 
     if let Found::At(i) = found {
         return Found::At(i);
     }
-    newest_root(source, version)
+    newest_before(source, table, many, version)
 }
 
 // The version of the root record of a version; 0 where there is none, or where the newest one was retired by then.

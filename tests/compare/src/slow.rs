@@ -75,13 +75,14 @@ fn plain(random: &mut Random, capacity: usize, size: usize) -> (Vec<u8>, Vec<Byt
     }
 }
 
-/// One tree of so many grants with so many roots over it.
-fn roots(random: &mut Random, grants: usize, roots: u32) -> (Vec<u8>, Vec<Bytes32>) {
+/// One tree of so many grants with so many roots over it, their versions so far apart.
+fn roots(random: &mut Random, grants: usize, roots: u32, apart: u32) -> (Vec<u8>, Vec<Bytes32>) {
     let all = self::grants(random, grants);
     let mut records = tree_under(&all, &|_| 1);
     let root = records.pop().unwrap();
-    records.extend((1..=roots).map(|v| Record { version: v, retired: if v == roots { 0 } else { v + 1 }, ..root }));
-    (holding(&records, 1, roots), (0..256).map(|i| if i % 2 == 0 { all[random.below(all.len())].0 } else { random.hash() }).collect())
+    let version = |i: u32| 1 + i * apart;
+    records.extend((0..roots).map(|i| Record { version: version(i), retired: if i + 1 == roots { 0 } else { version(i + 1) }, ..root }));
+    (holding(&records, 1, version(roots - 1)), (0..256).map(|i| if i % 2 == 0 { all[random.below(all.len())].0 } else { random.hash() }).collect())
 }
 
 /// What `guess::spread` adds up of a place; 40,503 times the version is added to it.
@@ -231,9 +232,10 @@ pub fn bars(processor: &Processor, times: f64) -> (usize, usize) {
     let stores = [
         ("two-ways-of-255-records", two_ways(&mut random)),
         ("numbers-as-keys", numbers()),
-        ("8000-versions", roots(&mut random, 3_300, 8_000)),
+        ("8000-versions", roots(&mut random, 3_300, 8_000, 1)),
         ("random-keys", plain(&mut random, CAPACITY, 75)),
-        ("one-version", roots(&mut random, 6_650, 1)),
+        ("one-version", roots(&mut random, 6_650, 1, 1)),
+        ("8000-versions-with-gaps", roots(&mut random, 3_300, 8_000, 100)),
         ("versions-that-collide", collided(&mut random)),
     ];
     let shuffled: Vec<_> = stores.clone()[..3].iter().map(|(name, (s, asked))| (*name, (cases::scattered(&mut random, s, CAPACITY - cases::taken(s)), asked.clone()))).collect();

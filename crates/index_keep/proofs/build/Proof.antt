@@ -1,4 +1,6 @@
 -- `index_keep::build` meets its contract. Assumes nothing.
+use native.Mathlib.Omega.{arith}
+use mathlib.Core.Path.{sym, _∙_}
 use borrow.Author.Needs.{needs}
 use Rattle.index_look.proofs.Nodes.{sound-size}
 use Rattle.index_keep.proofs.Keeping.{decided-yes, sound-room, sound-small}
@@ -8,8 +10,18 @@ use Rattle.index_keep.proofs.build.Tie as tie
 slot-count-requires : tie.Need-slot-count-requires
 slot-count-requires c κs = sound-size (c .before .before .pre .0)
 
-guess-all-requires : tie.Need-guess-all-requires
-guess-all-requires c κs = let e = c .before .slot-count .ensures in (sound-room (c .before .before .before .before .pre .0) e, sound-small (c .before .before .before .before .pre .0) e)
+cast-fill : tie.Need-cast-fill
+cast-fill c = record { fits = omega (arith, sound-small (c .before .before .before .before .pre .0) (c .before .slot-count .ensures)) }
+
+fill-requires : tie.Need-fill-requires
+fill-requires c κs = search needs
+
+more-requires : tie.Need-more-requires
+more-requires c κs =
+    let after-fill = c .before .before .before in
+    let after-slot-count = after-fill .before .before in
+    let p = after-slot-count .before .before .before .pre in
+    let e = after-slot-count .slot-count .ensures in (sound-room (p .0) e, sound-small (p .0) e, after-fill .fill .kept .0 ∙ p .1 ∙ sym e)
 
 is-right-requires : tie.Need-is-right-requires
 is-right-requires c κs = search needs
@@ -34,7 +46,9 @@ build-spec =
     tie.close
     (tie.spec
     slot-count-requires
-    guess-all-requires
+    cast-fill
+    fill-requires
+    more-requires
     is-right-requires
     same-length
     returns

@@ -1,7 +1,7 @@
--- `rescue_root::newest_by` meets its contract: a root record of the version itself is the newest. Assumes nothing.
+-- `rescue_root::newest_by` meets its contract: a root record of the version itself is the newest, else that of the entry before. Assumes nothing.
 use native.Mathlib.Omega.{arith}
 use Rattle.layout.specs.Stores.{storeOf}
-use Rattle.rescue_root.proofs.Exact.{exact-located}
+use Rattle.rescue_root.proofs.Exact.{exact-located, none-own}
 use borrow.Author.Needs.{needs}
 use Rattle.rescue_root.proofs.newest_by.Statement.{statement}
 use Rattle.rescue_root.proofs.newest_by.Tie as tie
@@ -31,8 +31,17 @@ returns-2 c =
 enum-told : tie.Need-enum-told
 enum-told c = search needs
 
-newest-root-requires-2 : tie.Need-newest-root-requires-2
-newest-root-requires-2 c κs = search needs
+newest-before-requires : tie.Need-newest-before-requires
+newest-before-requires c κs =
+    let after-find-by = c .before .before in
+    let after-top = after-find-by .before in
+    let start = after-top .before .before .before in
+    let p = start .pre in (
+      p .0,
+      p .1 .short,
+      p .1 .sure (omega (arith, after-top .before .if1 .left)),
+      none-own (storeOf (start .args .source .now) .slots) (start .args .version) (after-top .top .ensures .place) (after-find-by .find-by .ensures .0) (c .enum-told .given .1),
+    )
 
 returns-3 : tie.Need-returns-3
 returns-3 c = search needs
@@ -48,5 +57,5 @@ newest-by-spec =
     enum-known-found
     returns-2
     enum-told
-    newest-root-requires-2
+    newest-before-requires
     returns-3)
