@@ -27,7 +27,7 @@ use Rattle.fields.specs.Written.{written}
 use Rattle.layout.specs.Headers.{sizeRight, headerOf, header}
 use Rattle.layout.specs.Stores.{storeOf, storeBytes}
 use Rattle.layout.proofs.Headers.{accepted as header-accepted, size-right-of}
-use Rattle.contracts.specs.Headed.{byHeader}
+use Rattle.promises.specs.Headed.{byHeader}
 use Rattle.read_open.specs.Opening.{opened, openedSays}
 use Rattle.read_open.specs.declared.Opened as opened-type
 use Rattle.read_open.specs.declared.Opened.the-variants as O

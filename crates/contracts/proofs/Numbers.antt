@@ -13,7 +13,7 @@ use Rattle.positions.proofs.Sound.{number-is, position-is}
 use Rattle.nodehash.specs.Node.{leafHash, innerHash}
 use Rattle.layout.specs.Headers.{header, headerOf}
 use Rattle.layout.specs.Stores.{storeOf}
-use Rattle.contracts.specs.Headed.{byHeader}
+use Rattle.promises.specs.Headed.{byHeader}
 use Rattle.contracts.specs.Numbers.{numberAnswer, positionAnswer}
 
 -- Of bytes with a right header that hold a sound store, at a kept version, the number read is that of the version's grants.

@@ -1,20 +1,19 @@
 -- What is refused before a store is looked at: a key or a list of another length with 12, then a table of another length with 1. Assumes nothing.
 use Prim.Native.Nat.{ℕ}
 use mathlib.Core.Path.{_≡_, refl}
-use mathlib.Core.Bool.{true, false}
+use mathlib.Core.Bool.{false}
 use mathlib.Core.List.{List}
 use lib.ListN.{length}
 use borrow.Author.Tests.{eq-eqb, ne-eqb}
-use Rattle.terms.specs.declared.Form.the-variants.{Counted as counted}
 use Rattle.terms.specs.Bits.{Bytes}
-use Rattle.meaning.specs.Calls.{Answer, refused}
+use Rattle.meaning.specs.Calls.{refused}
 use Rattle.meaning.specs.Reading.{readRootBy, readKeyBy}
 use Rattle.indexed.specs.Index.{byTable}
 use Rattle.palette_rules.specs.Palette.{wholeKeys}
 use Rattle.nodehash.specs.Node.{leafHash, innerHash}
-use Rattle.layout.specs.Headers.{headerOf}
 use Rattle.layout.specs.Stores.{storeOf}
-use Rattle.contracts.specs.Headed.{byHeader, asMany, headerWith}
+use Rattle.promises.proofs.Heading.{not-as-many}
+use Rattle.promises.specs.Headed.{asMany}
 use Rattle.contracts.specs.Reads.{rootIndexed, keyAnswer, keyIndexed}
 use Rattle.contracts.specs.Palettes.{paletteAnswer}
 
@@ -28,17 +27,7 @@ pub list-torn : (s : Bytes) (v : ℕ) (ks : Bytes) (room : ℕ) → wholeKeys ks
 unfolding paletteAnswer
 list-torn s v ks room f = rw f refl
 
--- A table of another length is refused with 1; else its read is one by the store's own header
-module _ {A : Type 0} (a : Answer A) (s : Bytes) (table : List ℕ) where
-  pub as-many : asMany s table ≡ true → byHeader (headerOf counted s) a ≡ byHeader (headerWith s table) a
-  unfolding headerWith
-  as-many e = rw e refl
-
-  pub not-as-many : asMany s table ≡ false → refused 1 ≡ byHeader (headerWith s table) a
-  unfolding headerWith
-  not-as-many e = rw e refl
-
--- So a root read and a key read by it are, the key's after 12.
+-- A root read and a key read by a table of another length are refused with 1, the key's after 12.
 module _ (s : Bytes) (table : List ℕ) (v : ℕ) where
   pub root-not-as-many : asMany s table ≡ false → refused 1 ≡ rootIndexed s table v
   unfolding rootIndexed

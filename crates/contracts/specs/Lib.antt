@@ -2,7 +2,6 @@ pub mod Format
 pub mod Apply
 pub mod Prune
 pub mod Tabled
-pub mod Headed
 pub mod Reads
 pub mod Numbers
 pub mod Proves

@@ -13,7 +13,7 @@ use Rattle.meaning.specs.Answers.{numberOf, toldOf}
 use Rattle.indexed.specs.Index.{byTable}
 use Rattle.layout.specs.Headers.{headerOf}
 use Rattle.layout.specs.Stores.{storeOf}
-use Rattle.contracts.specs.Headed.{byHeader, headerWith}
+use Rattle.promises.specs.Headed.{byHeader, headerWith}
 
 -- The number of grants: 1, 2, 8, and 3 where the root is spoilt.
 unfoldable pub numberAnswer : Bytes → ℕ → Answer ℕ

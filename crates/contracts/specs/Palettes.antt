@@ -17,7 +17,7 @@ use Rattle.indexed.specs.Index.{byTable}
 use Rattle.layout.specs.Headers.{headerOf}
 use Rattle.layout.specs.Stores.{storeOf}
 use Rattle.proofrecords.specs.ProofBytes.{proofBytes}
-use Rattle.contracts.specs.Headed.{byHeader, headerWith}
+use Rattle.promises.specs.Headed.{byHeader, headerWith}
 
 -- The proofs for a list of keys in version v of the store s, into this much room: 12 where the list isn't 0 to 256
 -- whole keys, then 1, 2, 8, what the single calls are refused with, 9.

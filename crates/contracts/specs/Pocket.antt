@@ -15,7 +15,7 @@ use Rattle.meaning.specs.Proving.{proofLength}
 use Rattle.pocket.specs.Pocket.{pocketProve}
 use Rattle.layout.specs.Headers.{headerOf}
 use Rattle.layout.specs.Stores.{storeOf}
-use Rattle.contracts.specs.Headed.{byHeader}
+use Rattle.promises.specs.Headed.{byHeader}
 use Rattle.contracts.specs.Proves.{roomAfter}
 
 -- The proof for key k in version v of the store s, into this much room: 12 where the key isn't 32 bytes, then 1, 2, 8,

@@ -17,7 +17,7 @@ use Rattle.indexed.specs.Index.{byTable}
 use Rattle.layout.specs.Headers.{headerOf}
 use Rattle.layout.specs.Stores.{storeOf}
 use Rattle.proofrecords.specs.ProofBytes.{proofBytes}
-use Rattle.contracts.specs.Headed.{byHeader, headerWith}
+use Rattle.promises.specs.Headed.{byHeader, headerWith}
 
 -- The proof for key k in version v of the store s, into this much room: 12 where the key isn't 32 bytes, then 1, 2, 8,
 -- 14, 3 or 17, 9.

@@ -15,7 +15,7 @@ use Rattle.indexed.specs.Index.{byTable}
 use Rattle.nodehash.specs.Node.{leafHash, innerHash}
 use Rattle.layout.specs.Headers.{headerOf}
 use Rattle.layout.specs.Stores.{storeOf}
-use Rattle.contracts.specs.Headed.{byHeader, headerWith}
+use Rattle.promises.specs.Headed.{byHeader, headerWith}
 
 -- A root read answers the hash of the root record alone, or zeros: 1, 2, 8, and 3 where the root is spoilt.
 unfoldable pub rootAnswer : Bytes → ℕ → Answer Bytes

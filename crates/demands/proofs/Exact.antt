@@ -26,7 +26,7 @@ use Rattle.batch.specs.Batch.{batchOf}
 use Rattle.contracts.specs.Format.{formatAnswer}
 use Rattle.promises.specs.Check as check
 use Rattle.promises.specs.Calls.{Does, wrong-header, not-sound, refuses, accepts, Exports, exports-refusal, exports-answer}
-use Rattle.contracts.specs.Headed.{byHeader}
+use Rattle.promises.specs.Headed.{byHeader}
 use Rattle.contracts.specs.Reads.{rootAnswer, keyAnswer}
 use Rattle.contracts.specs.Numbers.{numberAnswer, positionAnswer}
 use Rattle.contracts.specs.Proves.{proveAnswer}

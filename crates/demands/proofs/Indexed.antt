@@ -26,7 +26,7 @@ use Rattle.layout.specs.Headers.{Headed, refusal, header, headerOf}
 use Rattle.layout.specs.Stores.{storeOf}
 use Rattle.layout.proofs.Headers.{room-of}
 use Rattle.promises.specs.Calls.{SoundBytes}
-use Rattle.contracts.specs.Headed.{byHeader, asMany, headerWith}
+use Rattle.promises.specs.Headed.{byHeader, asMany, headerWith}
 use Rattle.contracts.specs.Reads.{rootAnswer, rootIndexed, keyAnswer, keyIndexed, rootBytes}
 use Rattle.contracts.specs.Numbers.{numberAnswer, numberIndexed, positionAnswer, positionIndexed, grantBytes}
 use Rattle.contracts.specs.Proves.{proveAnswer, proveIndexed, roomAfter, lengthBytes}

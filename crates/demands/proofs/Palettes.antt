@@ -38,7 +38,7 @@ use Rattle.layout.proofs.Headers as headers
 use Rattle.layout.proofs.Stores.{store-form}
 use Rattle.promises.specs.Calls.{SoundBytes}
 use Rattle.promises.proofs.Calls.{sound-form}
-use Rattle.contracts.specs.Headed.{byHeader}
+use Rattle.promises.specs.Headed.{byHeader}
 use Rattle.contracts.specs.Proves.{proveAnswer}
 use Rattle.contracts.specs.Palettes.{paletteAnswer, proofsBytes, roomAfter, palettedInto, lengthBytes}
 use Rattle.verify_rules.specs.Verify.{verified}

@@ -25,7 +25,7 @@ use Rattle.layout.specs.Headers.{Headed, refusal, header, headerOf}
 use Rattle.layout.specs.Stores.{storeOf}
 use Rattle.promises.specs.Calls.{SoundBytes}
 use Rattle.promises.proofs.Calls.{sound-form}
-use Rattle.contracts.specs.Headed.{byHeader}
+use Rattle.promises.specs.Headed.{byHeader}
 use Rattle.contracts.specs.Proves.{proveAnswer, roomAfter}
 use Rattle.pocket.specs.Pocket.{Outside, small, inProfile, pocketProve}
 use Rattle.pocket.proofs.Theorems.{inside-shows-short, outside-shows-long, pocket-proofs-have-2296-bytes}

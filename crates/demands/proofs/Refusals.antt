@@ -30,7 +30,7 @@ use Rattle.contracts.specs.Format.{formatAnswer, formatBytes}
 use Rattle.promises.specs.Calls.{Does, wrong-header, not-sound, refuses, Exports, exports-refusal, exports-answer}
 use Rattle.promises.proofs.Calls.{refused-writes-nothing}
 use Rattle.meaning.specs.Answers.{numberOf, toldOf, foundAfter}
-use Rattle.contracts.specs.Headed.{byHeader}
+use Rattle.promises.specs.Headed.{byHeader}
 use Rattle.contracts.specs.Reads.{rootAnswer, keyAnswer, rootBytes}
 use Rattle.contracts.specs.Numbers.{numberAnswer, positionAnswer, grantBytes}
 use Rattle.contracts.specs.Proves.{proveAnswer, roomAfter, provedInto, lengthBytes}

@@ -23,7 +23,7 @@ use Rattle.layout.specs.Stores.{storeOf}
 use Rattle.ordered.specs.Ordered.{Leading}
 use Rattle.read_near.specs.Near.{Led}
 use Rattle.read_open.specs.Opening.{opened, openedSays}
-use Rattle.contracts.specs.Headed.{byHeader, asMany}
+use Rattle.promises.specs.Headed.{byHeader, asMany}
 use Rattle.read_open.specs.declared.Opened as declared-opened
 use Rattle.read_open.specs.declared.Opened.the-variants as first
 use Rattle.read_open.proofs.Opening as opening
@@ -35,7 +35,7 @@ use Rattle.prove.specs.Parts.{provedSays}
 use Rattle.prove.specs.declared.Proved as declared
 use Rattle.prove.specs.declared.Proved.the-variants.{Refused, Length}
 use Rattle.contracts.specs.Palettes.{paletteAnswer, paletteIndexed, proofsBytes, roomAfter}
-use Rattle.contracts.proofs.Refusing.{as-many, not-as-many}
+use Rattle.promises.proofs.Heading.{as-many, not-as-many}
 use Rattle.palette.specs.Parts.{paletteAnswerBy, plannedFor, plannedIn, togetherLength, togetherBytes, Gives}
 
 pub gives-refusal : {a : Answer (List Proof)} (n : ℕ) (room : Bytes) → a ≡ refused n → Gives a room room (Refused n)

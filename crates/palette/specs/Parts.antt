@@ -13,7 +13,7 @@ use Rattle.meaning.specs.Proving.{proveSeen, proofBy}
 use Rattle.indexed.specs.Index.{byTable}
 use Rattle.layout.specs.Headers.{headerOf}
 use Rattle.layout.specs.Stores.{storeOf}
-use Rattle.contracts.specs.Headed.{byHeader}
+use Rattle.promises.specs.Headed.{byHeader}
 use Rattle.palette_rules.specs.Palette.{wholeKeys, keysIn, inTurn, lengthTogether, paletteOf}
 use Rattle.prove.specs.Parts.{provedSays}
 use Rattle.prove.specs.declared.Proved as declared

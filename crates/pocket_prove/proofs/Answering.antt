@@ -18,7 +18,7 @@ use Rattle.indexed.proofs.Scanned.{without-table}
 use Rattle.layout.specs.Headers.{sizeRight, headerOf}
 use Rattle.layout.specs.Stores.{storeOf}
 use Rattle.read_open.specs.Opening.{opened, openedSays}
-use Rattle.contracts.specs.Headed.{byHeader}
+use Rattle.promises.specs.Headed.{byHeader}
 use Rattle.read_open.specs.declared.Opened as declared-opened
 use Rattle.read_open.specs.declared.Opened.the-variants as first
 use Rattle.read_open.proofs.Opening as opening

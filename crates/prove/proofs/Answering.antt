@@ -17,7 +17,7 @@ use Rattle.indexed.proofs.Scanned.{without-table}
 use Rattle.layout.specs.Headers.{sizeRight, headerOf}
 use Rattle.layout.specs.Stores.{storeOf}
 use Rattle.read_open.specs.Opening.{opened, openedSays}
-use Rattle.contracts.specs.Headed.{byHeader, asMany}
+use Rattle.promises.specs.Headed.{byHeader, asMany}
 use Rattle.read_open.specs.declared.Opened as declared-opened
 use Rattle.read_open.specs.declared.Opened.the-variants as first
 use Rattle.read_open.proofs.Opening as opening
@@ -25,7 +25,7 @@ use Rattle.prove_plan.specs.Plans.{planSays, Plans}
 use Rattle.prove_plan.specs.declared.Plan as declared-plan
 use Rattle.prove_plan.proofs.Ending.{by-searches}
 use Rattle.contracts.specs.Proves.{proveAnswer, proveIndexed, roomAfter}
-use Rattle.contracts.proofs.Refusing.{as-many, not-as-many}
+use Rattle.promises.proofs.Heading.{as-many, not-as-many}
 use Rattle.prove.specs.Parts.{proveAnswerBy, Gives, lengthAnswer, provedSays}
 use Rattle.prove.specs.declared.Proved as declared
 use Rattle.prove.specs.declared.Proved.the-variants.{Refused}

@@ -20,7 +20,7 @@ use Rattle.shown.proofs.Theorems.{given-with-room, proofs-have-17080-bytes, sho
 use Rattle.nodehash.specs.Node.{leafHash, innerHash}
 use Rattle.layout.specs.Headers.{header, headerOf}
 use Rattle.layout.specs.Stores.{storeOf}
-use Rattle.contracts.specs.Headed.{byHeader}
+use Rattle.promises.specs.Headed.{byHeader}
 use Rattle.contracts.specs.Reads.{rootAnswer}
 use Rattle.contracts.specs.Proves.{proveAnswer}
 

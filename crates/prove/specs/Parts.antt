@@ -15,7 +15,7 @@ use Rattle.meaning.specs.Proving.{proofLength, fitted, proveBy}
 use Rattle.indexed.specs.Index.{byTable}
 use Rattle.layout.specs.Headers.{headerOf}
 use Rattle.layout.specs.Stores.{storeOf}
-use Rattle.contracts.specs.Headed.{byHeader}
+use Rattle.promises.specs.Headed.{byHeader}
 use Rattle.prove.specs.declared.Proved as declared
 use Rattle.prove.specs.declared.Proved.the-variants.{Refused, Length}
 use Rattle.contracts.specs.Proves.{roomAfter}

@@ -25,9 +25,9 @@ use Rattle.read_key.specs.declared.KeyRead.the-variants as read
 use Rattle.read_root.specs.Parts.{rootSays}
 use Rattle.read_root.specs.declared.RootRead as declared-root
 use Rattle.read_root.specs.declared.RootRead.the-variants as root
-use Rattle.contracts.specs.Headed.{byHeader, asMany}
+use Rattle.promises.specs.Headed.{byHeader, asMany}
 use Rattle.contracts.specs.Reads.{rootAnswer, rootIndexed, keyAnswer, keyIndexed}
-use Rattle.contracts.proofs.Refusing.{as-many}
+use Rattle.promises.proofs.Heading.{as-many}
 use Rattle.read.specs.Parts.{rootAnswerBy, keyAnswerBy}
 
 -- what was tested first

@@ -18,14 +18,14 @@ use Rattle.layout.specs.Stores.{storeOf, slotNo}
 use Rattle.sights.specs.Sights.{Sighted}
 use Rattle.sights.specs.declared.Sight as declared-sight
 use Rattle.sights.specs.declared.Sight.the-variants as sight
-use Rattle.contracts.specs.Headed.{byHeader, asMany}
+use Rattle.promises.specs.Headed.{byHeader, asMany}
 use Rattle.read_open.specs.Opening.{opened, openedSays}
 use Rattle.read_open.specs.declared.Opened as declared-opened
 use Rattle.read_open.specs.declared.Opened.the-variants.{Refused, Kept}
 use Rattle.read_open.proofs.Opening as opening
 use Rattle.read_number.specs.Numbers.{numberSays, numberAnswerBy}
 use Rattle.contracts.specs.Numbers.{numberAnswer, numberIndexed}
-use Rattle.contracts.proofs.Refusing.{as-many, not-as-many}
+use Rattle.promises.proofs.Heading.{as-many, not-as-many}
 use Rattle.read_number.specs.declared.NumberRead as declared
 use Rattle.read_number.specs.declared.NumberRead.the-variants as number
 

@@ -9,7 +9,7 @@ use Rattle.meaning.specs.Counting.{readNumberBy}
 use Rattle.indexed.specs.Index.{byTable}
 use Rattle.layout.specs.Headers.{headerOf}
 use Rattle.layout.specs.Stores.{storeOf}
-use Rattle.contracts.specs.Headed.{byHeader}
+use Rattle.promises.specs.Headed.{byHeader}
 use Rattle.read_number.specs.declared.NumberRead as declared
 use Rattle.read_number.specs.declared.NumberRead.the-variants as number
 

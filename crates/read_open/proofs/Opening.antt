@@ -16,7 +16,7 @@ use Rattle.layout.specs.declared.Header as declared
 use Rattle.layout.specs.declared.Header.the-variants.{Refused, Accepted}
 use Rattle.layout.proofs.Headers as headers
 use Rattle.read_open.specs.Opening.{opened}
-use Rattle.contracts.specs.Headed.{byHeader}
+use Rattle.promises.specs.Headed.{byHeader}
 
 module _ (s : Bytes) (v : ℕ) {h : declared.Header} (says : headerSays h ≡ headerOf counted s) where
   pub header-refused : {n : ℕ} → h ≡ Refused n → refused n ≡ opened s v

@@ -22,7 +22,7 @@ use Rattle.layout.proofs.Stores.{slot-at}
 use Rattle.sights.specs.Sights.{Sighted}
 use Rattle.sights.specs.declared.Sight as declared-sight
 use Rattle.sights.specs.declared.Sight.the-variants as sight
-use Rattle.contracts.specs.Headed.{byHeader, asMany}
+use Rattle.promises.specs.Headed.{byHeader, asMany}
 use Rattle.read_open.specs.Opening.{opened, openedSays}
 use Rattle.read_open.specs.declared.Opened as declared-opened
 use Rattle.read_open.specs.declared.Opened.the-variants.{Refused, Kept}
@@ -31,7 +31,7 @@ use Rattle.read_step.specs.Walk.{bodyIn}
 use Rattle.read_step.proofs.Seeing.{body-is, inside}
 use Rattle.read_position.specs.Positions.{positionSays, positionAnswerBy}
 use Rattle.contracts.specs.Numbers.{positionAnswer, positionIndexed}
-use Rattle.contracts.proofs.Refusing.{as-many, not-as-many}
+use Rattle.promises.proofs.Heading.{as-many, not-as-many}
 use Rattle.read_position.specs.Parts.{kidsFrom, bodyAt}
 use Rattle.read_position.specs.declared.PositionRead as declared
 use Rattle.read_position.specs.declared.PositionRead.the-variants as position

@@ -11,7 +11,7 @@ use Rattle.indexed.specs.Index.{byTable}
 use Rattle.hash.specs.Hash.{hashBytes}
 use Rattle.layout.specs.Headers.{headerOf}
 use Rattle.layout.specs.Stores.{storeOf}
-use Rattle.contracts.specs.Headed.{byHeader}
+use Rattle.promises.specs.Headed.{byHeader}
 use Rattle.read_position.specs.declared.PositionRead as declared
 use Rattle.read_position.specs.declared.PositionRead.the-variants as position
 
