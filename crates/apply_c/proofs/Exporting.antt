@@ -16,7 +16,7 @@ use Rattle.promises.specs.Calls.{exports-refusal, exports-answer}
 use Rattle.apply_publish.specs.Apply.{appliedSays, ApplyDoes}
 use Rattle.apply_publish.specs.declared.Applied as declared
 use Rattle.apply_publish.specs.declared.Applied.the-variants.{Refused, Made}
-use Rattle.apply_c.specs.Export.{answerBytes, ApplyExports}
+use Rattle.contracts.specs.Apply.{answerBytes, ApplyExports}
 
 -- four bytes, 32, and four
 pub answer-put : (v n : ℕ) (h : Hash) (f f₁ y f₂ : Bytes) → length f ≡ 40 → f₁ ≡ written 0 (le 4 v) f →

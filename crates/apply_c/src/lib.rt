@@ -8,7 +8,7 @@ use hash::put_hash;
 ghost use mathlib.Core.Path.{_≡_};
 ghost use lib.ListN.{length};
 ghost use Rattle.hash.specs.Hash.{hashBytes};
-ghost use Rattle.apply_c.specs.Export.{answerBytes, ApplyExports};
+ghost use Rattle.contracts.specs.Apply.{answerBytes, ApplyExports};
 
 // Version, root and count fill 40 bytes.
 pub fn put_answer(answer: &mut [u8], version: u32, root: Hash, count: u32)

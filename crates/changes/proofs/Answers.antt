@@ -27,7 +27,7 @@ use Rattle.fields.specs.Written.{written}
 use Rattle.layout.specs.Headers.{sizeRight, headerOf, header}
 use Rattle.layout.specs.Stores.{storeOf, storeBytes}
 use Rattle.layout.proofs.Headers.{accepted as header-accepted, size-right-of}
-use Rattle.read_open.specs.Headed.{byHeader}
+use Rattle.promises.specs.Headed.{byHeader}
 use Rattle.read_open.specs.Opening.{opened, openedSays}
 use Rattle.read_open.specs.declared.Opened as opened-type
 use Rattle.read_open.specs.declared.Opened.the-variants as O
@@ -48,7 +48,7 @@ use Rattle.changes_put.specs.Puts.{putInto}
 use Rattle.changes_walk.specs.declared.Walked as walked
 use Rattle.changes_walk.specs.declared.Walked.the-variants.{Passed, Done}
 use Rattle.changes_walk.specs.Walk.{visitsHere, itemsHere, Here, Goes, WalkSays}
-use Rattle.changes.specs.Changes.{roomAfter}
+use Rattle.contracts.specs.Changes.{roomAfter}
 use Rattle.changes.specs.Parts.{countOf, Compares}
 
 -- the definition, check by check

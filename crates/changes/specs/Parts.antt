@@ -12,7 +12,7 @@ use Rattle.changed.specs.Changes.{Item}
 use Rattle.changed.specs.Compare.{compare}
 use Rattle.changes.specs.declared.Compared as declared
 use Rattle.changes.specs.declared.Compared.the-variants.{Refused, Listed}
-use Rattle.changes.specs.Changes.{roomAfter}
+use Rattle.contracts.specs.Changes.{roomAfter}
 
 -- What each case of the answer says: a number of refusal, or how many records the list has.
 abbrev pub comparedSays : declared.Compared → Answer ℕ

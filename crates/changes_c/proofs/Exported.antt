@@ -10,7 +10,7 @@ use Rattle.meaning.proofs.Told.{told-refused, told-given}
 use Rattle.changes.specs.Parts.{comparedSays, Compares}
 use Rattle.changes.specs.declared.Compared as declared
 use Rattle.changes.specs.declared.Compared.the-variants.{Refused, Listed}
-use Rattle.changes_c.specs.Export.{Changes}
+use Rattle.contracts.specs.Changes.{Changes}
 
 module _ {first second limit : ℕ} {s room after : Bytes} (r : declared.Compared) (w : Compares first second limit s room (comparedSays r) after)
     (old : Bytes) where

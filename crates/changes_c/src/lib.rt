@@ -3,7 +3,7 @@
 use changes::Compared;
 use changes::changes;
 use fields::put_u32;
-ghost use Rattle.changes_c.specs.Export.{Changes};
+ghost use Rattle.contracts.specs.Changes.{Changes};
 
 // What changed from the first version to the second fills the front of the room, as records of 72 bytes; how many there are goes out in four
 // bytes.

@@ -1,36 +1,35 @@
 -- The contracts of the public calls: what each answers for any bytes that it is lent, and every byte that it leaves.
--- Bytes that a call is lent to look at stay as they are. Most stand in the room below and are the contract of the
--- function there too. Assumes nothing.
+-- Bytes that a call is lent to look at stay as they are. The code stands on this room and meets them. Assumes nothing.
 use Prim.Native.Nat.{ℕ, _+_, _*_}
 use mathlib.Core.Path.{_≡_}
 use Rattle.terms.specs.declared.Form.the-variants.{Plain as plain, Counted as counted}
 use Rattle.terms.specs.Bits.{Bytes}
 use Rattle.sha256.specs.Sha256.{sha256}
-use Rattle.format.specs.Format.{formatAnswer, formatBytes}
+use Rattle.contracts.specs.Format.{formatAnswer, formatBytes}
 use Rattle.promises.specs.Check.{Checked}
 use Rattle.move_rules.specs.Moves as move
 -- Applying a batch and pruning; the same with a table of slot numbers (2026-05), which is also built and told to be
 -- right.
-pub use Rattle.apply_c.specs.Export.{ApplyExports as Applies}
-pub use Rattle.prune_c.specs.Export.{PruneExports as Prunes}
+pub use Rattle.contracts.specs.Apply.{ApplyExports as Applies}
+pub use Rattle.contracts.specs.Prune.{PruneExports as Prunes}
 pub use Rattle.index_rules.specs.Tables.{Builds as Indexes, Tells as TellsIndex, FormatsBoth as FormatsIndexed}
-pub use Rattle.index_write.specs.Export.{AppliesBoth as AppliesIndexed, PrunesBoth as PrunesIndexed}
+pub use Rattle.contracts.specs.Tabled.{AppliesBoth as AppliesIndexed, PrunesBoth as PrunesIndexed}
 -- Reading a root, a key, the number of grants and the grant at a position; proving a key and each key of a list; by
 -- scans and by a table.
-pub use Rattle.read_c.specs.Export.{ReadsRoot, ReadsKey, ReadsRootBy, ReadsKeyBy}
-pub use Rattle.read_counts_c.specs.Export.{Counts, ReadsAt, CountsBy, ReadsAtBy}
-pub use Rattle.prove_c.specs.Export.{Proves, ProvesBy}
-pub use Rattle.palette_c.specs.Export.{Palettes, PalettesBy}
+pub use Rattle.contracts.specs.Reads.{ReadsRoot, ReadsKey, ReadsRootBy, ReadsKeyBy}
+pub use Rattle.contracts.specs.Numbers.{Counts, ReadsAt, CountsBy, ReadsAtBy}
+pub use Rattle.contracts.specs.Proves.{Proves, ProvesBy}
+pub use Rattle.contracts.specs.Palettes.{Palettes, PalettesBy}
 -- Comparing two versions, rescuing, figures, the pocket prover, and what a forged proof would cost.
-pub use Rattle.changes_c.specs.Export.{Changes}
+pub use Rattle.contracts.specs.Changes.{Changes}
 pub use Rattle.rescue_bytes.specs.Rescues.{RescueExports as Rescues}
-pub use Rattle.figures.specs.Export.{Figures}
-pub use Rattle.pocket_prove.specs.Export.{PocketProves}
-pub use Rattle.finding_c.specs.Export.{Finds}
+pub use Rattle.contracts.specs.Figures.{Figures}
+pub use Rattle.contracts.specs.Pocket.{PocketProves}
+pub use Rattle.contracts.specs.Finds.{Finds}
 -- Checking a proof, many at once, one of the pocket profile and one of a shelf; messages written and read.
-pub use Rattle.verify.specs.Verify.{Verifies}
+pub use Rattle.verify_rules.specs.Verify.{Verifies}
 pub use Rattle.verify_rows.specs.Rows.{VerifiesMany}
-pub use Rattle.pocket_verify.specs.Verify.{PocketVerifies}
+pub use Rattle.verify_rules.specs.Pocket.{PocketVerifies}
 pub use Rattle.shelf_rules.specs.Shelf.{ShelfVerifies}
 pub use Rattle.message_rules.specs.Contracts.{WritesMessage, ReadsMessage}
 

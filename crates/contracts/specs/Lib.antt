@@ -1,1 +1,13 @@
+pub mod Format
+pub mod Apply
+pub mod Prune
+pub mod Tabled
+pub mod Reads
+pub mod Numbers
+pub mod Proves
+pub mod Palettes
+pub mod Changes
+pub mod Figures
+pub mod Pocket
+pub mod Finds
 pub mod Contracts

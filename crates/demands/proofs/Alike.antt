@@ -29,14 +29,12 @@ use Rattle.layout.specs.Stores.{storeOf}
 use Rattle.promises.specs.Calls.{SoundBytes, Does, wrong-header, not-sound, refuses, accepts}
 use Rattle.palette_rules.specs.Palette.{wholeKeys, keysIn, inTurn, fittedTogether, palette}
 use Rattle.move_rules.proofs.Theorems.{comparedBy, by-trees}
-use Rattle.prove.specs.Proving.{proveAnswer, roomAfter}
-use Rattle.prove_c.specs.Export.{lengthBytes}
-use Rattle.palette.specs.Palettes.{paletteAnswer}
-use Rattle.palette.specs.Palettes as palettes
-use Rattle.palette_c.specs.Export as exported
-use Rattle.changes.specs.Changes as listed
-use Rattle.changes_c.specs.Export.{countBytes}
-use Rattle.read_counts_c.specs.Export.{grantBytes}
+use Rattle.contracts.specs.Proves.{proveAnswer, roomAfter, lengthBytes}
+use Rattle.contracts.specs.Palettes.{paletteAnswer}
+use Rattle.contracts.specs.Palettes as palettes
+use Rattle.contracts.specs.Changes as listed
+use Rattle.contracts.specs.Changes.{countBytes}
+use Rattle.contracts.specs.Numbers.{grantBytes}
 use Rattle.demands.specs.Claims.{treeOfVersion, grantsOfVersion, ReadsAs, ComparesAs}
 use Rattle.demands.proofs.Showing.{root-of-tree, key-of-grants}
 use Rattle.demands.proofs.Numbered.{sound-is-numbered}
@@ -94,7 +92,7 @@ module _ {t s : Bytes} (a : SoundBytes t) (b : SoundBytes s) {v w : ℕ} (kept :
         let is = same-palette list (length room) in (
           x .answer ∙ ap (λ p. numberOf p) is ∙ sym (y .answer),
           x .proofs ∙ ap (λ p. palettes.roomAfter p room) is ∙ sym (y .proofs),
-          x .told ∙ ap (λ p. exported.lengthBytes p f) is ∙ sym (y .told),
+          x .told ∙ ap (λ p. palettes.lengthBytes p f) is ∙ sym (y .told),
         );
   }
 

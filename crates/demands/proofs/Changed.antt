@@ -20,8 +20,7 @@ use Rattle.promises.specs.Calls.{SoundBytes, Does, wrong-header, not-sound, ref
 use Rattle.changed.specs.Changes.{Item, items, itemSize}
 use Rattle.changed.specs.Compare.{changesOf, visitsOf, compare}
 use Rattle.changed.proofs.Theorems.{list-is-what-changed, swapped-undoes, equal-versions-give-none, visits-symmetric, visits-at-most-32769, list-at-most-16384}
-use Rattle.changes.specs.Changes.{roomAfter}
-use Rattle.changes_c.specs.Export.{countBytes}
+use Rattle.contracts.specs.Changes.{roomAfter, countBytes}
 use Rattle.contracts.specs.Contracts.{Changes}
 use Rattle.demands.specs.Claims.{ListsChanges}
 use Rattle.demands.proofs.Refusals.{no-refusal, never-0, header-numbers}

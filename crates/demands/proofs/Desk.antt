@@ -30,9 +30,8 @@ use Rattle.batch.specs.Batch.{asksBytes}
 use Rattle.batch.proofs.Batches.{batch-of-bytes}
 use Rattle.promises.specs.Calls.{refuses, accepts, Exports, exports-refusal, exports-answer}
 use Rattle.promises.proofs.Calls.{one-export}
-use Rattle.read.specs.Reads.{rootAnswer}
-use Rattle.read_c.specs.Export.{rootBytes}
-use Rattle.apply_c.specs.Export.{told}
+use Rattle.contracts.specs.Reads.{rootAnswer, rootBytes}
+use Rattle.contracts.specs.Apply.{told}
 use Rattle.contracts.specs.Contracts.{Applies}
 use Rattle.demands.specs.Desk.{RowOverBytes, DeskOverBytes}
 use Rattle.demands.proofs.Hashes.{leaf-hash-whole, inner-hash-whole}

@@ -23,30 +23,29 @@ use Rattle.proofrecords.specs.ProofBytes.{proofIn}
 use Rattle.layout.specs.Headers.{Headed, refusal, header, sizeRight, headerOf}
 use Rattle.layout.specs.Stores.{storeOf}
 use Rattle.batch.specs.Batch.{batchOf}
-use Rattle.format.specs.Format.{formatAnswer}
+use Rattle.contracts.specs.Format.{formatAnswer}
 use Rattle.promises.specs.Check as check
 use Rattle.promises.specs.Calls.{Does, wrong-header, not-sound, refuses, accepts, Exports, exports-refusal, exports-answer}
-use Rattle.read_open.specs.Headed.{byHeader}
-use Rattle.read.specs.Reads.{rootAnswer, keyAnswer}
-use Rattle.read_number.specs.Numbers.{numberAnswer}
-use Rattle.read_position.specs.Positions.{positionAnswer}
-use Rattle.prove.specs.Proving.{proveAnswer}
+use Rattle.promises.specs.Headed.{byHeader}
+use Rattle.contracts.specs.Reads.{rootAnswer, keyAnswer}
+use Rattle.contracts.specs.Numbers.{numberAnswer, positionAnswer}
+use Rattle.contracts.specs.Proves.{proveAnswer}
 use Rattle.palette_rules.specs.Palette.{keySize, wholeKeys, keysIn, palette}
 use Rattle.palette_rules.proofs.Keys.{keys-many}
-use Rattle.palette.specs.Palettes.{paletteAnswer}
+use Rattle.contracts.specs.Palettes.{paletteAnswer}
 use Rattle.changed.specs.Compare.{compare}
-use Rattle.verify.specs.Verify.{judged, verified}
+use Rattle.verify_rules.specs.Verify.{judged, verified}
 use Rattle.verify_rows.specs.Rows.{ownLength, cutsInto, answerSize, manyVerified}
 use Rattle.verify_rows.proofs.Cutting.{cut-exactly}
 use Rattle.sha256.specs.Sha256.{sha256}
 use Rattle.forgery.specs.Finding.{Finding}
 use Rattle.finding_rules.specs.Call.{finds}
-use Rattle.finding.specs.Finding.{Answers, wrong-key, right-key}
+use Rattle.contracts.specs.Finds.{Answers}
+use Rattle.contracts.specs.Finds.{wrong-key, right-key}
 use Rattle.ways.specs.Ways.{its-root}
 use Rattle.refusals.specs.Exactly.{Table, Exactly, NoneOf, low, Names}
 use Rattle.refusals.specs.Rows.{NotRootAndKeys, NotPieces, AnswersTooLong, NotKeys, StopsPalette, TooLongTogether, NotSound, Not32, StopsRoot, StopsGet, StopsAt, StopsProve, TooLong}
-use Rattle.refusals.specs.Orders.{headerRows, batchRows, versionRows, comparisonRows, holdingRows, rowRows}
-use Rattle.refusals.specs.Orders.{foundRows}
+use Rattle.refusals.specs.Orders.{headerRows, batchRows, versionRows, comparisonRows, holdingRows, rowRows, foundRows}
 use Rattle.refusals.proofs.Exactly.{First, past, within, exactly}
 use Rattle.refusals.proofs.Headers.{length-wrong, length-right, after-header, header-row, records-formed}
 use Rattle.refusals.proofs.Batches.{batch-first}
@@ -59,10 +58,8 @@ use Rattle.refusals.proofs.Rescues.{rescue-first}
 use Rattle.refusals.proofs.Findings.{finding-first}
 use Rattle.refusals.proofs.Moves.{move-first}
 use Rattle.refusals.proofs.Proofs.{off-form, form-first}
-use Rattle.demands.specs.Tables.{formatRows, soundRows, applyRows, pruneRows, rootRows, getRows, atRows, proveRows, paletteRows, testsOf, changesRows, verifyRows, verifyManyRows, rescuingRows, moveRows}
-use Rattle.contracts.specs.Contracts.{Formats, Checks, Applies, Prunes, ReadsRoot, ReadsKey, Counts, ReadsAt, Proves, Palettes, Changes, Verifies, VerifiesMany, Hashes, Rescues, MovesOver, MovesBack}
-use Rattle.demands.specs.Tables.{findingRows}
-use Rattle.contracts.specs.Contracts.{Finds}
+use Rattle.demands.specs.Tables.{formatRows, soundRows, applyRows, pruneRows, rootRows, getRows, atRows, proveRows, paletteRows, testsOf, changesRows, verifyRows, verifyManyRows, rescuingRows, moveRows, findingRows}
+use Rattle.contracts.specs.Contracts.{Formats, Checks, Applies, Prunes, ReadsRoot, ReadsKey, Counts, ReadsAt, Proves, Palettes, Changes, Verifies, VerifiesMany, Hashes, Rescues, MovesOver, MovesBack, Finds}
 
 -- Format: 1.
 pub format-exactly : {s t : Bytes} {r : ℕ} → Formats s r t → Exactly (formatRows s) r

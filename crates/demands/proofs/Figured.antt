@@ -25,8 +25,7 @@ use Rattle.quarter.specs.Figures.{Figures, figuresOf, figuresBytes, figuresSize
 use Rattle.quarter.proofs.Theorems.{leaves-are-grants}
 use Rattle.quarter.proofs.Small.{figures-are-small, distinct-is-small, records-are-small}
 use Rattle.quarter.proofs.Told.{leaves-told, inners-told, longest-told, sum-told, versions-long, version-told, distinct-told, records-told, no-grant-no-node, nothing-told}
-use Rattle.figures.specs.Figures.{roomAfter}
-use Rattle.figures.specs.Export.{totalsAfter}
+use Rattle.contracts.specs.Figures.{roomAfter, totalsAfter}
 use Rattle.refusals.specs.Exactly.{Exactly}
 use Rattle.refusals.specs.Rows.{KeptRange}
 use Rattle.refusals.specs.Orders.{rangeRows}

@@ -36,7 +36,8 @@ use Rattle.finding_rules.specs.Call.{noGrant, versionRoot, foundOf, foundAgains
 use Rattle.finding_rules.specs.Claims.{FoundOut}
 use Rattle.finding_rules.proofs.Hashes.{leaf-is, inner-is}
 use Rattle.finding_rules.proofs.Theorems.{Judged, accepted-is-judged, judged-is-accepted, judged-is-found-out}
-use Rattle.finding.specs.Finding.{Answers, wrong-key, right-key}
+use Rattle.contracts.specs.Finds.{Answers}
+use Rattle.contracts.specs.Finds.{wrong-key, right-key}
 use Rattle.contracts.specs.Contracts.{ReadsRoot, Verifies, Finds}
 use Rattle.demands.specs.Claims.{grantsOfVersion, Accepts}
 use Rattle.demands.specs.Forged.{NamesFinding, two-equal, one-zero, NamesNone, messagesOf, Cost, Deceived}

@@ -27,10 +27,9 @@ use Rattle.layout.specs.Stores.{storeIn, storeOf, slotsAs}
 use Rattle.layout.proofs.Headers.{size-says}
 use Rattle.layout.proofs.Stores.{length-slots}
 use Rattle.batch.specs.Batch.{batchOf}
-use Rattle.format.specs.Format.{formatBytes}
+use Rattle.contracts.specs.Format.{formatBytes}
 use Rattle.promises.specs.Calls.{wrong-header, not-sound, refuses, accepts, Exports, exports-refusal, exports-answer}
-use Rattle.demands.specs.Calls.{takenOver, Called, formats, applies, prunes, Calls, none-yet, then-called, doneBy, WithoutGaps, Life, rescues-into, moves-over, looks}
-use Rattle.demands.specs.Calls.{formats-both, applies-both, prunes-both}
+use Rattle.demands.specs.Calls.{takenOver, Called, formats, applies, prunes, Calls, none-yet, then-called, doneBy, WithoutGaps, Life, rescues-into, moves-over, looks, formats-both, applies-both, prunes-both}
 use Rattle.contracts.specs.Contracts.{Formats, Applies, Prunes, AppliesIndexed, PrunesIndexed}
 use Rattle.demands.proofs.Hashes.{leaf-hash-whole, inner-hash-whole}
 use Rattle.demands.proofs.Stored.{stored-is, formatted-form, prune-form, apply-form}

@@ -21,9 +21,8 @@ use Rattle.proofrecords.specs.ProofBytes.{presenceKind, absenceKind, stepsBytes
 use Rattle.proofrecords.proofs.Proofs.{length-presence, length-absence}
 use Rattle.layout.specs.Headers.{Headed, refusal, header, headerOf}
 use Rattle.layout.specs.Stores.{storeOf}
-use Rattle.read_open.specs.Headed.{byHeader}
-use Rattle.prove.specs.Proving.{proveAnswer, roomAfter}
-use Rattle.prove_c.specs.Export.{provedInto, lengthBytes}
+use Rattle.promises.specs.Headed.{byHeader}
+use Rattle.contracts.specs.Proves.{proveAnswer, roomAfter, provedInto, lengthBytes}
 use Rattle.contracts.specs.Contracts.{Proves}
 use Rattle.demands.proofs.Refusals.{clash, accepted-of, prove-nonzero}
 

@@ -34,7 +34,7 @@ use Rattle.layout.proofs.Headers as headers
 use Rattle.layout.proofs.Stores.{store-back}
 use Rattle.batch.specs.Batch.{batchOf}
 use Rattle.batch.proofs.Batches.{batch-of-back}
-use Rattle.format.specs.Format.{formatAnswer, formatBytes}
+use Rattle.contracts.specs.Format.{formatAnswer, formatBytes}
 use Rattle.promises.specs.Calls.{SoundBytes, wrong-header, not-sound, refuses, accepts, Exports, exports-refusal, exports-answer}
 use Rattle.rescue_bytes.specs.Rescues as rescue
 use Rattle.rescue_bytes.specs.Rescues.{slotsIn, Report, reportBytes}
@@ -44,7 +44,7 @@ use Rattle.rescue_bytes.proofs.Outcomes.{refused-leaves, accepted-report}
 use Rattle.rescue_bytes.proofs.Worth.{worth}
 use Rattle.rescue_bytes.proofs.Ledger.{rescued-keeps}
 use Rattle.rescue_bytes.proofs.Report.{first-told}
-use Rattle.read_counts_c.specs.Export.{grantBytes}
+use Rattle.contracts.specs.Numbers.{grantBytes}
 use Rattle.move_rules.specs.Moves.{other, Moves}
 use Rattle.move_rules.proofs.Outcomes.{moved-was-sound}
 use Rattle.move_rules.proofs.Theorems.{accepted-move-is-worth}
@@ -52,9 +52,8 @@ use Rattle.move_rules.proofs.Ledger.{moved-keeps}
 use Rattle.contracts.specs.Contracts.{Formats, ReadsRoot, ReadsKey, Proves, Rescues, MovesOver, Verifies, Counts, ReadsAt}
 use Rattle.meaning.specs.Counting.{grantAt}
 use Rattle.meaning.specs.Answers.{foundBytes, numberOf, toldOf}
-use Rattle.demands.specs.Calls.{Called, formats, applies, prunes, Calls, none-yet, then-called, Life, rescues-into, moves-over, looks, Begins, by-format, by-rescue, as-found, by-over, by-back, takenOver}
+use Rattle.demands.specs.Calls.{Called, formats, applies, prunes, Calls, none-yet, then-called, Life, rescues-into, moves-over, looks, Begins, by-format, by-rescue, as-found, by-over, by-back, takenOver, formats-both, applies-both, prunes-both}
 use Rattle.index_rules.specs.Tables.{FormatsBoth, wrong-size, both-fresh, not-told, refuses-both, accepts-both, ExportsBoth, both-refused, both-answered}
-use Rattle.demands.specs.Calls.{formats-both, applies-both, prunes-both}
 use Rattle.demands.specs.Claims.{grantsOfVersion, AfterHistory}
 use Rattle.demands.proofs.Hashes.{leaf-hash-whole, inner-hash-whole}
 use Rattle.demands.proofs.Stored.{stored-is, stored-sound, formatted-form, prune-form, apply-form}

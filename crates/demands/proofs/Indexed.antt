@@ -26,17 +26,12 @@ use Rattle.layout.specs.Headers.{Headed, refusal, header, headerOf}
 use Rattle.layout.specs.Stores.{storeOf}
 use Rattle.layout.proofs.Headers.{room-of}
 use Rattle.promises.specs.Calls.{SoundBytes}
-use Rattle.read_open.specs.Headed.{byHeader, asMany, headerWith}
-use Rattle.read.specs.Reads.{rootAnswer, rootIndexed, keyAnswer, keyIndexed}
-use Rattle.read_c.specs.Export.{rootBytes}
-use Rattle.read_number.specs.Numbers.{numberAnswer, numberIndexed}
-use Rattle.read_position.specs.Positions.{positionAnswer, positionIndexed}
-use Rattle.read_counts_c.specs.Export.{grantBytes}
-use Rattle.prove.specs.Proving.{proveAnswer, proveIndexed, roomAfter}
-use Rattle.prove_c.specs.Export.{lengthBytes}
-use Rattle.palette.specs.Palettes as palettes
-use Rattle.palette.specs.Palettes.{paletteAnswer, paletteIndexed}
-use Rattle.palette_c.specs.Export as palettes-c
+use Rattle.promises.specs.Headed.{byHeader, asMany, headerWith}
+use Rattle.contracts.specs.Reads.{rootAnswer, rootIndexed, keyAnswer, keyIndexed, rootBytes}
+use Rattle.contracts.specs.Numbers.{numberAnswer, numberIndexed, positionAnswer, positionIndexed, grantBytes}
+use Rattle.contracts.specs.Proves.{proveAnswer, proveIndexed, roomAfter, lengthBytes}
+use Rattle.contracts.specs.Palettes as palettes
+use Rattle.contracts.specs.Palettes.{paletteAnswer, paletteIndexed}
 use Rattle.refusals.specs.Exactly.{Table, Exactly, NoneOf, low, Names}
 use Rattle.refusals.specs.Rows.{WrongLength, StopsRoot, StopsGet, StopsAt, StopsProve, StopsPalette, TooLong, TooLongTogether}
 use Rattle.refusals.proofs.Exactly.{exactly}
@@ -97,7 +92,7 @@ module _ {s : Bytes} {table : List ℕ} {v r : ℕ} (not-0 : r ≡ 0 → ⊥) wh
   pub refused-palette-by-writes-nothing : {list room f t g : Bytes} → PalettesBy s table v list room f r t g → (t ≡ room) × (g ≡ f)
   refused-palette-by-writes-nothing {list} {room} {f} w =
       let e = refusal-of not-0 (paletteIndexed s table v list (length room)) (w .answer) .1 in
-      (w .proofs ∙ ap (λ a. palettes.roomAfter a room) e, w .told ∙ ap (λ a. palettes-c.lengthBytes a f) e)
+      (w .proofs ∙ ap (λ a. palettes.roomAfter a room) e, w .told ∙ ap (λ a. palettes.lengthBytes a f) e)
 
 -- A table of the right length, and no two slots that match: the answers are the plain ones.
 module _ (s : Bytes) (table : List ℕ) (v : ℕ) (many : length table ≡ roomOf counted (length s)) (once : NoneTwice s v) where
@@ -156,7 +151,7 @@ module _ (s : Bytes) (table : List ℕ) (v : ℕ) (many : length table ≡ roomO
         let e = same-palette list (length room) in (
           x .answer ∙ ap numberOf e ∙ sym (y .answer),
           x .proofs ∙ ap (λ a. palettes.roomAfter a room) e ∙ sym (y .proofs),
-          x .told ∙ ap (λ a. palettes-c.lengthBytes a f) e ∙ sym (y .told),
+          x .told ∙ ap (λ a. palettes.lengthBytes a f) e ∙ sym (y .told),
         );
   }
 

@@ -25,7 +25,7 @@ use Rattle.layout.specs.Slots.{SlotForm}
 use Rattle.layout.specs.Stores.{storeOf}
 use Rattle.promises.specs.Calls.{SoundBytes}
 use Rattle.promises.proofs.Calls.{sound-form}
-use Rattle.palette.specs.Palettes.{proofsBytes}
+use Rattle.contracts.specs.Palettes.{proofsBytes}
 use Rattle.verify_rows.specs.Rows.{ownLength, answerBytes, answersOf, overFront}
 use Rattle.verify_rows.proofs.Cutting.{proofs-sized}
 use Rattle.verify_rows.proofs.Answered.{accepted-if-0, row-pieces, answered-pieces, answers-long}

@@ -16,9 +16,9 @@ use Rattle.histories.proofs.Theorems.{sound-tree-of-grants}
 use Rattle.nodehash.specs.Node.{leafHash, innerHash}
 use Rattle.layout.specs.Stores.{storeOf}
 use Rattle.promises.specs.Calls.{SoundBytes}
-use Rattle.read_number.proofs.Theorems.{number-of-sound}
-use Rattle.read_position.proofs.Theorems.{position-of-sound}
-use Rattle.read_counts_c.specs.Export.{grantBytes}
+use Rattle.contracts.proofs.Numbers.{number-of-sound}
+use Rattle.contracts.proofs.Numbers.{position-of-sound}
+use Rattle.contracts.specs.Numbers.{grantBytes}
 use Rattle.contracts.specs.Contracts.{Counts, ReadsAt}
 use Rattle.demands.specs.Claims.{grantsOfVersion, Numbered}
 

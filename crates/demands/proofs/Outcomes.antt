@@ -3,19 +3,18 @@
 use Prim.Native.Nat.{ℕ}
 use mathlib.Core.Path.{_≡_, refl, ap, sym, _∙_}
 use Rattle.terms.specs.Bits.{Bytes}
-use Rattle.check_store.proofs.Answers.{one-answer}
+use Rattle.promises.proofs.Check.{one-answer}
 use Rattle.meaning.specs.Calls.{Answer}
 use Rattle.meaning.specs.Answers.{numberOf, toldOf}
 use Rattle.promises.proofs.Calls.{one-outcome, one-export}
-use Rattle.changes.specs.Changes.{roomAfter}
-use Rattle.changes_c.specs.Export.{countBytes}
+use Rattle.contracts.specs.Changes.{roomAfter, countBytes}
 use Rattle.rescue_bytes.proofs.Outcomes as rescue
 use Rattle.move_rules.proofs.Outcomes as move
-use Rattle.contracts.specs.Contracts.{Formats, Checks, Applies, Prunes, ReadsRoot, ReadsKey, Counts, ReadsAt, Proves, Palettes, Changes, Verifies, VerifiesMany, TellsVersion, Hashes, Rescues, MovesOver, MovesBack}
+use Rattle.contracts.specs.Contracts.{Formats, Checks, Applies, Prunes, ReadsRoot, ReadsKey, Counts, ReadsAt, Proves, Palettes, Changes, Verifies, VerifiesMany, TellsVersion, Hashes, Rescues, MovesOver, MovesBack, Finds}
 use Rattle.forgery.specs.Finding.{Finding}
 use Rattle.finding_rules.specs.Call.{findingBytes}
-use Rattle.finding.specs.Finding.{Answers, wrong-key, right-key}
-use Rattle.contracts.specs.Contracts.{Finds}
+use Rattle.contracts.specs.Finds.{Answers}
+use Rattle.contracts.specs.Finds.{wrong-key, right-key}
 
 -- what is found of a proof has one answer
 one-found : {s : Bytes} {v : ℕ} {k x : Bytes} {p q : Answer Finding} → Answers s v k x p → Answers s v k x q → p ≡ q

@@ -38,11 +38,10 @@ use Rattle.layout.proofs.Headers as headers
 use Rattle.layout.proofs.Stores.{store-form}
 use Rattle.promises.specs.Calls.{SoundBytes}
 use Rattle.promises.proofs.Calls.{sound-form}
-use Rattle.read_open.specs.Headed.{byHeader}
-use Rattle.prove.specs.Proving.{proveAnswer}
-use Rattle.palette.specs.Palettes.{paletteAnswer, proofsBytes, roomAfter}
-use Rattle.palette_c.specs.Export.{palettedInto, lengthBytes}
-use Rattle.verify.specs.Verify.{verified}
+use Rattle.promises.specs.Headed.{byHeader}
+use Rattle.contracts.specs.Proves.{proveAnswer}
+use Rattle.contracts.specs.Palettes.{paletteAnswer, proofsBytes, roomAfter, palettedInto, lengthBytes}
+use Rattle.verify_rules.specs.Verify.{verified}
 use Rattle.contracts.specs.Contracts.{ReadsRoot, Proves, Palettes, Verifies}
 use Rattle.demands.specs.Claims.{treeOfVersion, grantsOfVersion}
 use Rattle.demands.specs.Palettes.{SingleCalls, none-asked, then-given, FirstRefusal, refused-here, refused-later, BesideSingleCalls, cutApart, EachAccepted, PaletteShown}

@@ -25,15 +25,14 @@ use Rattle.layout.specs.Headers.{Headed, refusal, header, headerOf}
 use Rattle.layout.specs.Stores.{storeOf}
 use Rattle.promises.specs.Calls.{SoundBytes}
 use Rattle.promises.proofs.Calls.{sound-form}
-use Rattle.read_open.specs.Headed.{byHeader}
-use Rattle.prove.specs.Proving.{proveAnswer, roomAfter}
+use Rattle.promises.specs.Headed.{byHeader}
+use Rattle.contracts.specs.Proves.{proveAnswer, roomAfter}
 use Rattle.pocket.specs.Pocket.{Outside, small, inProfile, pocketProve}
 use Rattle.pocket.proofs.Theorems.{inside-shows-short, outside-shows-long, pocket-proofs-have-2296-bytes}
-use Rattle.pocket_prove.specs.Proving.{pocketAnswer}
-use Rattle.pocket_prove.specs.Export.{pocketInto}
-use Rattle.verify.specs.Verify.{verified}
-use Rattle.pocket_verify.specs.Verify.{pocketJudged, pocketVerified}
-use Rattle.pocket_verify.proofs.Theorems.{inside-as-the-full-check, off-form-as-the-full-check}
+use Rattle.contracts.specs.Pocket.{pocketAnswer, pocketInto}
+use Rattle.verify_rules.specs.Verify.{verified}
+use Rattle.verify_rules.specs.Pocket.{pocketJudged, pocketVerified}
+use Rattle.verify_rules.proofs.Pocket.{inside-as-the-full-check, off-form-as-the-full-check}
 use Rattle.refusals.specs.Exactly.{Exactly, NoneOf, low, Names}
 use Rattle.refusals.specs.Rows.{Not32, StopsProve, TooLong, ProvedOutside, OutsidePocket}
 use Rattle.refusals.specs.Orders.{pocketHoldingRows}

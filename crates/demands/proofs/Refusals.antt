@@ -26,27 +26,22 @@ use Rattle.nodehash.specs.Node.{leafHash, innerHash}
 use Rattle.layout.specs.Headers.{Headed, refusal, header, sizeRight, headerOf}
 use Rattle.layout.specs.Stores.{storeOf}
 use Rattle.layout.proofs.Headers.{header-refused}
-use Rattle.format.specs.Format.{formatAnswer, formatBytes}
+use Rattle.contracts.specs.Format.{formatAnswer, formatBytes}
 use Rattle.promises.specs.Calls.{Does, wrong-header, not-sound, refuses, Exports, exports-refusal, exports-answer}
 use Rattle.promises.proofs.Calls.{refused-writes-nothing}
 use Rattle.meaning.specs.Answers.{numberOf, toldOf, foundAfter}
-use Rattle.read_open.specs.Headed.{byHeader}
-use Rattle.read.specs.Reads.{rootAnswer, keyAnswer}
-use Rattle.read_c.specs.Export.{rootBytes}
-use Rattle.read_number.specs.Numbers.{numberAnswer}
-use Rattle.read_position.specs.Positions.{positionAnswer}
-use Rattle.read_counts_c.specs.Export.{grantBytes}
-use Rattle.prove.specs.Proving.{proveAnswer, roomAfter}
-use Rattle.prove_c.specs.Export.{provedInto, lengthBytes}
-use Rattle.changes.specs.Changes as compared
-use Rattle.changes_c.specs.Export.{countBytes}
+use Rattle.promises.specs.Headed.{byHeader}
+use Rattle.contracts.specs.Reads.{rootAnswer, keyAnswer, rootBytes}
+use Rattle.contracts.specs.Numbers.{numberAnswer, positionAnswer, grantBytes}
+use Rattle.contracts.specs.Proves.{proveAnswer, roomAfter, provedInto, lengthBytes}
+use Rattle.contracts.specs.Changes as compared
+use Rattle.contracts.specs.Changes.{countBytes}
 use Rattle.finding_rules.specs.Call.{findingBytes}
-use Rattle.verify.specs.Verify.{verified}
+use Rattle.verify_rules.specs.Verify.{verified}
 use Rattle.verify_rows.specs.Rows.{overFront, manyVerified}
 use Rattle.rescue_bytes.proofs.Outcomes.{refused-export-leaves}
 use Rattle.move_rules.proofs.Outcomes as move
-use Rattle.contracts.specs.Contracts.{Formats, Applies, Prunes, ReadsRoot, ReadsKey, Counts, ReadsAt, Proves, Changes, Rescues, MovesOver, MovesBack, Verifies, VerifiesMany}
-use Rattle.contracts.specs.Contracts.{Finds}
+use Rattle.contracts.specs.Contracts.{Formats, Applies, Prunes, ReadsRoot, ReadsKey, Counts, ReadsAt, Proves, Changes, Rescues, MovesOver, MovesBack, Verifies, VerifiesMany, Finds}
 
 -- One of the numbers in a list.
 abbrev pub OneOf : List ℕ → ℕ → Type 0

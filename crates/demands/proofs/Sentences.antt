@@ -19,10 +19,9 @@ use Rattle.proofrecords.specs.ProofBytes.{absenceKind, presenceKind, absenceHea
 use Rattle.layout.specs.Headers.{header, headerOf}
 use Rattle.layout.specs.Stores.{storeOf}
 use Rattle.refusals.proofs.Proofs.{proof-is}
-use Rattle.verify.specs.Verify.{judged, verified}
+use Rattle.verify_rules.specs.Verify.{judged, verified}
 use Rattle.palette_rules.specs.Palette.{wholeKeys, keysIn, palette}
-use Rattle.palette.specs.Palettes.{paletteAnswer, roomAfter}
-use Rattle.palette_c.specs.Export.{lengthBytes}
+use Rattle.contracts.specs.Palettes.{paletteAnswer, roomAfter, lengthBytes}
 use Rattle.contracts.specs.Contracts.{Verifies, Palettes}
 use Rattle.demands.proofs.Given.{kindOf, kind-is}
 

@@ -27,12 +27,10 @@ use Rattle.proofrecords.proofs.Proofs.{proof-back}
 use Rattle.layout.specs.Stores.{storeOf}
 use Rattle.promises.specs.Calls.{SoundBytes}
 use Rattle.promises.proofs.Calls.{sound-form}
-use Rattle.read.specs.Reads.{rootAnswer, keyAnswer}
-use Rattle.read.proofs.Theorems.{root-read-of-sound, key-read-of-sound}
-use Rattle.read_c.specs.Export.{rootBytes}
-use Rattle.prove.specs.Proving.{proveAnswer}
-use Rattle.prove_c.specs.Export.{provedInto}
-use Rattle.verify.specs.Verify.{verified}
+use Rattle.contracts.specs.Reads.{rootAnswer, keyAnswer, rootBytes}
+use Rattle.contracts.proofs.Reading.{root-read-of-sound, key-read-of-sound}
+use Rattle.contracts.specs.Proves.{proveAnswer, provedInto}
+use Rattle.verify_rules.specs.Verify.{verified}
 use Rattle.meaning.specs.Answers.{numberOf, foundBytes, foundAfter}
 use Rattle.contracts.specs.Contracts.{ReadsRoot, ReadsKey, Proves, Verifies}
 use Rattle.demands.specs.Claims.{treeOfVersion, grantsOfVersion, Shown, NothingToShow}

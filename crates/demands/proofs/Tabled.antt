@@ -20,7 +20,7 @@ use Rattle.layout.specs.Headers.{Headed, refusal, header, headerOf, sizeRight}
 use Rattle.layout.specs.Stores.{storeOf}
 use Rattle.layout.proofs.Headers.{room-of, size-right-of}
 use Rattle.batch.specs.Batch.{batchOf}
-use Rattle.format.specs.Format.{formatAnswer, formatBytes}
+use Rattle.contracts.specs.Format.{formatAnswer, formatBytes}
 use Rattle.promises.specs.Check as check
 use Rattle.promises.specs.Calls.{SoundBytes, wrong-header, not-sound, refuses, accepts, Exports, exports-answer}
 use Rattle.index_rules.specs.Tables.{Fits, RightFor, Opened, other-length, checked, Tells, not-opened, not-right, is-right, Builds, not-built, built, FormatsBoth, wrong-size, both-fresh, DoesBoth, not-told, refuses-both, accepts-both, ExportsBoth, both-refused, both-answered}

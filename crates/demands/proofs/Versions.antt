@@ -24,7 +24,7 @@ use Rattle.layout.specs.Stores.{storeOf, storeBytes}
 use Rattle.batch.specs.Batch.{batchOf}
 use Rattle.batch.proofs.Batches.{batch-of-back}
 use Rattle.promises.specs.Calls.{SoundBytes, accepts, exports-refusal, exports-answer}
-use Rattle.apply_c.specs.Export.{answerBytes, told}
+use Rattle.contracts.specs.Apply.{answerBytes, told}
 use Rattle.meaning.specs.Answers.{foundBytes}
 use Rattle.contracts.specs.Contracts.{Applies, ReadsRoot, ReadsKey}
 use Rattle.demands.specs.Claims.{treeOfVersion, grantsOfVersion, latestOf, ReadsAs, ComparesAs, NextVersion}

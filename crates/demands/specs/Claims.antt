@@ -34,10 +34,10 @@ use Rattle.rescue_rules.specs.Rescue.{sourceTree}
 use Rattle.rescue_bytes.specs.Rescues.{slotsIn, Report, reportBytes}
 use Rattle.rescue_bytes.specs.Claims.{Worth, AsItWas}
 use Rattle.move_rules.specs.Claims.{Moved}
-use Rattle.apply_c.specs.Export.{told}
+use Rattle.contracts.specs.Apply.{told}
 use Rattle.meaning.specs.Counting.{grantAt}
 use Rattle.meaning.specs.Answers.{foundBytes, numberOf, toldOf}
-use Rattle.read_counts_c.specs.Export.{grantBytes}
+use Rattle.contracts.specs.Numbers.{grantBytes}
 use Rattle.contracts.specs.Contracts.{ReadsRoot, ReadsKey, Proves, Palettes, Changes, Verifies, Counts, ReadsAt}
 
 -- Of the store that bytes hold: the tree of a version, its grants, and the latest version.

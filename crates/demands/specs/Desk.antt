@@ -10,7 +10,7 @@ use Rattle.meaning.specs.Desk.{Row, applies, prunes, reads, table}
 use Rattle.nodehash.specs.Node.{leafHash, innerHash}
 use Rattle.layout.specs.Stores.{storeBytes}
 use Rattle.batch.specs.Batch.{asksBytes}
-use Rattle.apply_c.specs.Export.{told}
+use Rattle.contracts.specs.Apply.{told}
 use Rattle.contracts.specs.Contracts.{Applies, Prunes, ReadsRoot}
 
 -- On the bytes of the row's store the call answers what the row says, tells it, and leaves the bytes of the row's store

@@ -20,7 +20,8 @@ use Rattle.promises.proofs.Calls.{sound-back}
 use Rattle.quarter.specs.Figures.{rangeRight, Quarter, quarterOf, figures}
 use Rattle.quarter.specs.Living.{livingRecords}
 use Rattle.quarter.proofs.Theorems.{RangeRight, range-right, living-counts}
-use Rattle.figures.specs.Figures.{Totals, totals, totalsOf, eachBytes, roomAfter, Tells}
+use Rattle.figures.specs.Figures.{Totals, totals, totalsOf, Tells}
+use Rattle.contracts.specs.Figures.{eachBytes, roomAfter}
 use Rattle.figures.specs.Parts.{Range, Writes}
 
 -- the front of the room

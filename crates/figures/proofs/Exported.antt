@@ -15,7 +15,7 @@ use Rattle.quarter.specs.Figures.{Quarter}
 use Rattle.figures.specs.Figures.{Totals, totals, figuredSays, totalsOf, Tells}
 use Rattle.figures.specs.declared.Figured as declared
 use Rattle.figures.specs.declared.Figured.the-variants.{Refused, Told}
-use Rattle.figures.specs.Export.{totalsBytes, totalsAfter, Figures}
+use Rattle.contracts.specs.Figures.{totalsBytes, totalsAfter, Figures}
 
 -- two numbers of four bytes
 pub totals-put : (d n : ℕ) (f f₁ f₂ : Bytes) → length f ≡ 8 → f₁ ≡ written 0 (le 4 d) f → f₂ ≡ written 4 (le 4 n) f₁ → f₂ ≡ totalsBytes d n

@@ -1,17 +1,15 @@
--- Document 02, request 2026-14: what the figures of a range of versions of the store that bytes hold are for any bytes,
--- and what is left of the room. Order: 1, 2; then 3 by full soundness; then 8, 9. Assumes nothing.
+-- Document 02, request 2026-14: the figures of a range as the code answers them, the totals and what is left of the
+-- room. Within the code; the contract is in `contracts`. Assumes nothing.
 use Prim.Native.Nat.{ℕ}
 use mathlib.Core.Path.{_≡_}
-use mathlib.Core.List.{List, map}
 use lib.ListN.{length}
 use Rattle.terms.specs.Bits.{Bytes}
-use Rattle.terms.specs.Fields.{flat}
 use Rattle.meaning.specs.Calls.{Answer, refused, accepted}
-use Rattle.fields.specs.Written.{written}
+use Rattle.quarter.specs.Figures.{Quarter, figures}
 use Rattle.promises.specs.Calls.{Does}
-use Rattle.quarter.specs.Figures.{Figures, figuresBytes, Quarter, figures}
 use Rattle.figures.specs.declared.Figured as declared
 use Rattle.figures.specs.declared.Figured.the-variants.{Refused, Told}
+use Rattle.contracts.specs.Figures.{roomAfter}
 
 -- Over the range: distinct records, and the sum of records over versions.
 pub record Totals : Type 0 where
@@ -29,15 +27,6 @@ figuredSays (Told d n) = accepted (totals d n)
 abbrev pub totalsOf : Answer Quarter → Answer Totals
 totalsOf (refused m) = refused m
 totalsOf (accepted q) = accepted (totals (q .distinct) (q .records))
-
--- The numbers of the versions, one after the other.
-abbrev pub eachBytes : List Figures → Bytes
-eachBytes fs = flat (map figuresBytes fs)
-
--- They fill the front of the room, and the rest stays; a refused call writes nothing.
-abbrev pub roomAfter : Answer Quarter → Bytes → Bytes
-roomAfter (refused m) room = room
-roomAfter (accepted q) room = written 0 (eachBytes (q .each)) room
 
 -- The figures from version first to last give this answer and leave the room so; the store is as it was.
 pub record Tells (first last : ℕ) (s room : Bytes) (r : Answer Totals) (left : Bytes) : Type 0 where

@@ -1,3 +1,2 @@
 pub mod Figures
 pub mod Parts
-pub mod Export

@@ -17,7 +17,8 @@ use Rattle.forgery.specs.Finding.{Finding, nothing, says, allTrue, searched, fi
 use Rattle.finding_rules.specs.Call.{noGrant, foundAgainst, finds}
 use Rattle.finding_rules.proofs.Theorems.{kept-of}
 use Rattle.forged_truth.specs.Truth.{SoundVersion, grantsAt}
-use Rattle.finding.specs.Finding.{Answers, wrong-key, right-key}
+use Rattle.contracts.specs.Finds.{Answers}
+use Rattle.contracts.specs.Finds.{wrong-key, right-key}
 
 -- a proof that tells the truth, or the search
 module _ (s : Bytes) (v : ℕ) (p : Proof) where

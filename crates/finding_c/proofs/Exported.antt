@@ -12,11 +12,10 @@ use Rattle.forged_nodes.specs.Nodes.{namedSays}
 use Rattle.forgery.specs.Finding.{nothing, twoEqual, oneZero}
 use Rattle.forged_message.specs.Parts.{messageBytes}
 use Rattle.finding_rules.specs.Call.{findingBytes}
-use Rattle.finding.specs.Finding.{Answers}
+use Rattle.contracts.specs.Finds.{Answers, Finds}
 use Rattle.finding.specs.Says.{foundSays}
 use Rattle.finding.specs.declared.Found as declared
 use Rattle.finding.specs.declared.Found.the-variants.{Refused, Of}
-use Rattle.finding_c.specs.Export.{Finds}
 
 -- what is named, case by case
 module _ (m : declared-named.Named) where

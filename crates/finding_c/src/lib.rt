@@ -10,7 +10,7 @@ ghost use mathlib.Core.Path.{_≡_};
 ghost use lib.ListN.{length};
 ghost use Rattle.forged_nodes.specs.Nodes.{namedSays};
 ghost use Rattle.finding_rules.specs.Call.{findingBytes};
-ghost use Rattle.finding_c.specs.Export.{Finds};
+ghost use Rattle.contracts.specs.Finds.{Finds};
 
 // Writes what is found.
 fn put_named(answer: &mut [u8], named: Named)

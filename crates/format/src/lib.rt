@@ -6,7 +6,7 @@ use refusal_numbers::WRONG_SIZE;
 use store::slot_count;
 use terms::Form;
 ghost use mathlib.Core.Path.{_≡_};
-ghost use Rattle.format.specs.Format.{formatAnswer, formatBytes};
+ghost use Rattle.contracts.specs.Format.{formatAnswer, formatBytes};
 
 // 0 where the store is formatted, else 1; refused, nothing is written.
 pub fn format(store: &mut [u8]) -> u32

@@ -22,7 +22,7 @@ use Rattle.layout.specs.Stores.{storeOf, storeBytes, StoreForm}
 use Rattle.layout.proofs.Headers.{size-says}
 use Rattle.layout.proofs.Stores.{store-said}
 use Rattle.promises.specs.Check as check
-use Rattle.format.specs.Format.{formatAnswer, formatBytes}
+use Rattle.contracts.specs.Format.{formatAnswer, formatBytes}
 use Rattle.index_pick.proofs.Filling.{filled-entry}
 use Rattle.index_rules.specs.Tables.{Fits, RightFor, Opened, other-length, checked, FormatsBoth, wrong-size, both-fresh}
 

@@ -1,3 +1,2 @@
-pub mod Digests
 pub mod Staying
 pub mod Writing

@@ -25,7 +25,7 @@ use Rattle.batch.specs.Batch.{batchOf}
 use Rattle.batch.proofs.Batches.{batch-of-back}
 use Rattle.promises.specs.Calls.{SoundBytes, Does, accepts}
 use Rattle.promises.proofs.Calls.{sound-form}
-use Rattle.index_write.proofs.Digests.{leaf-hash-whole, inner-hash-whole}
+use Rattle.promises.proofs.Hashes.{leaf-hash-whole, inner-hash-whole}
 
 -- the bytes of a sound store hold it
 module _ (st : Store) (form : st .form ≡ counted) (s : Sound leafHash innerHash st) where

@@ -21,9 +21,9 @@ use Rattle.apply_publish.specs.declared.Applied.the-variants.{Refused, Made}
 use Rattle.prune_sound.specs.Prune.{prunedSays, PruneDoes}
 use Rattle.prune_sound.specs.declared.Pruned as declared-pruned
 use Rattle.prune_sound.specs.declared.Pruned.the-variants.{Refused as Kept, Freed}
-use Rattle.apply_c.specs.Export.{answerBytes}
+use Rattle.contracts.specs.Apply.{answerBytes}
 use Rattle.index_rules.specs.Tables.{RightFor, Tells, DoesBoth, not-told, refuses-both, accepts-both, ExportsBoth, both-refused, both-answered}
-use Rattle.index_write.specs.Export.{AppliesBoth, PrunesBoth}
+use Rattle.contracts.specs.Tabled.{AppliesBoth, PrunesBoth}
 use Rattle.index_write.proofs.Staying.{applied-sound, pruned-sound}
 
 -- what telling refuses is refused

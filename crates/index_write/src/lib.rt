@@ -9,7 +9,7 @@ use index_keep::keep_more;
 use index_open::told;
 use prune_sound::Pruned;
 use prune_sound::prune_sound;
-ghost use Rattle.index_write.specs.Export.{AppliesBoth, PrunesBoth};
+ghost use Rattle.contracts.specs.Tabled.{AppliesBoth, PrunesBoth};
 
 // Applies a batch to a store as a number; version, root and count of new records go out in 40 bytes.
 pub fn apply_both(

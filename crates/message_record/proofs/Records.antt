@@ -22,7 +22,7 @@ use Rattle.proofrecords.proofs.Proofs.{length-presence, length-absence}
 use Rattle.messages.specs.Message.{RawPresence, ownPresence, ownNeighbour}
 use Rattle.messages.proofs.Lending.{own-form}
 use Rattle.message_rules.proofs.Writing.{written-none, written-then}
-use Rattle.message_rules.proofs.Digests.{digest-whole}
+use Rattle.sha256.proofs.Digests.{digest-whole}
 use Rattle.message_leaf.specs.declared.Shown.{Shown}
 use Rattle.message_leaf.specs.Shown.{presenceAt}
 use Rattle.message_form.specs.declared.Absent.{Absent}

@@ -26,7 +26,7 @@ use Rattle.messages.proofs.Back.{message-at-most, message-exactly, message-said
 use Rattle.messages.proofs.Lending.{Written, lent-said, written-said, reading-gives-back, read-was-written}
 use Rattle.messages.proofs.Spots.{raw-stands-there}
 use Rattle.message_rules.specs.Contracts.{roomAfter, writtenInto, WritesMessage, Encodes, Said, readInto, spotsBytes, answerBytes, ReadsMessage}
-use Rattle.message_rules.proofs.Digests.{digest-whole}
+use Rattle.sha256.proofs.Digests.{digest-whole}
 
 -- Two outcomes are one.
 pub one-write : {x : Bytes} {lent : Lent} {room f t g u h : Bytes} {a b : ℕ} → WritesMessage x lent room f a t g → WritesMessage x lent room f b u h →

@@ -23,7 +23,7 @@ use Rattle.layout.specs.Stores.{storeOf}
 use Rattle.ordered.specs.Ordered.{Leading}
 use Rattle.read_near.specs.Near.{Led}
 use Rattle.read_open.specs.Opening.{opened, openedSays}
-use Rattle.read_open.specs.Headed.{byHeader, asMany}
+use Rattle.promises.specs.Headed.{byHeader, asMany}
 use Rattle.read_open.specs.declared.Opened as declared-opened
 use Rattle.read_open.specs.declared.Opened.the-variants as first
 use Rattle.read_open.proofs.Opening as opening
@@ -34,7 +34,8 @@ use Rattle.palette_rules.proofs.Turns.{in-turn-same}
 use Rattle.prove.specs.Parts.{provedSays}
 use Rattle.prove.specs.declared.Proved as declared
 use Rattle.prove.specs.declared.Proved.the-variants.{Refused, Length}
-use Rattle.palette.specs.Palettes.{paletteAnswer, paletteIndexed, proofsBytes, roomAfter}
+use Rattle.contracts.specs.Palettes.{paletteAnswer, paletteIndexed, proofsBytes, roomAfter}
+use Rattle.promises.proofs.Heading.{as-many, not-as-many}
 use Rattle.palette.specs.Parts.{paletteAnswerBy, plannedFor, plannedIn, togetherLength, togetherBytes, Gives}
 
 pub gives-refusal : {a : Answer (List Proof)} (n : ℕ) (room : Bytes) → a ≡ refused n → Gives a room room (Refused n)
@@ -155,11 +156,11 @@ module _ (s : Bytes) (table : List ℕ) (v : ℕ) (ks : Bytes) (room : ℕ) wher
 
   pub palette-as-many : wholeKeys ks ≡ true → asMany s table ≡ true → paletteAnswerBy s table v ks room ≡ paletteIndexed s table v ks room
   unfolding paletteAnswerBy paletteIndexed
-  palette-as-many whole e = ap (λ a. cond (wholeKeys ks) a (refused 12)) (opening.as-many byIt s table e)
+  palette-as-many whole e = ap (λ a. cond (wholeKeys ks) a (refused 12)) (as-many byIt s table e)
 
   pub palette-not-as-many : wholeKeys ks ≡ true → asMany s table ≡ false → refused 1 ≡ paletteIndexed s table v ks room
   unfolding paletteIndexed
-  palette-not-as-many whole e = rw whole (opening.not-as-many byIt s table e)
+  palette-not-as-many whole e = rw whole (not-as-many byIt s table e)
 
   pub palette-torn : wholeKeys ks ≡ false → refused 12 ≡ paletteIndexed s table v ks room
   unfolding paletteIndexed

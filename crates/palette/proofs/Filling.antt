@@ -14,7 +14,7 @@ use Rattle.meaning.specs.Proving.{proofLength}
 use Rattle.proofrecords.specs.ProofBytes.{proofBytes}
 use Rattle.prove_paths.proofs.Records.{given, part-room, given-long}
 use Rattle.palette_rules.specs.Palette.{wholeKeys, keysIn, followed, inTurn, lengthTogether}
-use Rattle.palette.specs.Palettes.{proofsBytes}
+use Rattle.contracts.specs.Palettes.{proofsBytes}
 use Rattle.palette.specs.Parts.{togetherLength, togetherBytes}
 use Rattle.palette.proofs.Passing.{keyAt, answersFrom, Left, left-start, turn, none-left}
 

@@ -13,11 +13,11 @@ use Rattle.meaning.specs.Proving.{proveSeen, proofBy}
 use Rattle.indexed.specs.Index.{byTable}
 use Rattle.layout.specs.Headers.{headerOf}
 use Rattle.layout.specs.Stores.{storeOf}
-use Rattle.read_open.specs.Headed.{byHeader}
+use Rattle.promises.specs.Headed.{byHeader}
 use Rattle.palette_rules.specs.Palette.{wholeKeys, keysIn, inTurn, lengthTogether, paletteOf}
 use Rattle.prove.specs.Parts.{provedSays}
 use Rattle.prove.specs.declared.Proved as declared
-use Rattle.palette.specs.Palettes.{proofsBytes, roomAfter}
+use Rattle.contracts.specs.Palettes.{proofsBytes, roomAfter}
 
 -- What the call answers by a table of any length; one without entries is the scan.
 unfoldable pub paletteAnswerBy : Bytes → List ℕ → ℕ → Bytes → ℕ → Answer (List Proof)

@@ -15,9 +15,9 @@ use Rattle.palette_rules.specs.Palette.{lengthTogether}
 use Rattle.prove.specs.Parts.{provedSays}
 use Rattle.prove.specs.declared.Proved as declared
 use Rattle.prove.specs.declared.Proved.the-variants.{Refused, Length}
-use Rattle.palette.specs.Palettes.{paletteIndexed, roomAfter}
+use Rattle.contracts.specs.Palettes.{paletteIndexed, roomAfter, palettedInto, lengthBytes, Palettes, PalettesBy}
 use Rattle.palette.specs.Parts.{Gives}
-use Rattle.palette_c.specs.Export.{palettedInto, lengthBytes, PaletteTold, Palettes, PalettesBy}
+use Rattle.palette_c.specs.Export.{PaletteTold}
 
 module _ {a : Answer (List Proof)} {room after : Bytes} {r : declared.Proved} (gives : Gives a room after r) (old : Bytes) where
   pub palette-refused : {n : ℕ} → r ≡ Refused n → PaletteTold a room old n after old

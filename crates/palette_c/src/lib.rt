@@ -6,7 +6,8 @@ use prove::Proved;
 use read_open::as_many;
 use refusal_numbers::NOT_32_BYTES;
 use refusal_numbers::WRONG_SIZE;
-ghost use Rattle.palette_c.specs.Export.{PaletteTold, Palettes, PalettesBy};
+ghost use Rattle.palette_c.specs.Export.{PaletteTold};
+ghost use Rattle.contracts.specs.Palettes.{Palettes, PalettesBy};
 ghost use Rattle.palette_c.specs.Within.{palettedBy};
 
 // The proofs for a list of keys in a version, by a table of any length, fill the front of the room; the length of all together goes out in four bytes.

@@ -18,7 +18,7 @@ use Rattle.indexed.proofs.Scanned.{without-table}
 use Rattle.layout.specs.Headers.{sizeRight, headerOf}
 use Rattle.layout.specs.Stores.{storeOf}
 use Rattle.read_open.specs.Opening.{opened, openedSays}
-use Rattle.read_open.specs.Headed.{byHeader}
+use Rattle.promises.specs.Headed.{byHeader}
 use Rattle.read_open.specs.declared.Opened as declared-opened
 use Rattle.read_open.specs.declared.Opened.the-variants as first
 use Rattle.read_open.proofs.Opening as opening
@@ -30,7 +30,7 @@ use Rattle.prove.specs.declared.Proved as declared
 use Rattle.prove.specs.declared.Proved.the-variants.{Refused}
 use Rattle.prove.proofs.Giving.{gives-refusal}
 use Rattle.pocket_prove.specs.Parts.{planOutside}
-use Rattle.pocket_prove.specs.Proving.{pocketAnswer}
+use Rattle.contracts.specs.Pocket.{pocketAnswer}
 use Rattle.pocket_prove.proofs.Planned.{outside-plan, inside-plan}
 
 fitted-kept : (n : ℕ) (b : Bool) (a : Answer Proof) → fitted n (inProfile (cond b a (refused 8))) ≡ cond b (fitted n (inProfile a)) (refused 8)

@@ -11,7 +11,7 @@ use Rattle.meaning.proofs.Told.{told-refused, told-given}
 use Rattle.prove.specs.Parts.{provedSays, Gives}
 use Rattle.prove.specs.declared.Proved as declared
 use Rattle.prove.specs.declared.Proved.the-variants.{Refused, Length}
-use Rattle.pocket_prove.specs.Export.{pocketInto, PocketProves}
+use Rattle.contracts.specs.Pocket.{pocketInto, PocketProves}
 
 module _ {s k room after : Bytes} {v : ℕ} {r : declared.Proved} (w : Gives (pocketInto s v k room) room after r) (old : Bytes) where
   pub prove-refused : {n : ℕ} → r ≡ Refused n → PocketProves s v k room old n after old

@@ -1,21 +1,15 @@
--- The pocket check as the code makes it: the lengths, then what is outside the profile, then the full check. Assumes nothing.
+-- Which bytes are outside the profile, by their form; and what the call leaves. Assumes nothing.
 use Prim.Native.Nat.{ℕ}
 use mathlib.Core.Path.{_≡_, refl, ap, sym, _∙_}
-use mathlib.Core.Bool.{Bool, true, false, cond, _&&_, not, false≢true}
-use mathlib.Core.Option.{Option, none, some}
-use lib.ListN.{length}
-use lib.Dec.{eqb}
-use borrow.Author.Tests.{eq-eqb, ne-eqb, not-true, not-false}
+use mathlib.Core.Bool.{true, false, not}
 use Rattle.terms.specs.Bits.{Bytes}
-use Rattle.terms.specs.Records.{Proof, presence, absence}
+use Rattle.terms.specs.Records.{absence}
 use Rattle.meaning.specs.Calls.{refused}
 use Rattle.meaning.specs.Answers.{numberOf, foundAfter}
-use Rattle.nodehash.specs.Node.{leafHash, innerHash}
 use Rattle.proofrecords.specs.ProofBytes.{isPresence, presenceIn, isAbsence, absenceIn, proofIn}
-use Rattle.pocket.specs.Pocket.{shortPath, small, pocketChecked}
-use Rattle.pocket.proofs.Theorems.{inside-they-agree, outside-is-refused}
-use Rattle.verify.specs.Verify.{judged, verified, Verifies}
-use Rattle.pocket_verify.specs.Verify.{pocketJudged, pocketVerified, PocketVerifies, outsideOf, outside}
+use Rattle.pocket.specs.Pocket.{shortPath, small}
+use Rattle.verify_rules.specs.Verify.{verified, Verifies}
+use Rattle.verify_rules.specs.Pocket.{pocketVerified, PocketVerifies, outside}
 
 -- which bytes are outside, by their form
 module _ (x : Bytes) where
@@ -30,40 +24,6 @@ module _ (x : Bytes) where
   pub off-form-inside : isPresence x ≡ false → isAbsence x ≡ false → false ≡ outside x
   unfolding outside proofIn
   off-form-inside p a = rw (p, a) refl
-
-module _ (root k x : Bytes) where
-  -- 12
-  pub root-off : (length root ≡ 32 → ⊥) → refused 12 ≡ pocketVerified root k x
-  unfolding pocketVerified
-  root-off f = rw (ne-eqb (length root) 32 f) refl
-
-  module _ (r : length root ≡ 32) where
-    pub key-off : (length k ≡ 32 → ⊥) → refused 12 ≡ pocketVerified root k x
-    unfolding pocketVerified
-    key-off f = rw (eq-eqb (length root) 32 r, ne-eqb (length k) 32 f) refl
-
-    module _ (e : length k ≡ 32) where
-      sizes : pocketVerified root k x ≡ pocketJudged root k (proofIn x)
-      unfolding pocketVerified
-      sizes = rw (eq-eqb (length root) 32 r, eq-eqb (length k) 32 e) refl
-
-      -- 19
-      pub is-outside : outside x ≡ true → refused 19 ≡ pocketVerified root k x
-      unfolding outside
-      is-outside h = sym (sizes ∙ go (proofIn x) h)
-        where
-          go : (o : Option Proof) → outsideOf o ≡ true → pocketJudged root k o ≡ refused 19
-          go none h = absurd (false≢true h)
-          go (some p) h = outside-is-refused leafHash innerHash root k p (not-true (small p) h)
-
--- else the full check answers
-same-judged : (root k : Bytes) (o : Option Proof) → outsideOf o ≡ false → pocketJudged root k o ≡ judged root k o
-same-judged root k none h = refl
-same-judged root k (some p) h = inside-they-agree leafHash innerHash root k p (not-false (small p) h)
-
-pub not-outside : (root k x : Bytes) → outside x ≡ false → pocketVerified root k x ≡ verified root k x
-unfolding outside pocketVerified verified
-not-outside root k x h = ap (λ a. cond (eqb (length root) 32 && eqb (length k) 32) a (refused 12)) (same-judged root k (proofIn x) h)
 
 -- what the call leaves: a refusal nothing, else what the full check leaves
 pub pocket-refused : {root k x : Bytes} {n : ℕ} (f : Bytes) → refused n ≡ pocketVerified root k x → PocketVerifies root k x f n f

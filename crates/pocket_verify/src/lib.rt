@@ -4,7 +4,7 @@ ghost use mathlib.Core.Bool.{true};
 ghost use Rattle.terms.specs.Records.{absence};
 ghost use Rattle.pocket.specs.Pocket.{shortPath, small};
 ghost use Rattle.proofrecords.specs.ProofBytes.{isPresence, presenceIn, isAbsence, absenceIn};
-ghost use Rattle.pocket_verify.specs.Verify.{outside, PocketVerifies};
+ghost use Rattle.verify_rules.specs.Pocket.{outside, PocketVerifies};
 use fields::get_u16;
 use fields::get_u32;
 use pocket::POCKET_STEPS;

@@ -17,14 +17,15 @@ use Rattle.indexed.proofs.Scanned.{without-table}
 use Rattle.layout.specs.Headers.{sizeRight, headerOf}
 use Rattle.layout.specs.Stores.{storeOf}
 use Rattle.read_open.specs.Opening.{opened, openedSays}
-use Rattle.read_open.specs.Headed.{byHeader, asMany}
+use Rattle.promises.specs.Headed.{byHeader, asMany}
 use Rattle.read_open.specs.declared.Opened as declared-opened
 use Rattle.read_open.specs.declared.Opened.the-variants as first
 use Rattle.read_open.proofs.Opening as opening
 use Rattle.prove_plan.specs.Plans.{planSays, Plans}
 use Rattle.prove_plan.specs.declared.Plan as declared-plan
 use Rattle.prove_plan.proofs.Ending.{by-searches}
-use Rattle.prove.specs.Proving.{proveAnswer, proveIndexed, roomAfter}
+use Rattle.contracts.specs.Proves.{proveAnswer, proveIndexed, roomAfter}
+use Rattle.promises.proofs.Heading.{as-many, not-as-many}
 use Rattle.prove.specs.Parts.{proveAnswerBy, Gives, lengthAnswer, provedSays}
 use Rattle.prove.specs.declared.Proved as declared
 use Rattle.prove.specs.declared.Proved.the-variants.{Refused}
@@ -85,12 +86,12 @@ module _ (s : Bytes) (table : List ℕ) (v : ℕ) (k : Bytes) (room : ℕ) where
   pub prove-as-many : length k ≡ 32 → asMany s table ≡ true → proveAnswerBy s table v k room ≡ proveIndexed s table v k room
   unfolding proveAnswerBy proveIndexed
   prove-as-many whole e =
-      ap (λ a. cond (eqb (length k) 32) a (refused 12)) (opening.as-many (proveBy (byTable table (storeOf s)) (storeOf s) v k room) s table e)
+      ap (λ a. cond (eqb (length k) 32) a (refused 12)) (as-many (proveBy (byTable table (storeOf s)) (storeOf s) v k room) s table e)
 
   pub prove-not-as-many : length k ≡ 32 → asMany s table ≡ false → refused 1 ≡ proveIndexed s table v k room
   unfolding proveIndexed
   prove-not-as-many whole e =
-      rw (eq-eqb (length k) 32 whole) (opening.not-as-many (proveBy (byTable table (storeOf s)) (storeOf s) v k room) s table e)
+      rw (eq-eqb (length k) 32 whole) (not-as-many (proveBy (byTable table (storeOf s)) (storeOf s) v k room) s table e)
 
   pub prove-wrong-key : (length k ≡ 32 → ⊥) → refused 12 ≡ proveIndexed s table v k room
   unfolding proveIndexed

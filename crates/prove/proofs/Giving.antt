@@ -15,7 +15,7 @@ use Rattle.fields.proofs.Written.{part-written}
 use Rattle.proofrecords.specs.ProofBytes.{proofBytes}
 use Rattle.prove_paths.proofs.Records.{part-room}
 use Rattle.prove_write.specs.Written.{plannedLength, plannedBytes}
-use Rattle.prove.specs.Proving.{roomAfter}
+use Rattle.contracts.specs.Proves.{roomAfter}
 use Rattle.prove.specs.Parts.{lengthAnswer, provedSays, Gives}
 use Rattle.prove.specs.declared.Proved as declared
 use Rattle.prove.specs.declared.Proved.the-variants.{Refused, Length}

@@ -20,9 +20,9 @@ use Rattle.shown.proofs.Theorems.{given-with-room, proofs-have-17080-bytes, sho
 use Rattle.nodehash.specs.Node.{leafHash, innerHash}
 use Rattle.layout.specs.Headers.{header, headerOf}
 use Rattle.layout.specs.Stores.{storeOf}
-use Rattle.read_open.specs.Headed.{byHeader}
-use Rattle.read.specs.Reads.{rootAnswer}
-use Rattle.prove.specs.Proving.{proveAnswer}
+use Rattle.promises.specs.Headed.{byHeader}
+use Rattle.contracts.specs.Reads.{rootAnswer}
+use Rattle.contracts.specs.Proves.{proveAnswer}
 
 -- Bytes with a right header that hold a sound store, a kept version that holds a grant, and a key: with room for any proof one is given, and the checker's answer to
 -- it, against the root that is read, is what the version's grants say of the key.

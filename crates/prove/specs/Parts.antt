@@ -15,10 +15,10 @@ use Rattle.meaning.specs.Proving.{proofLength, fitted, proveBy}
 use Rattle.indexed.specs.Index.{byTable}
 use Rattle.layout.specs.Headers.{headerOf}
 use Rattle.layout.specs.Stores.{storeOf}
-use Rattle.read_open.specs.Headed.{byHeader}
+use Rattle.promises.specs.Headed.{byHeader}
 use Rattle.prove.specs.declared.Proved as declared
 use Rattle.prove.specs.declared.Proved.the-variants.{Refused, Length}
-use Rattle.prove.specs.Proving.{roomAfter}
+use Rattle.contracts.specs.Proves.{roomAfter}
 
 -- What is proved by a table of any length; one without entries is the scan.
 unfoldable pub proveAnswerBy : Bytes → List ℕ → ℕ → Bytes → ℕ → Answer Proof

@@ -10,7 +10,7 @@ use refusal_numbers::wide::NO_ROOM;
 ghost use mathlib.Core.Path.{_≡_};
 ghost use lib.ListN.{length};
 ghost use Rattle.prove_plan.specs.Plans.{planSays, PlanIn};
-ghost use Rattle.prove.specs.Proving.{roomAfter};
+ghost use Rattle.contracts.specs.Proves.{roomAfter};
 ghost use Rattle.prove.specs.Parts.{proveAnswerBy, Offers, provedSays, lengthAnswer};
 
 // What proving answers.

@@ -11,12 +11,12 @@ use Rattle.terms.specs.Records.{Proof}
 use Rattle.meaning.specs.Calls.{Answer, refused}
 use Rattle.meaning.specs.Answers.{numberOf}
 use Rattle.meaning.specs.Proving.{proofLength}
-use Rattle.prove.specs.Proving.{proveIndexed, roomAfter}
+use Rattle.contracts.specs.Proves.{proveIndexed, roomAfter, provedInto, lengthBytes, Proves, ProvesBy}
 use Rattle.prove.specs.Parts.{lengthAnswer, provedSays}
 use Rattle.prove.specs.declared.Proved as declared
 use Rattle.prove.specs.declared.Proved.the-variants.{Refused, Length}
 use Rattle.meaning.proofs.Told.{told-refused, told-given}
-use Rattle.prove_c.specs.Export.{provedInto, lengthBytes, ProofTold, Proves, ProvesBy}
+use Rattle.prove_c.specs.Export.{ProofTold}
 
 module _ {a : Answer Proof} {room after : Bytes} {r : declared.Proved} (says : provedSays r ≡ lengthAnswer a) (bytes : after ≡ roomAfter a room) (old : Bytes) where
   pub prove-refused : {n : ℕ} → r ≡ Refused n → ProofTold a room old n after old

@@ -5,7 +5,8 @@ use prove::prove;
 use read_open::as_many;
 use refusal_numbers::NOT_32_BYTES;
 use refusal_numbers::WRONG_SIZE;
-ghost use Rattle.prove_c.specs.Export.{ProofTold, Proves, ProvesBy};
+ghost use Rattle.prove_c.specs.Export.{ProofTold};
+ghost use Rattle.contracts.specs.Proves.{Proves, ProvesBy};
 ghost use Rattle.prove_c.specs.Within.{provedBy};
 
 // The proof for a key in a version, by a table of any length, fills the front of the room; its length goes out in four bytes.

@@ -10,7 +10,7 @@ use Rattle.prune_sound.specs.Prune.{prunedSays, PruneDoes}
 use Rattle.prune_sound.specs.declared.Pruned as declared
 use Rattle.prune_sound.specs.declared.Pruned.the-variants.{Refused, Freed}
 use Rattle.promises.specs.Calls.{exports-refusal, exports-answer}
-use Rattle.prune_c.specs.Export.{PruneExports}
+use Rattle.contracts.specs.Prune.{PruneExports}
 
 module _ (n : ℕ) {s f t : Bytes} {p : declared.Pruned} (o : PruneDoes n s (prunedSays p) t) where
   pub export-refused : {m : ℕ} → p ≡ Refused m → PruneExports n s f m t f

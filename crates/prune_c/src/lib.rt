@@ -2,7 +2,7 @@
 use fields::put_u32;
 use prune::prune;
 use prune_sound::Pruned;
-ghost use Rattle.prune_c.specs.Export.{PruneExports};
+ghost use Rattle.contracts.specs.Prune.{PruneExports};
 
 // Prunes a store to a version; how many records were freed goes out in four bytes.
 pub fn grants_prune(store: &mut [u8], version: u32, freed: &mut [u8; 4]) -> u32

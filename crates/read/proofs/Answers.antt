@@ -1,7 +1,7 @@
 -- The answers of the two reads, by the case of what was tested first. Assumes nothing.
 use Prim.Native.Nat.{ℕ}
 use mathlib.Core.Path.{_≡_, ap, sym, _∙_}
-use mathlib.Core.Bool.{true, false, cond}
+use mathlib.Core.Bool.{true, cond}
 use mathlib.Core.List.{List, []}
 use lib.ListN.{length}
 use lib.Dec.{eqb}
@@ -25,8 +25,9 @@ use Rattle.read_key.specs.declared.KeyRead.the-variants as read
 use Rattle.read_root.specs.Parts.{rootSays}
 use Rattle.read_root.specs.declared.RootRead as declared-root
 use Rattle.read_root.specs.declared.RootRead.the-variants as root
-use Rattle.read_open.specs.Headed.{byHeader, asMany}
-use Rattle.read.specs.Reads.{rootAnswer, rootIndexed, keyAnswer, keyIndexed}
+use Rattle.promises.specs.Headed.{byHeader, asMany}
+use Rattle.contracts.specs.Reads.{rootAnswer, rootIndexed, keyAnswer, keyIndexed}
+use Rattle.promises.proofs.Heading.{as-many}
 use Rattle.read.specs.Parts.{rootAnswerBy, keyAnswerBy}
 
 -- what was tested first
@@ -71,26 +72,13 @@ unfolding keyAnswerBy keyAnswer readKey
 key-plain s v k =
     ap (λ look. cond (eqb (length k) 32) (byHeader (headerOf counted s) (readKeyBy look (storeOf s) v k)) (refused 12)) (without-table (storeOf s))
 
--- a table of another length is refused with 1, after 12; else its read is one by a table of any length
+-- of a table as long as the capacity the read is one by a table of any length
 module _ (s : Bytes) (table : List ℕ) (v : ℕ) where
   pub root-as-many : asMany s table ≡ true → rootAnswerBy s table v ≡ rootIndexed s table v
   unfolding rootAnswerBy rootIndexed
-  root-as-many e = opening.as-many (readRootBy leafHash innerHash (byTable table (storeOf s)) (storeOf s) v) s table e
-
-  pub root-not-as-many : asMany s table ≡ false → refused 1 ≡ rootIndexed s table v
-  unfolding rootIndexed
-  root-not-as-many e = opening.not-as-many (readRootBy leafHash innerHash (byTable table (storeOf s)) (storeOf s) v) s table e
+  root-as-many e = as-many (readRootBy leafHash innerHash (byTable table (storeOf s)) (storeOf s) v) s table e
 
   pub key-as-many : (k : Bytes) → length k ≡ 32 → asMany s table ≡ true → keyAnswerBy s table v k ≡ keyIndexed s table v k
   unfolding keyAnswerBy keyIndexed
   key-as-many k whole e =
-      ap (λ a. cond (eqb (length k) 32) a (refused 12)) (opening.as-many (readKeyBy (byTable table (storeOf s)) (storeOf s) v k) s table e)
-
-  pub key-not-as-many : (k : Bytes) → length k ≡ 32 → asMany s table ≡ false → refused 1 ≡ keyIndexed s table v k
-  unfolding keyIndexed
-  key-not-as-many k whole e =
-      rw (eq-eqb (length k) 32 whole) (opening.not-as-many (readKeyBy (byTable table (storeOf s)) (storeOf s) v k) s table e)
-
-  pub key-wrong-indexed : (k : Bytes) → (length k ≡ 32 → ⊥) → refused 12 ≡ keyIndexed s table v k
-  unfolding keyIndexed
-  key-wrong-indexed k f = rw (ne-eqb (length k) 32 f)
+      ap (λ a. cond (eqb (length k) 32) a (refused 12)) (as-many (readKeyBy (byTable table (storeOf s)) (storeOf s) v k) s table e)

@@ -13,7 +13,7 @@ use Rattle.indexed.specs.Index.{byTable}
 use Rattle.nodehash.specs.Node.{leafHash, innerHash}
 use Rattle.layout.specs.Headers.{headerOf}
 use Rattle.layout.specs.Stores.{storeOf}
-use Rattle.read_open.specs.Headed.{byHeader}
+use Rattle.promises.specs.Headed.{byHeader}
 
 unfoldable pub rootAnswerBy : Bytes → List ℕ → ℕ → Answer Bytes
 rootAnswerBy s table v =

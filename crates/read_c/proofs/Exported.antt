@@ -12,14 +12,14 @@ use Rattle.meaning.specs.Reading.{Verdict, present, absent}
 use Rattle.hash.specs.declared.Hash.{Hash}
 use Rattle.hash.specs.Hash.{hashBytes}
 use Rattle.hash.proofs.Laws.{put-over}
-use Rattle.read.specs.Reads.{rootAnswer, rootIndexed, keyAnswer, keyIndexed}
+use Rattle.contracts.specs.Reads.{rootAnswer, rootIndexed, keyAnswer, keyIndexed, rootBytes, ReadsRoot, ReadsRootBy, ReadsKey, ReadsKeyBy}
 use Rattle.read_key.specs.Parts.{readSays}
 use Rattle.read_root.specs.Parts.{rootSays}
 use Rattle.read_root.specs.declared.RootRead as declared-root
 use Rattle.read_root.specs.declared.RootRead.the-variants as root
 use Rattle.read_key.specs.declared.KeyRead as declared-read
 use Rattle.read_key.specs.declared.KeyRead.the-variants as read
-use Rattle.read_c.specs.Export.{rootBytes, RootTold, KeyTold, ReadsRoot, ReadsRootBy, ReadsKey, ReadsKeyBy}
+use Rattle.read_c.specs.Export.{RootTold, KeyTold}
 
 module _ {a : Answer Bytes} {r : declared-root.RootRead} (says : rootSays r ≡ a) (old : Bytes) where
   pub root-refused : {n : ℕ} → r ≡ root.Refused n → RootTold a old n old

@@ -12,7 +12,8 @@ ghost use mathlib.Core.List.{_∷_};
 ghost use lib.ListN.{length};
 ghost use Rattle.hash.specs.Hash.{hashBytes};
 ghost use Rattle.read.specs.Parts.{rootAnswerBy, keyAnswerBy};
-ghost use Rattle.read_c.specs.Export.{RootTold, KeyTold, ReadsRoot, ReadsRootBy, ReadsKey, ReadsKeyBy};
+ghost use Rattle.read_c.specs.Export.{RootTold, KeyTold};
+ghost use Rattle.contracts.specs.Reads.{ReadsRoot, ReadsRootBy, ReadsKey, ReadsKeyBy};
 
 // The root of a version, by a table of any length.
 fn root_by(store: &[u8], index: &[u32], version: u32, root: &mut [u8; 32]) -> u64

@@ -15,13 +15,14 @@ use Rattle.hash.specs.Hash.{hashBytes}
 use Rattle.hash.proofs.Laws.{hash-whole, put-over}
 use Rattle.fields.specs.Written.{written}
 use Rattle.fields.proofs.Written.{length-written, part-written, fields-fill}
-use Rattle.read_number.specs.Numbers.{numberSays, numberAnswer, numberIndexed}
+use Rattle.read_number.specs.Numbers.{numberSays}
+use Rattle.contracts.specs.Numbers.{numberAnswer, numberIndexed, positionAnswer, positionIndexed, grantBytes, Counts, CountsBy, ReadsAt, ReadsAtBy}
 use Rattle.read_number.specs.declared.NumberRead as declared-number
 use Rattle.read_number.specs.declared.NumberRead.the-variants as number
-use Rattle.read_position.specs.Positions.{positionSays, positionAnswer, positionIndexed}
+use Rattle.read_position.specs.Positions.{positionSays}
 use Rattle.read_position.specs.declared.PositionRead as declared-position
 use Rattle.read_position.specs.declared.PositionRead.the-variants as position
-use Rattle.read_counts_c.specs.Export.{grantBytes, NumberTold, GrantTold, Counts, CountsBy, ReadsAt, ReadsAtBy}
+use Rattle.read_counts_c.specs.Export.{NumberTold, GrantTold}
 
 mod-alike : (a b k : ℕ) → a ≡ b + 256 * k → b % 256 ≡ a % 256
 mod-alike a b k e = omega arith

@@ -13,7 +13,8 @@ ghost use Rattle.terms.specs.Fields.{le};
 ghost use Rattle.hash.specs.Hash.{hashBytes};
 ghost use Rattle.read_number.specs.Numbers.{numberAnswerBy};
 ghost use Rattle.read_position.specs.Positions.{positionAnswerBy};
-ghost use Rattle.read_counts_c.specs.Export.{NumberTold, GrantTold, Counts, CountsBy, ReadsAt, ReadsAtBy};
+ghost use Rattle.read_counts_c.specs.Export.{NumberTold, GrantTold};
+ghost use Rattle.contracts.specs.Numbers.{Counts, CountsBy, ReadsAt, ReadsAtBy};
 
 // A number in eight bytes.
 fn put_count(count: &mut [u8], n: u64)

@@ -18,12 +18,14 @@ use Rattle.layout.specs.Stores.{storeOf, slotNo}
 use Rattle.sights.specs.Sights.{Sighted}
 use Rattle.sights.specs.declared.Sight as declared-sight
 use Rattle.sights.specs.declared.Sight.the-variants as sight
-use Rattle.read_open.specs.Headed.{byHeader, asMany}
+use Rattle.promises.specs.Headed.{byHeader, asMany}
 use Rattle.read_open.specs.Opening.{opened, openedSays}
 use Rattle.read_open.specs.declared.Opened as declared-opened
 use Rattle.read_open.specs.declared.Opened.the-variants.{Refused, Kept}
 use Rattle.read_open.proofs.Opening as opening
-use Rattle.read_number.specs.Numbers.{numberSays, numberAnswer, numberIndexed, numberAnswerBy}
+use Rattle.read_number.specs.Numbers.{numberSays, numberAnswerBy}
+use Rattle.contracts.specs.Numbers.{numberAnswer, numberIndexed}
+use Rattle.promises.proofs.Heading.{as-many, not-as-many}
 use Rattle.read_number.specs.declared.NumberRead as declared
 use Rattle.read_number.specs.declared.NumberRead.the-variants as number
 
@@ -72,8 +74,8 @@ number-plain s v = ap (λ look. byHeader (headerOf counted s) (readNumberBy look
 module _ (s : Bytes) (table : List ℕ) (v : ℕ) where
   pub number-as-many : asMany s table ≡ true → numberAnswerBy s table v ≡ numberIndexed s table v
   unfolding numberAnswerBy numberIndexed
-  number-as-many e = opening.as-many (readNumberBy (byTable table (storeOf s)) (storeOf s) v) s table e
+  number-as-many e = as-many (readNumberBy (byTable table (storeOf s)) (storeOf s) v) s table e
 
   pub number-not-as-many : asMany s table ≡ false → refused 1 ≡ numberIndexed s table v
   unfolding numberIndexed
-  number-not-as-many e = opening.not-as-many (readNumberBy (byTable table (storeOf s)) (storeOf s) v) s table e
+  number-not-as-many e = not-as-many (readNumberBy (byTable table (storeOf s)) (storeOf s) v) s table e

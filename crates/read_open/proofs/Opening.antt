@@ -4,20 +4,19 @@ use Prim.Native.Nat.{ℕ, _<_, _≤_}
 use native.Mathlib.Omega.{arith}
 use mathlib.Core.Path.{_≡_, refl, ap, sym, _∙_}
 use mathlib.Core.Bool.{Bool, true, false, cond}
-use mathlib.Core.List.{List}
 use lib.ListN.{length}
 use borrow.Author.Tests.{le-leb, lt-leb}
 use Rattle.terms.specs.declared.Form.the-variants.{Counted as counted}
 use Rattle.terms.specs.Bits.{Bytes}
 use Rattle.meaning.specs.Calls.{Answer, refused, accepted, isKept}
 use Rattle.layout.specs.Headers.{Headed, refusal, header, sizeRight, headerOf}
-use Rattle.layout.specs.Stores.{storeOf, storeIn}
+use Rattle.layout.specs.Stores.{storeOf}
 use Rattle.layout.specs.Answer.{headerSays}
 use Rattle.layout.specs.declared.Header as declared
 use Rattle.layout.specs.declared.Header.the-variants.{Refused, Accepted}
 use Rattle.layout.proofs.Headers as headers
 use Rattle.read_open.specs.Opening.{opened}
-use Rattle.read_open.specs.Headed.{byHeader, asMany, headerWith}
+use Rattle.promises.specs.Headed.{byHeader}
 
 module _ (s : Bytes) (v : ℕ) {h : declared.Header} (says : headerSays h ≡ headerOf counted s) where
   pub header-refused : {n : ℕ} → h ≡ Refused n → refused n ≡ opened s v
@@ -72,13 +71,3 @@ kept-size s v = go (sizeRight counted (length s)) _ _
     go : (b : Bool) (g : Headed) (a : Answer (Unit {0})) → accepted tt ≡ byHeader (cond b g (refusal 1)) a → b ≡ true
     go true g a e = refl
     go false g a e = let z : _≡_ {A = ℕ} 0 1 = cc in absurd (omega arith)
-
--- a table of another length is refused with 1; else its read is one by the store's own header
-module _ {A : Type 0} (a : Answer A) (s : Bytes) (table : List ℕ) where
-  pub as-many : asMany s table ≡ true → byHeader (headerOf counted s) a ≡ byHeader (headerWith s table) a
-  unfolding headerWith
-  as-many e = ap (λ b. byHeader (cond b (headerOf counted s) (refusal 1)) a) (sym e)
-
-  pub not-as-many : asMany s table ≡ false → refused 1 ≡ byHeader (headerWith s table) a
-  unfolding headerWith
-  not-as-many e = ap (λ b. byHeader (cond b (headerOf counted s) (refusal 1)) a) (sym e)

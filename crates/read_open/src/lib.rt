@@ -6,7 +6,7 @@ use layout::sizes::HEADER_SIZE;
 use refusal_numbers::NOT_KEPT;
 use terms::Form;
 ghost use mathlib.Core.Path.{_≡_};
-ghost use Rattle.read_open.specs.Headed.{asMany};
+ghost use Rattle.promises.specs.Headed.{asMany};
 ghost use Rattle.read_open.specs.Opening.{opened, openedSays};
 
 // What a read tests first.

@@ -22,14 +22,16 @@ use Rattle.layout.proofs.Stores.{slot-at}
 use Rattle.sights.specs.Sights.{Sighted}
 use Rattle.sights.specs.declared.Sight as declared-sight
 use Rattle.sights.specs.declared.Sight.the-variants as sight
-use Rattle.read_open.specs.Headed.{byHeader, asMany}
+use Rattle.promises.specs.Headed.{byHeader, asMany}
 use Rattle.read_open.specs.Opening.{opened, openedSays}
 use Rattle.read_open.specs.declared.Opened as declared-opened
 use Rattle.read_open.specs.declared.Opened.the-variants.{Refused, Kept}
 use Rattle.read_open.proofs.Opening as opening
 use Rattle.read_step.specs.Walk.{bodyIn}
 use Rattle.read_step.proofs.Seeing.{body-is, inside}
-use Rattle.read_position.specs.Positions.{positionSays, positionAnswer, positionIndexed, positionAnswerBy}
+use Rattle.read_position.specs.Positions.{positionSays, positionAnswerBy}
+use Rattle.contracts.specs.Numbers.{positionAnswer, positionIndexed}
+use Rattle.promises.proofs.Heading.{as-many, not-as-many}
 use Rattle.read_position.specs.Parts.{kidsFrom, bodyAt}
 use Rattle.read_position.specs.declared.PositionRead as declared
 use Rattle.read_position.specs.declared.PositionRead.the-variants as position
@@ -108,8 +110,8 @@ position-plain s v n = ap (λ look. byHeader (headerOf counted s) (readPositionB
 module _ (s : Bytes) (table : List ℕ) (v n : ℕ) where
   pub position-as-many : asMany s table ≡ true → positionAnswerBy s table v n ≡ positionIndexed s table v n
   unfolding positionAnswerBy positionIndexed
-  position-as-many e = opening.as-many (readPositionBy (byTable table (storeOf s)) (storeOf s) v n) s table e
+  position-as-many e = as-many (readPositionBy (byTable table (storeOf s)) (storeOf s) v n) s table e
 
   pub position-not-as-many : asMany s table ≡ false → refused 1 ≡ positionIndexed s table v n
   unfolding positionIndexed
-  position-not-as-many e = opening.not-as-many (readPositionBy (byTable table (storeOf s)) (storeOf s) v n) s table e
+  position-not-as-many e = not-as-many (readPositionBy (byTable table (storeOf s)) (storeOf s) v n) s table e

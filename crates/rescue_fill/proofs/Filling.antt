@@ -24,7 +24,7 @@ use Rattle.layout.specs.Stores.{storeOf, storeBytes, slotsBytes, StoreForm}
 use Rattle.layout.proofs.Headers.{size-says, length-header}
 use Rattle.layout.proofs.Stores.{store-said}
 use Rattle.store.proofs.Slots.{slots-many}
-use Rattle.format.specs.Format.{formatBytes}
+use Rattle.contracts.specs.Format.{formatBytes}
 use Rattle.rescue_rules.specs.Rescue.{sourceRoot, runStore, rescued, Longest}
 use Rattle.rescue_rules.specs.Joining.{versionOf, rootVersion, newestChild, joinAt}
 use Rattle.rescue_rules.specs.Entering.{Entered}

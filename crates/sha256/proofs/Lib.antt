@@ -1,2 +1,3 @@
 pub mod Rolling
 pub mod Blocks
+pub mod Digests

@@ -27,7 +27,7 @@ use Rattle.layout.specs.Sizes.{roomOf}
 use Rattle.layout.specs.Headers.{sizeRight}
 use Rattle.layout.specs.Stores.{storeOf, storeBytes}
 use Rattle.layout.proofs.Headers.{size-says}
-use Rattle.format.specs.Format.{formatAnswer, formatBytes}
+use Rattle.contracts.specs.Format.{formatAnswer, formatBytes}
 use Rattle.batch.specs.Batch.{batchOf}
 use Rattle.promises.specs.Calls.{SoundBytes, accepts, exports-refusal, exports-answer}
 use Rattle.shelf_grants.specs.Contents.{Parts, gathered, allGrants, Among, InPlace, rootOf, listed, listGrants, newRoots, shelfRoot}

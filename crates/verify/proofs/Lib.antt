@@ -1,4 +1,3 @@
 pub mod Judged
 pub mod Checks
 pub mod Boundary
-pub mod Acceptance

@@ -11,7 +11,7 @@ ghost use Rattle.proofrecords.specs.ProofBytes.{isPresence, isAbsence};
 ghost use Rattle.verify_neighbours.specs.Neighbours.{leads};
 ghost use Rattle.verify_neighbours.specs.Around.{Around};
 ghost use Rattle.verify.specs.Holding.{ofKey, presenceHolds, absenceProofHolds};
-ghost use Rattle.verify.specs.Verify.{verified, Verifies};
+ghost use Rattle.verify_rules.specs.Verify.{verified, Verifies};
 ghost use Rattle.verify.specs.Says.{says};
 use fields::clear;
 use hash::Hash;

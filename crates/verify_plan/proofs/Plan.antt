@@ -14,7 +14,7 @@ use Rattle.proofrecords.specs.Steps.{Room}
 use Rattle.proofrecords.proofs.Forms.{presence-whole, absence-head, one-there, left-there, right-there, both-room}
 use Rattle.verify_neighbours.specs.Neighbours.{leads}
 use Rattle.verify_neighbours.proofs.Neighbours.{never}
-use Rattle.verify_rows.proofs.Prefix.{leads-front, room-whole}
+use Rattle.verify_plan.proofs.Prefix.{leads-front, room-whole}
 use Rattle.verify_plan.specs.declared.Paths.{Paths}
 use Rattle.verify_plan.specs.Plan.{PathsIn}
 

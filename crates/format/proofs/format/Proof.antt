@@ -11,7 +11,7 @@ use Rattle.meaning.specs.Store.{formatted}
 use Rattle.layout.specs.Headers.{sizeRight}
 use Rattle.layout.proofs.Headers.{size-says, size-least}
 use Rattle.layout.proofs.Stores.{fresh-bytes}
-use Rattle.format.specs.Format.{formatAnswer, formatBytes}
+use Rattle.contracts.specs.Format.{formatAnswer, formatBytes}
 use Rattle.format.proofs.format.Statement.{statement}
 use Rattle.format.proofs.format.Tie as tie
 

@@ -1,6 +1,7 @@
 -- `pocket_verify::grants_pocket_verify` meets its contract: the lengths, then the profile, then the full check. Assumes nothing.
 use mathlib.Core.Path.{sym, _∙_}
-use Rattle.pocket_verify.proofs.Checks.{root-off, key-off, is-outside, not-outside, pocket-refused, as-full}
+use Rattle.verify_rules.proofs.Pocket.{root-off, key-off, is-outside, not-outside}
+use Rattle.pocket_verify.proofs.Checks.{pocket-refused, as-full}
 use borrow.Author.Needs.{needs}
 use Rattle.pocket_verify.proofs.grants_pocket_verify.Statement.{statement}
 use Rattle.pocket_verify.proofs.grants_pocket_verify.Tie as tie

@@ -1,7 +1,8 @@
 -- `read_c::get_indexed` meets its contract: what is handed in is tested, a table of another length is refused, else the read is by the table. Assumes nothing.
 use mathlib.Core.Path.{sym, _∙_}
 use borrow.Author.Tests.{not-true, not-false}
-use Rattle.read.proofs.Answers.{key-as-many, key-not-as-many, key-wrong-indexed}
+use Rattle.contracts.proofs.Refusing.{key-not-as-many, key-wrong-indexed}
+use Rattle.read.proofs.Answers.{key-as-many}
 use Rattle.read_c.proofs.Exported.{key-as, key-refusal, key-told-by}
 use borrow.Author.Needs.{needs}
 use Rattle.read_c.proofs.get_indexed.Statement.{statement}

@@ -1,7 +1,8 @@
 -- `read_c::root_indexed` meets its contract: a table of another length is refused, else the read is by the table. Assumes nothing.
 use mathlib.Core.Path.{sym, _∙_}
 use borrow.Author.Tests.{not-true, not-false}
-use Rattle.read.proofs.Answers.{root-as-many, root-not-as-many}
+use Rattle.contracts.proofs.Refusing.{root-not-as-many}
+use Rattle.read.proofs.Answers.{root-as-many}
 use Rattle.read_c.proofs.Exported.{root-as, root-refusal, root-told-by}
 use borrow.Author.Needs.{needs}
 use Rattle.read_c.proofs.root_indexed.Statement.{statement}

@@ -5,7 +5,7 @@ use mathlib.Core.Path.{_≡_, refl, ap, sym}
 use lib.ListN.{length}
 use lib.Dec.{eqb}
 use Rattle.layout.specs.Sizes.{roomOf}
-use Rattle.read_open.specs.Headed.{asMany}
+use Rattle.promises.specs.Headed.{asMany}
 use borrow.Author.Needs.{needs}
 use Rattle.read_open.proofs.as_many.Statement.{statement}
 use Rattle.read_open.proofs.as_many.Tie as tie

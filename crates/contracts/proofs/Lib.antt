@@ -1,0 +1,4 @@
+pub mod Refusing
+pub mod Granted
+pub mod Reading
+pub mod Numbers

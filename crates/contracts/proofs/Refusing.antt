@@ -1,0 +1,43 @@
+-- What is refused before a store is looked at: a key or a list of another length with 12, then a table of another length with 1. Assumes nothing.
+use Prim.Native.Nat.{ℕ}
+use mathlib.Core.Path.{_≡_, refl}
+use mathlib.Core.Bool.{false}
+use mathlib.Core.List.{List}
+use lib.ListN.{length}
+use borrow.Author.Tests.{eq-eqb, ne-eqb}
+use Rattle.terms.specs.Bits.{Bytes}
+use Rattle.meaning.specs.Calls.{refused}
+use Rattle.meaning.specs.Reading.{readRootBy, readKeyBy}
+use Rattle.indexed.specs.Index.{byTable}
+use Rattle.palette_rules.specs.Palette.{wholeKeys}
+use Rattle.nodehash.specs.Node.{leafHash, innerHash}
+use Rattle.layout.specs.Stores.{storeOf}
+use Rattle.promises.proofs.Heading.{not-as-many}
+use Rattle.promises.specs.Headed.{asMany}
+use Rattle.contracts.specs.Reads.{rootIndexed, keyAnswer, keyIndexed}
+use Rattle.contracts.specs.Palettes.{paletteAnswer}
+
+-- A key of another length is refused with 12, whatever the store is.
+pub key-not-32 : (s : Bytes) (v : ℕ) (k : Bytes) → (length k ≡ 32 → ⊥) → refused 12 ≡ keyAnswer s v k
+unfolding keyAnswer
+key-not-32 s v k f = rw (ne-eqb (length k) 32 f)
+
+-- A list that isn't 0 to 256 whole keys is refused with 12, whatever the store is.
+pub list-torn : (s : Bytes) (v : ℕ) (ks : Bytes) (room : ℕ) → wholeKeys ks ≡ false → refused 12 ≡ paletteAnswer s v ks room
+unfolding paletteAnswer
+list-torn s v ks room f = rw f refl
+
+-- A root read and a key read by a table of another length are refused with 1, the key's after 12.
+module _ (s : Bytes) (table : List ℕ) (v : ℕ) where
+  pub root-not-as-many : asMany s table ≡ false → refused 1 ≡ rootIndexed s table v
+  unfolding rootIndexed
+  root-not-as-many e = not-as-many (readRootBy leafHash innerHash (byTable table (storeOf s)) (storeOf s) v) s table e
+
+  pub key-not-as-many : (k : Bytes) → length k ≡ 32 → asMany s table ≡ false → refused 1 ≡ keyIndexed s table v k
+  unfolding keyIndexed
+  key-not-as-many k whole e =
+      rw (eq-eqb (length k) 32 whole) (not-as-many (readKeyBy (byTable table (storeOf s)) (storeOf s) v k) s table e)
+
+  pub key-wrong-indexed : (k : Bytes) → (length k ≡ 32 → ⊥) → refused 12 ≡ keyIndexed s table v k
+  unfolding keyIndexed
+  key-wrong-indexed k f = rw (ne-eqb (length k) 32 f)

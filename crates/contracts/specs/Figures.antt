@@ -1,0 +1,38 @@
+-- Document 02, request 2026-14: what the figures of a range of versions answer for any bytes, and every byte of the
+-- room and of its array. Order: 1, 2; then 3 by full soundness; then 8, 9. Assumes nothing.
+use Prim.Native.Nat.{ℕ}
+use mathlib.Core.Path.{_≡_}
+use mathlib.Core.List.{List, map, _++_}
+use lib.ListN.{length}
+use Rattle.terms.specs.Bits.{Bytes}
+use Rattle.terms.specs.Fields.{flat, le}
+use Rattle.meaning.specs.Calls.{Answer, refused, accepted}
+use Rattle.meaning.specs.Answers.{numberOf, toldOf}
+use Rattle.quarter.specs.Figures.{Figures as OfVersion, figuresBytes, Quarter, figures}
+use Rattle.fields.specs.Written.{written}
+use Rattle.promises.specs.Calls.{Does}
+
+-- The numbers of the versions, one after the other.
+abbrev pub eachBytes : List OfVersion → Bytes
+eachBytes fs = flat (map figuresBytes fs)
+
+-- They fill the front of the room, and the rest stays; a refused call writes nothing.
+abbrev pub roomAfter : Answer Quarter → Bytes → Bytes
+roomAfter (refused m) room = room
+roomAfter (accepted q) room = written 0 (eachBytes (q .each)) room
+
+-- The totals of a range: distinct records, then the sum of records over versions, 4 bytes little-endian each.
+abbrev pub totalsBytes : ℕ → ℕ → Bytes
+totalsBytes distinct records = le 4 distinct ++ le 4 records
+
+abbrev pub totalsAfter : Answer Quarter → Bytes → Bytes
+totalsAfter a old = toldOf (λ q. totalsBytes (q .distinct) (q .records)) a old
+
+-- The figures of the bytes s from version first to last answer r; the room is left as t, the array f for the totals as
+-- g. The answer is the one that the definition gives for any bytes; the store is as it was.
+pub record Figures (first last : ℕ) (s room f : Bytes) (r : ℕ) (t g : Bytes) : Type 0 where
+  pub answer : Answer Quarter
+  pub does : Does (figures first last (length room)) s answer s
+  pub number : r ≡ numberOf answer
+  pub numbers : t ≡ roomAfter answer room
+  pub told : g ≡ totalsAfter answer f

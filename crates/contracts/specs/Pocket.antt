@@ -1,0 +1,36 @@
+-- Document 02, request 2026-14, of the pocket writer over bytes, for every store, sound or damaged. Order: 12; then 1,
+-- 2; then 8, 14, 3 or 17, 19, 9. Assumes nothing.
+use Prim.Native.Nat.{ℕ}
+use mathlib.Core.Path.{_≡_}
+use mathlib.Core.Bool.{cond}
+use lib.ListN.{length}
+use lib.Dec.{eqb}
+use Rattle.terms.specs.declared.Form.the-variants.{Counted as counted}
+use Rattle.terms.specs.Bits.{Bytes}
+use Rattle.terms.specs.Records.{Proof}
+use Rattle.terms.specs.Fields.{le}
+use Rattle.meaning.specs.Calls.{Answer, refused}
+use Rattle.meaning.specs.Answers.{numberOf, toldOf}
+use Rattle.meaning.specs.Proving.{proofLength}
+use Rattle.pocket.specs.Pocket.{pocketProve}
+use Rattle.layout.specs.Headers.{headerOf}
+use Rattle.layout.specs.Stores.{storeOf}
+use Rattle.promises.specs.Headed.{byHeader}
+use Rattle.contracts.specs.Proves.{roomAfter}
+
+-- The proof for key k in version v of the store s, into this much room: 12 where the key isn't 32 bytes, then 1, 2, 8,
+-- 14, 3 or 17, 19, 9.
+unfoldable pub pocketAnswer : Bytes → ℕ → Bytes → ℕ → Answer Proof
+pocketAnswer s v k room =
+    cond (eqb (length k) 32) (byHeader (headerOf counted s) (pocketProve (storeOf s) v k room)) (refused 12)
+
+-- The proof of the profile for key k in version v of the store s, into a room.
+abbrev pub pocketInto : Bytes → ℕ → Bytes → Bytes → Answer Proof
+pocketInto s v k room = pocketAnswer s v k (length room)
+
+-- Proving the key k in version v of the bytes s in the profile answers r; the room is left as t, the array f for the
+-- proof's length, 4 bytes little-endian, as g.
+pub record PocketProves (s : Bytes) (v : ℕ) (k room f : Bytes) (r : ℕ) (t g : Bytes) : Type 0 where
+  pub answer : r ≡ numberOf (pocketInto s v k room)
+  pub proof : t ≡ roomAfter (pocketInto s v k room) room
+  pub told : g ≡ toldOf (λ p. le 4 (proofLength p)) (pocketInto s v k room) f

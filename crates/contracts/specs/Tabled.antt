@@ -1,0 +1,21 @@
+-- 2026-05: applying a batch and pruning with the table kept right. Assumes nothing.
+use Prim.Native.Nat.{ℕ}
+use mathlib.Core.List.{List}
+use Rattle.terms.specs.Bits.{Bytes}
+use Rattle.terms.specs.Fields.{le}
+use Rattle.meaning.specs.Calls.{apply, prune}
+use Rattle.nodehash.specs.Node.{leafHash, innerHash}
+use Rattle.batch.specs.Batch.{batchOf}
+use Rattle.index_rules.specs.Tables as tables
+use Rattle.contracts.specs.Apply.{told}
+
+-- Applying a batch to the bytes s and their table as a number, with the array f for the answer: what is answered, and
+-- what is left of each.
+abbrev pub AppliesBoth : ℕ → Bytes → Bytes → List ℕ → Bytes → ℕ → Bytes → List ℕ → Bytes → Type 0
+AppliesBoth number batch s table f r t u g =
+    tables.ExportsBoth (apply leafHash innerHash number (batchOf batch)) told s table f r t u g
+
+-- Pruning the bytes s and their table to n, with the array f for the count, in four bytes: what is answered, and what
+-- is left of each.
+abbrev pub PrunesBoth : ℕ → Bytes → List ℕ → Bytes → ℕ → Bytes → List ℕ → Bytes → Type 0
+PrunesBoth n s table f r t u g = tables.ExportsBoth (prune n) (le 4) s table f r t u g
