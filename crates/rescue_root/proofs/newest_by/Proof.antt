@@ -6,10 +6,6 @@ use borrow.Author.Needs.{needs}
 use Rattle.rescue_root.proofs.newest_by.Statement.{statement}
 use Rattle.rescue_root.proofs.newest_by.Tie as tie
 
--- `A-from-B` is the state A as the later state B has it.
-abbrev start-from-top : tie.After-top → tie.Start
-start-from-top c = c .before .before .before
-
 newest-root-requires : tie.Need-newest-root-requires
 newest-root-requires c κs = c .before .before .pre .0
 
@@ -20,18 +16,17 @@ top-requires : tie.Need-top-requires
 top-requires c κs = search needs
 
 find-by-requires : tie.Need-find-by-requires
-find-by-requires c κs = let p = start-from-top c .pre in (p .0, p .1 .short, p .1 .sure (omega (arith, c .before .if1 .left)), c .top .ensures .proper)
+find-by-requires c κs =
+    let p = c .before .before .before .pre in (p .0, p .1 .short, p .1 .sure (omega (arith, c .before .if1 .left)), c .top .ensures .proper)
 
 enum-known-found : tie.Need-enum-known-found
 enum-known-found c = search needs
 
 returns-2 : tie.Need-returns-2
 returns-2 c =
-    let after-found = c .before in
-    let after-find-by = after-found .before .before in
-    let after-top = after-find-by .before in
-    let a = start-from-top after-top .args in
-    exact-located (storeOf (a .source .now) .slots) (a .version) (after-top .top .ensures .place) (after-find-by .find-by .ensures .0) (after-found .found .given .1)
+    let a = c .before .before .before .before .before .before .before .args in
+    let f = c .before .before .before in
+    exact-located (storeOf (a .source .now) .slots) (a .version) (f .before .top .ensures .place) (f .find-by .ensures .0) (c .before .found .given .1)
 
 enum-told : tie.Need-enum-told
 enum-told c = search needs
