@@ -12,10 +12,10 @@ use Rattle.rescue_fill.proofs.fill.Statement.{statement}
 use Rattle.rescue_fill.proofs.fill.Tie as tie
 
 abbrev Inv-loop : tie.InvT-loop
-Inv-loop source table many oldest latest root lowest target₀ top b₀ low₀ target b low = State source oldest latest b low target
+Inv-loop source table many oldest latest root floor target₀ top b₀ low₀ target b low = State source oldest latest b low target
 
 abbrev μ-loop : tie.MeasureT-loop
-μ-loop source table many oldest latest root lowest target₀ top b₀ low₀ target b low = b
+μ-loop source table many oldest latest root floor target₀ top b₀ low₀ target b low = b
 
 top-requires : tie.Need-top-requires Inv-loop μ-loop
 top-requires c κs =
